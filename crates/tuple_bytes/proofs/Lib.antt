@@ -1,0 +1,5 @@
+pub mod ItemLaws
+pub mod Skips
+pub mod HeaderLaws
+pub mod StoredLaws
+pub mod Putting

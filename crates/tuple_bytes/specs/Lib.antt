@@ -1,0 +1,8 @@
+pub mod Word
+pub mod Row
+pub mod Spelling
+pub mod Items
+pub mod Found
+pub mod HeaderBytes
+pub mod Stored
+pub mod Writing

@@ -1,0 +1,163 @@
+//! Reading from the front of bytes, without taking memory.
+
+ghost use Rattle.std.specs.Prelude.{◌≡◌, List, length, Some, None, IfSome, true};
+ghost use Rattle.std.specs.Int.{w16, w32, w64};
+ghost use Rattle.byte_grammar.specs.Reading.{Gives, byte, number, part, sized, checked, tagged};
+ghost use Rattle.tuple_bytes.specs.Items.{word_at, kind_at, bool_by, value_at};
+ghost use Rattle.tuple_bytes.specs.Found.{value_of_found, FitsFound};
+ghost use Rattle.std.specs.Str.{is_utf8};
+ghost use Rattle.tuple_bytes.specs.Word.{is_word};
+
+use crate::op::Kind;
+use crate::text::spells_text;
+use crate::word::spells_word;
+
+pub fn byte_of(bytes: &[u8]) -> Option<(u8, &[u8])>
+    ensures { Gives (λ x. (x.0, x.1.now)) result (byte bytes.now) }
+{
+    match bytes {
+        [] => None,
+        [first, rest @ ..] => Some((*first, rest)),
+    }
+}
+
+pub fn part_of(len: usize, bytes: &[u8]) -> Option<(&[u8], &[u8])>
+    ensures { Gives (λ x. (x.0.now, x.1.now)) result (part len bytes.now) }
+{
+    if bytes.len() < len {
+        return None;
+    }
+    Some(bytes.split_at(len))
+}
+
+pub fn u16_of(bytes: &[u8]) -> Option<(u16, &[u8])>
+    ensures { Gives (λ x. (x.0, x.1.now)) result (number w16 bytes.now) }
+{
+    if bytes.len() < 2 {
+        return None;
+    }
+    let (front, rest) = bytes.split_at(2);
+    let number = u16::from_be_bytes([front[0], front[1]]);
+    Some((number, rest))
+}
+
+pub fn u32_of(bytes: &[u8]) -> Option<(u32, &[u8])>
+    ensures { Gives (λ x. (x.0, x.1.now)) result (number w32 bytes.now) }
+{
+    if bytes.len() < 4 {
+        return None;
+    }
+    let (front, rest) = bytes.split_at(4);
+    let number = u32::from_be_bytes([front[0], front[1], front[2], front[3]]);
+    Some((number, rest))
+}
+
+pub fn u64_of(bytes: &[u8]) -> Option<(u64, &[u8])>
+    ensures { Gives (λ x. (x.0, x.1.now)) result (number w64 bytes.now) }
+{
+    if bytes.len() < 8 {
+        return None;
+    }
+    let (front, rest) = bytes.split_at(8);
+    let number = u64::from_be_bytes([
+        front[0], front[1], front[2], front[3], front[4], front[5], front[6], front[7],
+    ]);
+    Some((number, rest))
+}
+
+#[tactic(auto, unfolding(byte_grammar::specs::Reading::sized))]
+pub fn long_of(bytes: &[u8]) -> Option<(&[u8], &[u8])>
+    ensures { Gives (λ x. (x.0.now, x.1.now)) result (sized (number w16) bytes.now) }
+{
+    let (len, rest) = u16_of(bytes)?;
+    part_of(usize::from(len), rest)
+}
+
+#[tactic(auto, unfolding(crate::specs::Items::word_at, byte_grammar::specs::Reading::checked, byte_grammar::specs::Reading::sized))]
+pub fn word_of(bytes: &[u8]) -> Option<(&[u8], &[u8])>
+    ensures reads { Gives (λ x. (x.0.now, x.1.now)) result (word_at bytes.now) }
+    ensures word { IfSome result (λ x. is_word x.0.now ≡ true) }
+{
+    let (len, rest) = byte_of(bytes)?;
+    let (word, rest) = part_of(usize::from(len), rest)?;
+    if !spells_word(word) {
+        return None;
+    }
+    Some((word, rest))
+}
+
+#[tactic(auto, unfolding(crate::specs::Items::kind_at, crate::specs::Items::kind_by, byte_grammar::specs::Reading::tagged), using(crate::proofs::Skips::kind_by_other))]
+pub fn kind_of(bytes: &[u8]) -> Option<(Kind, &[u8])>
+    ensures { Gives (λ x. (x.0, x.1.now)) result (kind_at bytes.now) }
+{
+    let (tag, rest) = byte_of(bytes)?;
+    match tag {
+        1 => Some((Kind::Int, rest)),
+        2 => Some((Kind::Text, rest)),
+        3 => Some((Kind::Bytes, rest)),
+        4 => Some((Kind::Bool, rest)),
+        _ => None,
+    }
+}
+
+/// A value where it was read.
+#[derive(Clone, Copy)]
+pub enum Found<'a> {
+    Null,
+    Int(i64),
+    Text(&'a [u8]),
+    Bytes(&'a [u8]),
+    Bool(bool),
+}
+
+#[tactic(auto, unfolding(crate::specs::Items::bool_by, byte_grammar::specs::Reading::tagged), using(crate::proofs::Skips::bool_by_other))]
+fn bool_of(bytes: &[u8]) -> Option<(bool, &[u8])>
+    ensures { Gives (λ x. (x.0, x.1.now)) result (tagged bool_by bytes.now) }
+{
+    let (tag, rest) = byte_of(bytes)?;
+    match tag {
+        0 => Some((false, rest)),
+        1 => Some((true, rest)),
+        _ => None,
+    }
+}
+
+#[tactic(auto, unfolding(byte_grammar::specs::Reading::checked))]
+fn text_of(bytes: &[u8]) -> Option<(&[u8], &[u8])>
+    ensures reads { Gives (λ x. (x.0.now, x.1.now)) result (checked is_utf8 (sized (number w16)) bytes.now) }
+    ensures utf8 { IfSome result (λ x. is_utf8 x.0.now ≡ true) }
+{
+    let (text, rest) = long_of(bytes)?;
+    if !spells_text(text) {
+        return None;
+    }
+    Some((text, rest))
+}
+
+#[tactic(auto, unfolding(crate::specs::Items::value_at, crate::specs::Items::value_by, byte_grammar::specs::Reading::mapped, byte_grammar::specs::Reading::tagged), using(crate::proofs::Skips::value_by_other))]
+pub fn value_of(bytes: &[u8]) -> Option<(Found<'_>, &[u8])>
+    ensures reads { Gives (λ x. (value_of_found x.0, x.1.now)) result (value_at bytes.now) }
+    ensures fits { IfSome result (λ x. FitsFound x.0) }
+{
+    let (tag, rest) = byte_of(bytes)?;
+    match tag {
+        0 => Some((Found::Null, rest)),
+        1 => {
+            let (bits, rest) = u64_of(rest)?;
+            Some((Found::Int(bits.cast_signed()), rest))
+        }
+        2 => {
+            let (text, rest) = text_of(rest)?;
+            Some((Found::Text(text), rest))
+        }
+        3 => {
+            let (bytes, rest) = long_of(rest)?;
+            Some((Found::Bytes(bytes), rest))
+        }
+        4 => {
+            let (flag, rest) = bool_of(rest)?;
+            Some((Found::Bool(flag), rest))
+        }
+        _ => None,
+    }
+}
