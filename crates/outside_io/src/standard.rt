@@ -1,0 +1,38 @@
+//! The standard output as a sink. It tells nothing of itself but its faults.
+ghost use Rattle.std.specs.Prelude.{◌≡◌};
+ghost use Rattle.outside_io.specs.Sink.{untold_state};
+
+use crate::{Sink, StreamFail};
+use std::io;
+use std::io::Write;
+
+/// The standard output of a runtime.
+#[derive(Drop)]
+pub struct StdSink<R: Print + Drop> {
+    rt: R,
+    faults: u64,
+}
+
+impl<R: Print + Drop> StdSink<R> {
+    /// A sink that has not failed yet.
+    pub fn new(rt: R) -> Self
+        ensures fresh { ⟦<StdSink<R> as Sink>⟧.state result ≡ untold_state 0 }
+    {
+        StdSink { rt, faults: 0 }
+    }
+}
+
+impl<R: Print + Drop> Sink for StdSink<R> {
+    ghost state = { λ s. untold_state s.faults };
+
+    /// A write that takes no byte of a piece that has some counts as a fault.
+    fn write(&mut self, piece: &[u8]) -> Result<usize, StreamFail> {
+        match io::writer(&self.rt).write(piece) {
+            Ok(count) if count > 0 || piece.is_empty() => Ok(count),
+            _ => {
+                self.faults = self.faults.saturating_add(1);
+                Err(StreamFail::Failed)
+            }
+        }
+    }
+}
