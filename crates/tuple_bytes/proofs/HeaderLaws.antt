@@ -8,10 +8,9 @@ use Rattle.std.proofs.lemmas.List.{append-nil, nil_from_length, take_at, drop_at
 use Rattle.std.proofs.lemmas.Option.{same_Some, none-some}
 use Rattle.std.specs.Prelude.{MatchOption}
 use Rattle.tuple_bytes.specs.declared.header.Header.{Header}
-use Rattle.byte_grammar.specs.Reading.{IsBytes, ◌>>=◌, byte, number, constant, seq, checked, whole}
-use Rattle.tuple_bytes.specs.Items.{is_from_1_to}
+use Rattle.byte_grammar.specs.Reading.{IsBytes, is_from_1_to, up_to, ◌>>=◌, byte, number, constant, seq, checked, whole}
 use Rattle.tuple_bytes.specs.Spelling.{IsFrom1To, FitsHeader, SpellsHeader, spell_header, head_text, head_zeros}
-use Rattle.tuple_bytes.specs.HeaderBytes.{up_to, epoch_at, width_at, small_at, Parts, header_from, header_at, header_of}
+use Rattle.tuple_bytes.specs.HeaderBytes.{epoch_at, width_at, small_at, Parts, header_from, header_at, header_of}
 use Rattle.byte_grammar.proofs.Parts.{Reads, bind_some, then_some, else_some, seq_reads, mapped_takes, mapped_again, checked_reads, reads_as}
 use Rattle.byte_grammar.proofs.Fields.{cell, IsByte, byte_reads, wide32, wide64, number_reads}
 use Rattle.tuple_bytes.proofs.ItemLaws.{from_test, to_test}

@@ -22,9 +22,9 @@ use Rattle.tuple_bytes.specs.declared.op.Op.TheVariants as ops
 use Rattle.tuple_bytes.specs.declared.value.Value.{Value}
 use Rattle.tuple_bytes.specs.declared.value.Value.TheVariants as values
 use Rattle.tuple_bytes.specs.Word.{is_word}
-use Rattle.byte_grammar.specs.Reading.{IsBytes, ◌>>=◌, byte, number, seq, mapped, checked, many, counted, sized, tagged, whole}
+use Rattle.byte_grammar.specs.Reading.{IsBytes, ◌>>=◌, is_from_1_to, byte, number, seq, mapped, checked, many, counted, sized, tagged, whole}
 use Rattle.tuple_bytes.specs.Spelling.{spell_word, kind_code, spell_long, bool_code, spell_value, spell_column, spell_columns, spell_row, spell_op, spell_ops, spell_item, FitsValue, FitsWord, IsFrom1To, FitsColumn, FitsColumns, FitsRow, FitsOp, FitsOps, FitsItem, Spells}
-use Rattle.tuple_bytes.specs.Items.{is_from_1_to, word_at, kind_by, kind_at, bool_by, int_of, value_by, value_at, column_of, column_at, columns_at, row_at, create_of, put_of, remove_of, op_by, op_at, ops_at, txn_of, item_by, item_at, item_of}
+use Rattle.tuple_bytes.specs.Items.{word_at, kind_by, kind_at, bool_by, int_of, value_by, value_at, column_of, column_at, columns_at, row_at, create_of, put_of, remove_of, op_by, op_at, ops_at, txn_of, item_by, item_at, item_of}
 use Rattle.byte_grammar.proofs.Parts.{Reads, bind_some, else_some, seq_reads, mapped_takes, mapped_again, checked_reads, reads_as, counted_reads, sized_reads, IsBytes-after}
 use Rattle.byte_grammar.proofs.Fields.{cell, IsByte, byte_reads, wide16, wide32, wide64, number_reads}
 

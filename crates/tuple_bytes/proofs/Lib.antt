@@ -1,5 +1,4 @@
 pub mod ItemLaws
 pub mod Skips
 pub mod HeaderLaws
-pub mod StoredLaws
 pub mod Putting

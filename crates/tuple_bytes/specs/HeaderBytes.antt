@@ -1,13 +1,9 @@
 -- Reading a header.
-use Rattle.std.specs.Prelude.{ℕ, Bool, nat_le, List, Option}
+use Rattle.std.specs.Prelude.{ℕ, List, Option}
 use Rattle.std.specs.Int.{w32, w64}
 use Rattle.tuple_bytes.specs.declared.header.Header.{Header}
-use Rattle.byte_grammar.specs.Reading.{byte, number, constant, seq, mapped, checked, whole}
-use Rattle.tuple_bytes.specs.Items.{is_from_1_to}
+use Rattle.byte_grammar.specs.Reading.{is_from_1_to, up_to, byte, number, constant, seq, mapped, checked, whole}
 use Rattle.tuple_bytes.specs.Spelling.{head_text, head_zeros}
-
-abbrev pub up_to : ℕ → ℕ → Bool
-up_to limit n = nat_le n limit
 
 unfoldable pub epoch_at : List ℕ → Option (ℕ × List ℕ)
 epoch_at bytes = checked (up_to 1099511627775) (number w64) bytes

@@ -1,5 +1,5 @@
 -- Reading the spellings.
-use Rattle.std.specs.Prelude.{ℕ, zero, suc, ℤ, Bool, true, false, ◌&&◌, nat_le, List, [], ◌∷◌, length, Option, Some, None}
+use Rattle.std.specs.Prelude.{ℕ, zero, suc, ℤ, Bool, true, false, List, [], ◌∷◌, length, Option, Some, None}
 use Rattle.std.specs.Str.{is_utf8}
 use Rattle.std.specs.Int.{w16, w32, w64, cast_signed}
 use Rattle.tuple_bytes.specs.declared.item.Txn.{Txn}
@@ -13,10 +13,7 @@ use Rattle.tuple_bytes.specs.declared.op.Op.TheVariants as ops
 use Rattle.tuple_bytes.specs.declared.value.Value.{Value}
 use Rattle.tuple_bytes.specs.declared.value.Value.TheVariants as values
 use Rattle.tuple_bytes.specs.Word.{is_word}
-use Rattle.byte_grammar.specs.Reading.{byte, number, seq, mapped, checked, counted, sized, tagged, whole}
-
-abbrev pub is_from_1_to : ℕ → ℕ → Bool
-is_from_1_to limit n = nat_le 1 n && nat_le n limit
+use Rattle.byte_grammar.specs.Reading.{is_from_1_to, byte, number, seq, mapped, checked, counted, sized, tagged, whole}
 
 unfoldable pub word_at : List ℕ → Option (List ℕ × List ℕ)
 word_at bytes = checked is_word (sized byte) bytes

@@ -4,5 +4,4 @@ pub mod Spelling
 pub mod Items
 pub mod Found
 pub mod HeaderBytes
-pub mod Stored
 pub mod Writing

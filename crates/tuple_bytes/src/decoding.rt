@@ -9,11 +9,12 @@ ghost use Rattle.tuple_bytes.specs.Spelling.{Spells};
 
 use crate::item::{Item, Txn};
 use crate::op::{Column, Columns, Op, Ops};
-use crate::reading::{Found, byte_of, kind_of, u16_of, u32_of, u64_of, value_of, word_of};
+use crate::reading::{Found, kind_of, value_of, word_of};
 use crate::skipping::is_count;
 use crate::text::{Blob, Text};
 use crate::value::{Row, Value};
 use crate::word::Word;
+use byte_grammar::{byte_of, u16_of, u32_of, u64_of};
 use std::alloc::{AllocError, Global};
 
 #[tactic(auto, using(crate::proofs::Skips::text_of_test))]

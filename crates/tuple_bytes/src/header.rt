@@ -5,7 +5,7 @@ ghost use Rattle.byte_grammar.specs.Reading.{Gives, constant};
 ghost use Rattle.tuple_bytes.specs.HeaderBytes.{epoch_at, width_at, small_at, header_at, header_of};
 ghost use Rattle.tuple_bytes.specs.Spelling.{FitsHeader, SpellsHeader, spell_fields, spell_header};
 
-use crate::reading::{byte_of, u32_of, u64_of};
+use byte_grammar::{byte_of, u32_of, u64_of};
 
 /// What a store says of itself.
 #[derive(Clone, Copy, Debug)]

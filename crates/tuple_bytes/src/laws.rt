@@ -5,7 +5,6 @@ ghost use Rattle.tuple_bytes.specs.declared.item.Item.{Item};
 ghost use Rattle.byte_grammar.specs.Reading.{IsBytes};
 ghost use Rattle.tuple_bytes.specs.Items.{item_of};
 ghost use Rattle.tuple_bytes.specs.Spelling.{FitsItem, Spells, spell_item};
-ghost use Rattle.tuple_bytes.specs.Stored.{Stored, IsStored, stored};
 
 /// No spelling begins another, so each item has one spelling and each spelling one item.
 pub fn spellings_are_apart()
@@ -16,10 +15,4 @@ pub fn spellings_are_apart()
 pub fn item_is_spelled()
     ensures read { (bytes : List ℕ) (i : Item) → IsBytes bytes → item_of bytes ≡ Some i → Spells i bytes }
     ensures found { (bytes : List ℕ) (i : Item) → Spells i bytes → item_of bytes ≡ Some i }
-{}
-
-/// What bytes mean is their header and the longest prefix of valid records, and nothing else.
-pub fn stored_is_longest()
-    ensures longest { (bytes : List ℕ) → IsBytes bytes → IsStored bytes (stored bytes) }
-    ensures only { (bytes : List ℕ) (s : Stored) → IsBytes bytes → IsStored bytes s → s ≡ stored bytes }
 {}

@@ -3,11 +3,12 @@
 ghost use Rattle.std.specs.Prelude.{◌≡◌, ◌↔◌, IsTrue, is_some, List, length, Some, None};
 ghost use Rattle.std.specs.Int.{w16, w32, w64};
 ghost use Rattle.tuple_bytes.specs.declared.item.Item.{Item};
-ghost use Rattle.byte_grammar.specs.Reading.{Gives, rest_of, many, byte, number};
-ghost use Rattle.tuple_bytes.specs.Items.{is_from_1_to, column_at, columns_at, value_at, row_at, op_at, ops_at, item_at, item_of};
+ghost use Rattle.byte_grammar.specs.Reading.{Gives, is_from_1_to, rest_of, many, byte, number};
+ghost use Rattle.tuple_bytes.specs.Items.{column_at, columns_at, value_at, row_at, op_at, ops_at, item_at, item_of};
 ghost use Rattle.tuple_bytes.specs.Spelling.{Spells};
 
-use crate::reading::{byte_of, kind_of, u16_of, u32_of, u64_of, value_of, word_of};
+use crate::reading::{kind_of, value_of, word_of};
+use byte_grammar::{byte_of, u16_of, u32_of, u64_of};
 
 pub fn is_count(limit: u16, count: u16) -> bool
     ensures { result ≡ is_from_1_to limit count }

@@ -1,0 +1,63 @@
+//! Readers of bytes, of parts and of numbers, which take no memory.
+
+ghost use Rattle.std.specs.Prelude.{◌≡◌, List, length, Some, None};
+ghost use Rattle.std.specs.Int.{w16, w32, w64};
+ghost use Rattle.byte_grammar.specs.Reading.{Gives, byte, number, part};
+
+/// The first byte.
+pub fn byte_of(bytes: &[u8]) -> Option<(u8, &[u8])>
+    ensures value { Gives (λ x. (x.0, x.1.now)) result (byte bytes.now) }
+{
+    match bytes {
+        [] => None,
+        [first, rest @ ..] => Some((*first, rest)),
+    }
+}
+
+/// The first `len` bytes.
+pub fn part_of(len: usize, bytes: &[u8]) -> Option<(&[u8], &[u8])>
+    ensures value { Gives (λ x. (x.0.now, x.1.now)) result (part len bytes.now) }
+{
+    if bytes.len() < len {
+        return None;
+    }
+    Some(bytes.split_at(len))
+}
+
+/// A number of two bytes, the highest first.
+pub fn u16_of(bytes: &[u8]) -> Option<(u16, &[u8])>
+    ensures value { Gives (λ x. (x.0, x.1.now)) result (number w16 bytes.now) }
+{
+    if bytes.len() < 2 {
+        return None;
+    }
+    let (front, rest) = bytes.split_at(2);
+    let number = u16::from_be_bytes([front[0], front[1]]);
+    Some((number, rest))
+}
+
+/// A number of four bytes, the highest first.
+pub fn u32_of(bytes: &[u8]) -> Option<(u32, &[u8])>
+    ensures value { Gives (λ x. (x.0, x.1.now)) result (number w32 bytes.now) }
+{
+    if bytes.len() < 4 {
+        return None;
+    }
+    let (front, rest) = bytes.split_at(4);
+    let number = u32::from_be_bytes([front[0], front[1], front[2], front[3]]);
+    Some((number, rest))
+}
+
+/// A number of eight bytes, the highest first.
+pub fn u64_of(bytes: &[u8]) -> Option<(u64, &[u8])>
+    ensures value { Gives (λ x. (x.0, x.1.now)) result (number w64 bytes.now) }
+{
+    if bytes.len() < 8 {
+        return None;
+    }
+    let (front, rest) = bytes.split_at(8);
+    let number = u64::from_be_bytes([
+        front[0], front[1], front[2], front[3], front[4], front[5], front[6], front[7],
+    ]);
+    Some((number, rest))
+}
