@@ -1,32 +1,36 @@
 //! The cumulative chain: one value for all transactions so far, each linked to the value before it.
 #![tactic(auto)]
 
-ghost use Rattle.std.specs.Prelude.{◌≡◌, ◌+◌};
+ghost use Rattle.std.specs.Prelude.{◌≡◌, ◌+◌, ◌∷◌};
+ghost use Rattle.sha2.specs.Sha256.{sha256};
 ghost use Rattle.history_model.specs.Digests.{seed, header_digest, next_link};
 
 use sha2::{Digest, Sha256};
 use step_count::{Ledger, Steps};
 use tuple_bytes::{Header, header_fields};
 
-/// The digest of a tag and some parts, one after the other.
+/// `SHA-256(tag | bytes)`.
+fn tagged_digest(tag: u8, bytes: &[u8]) -> [u8; 32]
+    ensures { result ≡ sha256 (tag ∷ bytes.now) }
+{
+    let mut hasher = Sha256::new();
+    hasher.update([tag]);
+    hasher.update(bytes);
+    hasher.finalize()
+}
+
 /// `SHA-256(00 | header fields)`: the value of no transaction.
 pub fn seed(header: &Header) -> [u8; 32]
     ensures value { result ≡ seed header.now }
 {
-    let mut hasher = Sha256::new();
-    hasher.update([0u8]);
-    hasher.update(header_fields(header));
-    hasher.finalize()
+    tagged_digest(0, &header_fields(header))
 }
 
 /// `SHA-256(05 | header fields)`: what a notary holds of the header.
 pub fn header_digest(header: &Header) -> [u8; 32]
     ensures value { result ≡ header_digest header.now }
 {
-    let mut hasher = Sha256::new();
-    hasher.update([5u8]);
-    hasher.update(header_fields(header));
-    hasher.finalize()
+    tagged_digest(5, &header_fields(header))
 }
 
 /// `SHA-256(01 | previous | txn_bytes)`: the value after one more transaction.
