@@ -1,12 +1,13 @@
 -- What a reader and a spelling owe each other, and how pieces make a whole.
 use Rattle.std.proofs.Common.{◌≡◌, ℕ, zero, suc, ◌+◌, ◌<◌, ◌≤◌, Bool, true, false, cond, ltb, List, [], ◌∷◌, ◌++◌, length, get_or, take, drop, Option, Some, None, refl, sym, ap, subst, ◌∙◌, append_assoc, arith}
+use Rattle.std.specs.Prelude.{◌&&◌}
 use Rattle.std.specs.List.{flat_map, AllByRecursion}
 use Rattle.std.proofs.lemmas.Bool.{ltb-false, le-ltb}
 use Rattle.std.proofs.lemmas.List.{take_at, drop_at, take-append-drop, length-append, length-take, get_or-drop, get_or-take, get_or_past, get_or-append-add}
 use Rattle.std.proofs.lemmas.Option.{same_Some}
-use Rattle.byte_grammar.specs.Reading.{IsBytes, ◌>>=◌, byte, part, seq, mapped, checked, many, counted, sized}
+use Rattle.byte_grammar.specs.Reading.{Reader, IsBytes, ◌>>=◌, byte, part, seq, mapped, checked, many, counted, sized}
 
-pub record Reads {A : Type 0} (read : List ℕ → Option (A × List ℕ)) (spell : A → List ℕ) (Fits : A → Type 0) : Type 0 where
+pub record Reads {A : Type 0} (read : Reader A) (spell : A → List ℕ) (Fits : A → Type 0) : Type 0 where
   -- what is read is spelled so
   pub takes : (bytes : List ℕ) (a : A) (rest : List ℕ) → IsBytes bytes → read bytes ≡ Some (a, rest) → (bytes ≡ spell a ++ rest) × Fits a
   -- what is spelled so is read, whatever follows
@@ -33,9 +34,17 @@ pub if_some : {A : Type 0} (b : Bool) (o : Option A) (y : A) → cond b o None �
 if_some true o y e = (refl, e)
 if_some false o y e = absurd cc
 
+pub and_left : (a b : Bool) → (a && b) ≡ true → a ≡ true
+and_left true b e = refl
+and_left false b e = e
+
+pub and_right : (a b : Bool) → (a && b) ≡ true → b ≡ true
+and_right true b e = e
+and_right false b e = absurd cc
+
 -- ---- one after the other
 
-pub seq_reads : {A B : Type 0} (ra : List ℕ → Option (A × List ℕ)) (sa : A → List ℕ) (Fa : A → Type 0) (rb : List ℕ → Option (B × List ℕ)) (sb : B → List ℕ) (Fb : B → Type 0)
+pub seq_reads : {A B : Type 0} (ra : Reader A) (sa : A → List ℕ) (Fa : A → Type 0) (rb : Reader B) (sb : B → List ℕ) (Fb : B → Type 0)
     → Reads ra sa Fa → Reads rb sb Fb → Reads (seq ra rb) (λ (p : A × B). sa p.0 ++ sb p.1) (λ (p : A × B). Fa p.0 × Fb p.1)
 unfolding seq
 seq_reads {A} {B} ra sa Fa rb sb Fb a_law b_law = record {
@@ -53,7 +62,7 @@ seq_reads {A} {B} ra sa Fa rb sb Fb a_law b_law = record {
 
 -- ---- seen otherwise
 
-pub mapped_takes : {A B : Type 0} (f : A → B) (r : List ℕ → Option (A × List ℕ)) (s : A → List ℕ) (F : A → Type 0) → Reads r s F
+pub mapped_takes : {A B : Type 0} (f : A → B) (r : Reader A) (s : A → List ℕ) (F : A → Type 0) → Reads r s F
     → (bytes : List ℕ) (b : B) (rest : List ℕ) → IsBytes bytes → mapped f r bytes ≡ Some (b, rest) → (a : A) × (f a ≡ b) × (bytes ≡ s a ++ rest) × F a
 unfolding mapped
 mapped_takes {A} {B} f r s F law bytes b rest fits e =
@@ -64,14 +73,14 @@ mapped_takes {A} {B} f r s F law bytes b rest fits e =
     let rest_is : t.0.1 ≡ rest = ap (λ (y : B × List ℕ). y.1) same in
     (t.0.0, ap (λ (y : B × List ℕ). y.0) same, subst (λ (x : List ℕ). bytes ≡ s t.0.0 ++ x) rest_is ta.0, ta.1)
 
-pub mapped_again : {A B : Type 0} (f : A → B) (r : List ℕ → Option (A × List ℕ)) (s : A → List ℕ) (F : A → Type 0) → Reads r s F
+pub mapped_again : {A B : Type 0} (f : A → B) (r : Reader A) (s : A → List ℕ) (F : A → Type 0) → Reads r s F
     → (a : A) (rest : List ℕ) → F a → mapped f r (s a ++ rest) ≡ Some (f a, rest)
 unfolding mapped
 mapped_again f r s F law a rest fits = rw (law.again a rest fits) refl
 
 -- ---- a test
 
-pub checked_reads : {A : Type 0} (test : A → Bool) (r : List ℕ → Option (A × List ℕ)) (s : A → List ℕ) (F : A → Type 0) → Reads r s F
+pub checked_reads : {A : Type 0} (test : A → Bool) (r : Reader A) (s : A → List ℕ) (F : A → Type 0) → Reads r s F
     → Reads (checked test r) s (λ (a : A). F a × (test a ≡ true))
 unfolding checked
 checked_reads {A} test r s F law = record {
@@ -84,7 +93,7 @@ checked_reads {A} test r s F law = record {
 }
 
 -- the same, where the condition is said otherwise
-pub reads_as : {A : Type 0} (r : List ℕ → Option (A × List ℕ)) (s : A → List ℕ) (F G : A → Type 0) → Reads r s F → ((a : A) → F a → G a) → ((a : A) → G a → F a) → Reads r s G
+pub reads_as : {A : Type 0} (r : Reader A) (s : A → List ℕ) (F G : A → Type 0) → Reads r s F → ((a : A) → F a → G a) → ((a : A) → G a → F a) → Reads r s G
 reads_as r s F G law there back = record {
   takes = λ bytes a rest fits e. let t = law.takes bytes a rest fits e in (t.0, there a t.1);
   again = λ a rest fits. law.again a rest (back a fits);
@@ -92,7 +101,7 @@ reads_as r s F G law there back = record {
 
 -- ---- many
 
-pub many_takes : {A : Type 0} (r : List ℕ → Option (A × List ℕ)) (s : A → List ℕ) (F : A → Type 0) → Reads r s F
+pub many_takes : {A : Type 0} (r : Reader A) (s : A → List ℕ) (F : A → Type 0) → Reads r s F
     → (n : ℕ) (bytes : List ℕ) (xs : List A) (rest : List ℕ) → IsBytes bytes → many r n bytes ≡ Some (xs, rest) → (bytes ≡ flat_map s xs ++ rest) × AllByRecursion F xs × (length xs ≡ n)
 unfolding many
 many_takes {A} r s F law zero bytes xs rest fits e =
@@ -107,13 +116,13 @@ many_takes {A} r s F law (suc n) bytes xs rest fits e =
     let found : List A × List ℕ = (t.0.0 ∷ u.0.0, u.0.1) in
     subst (λ (y : List A × List ℕ). (bytes ≡ flat_map s y.0 ++ y.1) × AllByRecursion F y.0 × (length y.0 ≡ suc n)) (same_Some found (xs, rest) u.2) (parts, (ta.1, tb.1), ap suc tb.2)
 
-pub many_again : {A : Type 0} (r : List ℕ → Option (A × List ℕ)) (s : A → List ℕ) (F : A → Type 0) → Reads r s F
+pub many_again : {A : Type 0} (r : Reader A) (s : A → List ℕ) (F : A → Type 0) → Reads r s F
     → (xs : List A) (rest : List ℕ) → AllByRecursion F xs → many r (length xs) (flat_map s xs ++ rest) ≡ Some (xs, rest)
 unfolding many
 many_again r s F law [] rest fits = refl
 many_again r s F law (x ∷ xs) rest fits = rw (append_assoc (s x) (flat_map s xs) rest, law.again x (flat_map s xs ++ rest) fits.0, many_again r s F law xs rest fits.1) refl
 
-pub counted_reads : {A : Type 0} (rc : List ℕ → Option (ℕ × List ℕ)) (sc : ℕ → List ℕ) (Fc : ℕ → Type 0) (test : ℕ → Bool) (r : List ℕ → Option (A × List ℕ)) (s : A → List ℕ) (F : A → Type 0)
+pub counted_reads : {A : Type 0} (rc : Reader ℕ) (sc : ℕ → List ℕ) (Fc : ℕ → Type 0) (test : ℕ → Bool) (r : Reader A) (s : A → List ℕ) (F : A → Type 0)
     → Reads rc sc Fc → Reads r s F → Reads (counted rc test r) (λ (xs : List A). sc (length xs) ++ flat_map s xs) (λ (xs : List A). (Fc (length xs) × (test (length xs) ≡ true)) × AllByRecursion F xs)
 unfolding counted
 counted_reads {A} rc sc Fc test r s F c_law law = record {
@@ -129,7 +138,7 @@ counted_reads {A} rc sc Fc test r s F c_law law = record {
 
 -- ---- a length and as many bytes
 
-pub sized_reads : (rc : List ℕ → Option (ℕ × List ℕ)) (sc : ℕ → List ℕ) (Fc : ℕ → Type 0) → Reads rc sc Fc → Reads (sized rc) (λ (bs : List ℕ). sc (length bs) ++ bs) (λ (bs : List ℕ). Fc (length bs))
+pub sized_reads : (rc : Reader ℕ) (sc : ℕ → List ℕ) (Fc : ℕ → Type 0) → Reads rc sc Fc → Reads (sized rc) (λ (bs : List ℕ). sc (length bs) ++ bs) (λ (bs : List ℕ). Fc (length bs))
 unfolding sized
 sized_reads rc sc Fc law = record {
   takes = λ bytes bs rest fits e.

@@ -1,8 +1,8 @@
-//! Readers of bytes, of parts and of numbers, which take no memory.
+//! The pieces as code. Each gives what was read and the bytes after it, or nothing; none takes memory.
 
 ghost use Rattle.std.specs.Prelude.{◌≡◌, List, length, Some, None};
 ghost use Rattle.std.specs.Int.{w16, w32, w64};
-ghost use Rattle.byte_grammar.specs.Reading.{Gives, byte, number, part};
+ghost use Rattle.byte_grammar.specs.Reading.{Gives, byte, constant, is_from_1_to, number, part};
 
 /// The first byte.
 pub fn byte_of(bytes: &[u8]) -> Option<(u8, &[u8])>
@@ -60,4 +60,19 @@ pub fn u64_of(bytes: &[u8]) -> Option<(u64, &[u8])>
         front[0], front[1], front[2], front[3], front[4], front[5], front[6], front[7],
     ]);
     Some((number, rest))
+}
+
+/// The bytes after `text`, where they begin with it.
+#[tactic(auto, unfolding(crate::specs::Reading::constant))]
+pub fn constant_of<'a>(text: &[u8], bytes: &'a [u8]) -> Option<&'a [u8]>
+    ensures value { Gives (λ r. (tt, r.now)) result (constant text.now bytes.now) }
+{
+    bytes.strip_prefix(text)
+}
+
+/// Whether a count is at least one and not above the limit.
+pub fn is_count(limit: u16, count: u16) -> bool
+    ensures value { result ≡ is_from_1_to limit count }
+{
+    1 <= count && count <= limit
 }

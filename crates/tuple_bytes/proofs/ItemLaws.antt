@@ -1,15 +1,13 @@
 -- Each reader reads exactly the spellings.
 use Rattle.std.proofs.Common.{◌≡◌, ℕ, zero, suc, ◌^◌, ◌+◌, ◌<◌, ◌≤◌, ℤ, Bool, true, false, cond, ltb, List, [], ◌∷◌, ◌++◌, length, Option, Some, None, refl, sym, ap, subst, ◌∙◌, append_assoc, arith}
-use Rattle.std.specs.Prelude.{MatchOption, pos, negsuc, IsUtf8, FitsSigned, ◌&&◌, nat_le, is_some, IsTrue}
+use Rattle.std.specs.Prelude.{pos, negsuc, IsUtf8, FitsSigned, is_some}
 use Rattle.std.specs.List.{flat_map, AllByRecursion}
 use Rattle.std.specs.Str.{is_utf8}
 use Rattle.std.specs.Int.{w16, w32, w64, to_be_bytes, cast_signed, cast_unsigned}
-use Rattle.std.proofs.lemmas.Bool.{ltb-false, le-ltb, leb-true, le-leb}
+use Rattle.std.proofs.lemmas.Bool.{leb-true}
 use Rattle.std.proofs.lemmas.Int.{of_z-to_z, to_z-of_z}
-use Rattle.std.proofs.lemmas.List.{append-nil, nil_from_length}
-use Rattle.std.proofs.lemmas.Option.{same_Some, none-some}
+use Rattle.std.proofs.lemmas.Option.{none-some}
 use Rattle.std.proofs.lemmas.Str.{IsUtf8-from_is_utf8, is_utf8-from_IsUtf8}
-use borrow.Author.Tests.{ltb-true}
 use borrow.Author.Gap.{read_sfits}
 use Rattle.tuple_bytes.specs.declared.item.Txn.{Txn}
 use Rattle.tuple_bytes.specs.declared.item.Item.{Item}
@@ -21,55 +19,22 @@ use Rattle.tuple_bytes.specs.declared.op.Op.{Op}
 use Rattle.tuple_bytes.specs.declared.op.Op.TheVariants as ops
 use Rattle.tuple_bytes.specs.declared.value.Value.{Value}
 use Rattle.tuple_bytes.specs.declared.value.Value.TheVariants as values
+use Rattle.tuple_bytes.specs.Limits.{max_word, max_columns, max_ops}
 use Rattle.tuple_bytes.specs.Word.{is_word}
-use Rattle.byte_grammar.specs.Reading.{IsBytes, ◌>>=◌, is_from_1_to, byte, number, seq, mapped, checked, many, counted, sized, tagged, whole}
-use Rattle.tuple_bytes.specs.Spelling.{spell_word, kind_code, spell_long, bool_code, spell_value, spell_column, spell_columns, spell_row, spell_op, spell_ops, spell_item, FitsValue, FitsWord, IsFrom1To, FitsColumn, FitsColumns, FitsRow, FitsOp, FitsOps, FitsItem, Spells}
+use Rattle.byte_grammar.specs.Reading.{IsBytes, ◌>>=◌, rest_of, byte, number, seq, mapped, checked, sized, tagged}
+use Rattle.tuple_bytes.specs.Spelling.{spell_word, kind_code, spell_long, bool_code, spell_value, spell_column, spell_columns, spell_row, spell_op, spell_ops, spell_item, FitsValue, FitsWord, FitsColumn, FitsColumns, FitsRow, FitsOp, FitsOps, FitsItem, Spells, IsItemSpelled}
 use Rattle.tuple_bytes.specs.Items.{word_at, kind_by, kind_at, bool_by, int_of, value_by, value_at, column_of, column_at, columns_at, row_at, create_of, put_of, remove_of, op_by, op_at, ops_at, txn_of, item_by, item_at, item_of}
-use Rattle.byte_grammar.proofs.Parts.{Reads, bind_some, else_some, seq_reads, mapped_takes, mapped_again, checked_reads, reads_as, counted_reads, sized_reads, IsBytes-after}
-use Rattle.byte_grammar.proofs.Fields.{cell, IsByte, byte_reads, wide16, wide32, wide64, number_reads}
-
--- what follows a tag
-pub record Goes {A : Type 0} (tag : ℕ) (bytes : List ℕ) (spell : A → List ℕ) (Fits : A → Type 0) (a : A) (rest : List ℕ) : Type 0 where
-  pub parts : tag ∷ bytes ≡ spell a ++ rest
-  pub fits : Fits a
-
-after_tag : {A : Type 0} (tag : ℕ) (bytes : List ℕ) (spell : A → List ℕ) (Fits : A → Type 0) (x a : A) (rest : List ℕ) → x ≡ a → tag ∷ bytes ≡ spell x ++ rest → Fits x → Goes tag bytes spell Fits a rest
-after_tag tag bytes spell Fits x a rest e p f = subst (λ y. Goes tag bytes spell Fits y rest) e (record { parts = p; fits = f })
-
--- a value that takes no bytes behind its tag
-abbrev ended : {A : Type 0} → A → List ℕ → Option (A × List ℕ)
-ended x bytes = Some (x, bytes)
-
-bare : {A : Type 0} (tag : ℕ) (bytes : List ℕ) (spell : A → List ℕ) (Fits : A → Type 0) (x a : A) (rest : List ℕ) → ended x bytes ≡ ended a rest → spell x ≡ tag ∷ [] → Fits x → Goes tag bytes spell Fits a rest
-bare {A} tag bytes spell Fits x a rest e s f =
-    let found : A × List ℕ = (x, bytes) in
-    subst (λ (y : A × List ℕ). Goes tag bytes spell Fits y.0 y.1) (same_Some found (a, rest) e) (record { parts = rw s refl; fits = f })
-
-rest_bytes : (b : ℕ) (bytes : List ℕ) → IsBytes (b ∷ bytes) → IsBytes bytes
-rest_bytes b bytes h i = h (suc i)
-
--- a reader that goes by the first byte
-tagged_takes : {A : Type 0} (f : ℕ → List ℕ → Option (A × List ℕ)) (spell : A → List ℕ) (Fits : A → Type 0)
-    → ((tag : ℕ) (bytes : List ℕ) (a : A) (rest : List ℕ) → IsBytes bytes → f tag bytes ≡ Some (a, rest) → Goes tag bytes spell Fits a rest)
-    → (bytes : List ℕ) (a : A) (rest : List ℕ) → IsBytes bytes → tagged f bytes ≡ Some (a, rest) → (bytes ≡ spell a ++ rest) × Fits a
-unfolding tagged
-tagged_takes f spell Fits by [] a rest fits e = absurd cc
-tagged_takes f spell Fits by (b ∷ bytes) a rest fits e = let g = by b bytes a rest (rest_bytes b bytes fits) e in (g.parts, g.fits)
-
-pub and_left : (a b : Bool) → (a && b) ≡ true → a ≡ true
-and_left true b e = refl
-and_left false b e = e
-
-pub and_right : (a b : Bool) → (a && b) ≡ true → b ≡ true
-and_right true b e = e
-and_right false b e = absurd cc
+use Rattle.byte_grammar.proofs.Parts.{Reads, and_left, seq_reads, mapped_takes, mapped_again, checked_reads, reads_as, sized_reads}
+use Rattle.byte_grammar.proofs.Tags.{Goes, after_tag, bare, tagged_takes}
+use Rattle.byte_grammar.proofs.Wholes.{whole_takes as any_takes, whole_again as any_again, whole_some, is_some-whole, apart as any_apart}
+use Rattle.byte_grammar.proofs.Fields.{cell, IsByte, byte_reads, wide16, wide32, wide64, number_reads, few_reads}
 
 -- ---- words
 
 short : (w : List ℕ) → is_word w ≡ true → IsByte (length w)
 short [] e = omega arith
 short (b ∷ bs) e =
-    let few : length bs < 32 = ltb-true (length bs) 32 (and_left (ltb (length bs) 32) _ (and_left _ _ e)) in
+    let few : length (b ∷ bs) ≤ max_word = leb-true (length (b ∷ bs)) max_word (and_left _ _ (and_left _ _ e)) in
     omega arith
 
 pub word_reads : Reads word_at spell_word FitsWord
@@ -104,23 +69,26 @@ kind_reads = record { takes = tagged_takes kind_by _ _ kind_goes; again = λ k r
 
 -- ---- values
 
+word16 : Reads (number w16) (to_be_bytes w16) (λ n. n < 2 ^ 16)
+word16 = number_reads w16 (2 ^ 16) wide16
+
+word32 : Reads (number w32) (to_be_bytes w32) (λ n. n < 2 ^ 32)
+word32 = number_reads w32 (2 ^ 32) wide32
+
+word64 : Reads (number w64) (to_be_bytes w64) (λ n. n < 2 ^ 64)
+word64 = number_reads w64 (2 ^ 64) wide64
+
 abbrev FitsLong : List ℕ → Type 0
 FitsLong t = length t < 2 ^ 16
 
 long_reads : Reads (sized (number w16)) spell_long FitsLong
-long_reads = sized_reads (number w16) (to_be_bytes w16) (λ n. n < 2 ^ 16) (number_reads w16 (2 ^ 16) wide16)
+long_reads = sized_reads (number w16) (to_be_bytes w16) (λ n. n < 2 ^ 16) word16
 
 abbrev FitsText : List ℕ → Type 0
 FitsText t = FitsLong t × (is_utf8 t ≡ true)
 
 text_reads : Reads (checked is_utf8 (sized (number w16))) spell_long FitsText
 text_reads = checked_reads is_utf8 (sized (number w16)) spell_long FitsLong long_reads
-
-word64 : Reads (number w64) (to_be_bytes w64) (λ n. n < 2 ^ 64)
-word64 = number_reads w64 (2 ^ 64) wide64
-
-word32 : Reads (number w32) (to_be_bytes w32) (λ n. n < 2 ^ 32)
-word32 = number_reads w32 (2 ^ 32) wide32
 
 abbrev Any : Bool → Type 0
 Any b = Unit {0}
@@ -176,15 +144,6 @@ value_reads = record { takes = tagged_takes value_by _ _ value_goes; again = val
 
 -- ---- columns and rows
 
-pub from_test : (limit n : ℕ) → is_from_1_to limit n ≡ true → IsFrom1To limit n
-from_test limit n e = (leb-true 1 n (and_left _ _ e), leb-true n limit (and_right (nat_le 1 n) _ e))
-
-pub to_test : (limit n : ℕ) → IsFrom1To limit n → is_from_1_to limit n ≡ true
-to_test limit n h =
-    let low : nat_le 1 n ≡ true = le-leb 1 n h.0 in
-    let high : nat_le n limit ≡ true = le-leb n limit h.1 in
-    rw (low, high) refl
-
 abbrev FitsPair : List ℕ × Kind → Type 0
 FitsPair p = FitsWord p.0 × Unit {0}
 
@@ -200,22 +159,13 @@ column_reads = record {
   again = λ c rest fits. mapped_again column_of (seq word_at kind_at) _ _ column_law (c.name, c.kind) rest (fits, tt);
 }
 
--- at most 32, counted by a byte
-few_reads : {A : Type 0} (r : List ℕ → Option (A × List ℕ)) (s : A → List ℕ) (F : A → Type 0) → Reads r s F
-    → Reads (counted byte (is_from_1_to 32) r) (λ (xs : List A). length xs ∷ flat_map s xs) (λ (xs : List A). IsFrom1To 32 (length xs) × AllByRecursion F xs)
-few_reads {A} r s F law =
-    reads_as (counted byte (is_from_1_to 32) r) (λ (xs : List A). length xs ∷ flat_map s xs) _ (λ (xs : List A). IsFrom1To 32 (length xs) × AllByRecursion F xs)
-    (counted_reads byte cell IsByte (is_from_1_to 32) r s F byte_reads law)
-    (λ xs h. (from_test 32 (length xs) h.0.1, h.1))
-    (λ xs h. let le : length xs ≤ 32 = h.0.1 in let lt : length xs < 256 = omega arith in ((lt, to_test 32 (length xs) h.0), h.1))
-
 pub columns_reads : Reads columns_at spell_columns FitsColumns
 unfolding columns_at
-columns_reads = few_reads column_at spell_column FitsColumn column_reads
+columns_reads = few_reads byte cell 256 max_columns (omega arith) byte_reads column_at spell_column FitsColumn column_reads
 
 pub row_reads : Reads row_at spell_row FitsRow
 unfolding row_at
-row_reads = few_reads value_at spell_value FitsValue value_reads
+row_reads = few_reads byte cell 256 max_columns (omega arith) byte_reads value_at spell_value FitsValue value_reads
 
 -- ---- operations
 
@@ -254,11 +204,7 @@ op_reads = record { takes = tagged_takes op_by _ _ op_goes; again = op_again }
 
 pub ops_reads : Reads ops_at spell_ops FitsOps
 unfolding ops_at
-ops_reads =
-    reads_as (counted (number w16) (is_from_1_to 256) op_at) spell_ops _ FitsOps
-    (counted_reads (number w16) (to_be_bytes w16) (λ n. n < 2 ^ 16) (is_from_1_to 256) op_at spell_op FitsOp (number_reads w16 (2 ^ 16) wide16) op_reads)
-    (λ os h. (from_test 256 (length os) h.0.1, h.1))
-    (λ os h. let le : length os ≤ 256 = h.0.1 in let lt : length os < 2 ^ 16 = omega arith in ((lt, to_test 256 (length os) h.0), h.1))
+ops_reads = few_reads (number w16) (to_be_bytes w16) (2 ^ 16) max_ops (omega arith) word16 op_at spell_op FitsOp op_reads
 
 -- ---- items
 
@@ -295,39 +241,29 @@ item_reads = record { takes = tagged_takes item_by _ _ item_goes; again = item_a
 -- ---- whole items
 
 pub whole_takes : (bytes : List ℕ) (i : Item) → IsBytes bytes → item_of bytes ≡ Some i → Spells i bytes
-unfolding item_of whole
-whole_takes bytes i fits e =
-    let t = bind_some (item_at bytes) (λ a. cond (ltb 0 (length a.1)) None (Some a.0)) i e in
-    let g = else_some (ltb 0 (length t.0.1)) t.0.0 i t.2 in
-    let none : t.0.1 ≡ [] = nil_from_length t.0.1 (let le : length t.0.1 ≤ 0 = ltb-false _ _ g.0 in omega arith) in
-    let ti = item_reads.takes bytes t.0.0 t.0.1 fits t.1 in
-    subst (λ (x : Item). Spells x bytes) g.1 (ti.1, ti.0 ∙ ap (λ (x : List ℕ). spell_item t.0.0 ++ x) none ∙ append-nil (spell_item t.0.0))
+unfolding item_of
+whole_takes bytes i fits e = any_takes item_at spell_item FitsItem item_reads bytes i fits e
 
 pub whole_again : (bytes : List ℕ) (i : Item) → Spells i bytes → item_of bytes ≡ Some i
-unfolding item_of whole
-whole_again bytes i s =
-    let all : bytes ≡ spell_item i ++ [] = s.1 ∙ sym (append-nil (spell_item i)) in
-    rw (all, item_reads.again i [] s.0) refl
+unfolding item_of
+whole_again bytes i s = any_again item_at spell_item FitsItem item_reads bytes i s
 
 -- the bytes spell an item exactly where reading finds one
 pub some_spelled : (bytes : List ℕ) → IsBytes bytes → is_some (item_of bytes) ≡ true → (i : Item) × Spells i bytes
-some_spelled bytes fits e = from (item_of bytes) refl e
-  where
-    from : (o : Option Item) → item_of bytes ≡ o → is_some o ≡ true → (i : Item) × Spells i bytes
-    from (Some i) eq h = (i, whole_takes bytes i fits eq)
-    from None eq h = absurd cc
+unfolding item_of
+some_spelled bytes fits e = let t = whole_some item_at spell_item FitsItem item_reads bytes fits e in (t.0, (t.1, t.2))
 
 pub spelled_some : (bytes : List ℕ) (i : Item) → Spells i bytes → is_some (item_of bytes) ≡ true
 spelled_some bytes i s = rw (whole_again bytes i s) refl
 
--- no spelling begins another
-pub apart : (i j : Item) (x y : List ℕ) → FitsItem i → FitsItem j → spell_item i ++ x ≡ spell_item j ++ y → (i ≡ j) × (x ≡ y)
-apart i j x y fi fj e =
-    let one : Item × List ℕ = (i, x) in
-    let other : Item × List ℕ = (j, y) in
-    let same : one ≡ other = same_Some one other (sym (item_reads.again i x fi) ∙ ap item_at e ∙ item_reads.again j y fj) in
-    (ap (λ (p : Item × List ℕ). p.0) same, ap (λ (p : Item × List ℕ). p.1) same)
+pub item_of_rest : (bytes : List ℕ) → is_some (item_of bytes) ≡ is_some (rest_of (item_at bytes) >>= λ r. cond (ltb 0 (length r)) None (Some r))
+unfolding item_of
+item_of_rest bytes = is_some-whole item_at bytes
 
-pub found_spelled : (o : Option Item) (bytes : List ℕ) → IsBytes bytes → o ≡ item_of bytes → MatchOption o ((i : Item) → Spells i bytes → ⊥) (λ i. Spells i bytes)
+pub found_spelled : (o : Option Item) (bytes : List ℕ) → IsBytes bytes → o ≡ item_of bytes → IsItemSpelled bytes o
 found_spelled None bytes fits e = λ i s. none-some i (e ∙ whole_again bytes i s)
 found_spelled (Some i) bytes fits e = whole_takes bytes i fits (sym e)
+
+-- no spelling begins another
+pub apart : (i j : Item) (x y : List ℕ) → FitsItem i → FitsItem j → spell_item i ++ x ≡ spell_item j ++ y → (i ≡ j) × (x ≡ y)
+apart i j x y fi fj e = any_apart item_at spell_item FitsItem item_reads i j x y fi fj e

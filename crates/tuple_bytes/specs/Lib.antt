@@ -1,3 +1,4 @@
+pub mod Limits
 pub mod Word
 pub mod Row
 pub mod Spelling

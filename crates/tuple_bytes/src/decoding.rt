@@ -1,20 +1,19 @@
-//! Reading items into memory.
+//! Reading items into memory: each function owns what the functions of `reading` find.
 
-ghost use Rattle.std.specs.Prelude.{◌≡◌, IfOk, true, length, Some, None, MatchOption};
-ghost use Rattle.tuple_bytes.specs.declared.item.Item.{Item};
-ghost use Rattle.byte_grammar.specs.Reading.{Gives, many, seq};
+ghost use Rattle.std.specs.Prelude.{◌≡◌, IfOk, Some, None};
+ghost use Rattle.byte_grammar.specs.Reading.{Gives, many};
 ghost use Rattle.tuple_bytes.specs.Items.{word_at, column_at, columns_at, value_at, row_at, op_by, op_at, ops_at, item_by, item_at, item_of};
 ghost use Rattle.tuple_bytes.specs.Found.{value_of_found, FitsFound};
-ghost use Rattle.tuple_bytes.specs.Spelling.{Spells};
+ghost use Rattle.tuple_bytes.specs.Spelling.{IsItemSpelled};
 
 use crate::item::{Item, Txn};
+use crate::limits::{MAX_COLUMNS, MAX_OPS};
 use crate::op::{Column, Columns, Op, Ops};
 use crate::reading::{Found, kind_of, value_of, word_of};
-use crate::skipping::is_count;
 use crate::text::{Blob, Text};
 use crate::value::{Row, Value};
 use crate::word::Word;
-use byte_grammar::{byte_of, u16_of, u32_of, u64_of};
+use byte_grammar::{byte_of, is_count, u16_of, u32_of, u64_of};
 use std::alloc::{AllocError, Global};
 
 #[tactic(auto, using(crate::proofs::Skips::text_of_test))]
@@ -84,7 +83,9 @@ fn owned_row_of(alloc: Global, bytes: &[u8]) -> Result<Option<(Row, &[u8])>, All
     ensures { IfOk result (λ r. Gives (λ x. (x.0, x.1.now)) r (row_at bytes.now)) }
 {
     match byte_of(bytes) {
-        Some((count, rest)) if is_count(32, u16::from(count)) => each_value_of(alloc, count, rest),
+        Some((count, rest)) if is_count(MAX_COLUMNS, u16::from(count)) => each_value_of(
+            alloc, count, rest,
+        ),
         _ => Ok(None),
     }
 }
@@ -115,7 +116,9 @@ fn owned_columns_of(alloc: Global, bytes: &[u8]) -> Result<Option<(Columns, &[u8
     ensures { IfOk result (λ r. Gives (λ x. (x.0, x.1.now)) r (columns_at bytes.now)) }
 {
     match byte_of(bytes) {
-        Some((count, rest)) if is_count(32, u16::from(count)) => each_column_of(alloc, count, rest),
+        Some((count, rest)) if is_count(MAX_COLUMNS, u16::from(count)) => each_column_of(
+            alloc, count, rest,
+        ),
         _ => Ok(None),
     }
 }
@@ -193,7 +196,7 @@ fn owned_ops_of(alloc: Global, bytes: &[u8]) -> Result<Option<(Ops, &[u8])>, All
     ensures { IfOk result (λ r. Gives (λ x. (x.0, x.1.now)) r (ops_at bytes.now)) }
 {
     match u16_of(bytes) {
-        Some((count, rest)) if is_count(256, count) => each_op_of(alloc, count, rest),
+        Some((count, rest)) if is_count(MAX_OPS, count) => each_op_of(alloc, count, rest),
         _ => Ok(None),
     }
 }
@@ -253,10 +256,10 @@ fn whole_item(alloc: Global, bytes: &[u8]) -> Result<Option<Item>, AllocError>
     }
 }
 
-/// The item that all of the bytes spell.
+/// The item that the bytes spell, all of them, or none where they spell none.
 pub fn decode_item(alloc: Global, bytes: &[u8]) -> Result<Option<Item>, AllocError>
-    ensures exact { IfOk result (λ found. found ≡ item_of bytes.now) }
-    ensures spelled { IfOk result (λ found. MatchOption found ((i : Item) → Spells i bytes.now → ⊥) (λ i. Spells i bytes.now)) }
+    ensures value { IfOk result (λ found. found ≡ item_of bytes.now) }
+    ensures spelled { IfOk result (λ found. IsItemSpelled bytes.now found) }
 {
     whole_item(alloc, bytes)
 }

@@ -1,18 +1,27 @@
-//! Laws of the definitions, each the contract of a function that does nothing.
+//! Laws of the spelling, each the contract of a function that does nothing.
 
-ghost use Rattle.std.specs.Prelude.{◌≡◌, ◌++◌, List, ℕ};
+ghost use Rattle.std.specs.Prelude.{◌≡◌, ◌++◌, List, ℕ, Some};
+ghost use Rattle.tuple_bytes.specs.declared.header.Header.{Header};
 ghost use Rattle.tuple_bytes.specs.declared.item.Item.{Item};
-ghost use Rattle.byte_grammar.specs.Reading.{IsBytes};
+ghost use Rattle.byte_grammar.specs.Reading.{IsBytes, IsPrefixFree};
+ghost use Rattle.tuple_bytes.specs.HeaderBytes.{header_of};
 ghost use Rattle.tuple_bytes.specs.Items.{item_of};
-ghost use Rattle.tuple_bytes.specs.Spelling.{FitsItem, Spells, spell_item};
+ghost use Rattle.tuple_bytes.specs.Spelling.{FitsHeader, FitsItem, Spells, SpellsHeader, spell_header, spell_item};
 
-/// No spelling begins another, so each item has one spelling and each spelling one item.
-pub fn spellings_are_apart()
-    ensures { (i j : Item) (x y : List ℕ) → FitsItem i → FitsItem j → spell_item i ++ x ≡ spell_item j ++ y → (i ≡ j) × (x ≡ y) }
+/// No spelling begins another. So each value has one spelling, and bytes spell one value at most.
+pub fn no_spelling_begins_another()
+    ensures items { IsPrefixFree spell_item FitsItem }
+    ensures headers { IsPrefixFree spell_header FitsHeader }
 {}
 
-/// The item that bytes are read as is the one that they spell.
-pub fn item_is_spelled()
-    ensures read { (bytes : List ℕ) (i : Item) → IsBytes bytes → item_of bytes ≡ Some i → Spells i bytes }
-    ensures found { (bytes : List ℕ) (i : Item) → Spells i bytes → item_of bytes ≡ Some i }
+/// What bytes are read as is what they spell.
+pub fn what_is_read_is_spelled()
+    ensures items { (x : List ℕ) (i : Item) → IsBytes x → item_of x ≡ Some i → Spells i x }
+    ensures headers { (x : List ℕ) (h : Header) → IsBytes x → header_of x ≡ Some h → SpellsHeader h x }
+{}
+
+/// What bytes spell is what they are read as. So decoding what was encoded gives the value again.
+pub fn a_spelling_is_read()
+    ensures items { (x : List ℕ) (i : Item) → Spells i x → item_of x ≡ Some i }
+    ensures headers { (x : List ℕ) (h : Header) → SpellsHeader h x → header_of x ≡ Some h }
 {}

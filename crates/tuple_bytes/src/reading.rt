@@ -1,8 +1,8 @@
-//! Reading from the front of bytes, without taking memory.
+//! Words, kinds and values, read where they stand, without memory.
 
-ghost use Rattle.std.specs.Prelude.{◌≡◌, List, length, Some, None, IfSome, true};
-ghost use Rattle.std.specs.Int.{w16, w32, w64};
-ghost use Rattle.byte_grammar.specs.Reading.{Gives, byte, number, part, sized, checked, tagged};
+ghost use Rattle.std.specs.Prelude.{◌≡◌, Some, None, IfSome, true};
+ghost use Rattle.std.specs.Int.{w16};
+ghost use Rattle.byte_grammar.specs.Reading.{Gives, number, sized, checked, tagged};
 ghost use Rattle.tuple_bytes.specs.Items.{word_at, kind_at, bool_by, value_at};
 ghost use Rattle.tuple_bytes.specs.Found.{value_of_found, FitsFound};
 ghost use Rattle.std.specs.Str.{is_utf8};
@@ -13,8 +13,9 @@ use crate::text::spells_text;
 use crate::word::spells_word;
 use byte_grammar::{byte_of, part_of, u16_of, u64_of};
 
+/// A length of two bytes, and that many bytes.
 #[tactic(auto, unfolding(byte_grammar::specs::Reading::sized))]
-pub fn long_of(bytes: &[u8]) -> Option<(&[u8], &[u8])>
+fn long_of(bytes: &[u8]) -> Option<(&[u8], &[u8])>
     ensures { Gives (λ x. (x.0.now, x.1.now)) result (sized (number w16) bytes.now) }
 {
     let (len, rest) = u16_of(bytes)?;
@@ -22,8 +23,8 @@ pub fn long_of(bytes: &[u8]) -> Option<(&[u8], &[u8])>
 }
 
 #[tactic(auto, unfolding(crate::specs::Items::word_at, byte_grammar::specs::Reading::checked, byte_grammar::specs::Reading::sized))]
-pub fn word_of(bytes: &[u8]) -> Option<(&[u8], &[u8])>
-    ensures reads { Gives (λ x. (x.0.now, x.1.now)) result (word_at bytes.now) }
+pub(crate) fn word_of(bytes: &[u8]) -> Option<(&[u8], &[u8])>
+    ensures value { Gives (λ x. (x.0.now, x.1.now)) result (word_at bytes.now) }
     ensures word { IfSome result (λ x. is_word x.0.now ≡ true) }
 {
     let (len, rest) = byte_of(bytes)?;
@@ -35,7 +36,7 @@ pub fn word_of(bytes: &[u8]) -> Option<(&[u8], &[u8])>
 }
 
 #[tactic(auto, unfolding(crate::specs::Items::kind_at, crate::specs::Items::kind_by, byte_grammar::specs::Reading::tagged), using(crate::proofs::Skips::kind_by_other))]
-pub fn kind_of(bytes: &[u8]) -> Option<(Kind, &[u8])>
+pub(crate) fn kind_of(bytes: &[u8]) -> Option<(Kind, &[u8])>
     ensures { Gives (λ x. (x.0, x.1.now)) result (kind_at bytes.now) }
 {
     let (tag, rest) = byte_of(bytes)?;
@@ -48,9 +49,9 @@ pub fn kind_of(bytes: &[u8]) -> Option<(Kind, &[u8])>
     }
 }
 
-/// A value where it was read.
+/// A value that lies where it was read.
 #[derive(Clone, Copy)]
-pub enum Found<'a> {
+pub(crate) enum Found<'a> {
     Null,
     Int(i64),
     Text(&'a [u8]),
@@ -72,7 +73,7 @@ fn bool_of(bytes: &[u8]) -> Option<(bool, &[u8])>
 
 #[tactic(auto, unfolding(byte_grammar::specs::Reading::checked))]
 fn text_of(bytes: &[u8]) -> Option<(&[u8], &[u8])>
-    ensures reads { Gives (λ x. (x.0.now, x.1.now)) result (checked is_utf8 (sized (number w16)) bytes.now) }
+    ensures value { Gives (λ x. (x.0.now, x.1.now)) result (checked is_utf8 (sized (number w16)) bytes.now) }
     ensures utf8 { IfSome result (λ x. is_utf8 x.0.now ≡ true) }
 {
     let (text, rest) = long_of(bytes)?;
@@ -83,8 +84,8 @@ fn text_of(bytes: &[u8]) -> Option<(&[u8], &[u8])>
 }
 
 #[tactic(auto, unfolding(crate::specs::Items::value_at, crate::specs::Items::value_by, byte_grammar::specs::Reading::mapped, byte_grammar::specs::Reading::tagged), using(crate::proofs::Skips::value_by_other))]
-pub fn value_of(bytes: &[u8]) -> Option<(Found<'_>, &[u8])>
-    ensures reads { Gives (λ x. (value_of_found x.0, x.1.now)) result (value_at bytes.now) }
+pub(crate) fn value_of(bytes: &[u8]) -> Option<(Found<'_>, &[u8])>
+    ensures value { Gives (λ x. (value_of_found x.0, x.1.now)) result (value_at bytes.now) }
     ensures fits { IfSome result (λ x. FitsFound x.0) }
 {
     let (tag, rest) = byte_of(bytes)?;

@@ -1,20 +1,14 @@
-//! Going over the spelling of an item, which takes no memory.
+//! Going over an item without memory: each function gives the bytes behind what it went over.
 
-ghost use Rattle.std.specs.Prelude.{◌≡◌, ◌↔◌, IsTrue, is_some, List, length, Some, None};
-ghost use Rattle.std.specs.Int.{w16, w32, w64};
+ghost use Rattle.std.specs.Prelude.{◌≡◌, ◌↔◌, IsTrue, is_some, Some, None};
 ghost use Rattle.tuple_bytes.specs.declared.item.Item.{Item};
-ghost use Rattle.byte_grammar.specs.Reading.{Gives, is_from_1_to, rest_of, many, byte, number};
+ghost use Rattle.byte_grammar.specs.Reading.{Gives, rest_of, many};
 ghost use Rattle.tuple_bytes.specs.Items.{column_at, columns_at, value_at, row_at, op_at, ops_at, item_at, item_of};
 ghost use Rattle.tuple_bytes.specs.Spelling.{Spells};
 
+use crate::limits::{MAX_COLUMNS, MAX_OPS};
 use crate::reading::{kind_of, value_of, word_of};
-use byte_grammar::{byte_of, u16_of, u32_of, u64_of};
-
-pub fn is_count(limit: u16, count: u16) -> bool
-    ensures { result ≡ is_from_1_to limit count }
-{
-    1 <= count && count <= limit
-}
+use byte_grammar::{byte_of, is_count, u16_of, u32_of, u64_of};
 
 #[tactic(auto, unfolding(crate::specs::Items::column_at, byte_grammar::specs::Reading::mapped, byte_grammar::specs::Reading::seq))]
 fn skip_column(bytes: &[u8]) -> Option<&[u8]>
@@ -40,7 +34,7 @@ fn skip_columns(bytes: &[u8]) -> Option<&[u8]>
     ensures { Gives (λ r. r.now) result (rest_of (columns_at bytes.now)) }
 {
     let (count, rest) = byte_of(bytes)?;
-    if !is_count(32, u16::from(count)) {
+    if !is_count(MAX_COLUMNS, u16::from(count)) {
         return None;
     }
     skip_each_column(count, rest)
@@ -68,7 +62,7 @@ fn skip_row(bytes: &[u8]) -> Option<&[u8]>
     ensures { Gives (λ r. r.now) result (rest_of (row_at bytes.now)) }
 {
     let (count, rest) = byte_of(bytes)?;
-    if !is_count(32, u16::from(count)) {
+    if !is_count(MAX_COLUMNS, u16::from(count)) {
         return None;
     }
     skip_each_value(count, rest)
@@ -111,7 +105,7 @@ fn skip_ops(bytes: &[u8]) -> Option<&[u8]>
     ensures { Gives (λ r. r.now) result (rest_of (ops_at bytes.now)) }
 {
     let (count, rest) = u16_of(bytes)?;
-    if !is_count(256, count) {
+    if !is_count(MAX_OPS, count) {
         return None;
     }
     skip_each_op(count, rest)
@@ -136,7 +130,7 @@ fn skip_item(bytes: &[u8]) -> Option<&[u8]>
     }
 }
 
-#[tactic(auto, using(crate::proofs::Skips::item_of_rest))]
+#[tactic(auto, using(crate::proofs::ItemLaws::item_of_rest))]
 fn spells_item(bytes: &[u8]) -> bool
     ensures { result ≡ is_some (item_of bytes.now) }
 {
@@ -146,9 +140,9 @@ fn spells_item(bytes: &[u8]) -> bool
     }
 }
 
-/// Whether all of the bytes spell an item.
+/// Whether the bytes spell an item, all of them. Takes no memory.
 pub fn is_item(bytes: &[u8]) -> bool
-    ensures exact { result ≡ is_some (item_of bytes.now) }
+    ensures value { result ≡ is_some (item_of bytes.now) }
     ensures spelled { IsTrue result ↔ ((item : Item) × Spells item bytes.now) }
 {
     spells_item(bytes)
