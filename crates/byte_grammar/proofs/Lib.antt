@@ -2,3 +2,4 @@ pub mod Parts
 pub mod Fields
 pub mod Fronts
 pub mod Skips
+pub mod GatedLaws
