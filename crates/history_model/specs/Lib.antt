@@ -1,3 +1,5 @@
 pub mod Stored
 pub mod History
 pub mod Digests
+pub mod Inputs
+pub mod Laws

@@ -4,5 +4,7 @@
 mod laws;
 mod stored;
 
-pub use laws::stored_is_longest;
+pub use laws::{
+    headers_tell_apart, links_tell_apart, stored_is_history, stored_is_longest, stores_tell_apart,
+};
 pub use stored::Stored;
