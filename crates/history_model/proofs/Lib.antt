@@ -6,3 +6,4 @@ pub mod Links
 pub mod Headers
 pub mod Spelled
 pub mod Stores
+pub mod Replays

@@ -3,3 +3,4 @@ pub mod History
 pub mod Digests
 pub mod Inputs
 pub mod Laws
+pub mod Replay

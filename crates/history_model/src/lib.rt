@@ -2,6 +2,7 @@
 #![tactic(auto)]
 
 mod laws;
+pub mod plain;
 mod stored;
 
 pub use laws::{
