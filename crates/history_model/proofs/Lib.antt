@@ -7,3 +7,5 @@ pub mod Headers
 pub mod Spelled
 pub mod Stores
 pub mod Replays
+pub mod Orders
+pub mod Chains

@@ -4,3 +4,4 @@ pub mod Digests
 pub mod Inputs
 pub mod Laws
 pub mod Replay
+pub mod Linked

@@ -2,6 +2,12 @@
 //!
 //! No command runs them. Tests compare the faster bodies of the crates above with them.
 
+mod links;
+mod order;
 mod replay;
+mod txns;
 
+pub use links::{link, seed};
+pub use order::{canon, last_moment, rows};
 pub use replay::stored;
+pub use txns::Txns;

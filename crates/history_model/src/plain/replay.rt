@@ -28,11 +28,7 @@ fn framed_payload(place: usize, bytes: &[u8]) -> Option<&[u8]>
 }
 
 /// The item of the record at the front of the bytes, which stand at this place, and the record's length.
-fn record_at(
-    alloc: Global,
-    place: usize,
-    bytes: &[u8],
-) -> Result<Option<(Item, usize)>, AllocError>
+fn record_at(alloc: Global, place: usize, bytes: &[u8]) -> Result<Option<(Item, usize)>, AllocError>
     requires { place < max_file }
     ensures { IfOk result (λ found. found ≡ record_at place bytes.now) }
 {
