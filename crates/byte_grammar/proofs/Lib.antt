@@ -4,3 +4,4 @@ pub mod Fronts
 pub mod Skips
 pub mod Tags
 pub mod Wholes
+pub mod GatedLaws

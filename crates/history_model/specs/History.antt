@@ -1,6 +1,7 @@
 -- A history, and the order in which it is hashed.
-use Rattle.std.specs.Prelude.{ℕ, ◌/◌, ◌==◌, max, Bool, List, filter, fold, Option, Some, None}
+use Rattle.std.specs.Prelude.{ℕ, ◌/◌, ◌==◌, max, Bool, List, filter, fold, Option, Some, None, if◌then◌else◌}
 use Rattle.std.specs.List.{filter_map, flat_map, range_with_len}
+use Rattle.byte_grammar.specs.Reading.{◌>>=◌}
 use Rattle.tuple_bytes.specs.declared.header.Header.{Header}
 use Rattle.tuple_bytes.specs.declared.item.Item.{Item}
 use Rattle.tuple_bytes.specs.declared.item.Item.TheVariants as items
@@ -26,6 +27,12 @@ granule_of width moment = moment / width
 
 abbrev pub is_in_granule : Header → ℕ → Txn → Bool
 is_in_granule header g t = granule_of header.width t.moment == g
+
+-- the item, where it is a transaction of the granule
+abbrev pub row_in : Header → ℕ → Item → Option Txn
+row_in header g item = do
+  t ← txn_in item
+  if is_in_granule header g t then Some t else None
 
 -- the transactions of a granule, in file order
 unfoldable pub rows : History → ℕ → List Txn

@@ -1,3 +1,7 @@
 pub mod Stored
 pub mod History
 pub mod Digests
+pub mod Inputs
+pub mod Laws
+pub mod Replay
+pub mod Linked

@@ -1,0 +1,11 @@
+pub mod StoredLaws
+pub mod Members
+pub mod Parts
+pub mod Clashes
+pub mod Links
+pub mod Headers
+pub mod Spelled
+pub mod Stores
+pub mod Replays
+pub mod Orders
+pub mod Chains

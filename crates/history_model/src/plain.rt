@@ -1,0 +1,13 @@
+//! Plain programs whose contracts are the definitions: slow, short, and there to be compared with.
+//!
+//! No command runs them. Tests compare the faster bodies of the crates above with them.
+
+mod links;
+mod order;
+mod replay;
+mod txns;
+
+pub use links::{link, seed};
+pub use order::{canon, last_moment, rows};
+pub use replay::stored;
+pub use txns::Txns;
