@@ -1,0 +1,5 @@
+pub mod Frames
+pub mod Steps
+pub mod Walk
+pub mod Fronts
+pub mod Heads
