@@ -1,51 +1,20 @@
 -- The record at the front of some bytes.
-use Rattle.std.proofs.Common.{◌≡◌, ℕ, ◌+◌, ◌<◌, ◌≤◌, Bool, true, false, cond, ltb, leb, eqb, List, length, get_or, take, drop, Some, None, refl, sym, ap, subst, ◌∙◌, arith}
+use Rattle.std.proofs.Common.{◌≡◌, ℕ, Bool, true, false, cond, List, length, take, drop, Some, None, refl, sym, ap, subst, ◌∙◌, arith}
 use Rattle.std.specs.Prelude.{◌&&◌}
-use Rattle.std.proofs.lemmas.Bool.{lt-ltb, leb-true, le-leb, eqb-true, eq-eqb}
 use Rattle.std.proofs.lemmas.List.{length-take, length-drop}
 use Rattle.std.proofs.lemmas.Option.{same_Some, none-some}
-use borrow.Author.Tests.{ltb-true}
-use Rattle.byte_grammar.specs.Gated.{Shape, open_gate, named_length, named_payload, is_framed, payload_at}
+use Rattle.byte_grammar.specs.Gated.{Shape, named_length, named_payload, is_framed, payload_at}
 use Rattle.byte_grammar.proofs.Parts.{then_some}
+use Rattle.byte_grammar.proofs.GatedLaws.{Framed, framed_from, framed_to}
 use Rattle.txn_journal.specs.Front.{framed_length, IsAtFront}
 
-and_left : (a b : Bool) → (a && b) ≡ true → a ≡ true
-and_left true b e = refl
-and_left false b e = absurd cc
+and_first : (a b : Bool) → (a && b) ≡ true → a ≡ true
+and_first true b e = refl
+and_first false b e = e
 
-and_right : (a b : Bool) → (a && b) ≡ true → b ≡ true
-and_right true b e = e
-and_right false b e = absurd cc
-
--- what the tests of a frame say
-pub record Framed (shape : Shape) (place : ℕ) (bytes : List ℕ) : Type 0 where
-  pub long : 4 < length bytes
-  pub gate : get_or bytes 0 0 ≡ open_gate
-  pub small : named_length bytes ≤ shape.max_payload
-  pub room : 5 + named_length bytes < length bytes
-  pub within : place + 5 + named_length bytes < shape.max_file
-
-pub framed_from : (shape : Shape) (place : ℕ) (bytes : List ℕ) → is_framed shape place bytes ≡ true → Framed shape place bytes
-framed_from shape place bytes e =
-    let e4 = and_left _ _ e in
-    let e3 = and_left _ _ e4 in
-    let e2 = and_left _ _ e3 in
-    record {
-      long = ltb-true _ _ (and_left _ _ e2);
-      gate = eqb-true _ _ (and_right (ltb 4 (length bytes)) _ e2);
-      small = leb-true _ _ (and_right _ _ e3);
-      room = ltb-true _ _ (and_right _ _ e4);
-      within = ltb-true _ _ (and_right _ _ e);
-    }
-
-pub framed_to : (shape : Shape) (place : ℕ) (bytes : List ℕ) → Framed shape place bytes → is_framed shape place bytes ≡ true
-framed_to shape place bytes f =
-    let a : ltb 4 (length bytes) ≡ true = lt-ltb _ _ f.long in
-    let b : eqb (get_or bytes 0 0) open_gate ≡ true = eq-eqb _ _ f.gate in
-    let c : leb (named_length bytes) shape.max_payload ≡ true = le-leb _ _ f.small in
-    let d : ltb (5 + named_length bytes) (length bytes) ≡ true = lt-ltb _ _ f.room in
-    let e : ltb (place + 5 + named_length bytes) shape.max_file ≡ true = lt-ltb _ _ f.within in
-    rw (a, b, c, d, e) refl
+and_second : (a b : Bool) → (a && b) ≡ true → b ≡ true
+and_second true b e = e
+and_second false b e = absurd cc
 
 -- the record at the front, and its payload
 pub record IsRecord (shape : Shape) (place : ℕ) (bytes payload : List ℕ) : Type 0 where
@@ -58,9 +27,9 @@ unfolding payload_at
 record_from shape place bytes payload e =
     let g = then_some (is_framed shape place bytes && shape.accepts (named_payload bytes)) (named_payload bytes) payload e in
     record {
-      framed = framed_from shape place bytes (and_left _ _ g.0);
+      framed = framed_from shape place bytes (and_first _ _ g.0);
       payload_is = sym g.1;
-      accepted = subst (λ (p : List ℕ). shape.accepts p ≡ true) g.1 (and_right (is_framed shape place bytes) _ g.0);
+      accepted = subst (λ (p : List ℕ). shape.accepts p ≡ true) g.1 (and_second (is_framed shape place bytes) _ g.0);
     }
 
 pub record_to : (shape : Shape) (place : ℕ) (bytes payload : List ℕ) → IsRecord shape place bytes payload → payload_at shape place bytes ≡ Some payload

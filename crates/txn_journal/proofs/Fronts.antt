@@ -5,7 +5,8 @@ use Rattle.std.proofs.lemmas.Bool.{cases_lt}
 use Rattle.std.proofs.lemmas.List.{take-take, drop-take, drop_all, length-take, get_or-take}
 use Rattle.std.proofs.lemmas.Option.{none-some}
 use Rattle.byte_grammar.specs.Gated.{Shape, named_length, named_payload, payload_at}
-use Rattle.txn_journal.proofs.Frames.{Framed, record_from, record_to}
+use Rattle.byte_grammar.proofs.GatedLaws.{Framed}
+use Rattle.txn_journal.proofs.Frames.{record_from, record_to}
 
 pub drop-take-sub : (n k : ℕ) (l : List ℕ) → drop n (take k l) ≡ take (k - n) (drop n l)
 drop-take-sub n k l =
@@ -29,14 +30,17 @@ framed_front shape place k bytes f =
     let len = length-take k bytes in
     let five : 5 ≤ k = omega (arith, f.long) in
     let n = named-take k bytes five in
-    let first : get_or (take k bytes) 0 0 ≡ get_or bytes 0 0 = get_or-take k bytes 0 0 (omega arith) in
-    (record {
+    let first : get_or (take k bytes) 0 0 ≡ get_or bytes 0 0 = get_or-take k bytes 0 0 (omega arith) in (
+      record {
         long = omega (arith, f.long);
         gate = sym first ∙ f.gate;
         small = omega (arith, f.small);
         room = omega (arith, f.room);
         within = omega (arith, f.within);
-      }, n, omega (arith, f.room))
+      },
+      n,
+      omega (arith, f.room),
+    )
 
 framed_back : (shape : Shape) (place k : ℕ) (bytes : List ℕ) → shape.max_payload + 6 ≤ k → Framed shape place bytes → Framed shape place (take k bytes)
 framed_back shape place k bytes le f =

@@ -4,7 +4,7 @@ use Rattle.std.proofs.lemmas.List.{drop-drop, length-take, length-drop, get_or-t
 use Rattle.std.specs.Prelude.{IfSome}
 use Rattle.byte_grammar.specs.Gated.{Shape, payload_at, named_length, with_first, records}
 use Rattle.txn_journal.proofs.Frames.{record_from}
-use Rattle.txn_journal.proofs.Walk.{records_step, records_stop}
+use Rattle.byte_grammar.proofs.GatedLaws.{records_step, records_stop}
 use Rattle.txn_journal.proofs.Fronts.{found_in_front, front_decides, drop-take-sub}
 use Rattle.txn_journal.specs.Front.{IsAtFront}
 use Rattle.txn_journal.specs.Reading.{Reading, left, ahead, IsSeenIn, IsFilled, StepsOver, StopsAt, ReadsNext, Advances}

@@ -30,7 +30,7 @@ pub struct Records<S: Shape> {
 impl<S: Shape> Model for Records<S> {
     ghost use Rattle.std.specs.Prelude.{◌≤◌, ◌+◌, take, drop, length};
     ghost use Rattle.byte_grammar.specs.Gated.{open_gate};
-ghost use Rattle.txn_journal.specs.Reading.{Reading};
+    ghost use Rattle.txn_journal.specs.Reading.{Reading};
     ghost use Rattle.txn_journal.specs.Window.{seen_by};
 
     ghost Value = { Reading };

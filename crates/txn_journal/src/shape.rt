@@ -12,6 +12,7 @@ pub trait Shape {
     const WHOLE: u64;
 
     ghost PAYLOAD: { ℕ };
+
     ghost WHOLE: { ℕ };
 
     /// Which payloads the records may have, and the two limits.
@@ -30,9 +31,11 @@ pub trait Shape {
 
     /// The shape has these limits.
     ghost max_payload: { shape.max_payload ≡ PAYLOAD };
+
     ghost max_file: { shape.max_file ≡ WHOLE };
 
     /// They are numbers of code.
     ghost payload_fits: { shape.max_payload < 2 ^ 32 };
+
     ghost whole_fits: { shape.max_file < 2 ^ 64 };
 }
