@@ -1,0 +1,50 @@
+//! Files of gated records: a head, and then records that grow by one at a time.
+//!
+//! A gated file has a head of 64 bytes, behind it records without a break, and behind the last one a
+//! gate. A gate is one byte: `A7` is open, every other value is closed.
+//!
+//! | From place p on | Bytes |
+//! |---|---|
+//! | the gate | 1 |
+//! | the length n of the payload, high byte first | 4 |
+//! | the payload | n |
+//! | the gate of the next record | 1 |
+//!
+//! A `Shape` says which heads and payloads a kind of file has, the most bytes of a payload, and the
+//! place that no gate reaches. A record is valid where its gate is open, its payload is accepted and
+//! no longer than the limit, and the next gate is within the file and the limit. What a file holds are
+//! the payloads of the longest prefix of valid records from place 64 on, whatever its bytes are:
+//! `records` of `byte_grammar` gives them, by its definition and by that law.
+//!
+//! `Records` reads a file through a window that has room for two of the longest records, so a long run
+//! of records takes one call of the disk a window, and a payload is lent and not copied.
+//!
+//! | The layer above may rely on | Clause |
+//! |---|---|
+//! | a file is opened exactly where its bytes have a head of the shape | `value` of `open` |
+//! | the payloads read, one by one, are those of the walk, and reading ends where the walk does | `value` of `advance` |
+//! | the place goes on by a record within the limits, also over a disk that tells nothing | `moves` |
+//! | after a fault the reader stands where it stood | `err` |
+//! | the disk is only read, and a fault has its cause | `same`, `frame`, `cause` |
+//!
+//! ```rust
+//! if let Some(mut records) = Records::<StoreShape>::open(alloc, disk)? {
+//!     while records.advance(disk)? {
+//!         count(records.payload());
+//!     }
+//! }
+//! ```
+#![tactic(auto)]
+
+mod payload;
+mod records;
+mod shape;
+mod store_shape;
+mod window;
+
+pub use records::Records;
+pub use shape::Shape;
+pub use store_shape::StoreShape;
+
+#[cfg(test)]
+mod tests;

@@ -1,0 +1,51 @@
+//! The record at the front of some bytes.
+
+ghost use Rattle.std.specs.Prelude.{◌≡◌, ◌+◌, ◌≤◌, ◌<◌, length, IfSome};
+ghost use Rattle.byte_grammar.specs.Reading.{Gives};
+ghost use Rattle.byte_grammar.specs.Gated.{payload_at};
+ghost use Rattle.txn_journal.specs.Front.{gated_length, framed_length, IsAtFront};
+
+use crate::Shape;
+
+/// The byte of an open gate.
+const OPEN: u8 = 0xa7;
+
+/// The length that stands behind an open gate.
+fn gated_length(bytes: &[u8]) -> Option<u32>
+    ensures value { result ≡ gated_length bytes.now }
+{
+    match bytes {
+        [gate, a, b, c, d, ..] if *gate == OPEN => Some(u32::from_be_bytes([*a, *b, *c, *d])),
+        _ => None,
+    }
+}
+
+/// The same, where the record stands whole and in its limits.
+fn framed_length<S: Shape>(place: u64, bytes: &[u8]) -> Option<usize>
+    ensures value { result ≡ framed_length S.shape place bytes.now }
+{
+    let size = gated_length(bytes)?;
+    let next = place.saturating_add(5 + u64::from(size));
+    if size > S::PAYLOAD || next >= S::WHOLE {
+        return None;
+    }
+    let size = size as usize;
+    if bytes.len() <= 5 + size {
+        return None;
+    }
+    Some(size)
+}
+
+/// The payload of the valid record at the front of the bytes, which stand at this place of their file.
+pub fn payload_of<S: Shape>(place: u64, bytes: &[u8]) -> Option<&[u8]>
+    ensures value { Gives (λ payload. payload.now) result (payload_at S.shape place bytes.now) }
+    ensures fits { IfSome result (λ payload. IsAtFront S.shape place bytes.now payload.now) }
+{
+    let size = framed_length::<S>(place, bytes)?;
+    let payload = &bytes[5..5 + size];
+    if S::accepts(payload) {
+        Some(payload)
+    } else {
+        None
+    }
+}

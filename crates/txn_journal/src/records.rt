@@ -1,0 +1,171 @@
+//! Reading a gated file record by record.
+
+ghost use Rattle.std.specs.Prelude.{◌≡◌, ◌==◌, ◌≤◌, ◌-◌, ◌+◌, Bool, Some, IfOk, IfSome, OnOk, OnErr, List, ℕ, ◌<◌, take, slice_index};
+ghost use Rattle.outside_words.specs.Faults.{HasCause};
+ghost use Rattle.disk_words.specs.declared.DiskFail.TheVariants.{Failed};
+ghost use Rattle.disk_words.specs.Disk.{Unchanged, GoesOn};
+ghost use Rattle.byte_grammar.specs.Gated.{open_gate};
+ghost use Rattle.txn_journal.specs.Window.{seen_by, room_of};
+ghost use Rattle.txn_journal.specs.Reading.{ReadsNext, Moves, IsSeenIn, IsFilled, StepsOver, Opens, Begins, ahead, head_of};
+
+use crate::Shape;
+use crate::payload::payload_of;
+use crate::window::Window;
+use disk_model::{Disk, DiskFail};
+use std::alloc::Global;
+use std::marker::{Model, PhantomData};
+
+/// A reader of the records of a file, which stands at one of their gates.
+#[derive(Drop)]
+pub struct Records<S: Shape> {
+    head: [u8; 64],
+    window: Window,
+    place: u64,
+    // of the payload that was read last, in the window
+    from: usize,
+    size: usize,
+    shape: PhantomData<S>,
+}
+
+impl<S: Shape> Model for Records<S> {
+    ghost use Rattle.std.specs.Prelude.{◌≤◌, ◌+◌, take, drop, length};
+    ghost use Rattle.byte_grammar.specs.Gated.{open_gate};
+    ghost use Rattle.txn_journal.specs.Reading.{Reading};
+    ghost use Rattle.txn_journal.specs.Window.{seen_by};
+
+    ghost Value = { Reading };
+
+    ghost view = { λ r. record { head = r.head; place = r.place; payload = take r.size (drop r.from (seen_by r.window)); begin = r.window.begin; seen = seen_by r.window } };
+
+    ghost invariant = { λ r. (r.window.begin ≤ r.place) × (r.from + r.size ≤ r.window.filled) × (S.shape.max_payload + 6 ≤ length r.window.buffer.items) };
+}
+
+impl<S: Shape> Records<S> {
+    /// Opens a file, and stands at its first record. Nothing comes back where it has no head of the shape.
+    pub fn open<D: Disk>(alloc: Global, disk: &mut D) -> Result<Option<Records<S>>, DiskFail>
+        ensures value { IfSome (D.state disk.old).reads (λ bytes. IfOk result (Opens S.is_head bytes)) }
+        ensures begins { IfOk result (λ opened. IfSome opened (Begins S.is_head)) }
+        ensures same { Unchanged (D.state disk.old) (D.state disk.new) }
+        ensures frame { GoesOn (D.state disk.old) (D.state disk.new) }
+        ensures cause { HasCause Failed (D.state disk.old).faults (D.state disk.new).faults result }
+    {
+        let room = (2 * (S::PAYLOAD as usize + 6)).max(65);
+        let mut window = Window::new(alloc, room)?;
+        window.refill(disk, 0)?;
+        Ok(Records::behind_head(window))
+    }
+
+    /// Stands behind the head that is seen at the front.
+    fn behind_head(window: Window) -> Option<Records<S>>
+        requires begin { window.begin ≡ 0 }
+        requires room { S.shape.max_payload + 6 ≤ room_of window }
+        requires head { 64 < room_of window }
+        ensures value { (bytes : List ℕ) → seen_by window ≡ take (room_of window) bytes → Opens S.is_head bytes result }
+        ensures begins { IfSome result (Begins S.is_head) }
+    {
+        let head = head_of::<S>(window.from(0))?;
+        Some(Records {
+            head,
+            window,
+            place: 64,
+            from: 0,
+            size: 0,
+            shape: PhantomData,
+        })
+    }
+
+    /// The first 64 bytes of the file.
+    pub fn head(&self) -> &[u8; 64]
+        ensures value { result.now ≡ self.now.head }
+    {
+        &self.head
+    }
+
+    /// The payload of the record that was read last, and nothing before the first and after a refusal.
+    pub fn payload(&self) -> &[u8]
+        ensures value { result.now ≡ self.now.payload }
+    {
+        &self.window.buffer[self.from..self.from + self.size]
+    }
+
+    /// The place of the gate of the next record.
+    pub fn place(&self) -> u64
+        ensures value { result ≡ self.now.place }
+    {
+        self.place
+    }
+
+    /// Whether the gate at the place is open, as far as it is seen: at the end of the records it is.
+    pub fn is_at_open_gate(&self) -> bool
+        ensures value { result ≡ (slice_index (ahead self.now) 0 == open_gate) }
+    {
+        self.window.from(self.place).first() == Some(&0xa7)
+    }
+
+    /// Reads the next record, and answers whether there is one. At the end it stands at the gate that ends the records.
+    /// After a refusal it stands where it stood.
+    pub fn advance<D: Disk>(&mut self, disk: &mut D) -> Result<bool, DiskFail>
+        ensures value { IfSome (D.state disk.old).reads (λ bytes. IsSeenIn bytes self.old
+            → IfOk result (λ found. ReadsNext S.shape bytes self.old found self.new)) }
+        ensures seen { IfSome (D.state disk.old).reads (λ bytes. IsSeenIn bytes self.old → IsSeenIn bytes self.new) }
+        ensures moves { IfOk result (λ found. Moves S.shape self.old found self.new) }
+        ensures err { OnErr result (self.new.place ≡ self.old.place) }
+        ensures head { self.new.head ≡ self.old.head }
+        ensures same { Unchanged (D.state disk.old) (D.state disk.new) }
+        ensures frame { GoesOn (D.state disk.old) (D.state disk.new) }
+        ensures cause { HasCause Failed (D.state disk.old).faults (D.state disk.new).faults result }
+    {
+        if self.step() {
+            return Ok(true);
+        }
+        self.refill(disk)?;
+        let found = self.step();
+        Ok(found)
+    }
+
+    /// Goes over the record at the place, where it is seen.
+    fn step(&mut self) -> bool
+        ensures steps { StepsOver S.shape self.old result self.new }
+        ensures moves { Moves S.shape self.old result self.new }
+    {
+        let place = self.place;
+        let ahead = self.window.from(place);
+        match payload_of::<S>(place, ahead) {
+            Some(payload) => {
+                let size = payload.len();
+                self.from = (place + 5 - self.window.begin) as usize;
+                self.size = size;
+                self.place = place + 5 + size as u64;
+                true
+            }
+            None => false,
+        }
+    }
+
+    /// Looks at the file from the place on.
+    fn refill<D: Disk>(&mut self, disk: &mut D) -> Result<(), DiskFail>
+        ensures filled { IfSome (D.state disk.old).reads (λ bytes. OnOk result (IsFilled S.shape bytes self.new)) }
+        ensures seen { IfSome (D.state disk.old).reads (λ bytes. IsSeenIn bytes self.new) }
+        ensures place { self.new.place ≡ self.old.place }
+        ensures head { self.new.head ≡ self.old.head }
+        ensures same { Unchanged (D.state disk.old) (D.state disk.new) }
+        ensures frame { GoesOn (D.state disk.old) (D.state disk.new) }
+        ensures cause { HasCause Failed (D.state disk.old).faults (D.state disk.new).faults result }
+    {
+        self.from = 0;
+        self.size = 0;
+        self.window.refill(disk, self.place)?;
+        Ok(())
+    }
+}
+
+/// The head that stands at the front, with a gate behind it.
+fn head_of<S: Shape>(bytes: &[u8]) -> Option<[u8; 64]>
+    ensures value { result ≡ head_of S.is_head bytes.now }
+{
+    let (head, rest) = bytes.split_first_chunk::<64>()?;
+    if rest.is_empty() || !S::head(head) {
+        return None;
+    }
+    Some(*head)
+}

@@ -1,0 +1,42 @@
+//! The shape of a store file.
+
+ghost use Rattle.std.specs.Prelude.{is_some, refl};
+ghost use Rattle.std.proofs.Common.{lit<};
+ghost use Rattle.history_model.specs.Stored.{store_shape};
+ghost use Rattle.tuple_bytes.specs.HeaderBytes.{header_of};
+
+use crate::Shape;
+use tuple_bytes::{decode_header, is_item};
+
+/// The store: behind its header each payload spells an item.
+pub struct StoreShape;
+
+impl Shape for StoreShape {
+    const PAYLOAD: u32 = 32_768;
+
+    const WHOLE: u64 = 67_108_864;
+
+    ghost PAYLOAD = { 32768 };
+
+    ghost WHOLE = { 67108864 };
+
+    ghost shape = { store_shape };
+
+    ghost is_head = { λ bytes. is_some (header_of bytes) };
+
+    ghost max_payload = { refl };
+
+    ghost max_file = { refl };
+
+    ghost payload_fits = { lit< tt };
+
+    ghost whole_fits = { lit< tt };
+
+    fn head(bytes: &[u8; 64]) -> bool {
+        decode_header(bytes).is_some()
+    }
+
+    fn accepts(payload: &[u8]) -> bool {
+        is_item(payload)
+    }
+}
