@@ -1,0 +1,229 @@
+//! Statements, each from what stands behind its first word.
+
+ghost use Rattle.std.specs.Prelude.{◌≡◌, option_map, codes};
+ghost use Rattle.byte_grammar.specs.Reading.{Gives};
+ghost use Rattle.stmt_text.specs.Tokens.{tokens};
+ghost use Rattle.stmt_text.specs.Words.{compare, algorithm_word};
+ghost use Rattle.stmt_text.specs.Parts.{Read, numbers_by, front, only, moment, kappa, after_word};
+ghost use Rattle.stmt_text.specs.Statements.{create, insert, update, delete, get, history, filter_at, unfiltered, filtered, scan, algorithm, alone, stmt_by};
+
+use crate::fail::ReadFail;
+use crate::part::{
+    as_of_at, columns_at, end_of, name_at, only_kappa, only_moment, row_at, value_at,
+};
+use crate::stmt::{LineAlgorithm, Stmt};
+use crate::token::next_token;
+use crate::value::is_word;
+use crate::word::{Keyword, algorithm_word_of, compare_of};
+use std::alloc::Global;
+use tuple_bytes::{Compare, Filter, Word};
+
+#[tactic(auto, unfolding(crate::specs::Statements::create))]
+fn create_of(alloc: Global, bytes: &[u8]) -> Result<Stmt, ReadFail>
+    ensures { Read (λ s. s) result (create (tokens bytes.now)) }
+{
+    let (table, rest) = name_at(alloc, bytes)?;
+    let columns = columns_at(alloc, rest)?;
+    Ok(Stmt::Create { table, columns })
+}
+
+#[tactic(auto, unfolding(crate::specs::Statements::insert))]
+fn insert_of(alloc: Global, strict: bool, bytes: &[u8]) -> Result<Stmt, ReadFail>
+    ensures { Read (λ s. s) result (insert (numbers_by strict) (tokens bytes.now)) }
+{
+    let (table, rest) = name_at(alloc, bytes)?;
+    let row = row_at(alloc, strict, rest)?;
+    Ok(Stmt::Insert { table, row })
+}
+
+#[tactic(auto, unfolding(crate::specs::Statements::update))]
+fn update_of(alloc: Global, strict: bool, bytes: &[u8]) -> Result<Stmt, ReadFail>
+    ensures { Read (λ s. s) result (update (numbers_by strict) (tokens bytes.now)) }
+{
+    let (table, rest) = name_at(alloc, bytes)?;
+    let row = row_at(alloc, strict, rest)?;
+    Ok(Stmt::Update { table, row })
+}
+
+#[tactic(auto, unfolding(crate::specs::Statements::delete))]
+fn delete_of(alloc: Global, strict: bool, bytes: &[u8]) -> Result<Stmt, ReadFail>
+    ensures { Read (λ s. s) result (delete (numbers_by strict) (tokens bytes.now)) }
+{
+    let (table, rest) = name_at(alloc, bytes)?;
+    let (key, rest) = value_at(alloc, strict, rest)?;
+    end_of(rest)?;
+    Ok(Stmt::Delete { table, key })
+}
+
+#[tactic(auto, unfolding(crate::specs::Statements::get))]
+fn get_of(alloc: Global, strict: bool, bytes: &[u8]) -> Result<Stmt, ReadFail>
+    ensures { Read (λ s. s) result (get (numbers_by strict) (tokens bytes.now)) }
+{
+    let (table, rest) = name_at(alloc, bytes)?;
+    let (key, rest) = value_at(alloc, strict, rest)?;
+    match as_of_at(strict, rest) {
+        Some(moment) => Ok(Stmt::Get { table, key, moment }),
+        None => Err(ReadFail::Missing),
+    }
+}
+
+#[tactic(auto, unfolding(crate::specs::Statements::history))]
+fn history_of(alloc: Global, strict: bool, bytes: &[u8]) -> Result<Stmt, ReadFail>
+    ensures { Read (λ s. s) result (history (numbers_by strict) (tokens bytes.now)) }
+{
+    let (table, rest) = name_at(alloc, bytes)?;
+    let (key, rest) = value_at(alloc, strict, rest)?;
+    end_of(rest)?;
+    Ok(Stmt::History { table, key })
+}
+
+#[tactic(auto, unfolding(crate::specs::Parts::front))]
+fn compare_at(bytes: &[u8]) -> Result<(Compare, &[u8]), ReadFail>
+    ensures { Read (λ x. (x.0, tokens x.1.now)) result (front compare (tokens bytes.now)) }
+{
+    match next_token(bytes) {
+        Some((token, rest)) => match compare_of(token) {
+            Some(compare) => Ok((compare, rest)),
+            None => Err(ReadFail::Missing),
+        },
+        None => Err(ReadFail::Missing),
+    }
+}
+
+#[tactic(auto, unfolding(crate::specs::Statements::filter_at))]
+fn filter_of(alloc: Global, strict: bool, bytes: &[u8]) -> Result<(Filter, &[u8]), ReadFail>
+    ensures { Read (λ x. (x.0, tokens x.1.now)) result (filter_at (numbers_by strict) (tokens bytes.now)) }
+{
+    let (column, rest) = name_at(alloc, bytes)?;
+    let (compare, rest) = compare_at(rest)?;
+    let (value, rest) = value_at(alloc, strict, rest)?;
+    Ok((
+        Filter {
+            column,
+            compare,
+            value,
+        },
+        rest,
+    ))
+}
+
+#[tactic(auto, unfolding(crate::specs::Statements::filtered))]
+fn filtered_of(alloc: Global, strict: bool, table: Word, bytes: &[u8]) -> Result<Stmt, ReadFail>
+    ensures { Read (λ s. s) result (filtered (numbers_by strict) table (tokens bytes.now)) }
+{
+    let (filter, rest) = filter_of(alloc, strict, bytes)?;
+    match as_of_at(strict, rest) {
+        Some(moment) => Ok(Stmt::Scan {
+            table,
+            filter: Some(filter),
+            moment,
+        }),
+        None => Err(ReadFail::Missing),
+    }
+}
+
+#[tactic(auto, unfolding(crate::specs::Statements::scan, crate::specs::Statements::unfiltered))]
+fn scan_of(alloc: Global, strict: bool, bytes: &[u8]) -> Result<Stmt, ReadFail>
+    ensures { Read (λ s. s) result (scan (numbers_by strict) (tokens bytes.now)) }
+{
+    let (table, rest) = name_at(alloc, bytes)?;
+    match as_of_at(strict, rest) {
+        Some(moment) => Ok(Stmt::Scan {
+            table,
+            filter: None,
+            moment,
+        }),
+        None => Ok(filtered_of(alloc, strict, table, rest)?),
+    }
+}
+
+#[tactic(auto, unfolding(crate::specs::Parts::only, crate::specs::Parts::front))]
+fn only_algorithm_word(bytes: &[u8]) -> Option<LineAlgorithm>
+    ensures { Gives (λ a. a) result (only algorithm_word (tokens bytes.now)) }
+{
+    let (token, rest) = next_token(bytes)?;
+    let algorithm = algorithm_word_of(token)?;
+    match next_token(rest) {
+        None => Some(algorithm),
+        Some(_) => None,
+    }
+}
+
+#[tactic(auto, unfolding(crate::specs::Parts::after_word))]
+fn exactly_of(strict: bool, bytes: &[u8]) -> Option<u32>
+    ensures { Gives (λ k. k) result (after_word (codes "tiled") (only (kappa (numbers_by strict))) (tokens bytes.now)) }
+{
+    let (token, rest) = next_token(bytes)?;
+    if !is_word(token, b"tiled") {
+        return None;
+    }
+    only_kappa(strict, rest)
+}
+
+#[tactic(auto, unfolding(crate::specs::Statements::algorithm))]
+fn algorithm_of(strict: bool, bytes: &[u8]) -> Option<LineAlgorithm>
+    ensures { Gives (λ a. a) result (algorithm (numbers_by strict) (tokens bytes.now)) }
+{
+    if let Some(algorithm) = only_algorithm_word(bytes) {
+        return Some(algorithm);
+    }
+    match exactly_of(strict, bytes) {
+        Some(kappa) => Some(LineAlgorithm::TiledExactly { kappa }),
+        None => None,
+    }
+}
+
+#[tactic(auto, unfolding(crate::specs::Statements::alone))]
+fn alone_of(stmt: Stmt, bytes: &[u8]) -> Result<Stmt, ReadFail>
+    ensures { Read (λ s. s) result (alone stmt (tokens bytes.now)) }
+{
+    end_of(bytes)?;
+    Ok(stmt)
+}
+
+fn analyse_of(strict: bool, bytes: &[u8]) -> Result<Stmt, ReadFail>
+    ensures { Read (λ s. s) result (option_map Stmt.Analyse (algorithm (numbers_by strict) (tokens bytes.now))) }
+{
+    match algorithm_of(strict, bytes) {
+        Some(algorithm) => Ok(Stmt::Analyse { algorithm }),
+        None => Err(ReadFail::Missing),
+    }
+}
+
+fn now_of(strict: bool, bytes: &[u8]) -> Result<Stmt, ReadFail>
+    ensures { Read (λ s. s) result (option_map Stmt.Now (only (moment (numbers_by strict)) (tokens bytes.now))) }
+{
+    match only_moment(strict, bytes) {
+        Some(moment) => Ok(Stmt::Now { moment }),
+        None => Err(ReadFail::Missing),
+    }
+}
+
+/// A statement, from its first word and what stands behind it.
+#[tactic(auto, unfolding(crate::specs::Statements::stmt_by))]
+pub fn stmt_of(
+    alloc: Global,
+    strict: bool,
+    keyword: Keyword,
+    bytes: &[u8],
+) -> Result<Stmt, ReadFail>
+    ensures { Read (λ s. s) result (stmt_by (numbers_by strict) keyword (tokens bytes.now)) }
+{
+    match keyword {
+        Keyword::Create => create_of(alloc, bytes),
+        Keyword::Insert => insert_of(alloc, strict, bytes),
+        Keyword::Update => update_of(alloc, strict, bytes),
+        Keyword::Delete => delete_of(alloc, strict, bytes),
+        Keyword::Get => get_of(alloc, strict, bytes),
+        Keyword::Scan => scan_of(alloc, strict, bytes),
+        Keyword::History => history_of(alloc, strict, bytes),
+        Keyword::Begin => alone_of(Stmt::Begin, bytes),
+        Keyword::Commit => alone_of(Stmt::Commit, bytes),
+        Keyword::Abort => alone_of(Stmt::Abort, bytes),
+        Keyword::Notarize => alone_of(Stmt::Notarize, bytes),
+        Keyword::Validate => alone_of(Stmt::Validate, bytes),
+        Keyword::Analyse => analyse_of(strict, bytes),
+        Keyword::Now => now_of(strict, bytes),
+        Keyword::Init | Keyword::Crash | Keyword::Alter | Keyword::Cut => Err(ReadFail::Missing),
+    }
+}
