@@ -8,6 +8,7 @@ use Rattle.std.proofs.lemmas.Slice.Eq.{bytes_eq-Decides}
 use Rattle.tuple_bytes.specs.declared.value.Value.{Value}
 use Rattle.tuple_bytes.specs.declared.value.Value.TheVariants as values
 use Rattle.byte_grammar.specs.Reading.{◌>>=◌}
+use Rattle.stmt_text.specs.declared.number.Numbers.{Numbers}
 use Rattle.stmt_text.specs.declared.word.Keyword.{Keyword}
 use Rattle.stmt_text.specs.declared.word.Keyword.TheVariants as words
 use Rattle.tuple_bytes.specs.declared.filter.Filter.{Filter}
@@ -15,27 +16,20 @@ use Rattle.tuple_bytes.specs.declared.filter.Compare.{Compare}
 use Rattle.stmt_text.specs.declared.stmt.LineAlgorithm.{LineAlgorithm}
 use Rattle.stmt_text.specs.declared.stmt.Stmt.{Stmt}
 use Rattle.stmt_text.specs.declared.stmt.Stmt.TheVariants as stmts
-use Rattle.stmt_text.specs.declared.stmt.Line.{Line}
-use Rattle.stmt_text.specs.declared.stmt.Line.TheVariants as lines
+use Rattle.stmt_text.specs.declared.line.Line.{Line}
+use Rattle.stmt_text.specs.declared.line.Line.TheVariants as lines
+use Rattle.stmt_text.specs.Options.{where_true, or_else}
 use Rattle.stmt_text.specs.Tokens.{Token, tokens}
-use Rattle.stmt_text.specs.Numbers.{number}
-use Rattle.stmt_text.specs.Values.{value, where_true, or_else, nearest_value, value_in_range}
+use Rattle.stmt_text.specs.Numbers.{number, any_width, in_range, kept}
+use Rattle.stmt_text.specs.Values.{value, nearest_value, value_in_range}
 use Rattle.stmt_text.specs.Words.{keyword, compare, algorithm_word}
-use Rattle.stmt_text.specs.Parts.{Numbers, any_width, in_range, kept, kept_value, moment, kappa, value_in, name, front, ended, only, each, after_word, as_of, is_row, row, max_moment}
+use Rattle.stmt_text.specs.Keywords.{is_table_word, is_session_word, is_drill_word}
+use Rattle.stmt_text.specs.Parts.{kept_value, moment, kappa, value_in, name, front, ended, only, each, after_word, as_of, max_moment}
+use Rattle.stmt_text.specs.Rows.{is_row, row}
 use Rattle.stmt_text.specs.Statements.{insert, update, delete, get, history, filter_of, filter_at, unfiltered, filtered, scan, exactly, algorithm, stmt_by}
-use Rattle.stmt_text.specs.Lines.{is_table_word, is_session_word, is_drill_word, event_by, plain_by, plain, session, session_by, in_session, said_by, said, is_blank, max_line, content_line, line, without_return}
-
-bind_some : {A B : Type 0} (o : Option A) (f : A → Option B) (y : B) → (o >>= f) ≡ Some y → (x : A) × (o ≡ Some x) × (f x ≡ Some y)
-bind_some (Some x) f y e = (x, refl, e)
-bind_some None f y e = absurd cc
-
-if_some : {A : Type 0} (b : Bool) (o : Option A) (y : A) → cond b o None ≡ Some y → (b ≡ true) × (o ≡ Some y)
-if_some true o y e = (refl, e)
-if_some false o y e = absurd cc
-
-both : (a b : Bool) → a && b ≡ true → (a ≡ true) × (b ≡ true)
-both true b h = (refl, h)
-both false b h = absurd cc
+use Rattle.stmt_text.specs.Events.{event_by}
+use Rattle.stmt_text.specs.Lines.{plain_by, plain, session, session_by, in_session, said_by, said, is_blank, max_line, content_line, line, without_return}
+use Rattle.stmt_text.proofs.Choices.{both, bind_some, if_some}
 
 map_keeps : {A B : Type 0} (f : A → B) (o p : Option A) (y : B) → ((a : A) → o ≡ Some a → p ≡ Some a) → option_map f o ≡ Some y → option_map f p ≡ Some y
 map_keeps f (Some a) p y h e = rw (h a refl) e

@@ -9,12 +9,13 @@ use Rattle.hex.specs.declared.error.FromHexError.{FromHexError}
 use Rattle.tuple_bytes.specs.declared.value.Value.{Value}
 use Rattle.tuple_bytes.specs.declared.value.Value.TheVariants as values
 use Rattle.byte_grammar.specs.Reading.{◌>>=◌}
-use Rattle.stmt_text.specs.Tokens.{Token}
-use Rattle.std.proofs.lemmas.Slice.Eq.{bytes_eq-Decides}
 use Rattle.std.specs.List.{list_all}
+use Rattle.stmt_text.specs.Options.{or_else, where_true}
+use Rattle.stmt_text.specs.Tokens.{Token}
 use Rattle.stmt_text.specs.Numbers.{int, number, number_after, is_digit, minus}
-use Rattle.stmt_text.specs.Values.{doubled, quoted, hex_quoted, SaysBytes, SaysValue, is_text, or_else, before, unquoted, where_true, text, before_quote, some_of, blob_of_digits, blob, constant, value}
+use Rattle.stmt_text.specs.Values.{doubled, quoted, hex_quoted, SaysBytes, SaysValue, is_text, before, unquoted, text, before_quote, some_of, blob_of_digits, blob, constant, value}
 use Rattle.stmt_text.proofs.ValueLaws.{before_quote_yes}
+use Rattle.stmt_text.proofs.Choices.{both, bind_some, where_some, says_if, or_takes, map_takes, same_text}
 
 -- ---- what stands between the quotes of a text
 
@@ -69,14 +70,6 @@ unquoted_takes bytes t e = takes false bytes t e
 
 -- ---- texts
 
-pub where_some : {A : Type 0} (test : A → Bool) (o : Option A) (a : A) → where_true test o ≡ Some a → (o ≡ Some a) × (test a ≡ true)
-where_some {A} test (Some b) a e = by (test b) refl e
-  where
-    by : (s : Bool) → test b ≡ s → cond s (Some b) None ≡ Some a → (Some b ≡ Some a) × (test a ≡ true)
-    by true h f = (f, subst (λ (x : A). test x ≡ true) (same_Some b a f) h)
-    by false h f = absurd cc
-where_some test None a e = absurd cc
-
 pub text_takes : (token : Token) (t : List ℕ) → text token ≡ Some t → (token ≡ quoted t) × (is_text t ≡ true)
 unfolding text
 text_takes [] t e = absurd cc
@@ -107,13 +100,9 @@ last_takes (b ∷ c ∷ x) d e =
     let h = behind b (before_quote (c ∷ x)) d e in
     rw h.whole (ap (λ (y : List ℕ). b ∷ y) (last_takes (c ∷ x) h.rest h.read))
 
-some_ok : (r : Result (List ℕ) FromHexError) (b : List ℕ) → some_of r ≡ Some b → r ≡ Ok b
+pub some_ok : (r : Result (List ℕ) FromHexError) (b : List ℕ) → some_of r ≡ Some b → r ≡ Ok b
 some_ok (Ok a) b e = ap Ok (same_Some a b e)
 some_ok (Err x) b e = absurd cc
-
-pub bind_some : {A B : Type 0} (o : Option A) (f : A → Option B) (y : B) → (o >>= f) ≡ Some y → (x : A) × (o ≡ Some x) × (f x ≡ Some y)
-bind_some (Some x) f y e = (x, refl, e)
-bind_some None f y e = absurd cc
 
 pub blob_takes : (token : Token) (b : List ℕ) → blob token ≡ Some b → SaysBytes token b
 unfolding blob blob_of_digits
@@ -140,13 +129,6 @@ blob_again token b h = rw (h.token_is, before_quote_yes (h.digits ++ 39 ∷ []) 
 
 -- ---- values
 
-pub says_if : {A : Type 0} (s : Bool) (a v : A) (other : Option A) (P : A → Type 0) → (s ≡ true → P a) → (other ≡ Some v → P v) → cond s (Some a) other ≡ Some v → P v
-says_if true a v other P here there e = subst P (same_Some a v e) (here refl)
-says_if false a v other P here there e = there e
-
-pub same_text : (xs ys : List ℕ) → bytes_eq xs ys ≡ true → xs ≡ ys
-same_text xs ys h = (bytes_eq-Decides xs ys).0 h
-
 constant_takes : (token : Token) (v : Value) → constant token ≡ Some v → SaysValue token v
 unfolding constant
 constant_takes token v e =
@@ -154,14 +136,6 @@ constant_takes token v e =
     (says_if (bytes_eq token (codes "true")) (values.Bool true) v _ (SaysValue token) (same_text token (codes "true"))
     (says_if (bytes_eq token (codes "false")) (values.Bool false) v _ (SaysValue token) (same_text token (codes "false")) (λ f. absurd cc)))
     e
-
-pub or_takes : {A : Type 0} (a b : Option A) (v : A) (P : Type 0) → (a ≡ Some v → P) → (b ≡ Some v → P) → or_else a b ≡ Some v → P
-or_takes (Some x) b v P left right e = left e
-or_takes None b v P left right e = right e
-
-pub map_takes : {A B : Type 0} (f : A → B) (o : Option A) (v : B) (P : B → Type 0) → ((a : A) → o ≡ Some a → P (f a)) → option_map f o ≡ Some v → P v
-map_takes f (Some a) v P h e = subst P (same_Some (f a) v e) (h a refl)
-map_takes f None v P h e = absurd cc
 
 pub value_takes : (token : Token) (v : Value) → value token ≡ Some v → SaysValue token v
 unfolding value
@@ -192,10 +166,6 @@ begins_low b low high = record {
 
 digit_low : (b : ℕ) → is_digit b ≡ true → (48 ≤ b) × (b ≤ 57)
 digit_low b h = grind (arith, tests)
-
-both : (a b : Bool) → a && b ≡ true → (a ≡ true) × (b ≡ true)
-both true b h = (refl, h)
-both false b h = absurd cc
 
 number_begins : (b : ℕ) (rest : List ℕ) (n : ℕ) → number (b ∷ rest) ≡ Some n → Begins b
 unfolding number

@@ -1,5 +1,5 @@
--- What statements and drill lines say.
-use Rattle.std.specs.Prelude.{ℕ, Bool, true, ◌&&◌, ◌==◌, not, nat_le, if◌then◌else◌, List, [], ◌∷◌, length, Option, Some, None, option_map, codes}
+-- What statements say, each read from what stands behind its first word.
+use Rattle.std.specs.Prelude.{ℕ, List, Option, Some, None, option_map, codes}
 use Rattle.byte_grammar.specs.Reading.{◌>>=◌}
 use Rattle.tuple_bytes.specs.declared.value.Value.{Value}
 use Rattle.stmt_text.specs.declared.word.Keyword.{Keyword}
@@ -10,15 +10,14 @@ use Rattle.stmt_text.specs.declared.stmt.LineAlgorithm.{LineAlgorithm}
 use Rattle.stmt_text.specs.declared.stmt.LineAlgorithm.TheVariants as algorithms
 use Rattle.stmt_text.specs.declared.stmt.Stmt.{Stmt}
 use Rattle.stmt_text.specs.declared.stmt.Stmt.TheVariants as stmts
-use Rattle.stmt_text.specs.declared.stmt.Event.{Event}
-use Rattle.stmt_text.specs.declared.stmt.Event.TheVariants as events
+use Rattle.stmt_text.specs.declared.number.Numbers.{Numbers}
+use Rattle.stmt_text.specs.Options.{or_else}
 use Rattle.stmt_text.specs.Tokens.{Token}
-use Rattle.stmt_text.specs.Numbers.{number}
-use Rattle.stmt_text.specs.Values.{or_else, where_true, blob_of_digits}
-use Rattle.stmt_text.specs.Words.{compare, algorithm_word, algs}
-use Rattle.stmt_text.specs.Parts.{Numbers, moment, kappa, value_in, name, front, ended, only, after_word, as_of, row, columns}
+use Rattle.stmt_text.specs.Words.{compare, algorithm_word}
+use Rattle.stmt_text.specs.Parts.{moment, kappa, value_in, name, front, ended, only, after_word, as_of}
+use Rattle.stmt_text.specs.Rows.{row, columns}
 
--- ---- statements on tables, from what stands behind their first word
+-- ---- statements on tables
 
 unfoldable pub create : List Token → Option Stmt
 create tokens = do
@@ -119,59 +118,3 @@ stmt_by numbers words.Init tokens = None
 stmt_by numbers words.Crash tokens = None
 stmt_by numbers words.Alter tokens = None
 stmt_by numbers words.Cut tokens = None
-
--- ---- drill lines
-
--- no zero stands at the front of other digits
-abbrev pub is_plain : Token → Bool
-is_plain [] = true
-is_plain (b ∷ []) = true
-is_plain (b ∷ c ∷ digits) = not (b == 48)
-
-abbrev pub is_from : ℕ → ℕ → ℕ → Bool
-is_from least greatest n = nat_le least n && nat_le n greatest
-
--- a number in its range, without zeros at its front
-unfoldable pub plain_number : ℕ → ℕ → Token → Option ℕ
-plain_number least greatest token = if is_plain token then where_true (is_from least greatest) (number token) else None
-
-abbrev pub max_u64 : ℕ
-max_u64 = 18446744073709551615
-
-abbrev pub init_of : ℕ → ℕ → ℕ → ℕ → Event
-init_of id width k flags = events.Init id width k flags
-
-unfoldable pub init : List Token → Option Event
-init tokens = do
-  id ← front (plain_number 0 max_u64) tokens
-  width ← front (plain_number 1 86400) id.1
-  k ← front (plain_number 0 10) width.1
-  flags ← front algs k.1
-  none ← ended flags.1
-  Some (events.Init id.0 width.0 k.0 flags.0)
-
-unfoldable pub crash : List Token → Option Event
-crash tokens = do
-  after ← front (plain_number 0 1000000) tokens
-  choice ← front (plain_number 0 max_u64) after.1
-  none ← ended choice.1
-  Some (events.Crash after.0 choice.0)
-
-abbrev pub is_altering : List ℕ → Bool
-is_altering bytes = is_from 1 256 (length bytes)
-
-unfoldable pub altering : Token → Option (List ℕ)
-altering token = where_true is_altering (blob_of_digits token)
-
-unfoldable pub alter : List Token → Option Event
-alter tokens = do
-  place ← front (plain_number 0 max_u64) tokens
-  bytes ← front altering place.1
-  none ← ended bytes.1
-  Some (events.Alter place.0 bytes.0)
-
-unfoldable pub cut : List Token → Option Event
-cut tokens = do
-  len ← front (plain_number 0 max_u64) tokens
-  none ← ended len.1
-  Some (events.Cut len.0)

@@ -1,4 +1,4 @@
--- Values in lines.
+-- Values in lines: what each says, and how a token is read.
 use Rattle.std.specs.Prelude.{◌≡◌, ℕ, Bool, true, false, ◌&&◌, ◌==◌, not, nat_le, if◌then◌else◌, List, [], ◌∷◌, ◌++◌, Option, Some, None, option_map, Result, Ok, Err, codes}
 use Rattle.std.specs.Str.{bytes_eq, is_utf8}
 use Rattle.std.specs.List.{list_all}
@@ -7,6 +7,7 @@ use Rattle.hex.specs.declared.error.FromHexError.{FromHexError}
 use Rattle.tuple_bytes.specs.declared.value.Value.{Value}
 use Rattle.tuple_bytes.specs.declared.value.Value.TheVariants as values
 use Rattle.byte_grammar.specs.Reading.{◌>>=◌}
+use Rattle.stmt_text.specs.Options.{or_else, where_true}
 use Rattle.stmt_text.specs.Tokens.{Token}
 use Rattle.stmt_text.specs.Numbers.{int, nearest_int, int_in_range}
 
@@ -21,6 +22,7 @@ doubled (b ∷ text) = if b == 39 then 39 ∷ 39 ∷ doubled text else b ∷ dou
 abbrev pub quoted : List ℕ → Token
 quoted text = 39 ∷ (doubled text ++ 39 ∷ [])
 
+-- no control character
 abbrev pub is_text_byte : ℕ → Bool
 is_text_byte b = nat_le 32 b && not (b == 127)
 
@@ -38,6 +40,7 @@ pub record SaysBytes (token : Token) (bytes : List ℕ) : Type 0 where
   pub token_is : token ≡ hex_quoted digits
   pub bytes_are : decode_of digits ≡ Ok bytes
 
+-- what a token says, by cases on the value
 abbrev pub SaysValue : Token → Value → Type 0
 SaysValue token values.Null = token ≡ codes "null"
 SaysValue token (values.Bool true) = token ≡ codes "true"
@@ -48,11 +51,7 @@ SaysValue token (values.Bytes bytes) = SaysBytes token bytes
 
 -- ---- as functions of the token
 
--- this, or else that
-abbrev pub or_else : {A : Type 0} → Option A → Option A → Option A
-or_else (Some a) other = Some a
-or_else None other = other
-
+-- this in front of those
 abbrev pub before : {A : Type 0} → A → Option (List A) → Option (List A)
 before b (Some bytes) = Some (b ∷ bytes)
 before b None = None
@@ -65,11 +64,7 @@ unquoted half (b ∷ bytes) =
     if b == 39 then (if half then before 39 (unquoted false bytes) else unquoted true bytes)
     else (if half then None else before b (unquoted false bytes))
 
--- only where the test passes
-abbrev pub where_true : {A : Type 0} → (A → Bool) → Option A → Option A
-where_true test (Some a) = if test a then Some a else None
-where_true test None = None
-
+-- a text between its quotes
 unfoldable pub text : Token → Option (List ℕ)
 text [] = None
 text (b ∷ rest) = if b == 39 then where_true is_text (unquoted false rest) else None
@@ -84,14 +79,17 @@ abbrev pub some_of : {A : Type 0} → Result A FromHexError → Option A
 some_of (Ok a) = Some a
 some_of (Err e) = None
 
+-- the bytes that hexadecimal digits are, two for each
 unfoldable pub blob_of_digits : List ℕ → Option (List ℕ)
 blob_of_digits digits = some_of (decode_of digits)
 
+-- a byte string between its quotes
 unfoldable pub blob : Token → Option (List ℕ)
 blob [] = None
 blob (x ∷ []) = None
 blob (x ∷ q ∷ rest) = if (x == 120) && (q == 39) then before_quote rest >>= blob_of_digits else None
 
+-- the words that are values
 unfoldable pub constant : Token → Option Value
 constant token =
     if bytes_eq token (codes "null") then Some values.Null

@@ -9,8 +9,8 @@ use Rattle.tuple_bytes.specs.declared.filter.Compare.{Compare}
 use Rattle.tuple_bytes.specs.declared.filter.Compare.TheVariants as compares
 use Rattle.stmt_text.specs.declared.stmt.LineAlgorithm.{LineAlgorithm}
 use Rattle.stmt_text.specs.declared.stmt.LineAlgorithm.TheVariants as algorithms
+use Rattle.stmt_text.specs.Options.{or_else}
 use Rattle.stmt_text.specs.Tokens.{Token}
-use Rattle.stmt_text.specs.Values.{or_else}
 
 -- the words that statements on tables begin with
 unfoldable pub table_keyword : Token → Option Keyword

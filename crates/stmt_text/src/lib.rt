@@ -1,27 +1,34 @@
 //! The language of statements: lines of text, and what they say.
 #![tactic(auto)]
 
+mod error;
 mod event;
-mod fail;
+mod event_printing;
+mod event_reading;
 mod laws;
+mod line;
+mod line_printing;
+mod line_reading;
 mod number;
-mod parsing;
 mod part;
-mod printing;
-mod reading;
+mod row_reading;
 mod stmt;
-#[cfg(test)]
-mod tests;
+mod stmt_printing;
+mod stmt_reading;
 mod token;
-mod value;
+mod value_printing;
+mod value_reading;
 mod word;
 
-pub use fail::ParseFail;
+pub use error::ParseFail;
+pub use event::Event;
 pub use laws::{
-    lines_come_back, numbers_come_back, ranges_only_refuse, statement_is_said,
-    statements_come_back, tokens_are_had, value_is_said,
+    line_is_said, lines_come_back, numbers_come_back, ranges_only_refuse, statement_is_said,
+    tokens_are_had, value_is_said,
 };
-pub use parsing::parse_line;
-pub use printing::{print_line, print_row};
-pub use stmt::{Event, Line, LineAlgorithm, Stmt};
+pub use line::Line;
+pub use line_printing::print_line;
+pub use line_reading::parse_line;
+pub use stmt::{LineAlgorithm, Stmt};
 pub use tuple_bytes::{Compare, Filter};
+pub use value_printing::print_row;

@@ -1,58 +1,60 @@
-//! Parts of a line, each read from the bytes that are left. `strict` refuses a number out of its range; else the
-//! nearest within is read.
+//! Parts of a line. A function `.._of` reads what a token, or all that is left, says; a function `.._at` reads what
+//! stands at the front, and hands back the bytes after it.
 
-ghost use Rattle.std.specs.Prelude.{◌≡◌, ◌≤◌, ◌<◌, length, option_map, IfOk, OnOk, map, is_some, ℕ, List};
-ghost use Rattle.std.specs.List.{list_any};
-ghost use Rattle.std.specs.Str.{bytes_eq};
+ghost use Rattle.std.specs.Prelude.{◌≡◌, option_map};
 ghost use Rattle.byte_grammar.specs.Reading.{Gives};
 ghost use Rattle.stmt_text.specs.Tokens.{tokens};
-ghost use Rattle.stmt_text.specs.Words.{kind};
-ghost use Rattle.stmt_text.specs.Values.{where_true, value, clamped_value};
-ghost use Rattle.stmt_text.specs.Numbers.{number, clamped};
-ghost use Rattle.stmt_text.specs.Parts.{Read, numbers_by, kept, moment, kappa, value_in, name, front, ended, only, each, after_word, as_of, is_row, row, are_distinct, are_columns, column_name, column, each_column, columns, max_moment};
+ghost use Rattle.stmt_text.specs.Parts.{Read, moment, kappa, value_in, name, front, ended, only, after_word, as_of};
 
-use crate::fail::ReadFail;
-use crate::number::number_of;
+use crate::error::ReadFail;
+use crate::number::{Numbers, number_of};
 use crate::token::next_token;
-use crate::value::{is_word, value_of};
-use crate::word::kind_of;
+use crate::value_reading::value_of;
+use crate::word::spells;
 use std::alloc::Global;
-use tuple_bytes::{Column, Columns, Row, Value, Word, spells_word};
+use tuple_bytes::{Value, Word};
 
 /// The number of a moment.
 #[tactic(auto, unfolding(crate::specs::Parts::moment))]
-fn moment_of(strict: bool, token: &[u8]) -> Option<u64>
-    ensures { Gives (λ m. m) result (moment (numbers_by strict) token.now) }
+fn moment_of(numbers: Numbers, token: &[u8]) -> Option<u64>
+    ensures value { Gives (λ m. m) result (moment numbers token.now) }
 {
     let (number, fits) = number_of(token, 1_099_511_627_775)?;
-    if strict && !fits { None } else { Some(number) }
+    match numbers {
+        Numbers::InRange if !fits => None,
+        _ => Some(number),
+    }
 }
 
 #[tactic(auto, unfolding(crate::specs::Parts::kappa))]
-fn kappa_of(strict: bool, token: &[u8]) -> Option<u32>
-    ensures { Gives (λ m. m) result (kappa (numbers_by strict) token.now) }
+fn kappa_of(numbers: Numbers, token: &[u8]) -> Option<u32>
+    ensures value { Gives (λ m. m) result (kappa numbers token.now) }
 {
     let (number, fits) = number_of(token, 1024)?;
-    if strict && (!fits || number == 0) {
-        None
-    } else {
-        Some(number as u32)
+    match numbers {
+        Numbers::InRange if !fits || number == 0 => None,
+        _ => Some(number as u32),
     }
 }
 
+/// The value that a token says.
 #[tactic(auto, unfolding(crate::specs::Parts::value_in))]
-fn value_of_token(alloc: Global, strict: bool, token: &[u8]) -> Result<Value, ReadFail>
-    ensures { Read (λ v. v) result (value_in (numbers_by strict) token.now) }
+pub fn value_of_token(alloc: Global, numbers: Numbers, token: &[u8]) -> Result<Value, ReadFail>
+    ensures value { Read (λ v. v) result (value_in numbers token.now) }
 {
     match value_of(alloc, token)? {
-        Some((value, fits)) if fits || !strict => Ok(value),
-        _ => Err(ReadFail::Missing),
+        Some((value, fits)) => match numbers {
+            Numbers::InRange if !fits => Err(ReadFail::Missing),
+            _ => Ok(value),
+        },
+        None => Err(ReadFail::Missing),
     }
 }
 
+/// The name that a token is.
 #[tactic(auto, unfolding(crate::specs::Parts::name))]
-fn name_of_token(alloc: Global, token: &[u8]) -> Result<Word, ReadFail>
-    ensures { Read (λ w. w) result (name token.now) }
+pub fn name_of_token(alloc: Global, token: &[u8]) -> Result<Word, ReadFail>
+    ensures value { Read (λ w. w) result (name token.now) }
 {
     match Word::new(alloc, token)? {
         Some(word) => Ok(word),
@@ -62,7 +64,7 @@ fn name_of_token(alloc: Global, token: &[u8]) -> Result<Word, ReadFail>
 
 /// No token is left.
 pub fn end_of(bytes: &[u8]) -> Result<(), ReadFail>
-    ensures { Read (λ u. u) result (ended (tokens bytes.now)) }
+    ensures value { Read (λ u. u) result (ended (tokens bytes.now)) }
 {
     match next_token(bytes) {
         None => Ok(()),
@@ -73,7 +75,7 @@ pub fn end_of(bytes: &[u8]) -> Result<(), ReadFail>
 /// The name at the front.
 #[tactic(auto, unfolding(crate::specs::Parts::front))]
 pub fn name_at(alloc: Global, bytes: &[u8]) -> Result<(Word, &[u8]), ReadFail>
-    ensures { Read (λ x. (x.0, tokens x.1.now)) result (front name (tokens bytes.now)) }
+    ensures value { Read (λ x. (x.0, tokens x.1.now)) result (front name (tokens bytes.now)) }
 {
     match next_token(bytes) {
         Some((token, rest)) => Ok((name_of_token(alloc, token)?, rest)),
@@ -83,22 +85,22 @@ pub fn name_at(alloc: Global, bytes: &[u8]) -> Result<(Word, &[u8]), ReadFail>
 
 /// The value at the front.
 #[tactic(auto, unfolding(crate::specs::Parts::front))]
-pub fn value_at(alloc: Global, strict: bool, bytes: &[u8]) -> Result<(Value, &[u8]), ReadFail>
-    ensures { Read (λ x. (x.0, tokens x.1.now)) result (front (value_in (numbers_by strict)) (tokens bytes.now)) }
+pub fn value_at(alloc: Global, numbers: Numbers, bytes: &[u8]) -> Result<(Value, &[u8]), ReadFail>
+    ensures value { Read (λ x. (x.0, tokens x.1.now)) result (front (value_in numbers) (tokens bytes.now)) }
 {
     match next_token(bytes) {
-        Some((token, rest)) => Ok((value_of_token(alloc, strict, token)?, rest)),
+        Some((token, rest)) => Ok((value_of_token(alloc, numbers, token)?, rest)),
         None => Err(ReadFail::Missing),
     }
 }
 
 /// A moment, and no more.
 #[tactic(auto, unfolding(crate::specs::Parts::only, crate::specs::Parts::front))]
-pub fn only_moment(strict: bool, bytes: &[u8]) -> Option<u64>
-    ensures { Gives (λ m. m) result (only (moment (numbers_by strict)) (tokens bytes.now)) }
+pub fn only_moment(numbers: Numbers, bytes: &[u8]) -> Option<u64>
+    ensures value { Gives (λ m. m) result (only (moment numbers) (tokens bytes.now)) }
 {
     let (token, rest) = next_token(bytes)?;
-    let moment = moment_of(strict, token)?;
+    let moment = moment_of(numbers, token)?;
     match next_token(rest) {
         None => Some(moment),
         Some(_) => None,
@@ -106,11 +108,11 @@ pub fn only_moment(strict: bool, bytes: &[u8]) -> Option<u64>
 }
 
 #[tactic(auto, unfolding(crate::specs::Parts::only, crate::specs::Parts::front))]
-pub fn only_kappa(strict: bool, bytes: &[u8]) -> Option<u32>
-    ensures { Gives (λ m. m) result (only (kappa (numbers_by strict)) (tokens bytes.now)) }
+pub fn only_kappa(numbers: Numbers, bytes: &[u8]) -> Option<u32>
+    ensures value { Gives (λ m. m) result (only (kappa numbers) (tokens bytes.now)) }
 {
     let (token, rest) = next_token(bytes)?;
-    let kappa = kappa_of(strict, token)?;
+    let kappa = kappa_of(numbers, token)?;
     match next_token(rest) {
         None => Some(kappa),
         Some(_) => None,
@@ -119,115 +121,19 @@ pub fn only_kappa(strict: bool, bytes: &[u8]) -> Option<u32>
 
 /// Nothing, or `as of` and a moment.
 #[tactic(auto, unfolding(crate::specs::Parts::as_of, crate::specs::Parts::after_word))]
-pub fn as_of_at(strict: bool, bytes: &[u8]) -> Option<Option<u64>>
-    ensures { Gives (λ m. m) result (as_of (numbers_by strict) (tokens bytes.now)) }
+pub fn as_of_at(numbers: Numbers, bytes: &[u8]) -> Option<Option<u64>>
+    ensures value { Gives (λ m. m) result (as_of numbers (tokens bytes.now)) }
 {
     let Some((token, rest)) = next_token(bytes) else {
         return Some(None);
     };
-    if !is_word(token, b"as") {
+    if !spells(token, b"as") {
         return None;
     }
     let (token, rest) = next_token(rest)?;
-    if !is_word(token, b"of") {
+    if !spells(token, b"of") {
         return None;
     }
-    let moment = only_moment(strict, rest)?;
+    let moment = only_moment(numbers, rest)?;
     Some(Some(moment))
-}
-
-#[tactic(auto, using(crate::proofs::PartLaws::each_turn, crate::proofs::PartLaws::each_stop, crate::proofs::PartLaws::each_end))]
-/// What each token says.
-fn each_value(alloc: Global, strict: bool, bytes: &[u8]) -> Result<Row, ReadFail>
-    ensures { Read (λ r. r) result (each (value_in (numbers_by strict)) (tokens bytes.now)) }
-{
-    let mut all = Row::new(alloc);
-    let mut rest = bytes;
-    while let Some((token, more)) = next_token(rest) {
-        let value = value_of_token(alloc, strict, token)?;
-        all.push(value)?;
-        rest = more;
-    }
-    Ok(all)
-}
-
-/// The values of a row, to the end.
-#[tactic(auto, unfolding(crate::specs::Parts::row))]
-pub fn row_at(alloc: Global, strict: bool, bytes: &[u8]) -> Result<Row, ReadFail>
-    ensures { Read (λ r. r) result (row (numbers_by strict) (tokens bytes.now)) }
-{
-    let row = each_value(alloc, strict, bytes)?;
-    let count = row.as_slice().len();
-    if count < 1 || count > 32 {
-        return Err(ReadFail::Missing);
-    }
-    Ok(row)
-}
-
-/// A name with its kind.
-#[tactic(auto, unfolding(crate::specs::Parts::column))]
-fn column_of_tokens(alloc: Global, token: &[u8], other: &[u8]) -> Result<Column, ReadFail>
-    ensures { Read (λ c. c) result (column token.now other.now) }
-{
-    let name = name_of_token(alloc, token)?;
-    match kind_of(other) {
-        Some(kind) => Ok(Column { name, kind }),
-        None => Err(ReadFail::Missing),
-    }
-}
-
-/// Names, each with its kind, to the end.
-#[tactic(auto, using(crate::proofs::PartLaws::column_turn, crate::proofs::PartLaws::column_alone, crate::proofs::PartLaws::column_stop, crate::proofs::PartLaws::column_end))]
-fn each_column_at(alloc: Global, bytes: &[u8]) -> Result<Columns, ReadFail>
-    ensures { Read (λ c. c) result (each_column (tokens bytes.now)) }
-{
-    let mut all = Columns::new(alloc);
-    let mut rest = bytes;
-    while let Some((token, middle)) = next_token(rest) {
-        let Some((other, more)) = next_token(middle) else {
-            return Err(ReadFail::Missing);
-        };
-        let column = column_of_tokens(alloc, token, other)?;
-        all.push(column)?;
-        rest = more;
-    }
-    Ok(all)
-}
-
-/// Whether a column has this name.
-fn has_name(columns: &[Column], name: &[u8]) -> bool
-    ensures { result ≡ list_any (bytes_eq name.now) (map column_name columns.now) }
-{
-    for column in columns {
-        if is_word(name, column.name.as_slice()) {
-            return true;
-        }
-    }
-    false
-}
-
-fn names_differ(columns: &[Column]) -> bool
-    ensures { result ≡ are_distinct (map column_name columns.now) }
-{
-    let mut rest = columns;
-    while let Some((column, more)) = rest.split_first() {
-        if has_name(more, column.name.as_slice()) {
-            return false;
-        }
-        rest = more;
-    }
-    true
-}
-
-/// Columns, to the end.
-#[tactic(auto, unfolding(crate::specs::Parts::columns))]
-pub fn columns_at(alloc: Global, bytes: &[u8]) -> Result<Columns, ReadFail>
-    ensures { Read (λ c. c) result (columns (tokens bytes.now)) }
-{
-    let columns = each_column_at(alloc, bytes)?;
-    let count = columns.as_slice().len();
-    if count < 1 || count > 32 || !names_differ(columns.as_slice()) {
-        return Err(ReadFail::Missing);
-    }
-    Ok(columns)
 }

@@ -1,8 +1,8 @@
-//! What a line says.
+//! Statements.
 
-use tuple_bytes::{Blob, Columns, Filter, Row, Value, Word};
+use tuple_bytes::{Columns, Filter, Row, Value, Word};
 
-/// The algorithm that a line asks for.
+/// The algorithm that an analysis uses; with `kappa` it names exactly so many granules, 1 to 1,024.
 #[derive(Clone, Copy, Debug, PartialEq, Eq)]
 pub enum LineAlgorithm {
     Mono,
@@ -11,29 +11,7 @@ pub enum LineAlgorithm {
     A3d,
 }
 
-/// What a drill line brings about.
-#[derive(Debug, Drop)]
-pub enum Event {
-    Init {
-        id: u64,
-        width: u32,
-        k: u8,
-        algs: u8,
-    },
-    Crash {
-        after: u32,
-        choice: u64,
-    },
-    Alter {
-        place: u64,
-        bytes: Blob,
-    },
-    Cut {
-        length: u64,
-    },
-}
-
-/// A statement.
+/// A statement. A moment is that of `as of`, at most 1,099,511,627,775; without one the state is that of now.
 #[derive(Debug, Drop)]
 pub enum Stmt {
     Create {
@@ -77,13 +55,4 @@ pub enum Stmt {
     Now {
         moment: u64,
     },
-}
-
-/// A line.
-#[derive(Debug, Drop)]
-pub enum Line {
-    Blank,
-    Plain { stmt: Stmt },
-    InSession { session: u8, stmt: Stmt },
-    Drill { event: Event },
 }
