@@ -1,0 +1,187 @@
+-- What is said is read.
+use Rattle.std.proofs.Common.{◌≡◌, ℕ, ◌<◌, ◌≤◌, ◌^◌, Bool, true, false, cond, List, [], ◌∷◌, length, Option, Some, None, option_map, refl, arith, decimal}
+use Rattle.std.specs.Prelude.{codes}
+use Rattle.std.specs.Str.{bytes_eq}
+use Rattle.std.proofs.lemmas.Bool.{le-leb}
+use Rattle.byte_grammar.specs.Reading.{◌>>=◌}
+use Rattle.tuple_bytes.specs.declared.value.Value.{Value}
+use Rattle.tuple_bytes.specs.declared.value.Value.TheVariants as values
+use Rattle.tuple_bytes.specs.declared.op.Kind.{Kind}
+use Rattle.tuple_bytes.specs.declared.op.Kind.TheVariants as kinds
+use Rattle.tuple_bytes.specs.declared.op.Column.{Column}
+use Rattle.tuple_bytes.specs.declared.filter.Filter.{Filter}
+use Rattle.tuple_bytes.specs.declared.filter.Compare.{Compare}
+use Rattle.tuple_bytes.specs.declared.filter.Compare.TheVariants as compares
+use Rattle.stmt_text.specs.declared.word.Keyword.{Keyword}
+use Rattle.stmt_text.specs.declared.word.Keyword.TheVariants as words
+use Rattle.stmt_text.specs.declared.stmt.LineAlgorithm.{LineAlgorithm}
+use Rattle.stmt_text.specs.declared.stmt.LineAlgorithm.TheVariants as algorithms
+use Rattle.stmt_text.specs.declared.stmt.Stmt.{Stmt}
+use Rattle.stmt_text.specs.declared.stmt.Stmt.TheVariants as stmts
+use Rattle.stmt_text.specs.declared.event.Event.{Event}
+use Rattle.stmt_text.specs.declared.event.Event.TheVariants as events
+use Rattle.stmt_text.specs.declared.line.Line.{Line}
+use Rattle.stmt_text.specs.declared.line.Line.TheVariants as lines
+use Rattle.stmt_text.specs.Options.{or_else}
+use Rattle.stmt_text.specs.Tokens.{Token, tokens}
+use Rattle.stmt_text.specs.Numbers.{in_range, max_u64}
+use Rattle.stmt_text.specs.Values.{blob_of_digits}
+use Rattle.stmt_text.specs.Words.{algorithm_word}
+use Rattle.stmt_text.specs.Keywords.{stmt_keyword, event_keyword}
+use Rattle.stmt_text.specs.Parts.{moment, kappa, value_in, name, front, only, each, after_word, as_of, max_moment}
+use Rattle.stmt_text.specs.Rows.{is_row, are_columns, row, column, each_column, columns}
+use Rattle.stmt_text.specs.Statements.{create, insert, update, delete, get, history, filter_at, unfiltered, filtered, scan, algorithm, alone, stmt_by}
+use Rattle.stmt_text.specs.Events.{altering, init, crash, alter, cut, event_by}
+use Rattle.stmt_text.specs.Lines.{max_line, session, plain_by, plain, session_by, in_session, said, content_line, line, without_return}
+use Rattle.stmt_text.specs.Printing.{compare_token}
+use Rattle.stmt_text.specs.Fits.{FitsName}
+use Rattle.stmt_text.specs.Grammar.{Says, SaysNumber, SayValues, SayColumns, SayAsOf, SayAlgorithm, SayFilter, SayStmt, SayEvent, SayLine, SaysWords, SaysContent, SaysLine}
+use Rattle.stmt_text.proofs.Numerals.{plain_back}
+use Rattle.stmt_text.proofs.ValueReads.{value_again}
+use Rattle.stmt_text.proofs.WordReads.{keyword_back, kind_back, compare_back, algs_back, no_session, no_drill, is_drill}
+
+-- ---- parts
+
+value_said : (token : Token) (v : Value) → Says token v → value_in in_range token ≡ Some v
+unfolding value_in
+value_said token v h = rw (value_again token v h.0, h.1) refl
+
+moment_said : (token : Token) (m : ℕ) → SaysNumber 0 max_moment token m → moment in_range token ≡ Some m
+unfolding moment
+moment_said token m h = rw (h.0, le-leb 0 m h.1, le-leb m max_moment h.2) refl
+
+kappa_said : (token : Token) (m : ℕ) → SaysNumber 1 1024 token m → kappa in_range token ≡ Some m
+unfolding kappa
+kappa_said token m h = rw (h.0, le-leb 1 m h.1, le-leb m 1024 h.2) refl
+
+name_said : (n : List ℕ) → FitsName n → name n ≡ Some n
+unfolding name
+name_said n h = rw h refl
+
+each_said : (ts : List Token) (vs : List Value) → SayValues ts vs → each (value_in in_range) ts ≡ Some vs
+unfolding each
+each_said [] [] h = refl
+each_said [] (v ∷ vs) h = absurd h
+each_said (t ∷ ts) [] h = absurd h
+each_said (t ∷ ts) (v ∷ vs) h = rw (value_said t v h.0, each_said ts vs h.1) refl
+
+row_said : (ts : List Token) (vs : List Value) → SayValues ts vs → is_row vs ≡ true → row in_range ts ≡ Some vs
+unfolding row
+row_said ts vs h k = rw (each_said ts vs h, k) refl
+
+columns_said : (ts : List Token) (cs : List Column) → SayColumns ts cs → each_column ts ≡ Some cs
+unfolding each_column column
+columns_said ts [] h = rw h refl
+columns_said ts (c ∷ cs) h = rw (h.1, name_said c.name h.2, kind_back c.kind, columns_said h.0 cs h.3) refl
+
+create_said : (ts : List Token) (cs : List Column) → SayColumns ts cs → are_columns cs ≡ true → columns ts ≡ Some cs
+unfolding columns
+create_said ts cs h k = rw (columns_said ts cs h, k) refl
+
+as_of_said : (ts : List Token) (m : Option ℕ) → SayAsOf ts m → as_of in_range ts ≡ Some m
+unfolding as_of after_word only front
+as_of_said ts None h = rw h refl
+as_of_said ts (Some m) h = rw (h.1, moment_said h.0 m h.2) refl
+
+-- ---- statements
+
+algorithm_said : (ts : List Token) (a : LineAlgorithm) → SayAlgorithm ts a → algorithm in_range ts ≡ Some a
+unfolding algorithm only front algorithm_word after_word
+algorithm_said ts algorithms.Mono h = rw h refl
+algorithm_said ts algorithms.Tiled h = rw h refl
+algorithm_said ts (algorithms.TiledExactly k) h = rw (h.1, kappa_said h.0 k h.2) refl
+algorithm_said ts algorithms.A3d h = rw h refl
+
+-- what begins with a name and a comparison does not begin with `as of`
+no_of : (c : Compare) → bytes_eq (compare_token c) (codes "of") ≡ false
+no_of compares.Equal = refl
+no_of compares.NotEqual = refl
+no_of compares.Less = refl
+no_of compares.LessOrEqual = refl
+no_of compares.Greater = refl
+no_of compares.GreaterOrEqual = refl
+
+abbrev some_moment : ℕ → Option ℕ
+some_moment m = Some m
+
+not_as_of : (table n : List ℕ) (c : Compare) (ts : List Token) → unfiltered in_range table (n ∷ compare_token c ∷ ts) ≡ None
+unfolding unfiltered as_of after_word
+not_as_of table n c ts = rw (no_of c) (by (bytes_eq n (codes "as")))
+  where
+    by : (b : Bool) → (option_map some_moment (cond b None None) >>= λ at. Some (stmts.Scan table None at)) ≡ None
+    by true = refl
+    by false = refl
+
+unfiltered_said : (table : List ℕ) (ts : List Token) (m : Option ℕ) → SayAsOf ts m → unfiltered in_range table ts ≡ Some (stmts.Scan table None m)
+unfolding unfiltered
+unfiltered_said table ts m h = rw (as_of_said ts m h) refl
+
+filtered_said : (table : List ℕ) (f : Filter) (bound : Token) (more : List Token) (m : Option ℕ) → FitsName f.column → Says bound f.value → SayAsOf more m
+    → filtered in_range table (f.column ∷ compare_token f.compare ∷ bound ∷ more) ≡ Some (stmts.Scan table (Some f) m)
+unfolding filtered filter_at front
+filtered_said table f bound more m n v a = rw (name_said f.column n, compare_back f.compare, value_said bound f.value v, as_of_said more m a) refl
+
+scan_said : (table : List ℕ) (ts more : List Token) (f : Option Filter) (m : Option ℕ) → SayFilter ts f more → SayAsOf more m
+    → or_else (unfiltered in_range table ts) (filtered in_range table ts) ≡ Some (stmts.Scan table f m)
+scan_said table ts more None m h a = rw (h, unfiltered_said table more m a) refl
+scan_said table ts more (Some f) m h a = rw (h.1, not_as_of table f.column f.compare (h.0 ∷ more)) (filtered_said table f h.0 more m h.2 h.3 a)
+
+pub stmt_said : (ts : List Token) (s : Stmt) → SayStmt ts s → stmt_by in_range (stmt_keyword s) ts ≡ Some s
+unfolding stmt_by create insert update delete get history scan alone only front
+stmt_said ts (stmts.Create t c) h = rw (h.1, name_said t h.2, create_said h.0 c h.3 h.4) refl
+stmt_said ts (stmts.Insert t r) h = rw (h.1, name_said t h.2, row_said h.0 r h.3 h.4) refl
+stmt_said ts (stmts.Update t r) h = rw (h.1, name_said t h.2, row_said h.0 r h.3 h.4) refl
+stmt_said ts (stmts.Delete t k) h = rw (h.1, name_said t h.2, value_said h.0 k h.3) refl
+stmt_said ts (stmts.Get t k m) h = rw (h.2, name_said t h.3, value_said h.0 k h.4, as_of_said h.1 m h.5) refl
+stmt_said ts (stmts.Scan t f m) h = rw (h.2, name_said t h.3) (scan_said t h.0 h.1 f m h.4 h.5)
+stmt_said ts (stmts.History t k) h = rw (h.1, name_said t h.2, value_said h.0 k h.3) refl
+stmt_said ts stmts.Begin h = rw h refl
+stmt_said ts stmts.Commit h = rw h refl
+stmt_said ts stmts.Abort h = rw h refl
+stmt_said ts stmts.Notarize h = rw h refl
+stmt_said ts stmts.Validate h = rw h refl
+stmt_said ts (stmts.Analyse a) h = rw (algorithm_said ts a h) refl
+stmt_said ts (stmts.Now m) h = rw (h.1, moment_said h.0 m h.2) refl
+
+-- ---- drill lines
+
+pub event_said : (ts : List Token) (e : Event) → SayEvent ts e → event_by (event_keyword e) ts ≡ Some e
+unfolding event_by init crash alter cut front altering blob_of_digits
+event_said ts (events.Init id width k chains) h =
+    rw (h.0, plain_back 0 max_u64 id (omega arith) (omega arith) h.1, plain_back 1 86400 width (omega arith) h.2.0 h.2.1, plain_back 0 10 k (omega arith) (omega arith) h.3, algs_back chains h.4) refl
+event_said ts (events.Crash after choice) h =
+    rw (h.0, plain_back 0 1000000 after (omega arith) (omega arith) h.1, plain_back 0 max_u64 choice (omega arith) (omega arith) h.2) refl
+event_said ts (events.Alter place bytes) h =
+    rw (h.1, plain_back 0 max_u64 place (omega arith) (omega arith) h.3, h.2, h.4) refl
+event_said ts (events.Cut len) h =
+    rw (h.0, plain_back 0 max_u64 len (omega arith) (omega arith) h.1) refl
+
+-- ---- lines
+
+session_number : (n : ℕ) → n ≤ 15 → session (115 ∷ decimal n) ≡ Some n
+unfolding session
+session_number n h = plain_back 0 15 n (omega arith) (omega arith) h
+
+pub line_said : (ts : List Token) (l : Line) → SayLine ts l → said in_range ts ≡ Some l
+unfolding said plain plain_by in_session session_by front
+line_said ts lines.Blank h = absurd h
+line_said ts (lines.Plain s) h =
+    rw (h.1, no_session (stmt_keyword s), keyword_back (stmt_keyword s), no_drill s, h.3, stmt_said h.0 s h.2) refl
+line_said ts (lines.InSession n s) h =
+    rw (h.1, session_number n h.2, keyword_back (stmt_keyword s), h.4, stmt_said h.0 s h.3) refl
+line_said ts (lines.Drill e) h =
+    rw (h.1, no_session (event_keyword e), keyword_back (event_keyword e), is_drill e, event_said h.0 e h.2) refl
+
+words_said : (content : List ℕ) (l : Line) → SaysWords content l → content_line in_range content ≡ Some l
+unfolding content_line
+words_said content l h = rw (h.filled, le-leb (length content) max_line h.short) (line_said (tokens content) l h.said)
+
+content_said : (content : List ℕ) (l : Line) → SaysContent content l → content_line in_range content ≡ Some l
+unfolding content_line
+content_said content lines.Blank h = rw h refl
+content_said content (lines.Plain s) h = words_said content (lines.Plain s) h
+content_said content (lines.InSession n s) h = words_said content (lines.InSession n s) h
+content_said content (lines.Drill e) h = words_said content (lines.Drill e) h
+
+pub says_again : (bytes : List ℕ) (l : Line) → SaysLine bytes l → line in_range bytes ≡ Some l
+says_again bytes l h = content_said (without_return bytes) l h

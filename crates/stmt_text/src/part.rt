@@ -1,0 +1,139 @@
+//! Parts of a line. A function `.._of` reads what a token, or all that is left, says; a function `.._at` reads what
+//! stands at the front, and hands back the bytes after it.
+
+ghost use Rattle.std.specs.Prelude.{◌≡◌, option_map};
+ghost use Rattle.byte_grammar.specs.Reading.{Gives};
+ghost use Rattle.stmt_text.specs.Tokens.{tokens};
+ghost use Rattle.stmt_text.specs.Parts.{Read, moment, kappa, value_in, name, front, ended, only, after_word, as_of};
+
+use crate::error::ReadFail;
+use crate::number::{Numbers, number_of};
+use crate::token::next_token;
+use crate::value_reading::value_of;
+use crate::word::spells;
+use std::alloc::Global;
+use tuple_bytes::{Value, Word};
+
+/// The number of a moment.
+#[tactic(auto, unfolding(crate::specs::Parts::moment))]
+fn moment_of(numbers: Numbers, token: &[u8]) -> Option<u64>
+    ensures value { Gives (λ m. m) result (moment numbers token.now) }
+{
+    let (number, fits) = number_of(token, 1_099_511_627_775)?;
+    match numbers {
+        Numbers::InRange if !fits => None,
+        _ => Some(number),
+    }
+}
+
+#[tactic(auto, unfolding(crate::specs::Parts::kappa))]
+fn kappa_of(numbers: Numbers, token: &[u8]) -> Option<u32>
+    ensures value { Gives (λ m. m) result (kappa numbers token.now) }
+{
+    let (number, fits) = number_of(token, 1024)?;
+    match numbers {
+        Numbers::InRange if !fits || number == 0 => None,
+        _ => Some(number as u32),
+    }
+}
+
+/// The value that a token says.
+#[tactic(auto, unfolding(crate::specs::Parts::value_in))]
+pub fn value_of_token(alloc: Global, numbers: Numbers, token: &[u8]) -> Result<Value, ReadFail>
+    ensures value { Read (λ v. v) result (value_in numbers token.now) }
+{
+    match value_of(alloc, token)? {
+        Some((value, fits)) => match numbers {
+            Numbers::InRange if !fits => Err(ReadFail::Missing),
+            _ => Ok(value),
+        },
+        None => Err(ReadFail::Missing),
+    }
+}
+
+/// The name that a token is.
+#[tactic(auto, unfolding(crate::specs::Parts::name))]
+pub fn name_of_token(alloc: Global, token: &[u8]) -> Result<Word, ReadFail>
+    ensures value { Read (λ w. w) result (name token.now) }
+{
+    match Word::new(alloc, token)? {
+        Some(word) => Ok(word),
+        None => Err(ReadFail::Missing),
+    }
+}
+
+/// No token is left.
+pub fn end_of(bytes: &[u8]) -> Result<(), ReadFail>
+    ensures value { Read (λ u. u) result (ended (tokens bytes.now)) }
+{
+    match next_token(bytes) {
+        None => Ok(()),
+        Some(_) => Err(ReadFail::Missing),
+    }
+}
+
+/// The name at the front.
+#[tactic(auto, unfolding(crate::specs::Parts::front))]
+pub fn name_at(alloc: Global, bytes: &[u8]) -> Result<(Word, &[u8]), ReadFail>
+    ensures value { Read (λ x. (x.0, tokens x.1.now)) result (front name (tokens bytes.now)) }
+{
+    match next_token(bytes) {
+        Some((token, rest)) => Ok((name_of_token(alloc, token)?, rest)),
+        None => Err(ReadFail::Missing),
+    }
+}
+
+/// The value at the front.
+#[tactic(auto, unfolding(crate::specs::Parts::front))]
+pub fn value_at(alloc: Global, numbers: Numbers, bytes: &[u8]) -> Result<(Value, &[u8]), ReadFail>
+    ensures value { Read (λ x. (x.0, tokens x.1.now)) result (front (value_in numbers) (tokens bytes.now)) }
+{
+    match next_token(bytes) {
+        Some((token, rest)) => Ok((value_of_token(alloc, numbers, token)?, rest)),
+        None => Err(ReadFail::Missing),
+    }
+}
+
+/// A moment, and no more.
+#[tactic(auto, unfolding(crate::specs::Parts::only, crate::specs::Parts::front))]
+pub fn only_moment(numbers: Numbers, bytes: &[u8]) -> Option<u64>
+    ensures value { Gives (λ m. m) result (only (moment numbers) (tokens bytes.now)) }
+{
+    let (token, rest) = next_token(bytes)?;
+    let moment = moment_of(numbers, token)?;
+    match next_token(rest) {
+        None => Some(moment),
+        Some(_) => None,
+    }
+}
+
+#[tactic(auto, unfolding(crate::specs::Parts::only, crate::specs::Parts::front))]
+pub fn only_kappa(numbers: Numbers, bytes: &[u8]) -> Option<u32>
+    ensures value { Gives (λ m. m) result (only (kappa numbers) (tokens bytes.now)) }
+{
+    let (token, rest) = next_token(bytes)?;
+    let kappa = kappa_of(numbers, token)?;
+    match next_token(rest) {
+        None => Some(kappa),
+        Some(_) => None,
+    }
+}
+
+/// Nothing, or `as of` and a moment.
+#[tactic(auto, unfolding(crate::specs::Parts::as_of, crate::specs::Parts::after_word))]
+pub fn as_of_at(numbers: Numbers, bytes: &[u8]) -> Option<Option<u64>>
+    ensures value { Gives (λ m. m) result (as_of numbers (tokens bytes.now)) }
+{
+    let Some((token, rest)) = next_token(bytes) else {
+        return Some(None);
+    };
+    if !spells(token, b"as") {
+        return None;
+    }
+    let (token, rest) = next_token(rest)?;
+    if !spells(token, b"of") {
+        return None;
+    }
+    let moment = only_moment(numbers, rest)?;
+    Some(Some(moment))
+}

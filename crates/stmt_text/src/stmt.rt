@@ -1,0 +1,58 @@
+//! Statements.
+
+use tuple_bytes::{Columns, Filter, Row, Value, Word};
+
+/// The algorithm that an analysis uses; with `kappa` it names exactly so many granules, 1 to 1,024.
+#[derive(Clone, Copy, Debug, PartialEq, Eq)]
+pub enum LineAlgorithm {
+    Mono,
+    Tiled,
+    TiledExactly { kappa: u32 },
+    A3d,
+}
+
+/// A statement. A moment is that of `as of`, at most 1,099,511,627,775; without one the state is that of now.
+#[derive(Debug, Drop)]
+pub enum Stmt {
+    Create {
+        table: Word,
+        columns: Columns,
+    },
+    Insert {
+        table: Word,
+        row: Row,
+    },
+    Update {
+        table: Word,
+        row: Row,
+    },
+    Delete {
+        table: Word,
+        key: Value,
+    },
+    Get {
+        table: Word,
+        key: Value,
+        moment: Option<u64>,
+    },
+    Scan {
+        table: Word,
+        filter: Option<Filter>,
+        moment: Option<u64>,
+    },
+    History {
+        table: Word,
+        key: Value,
+    },
+    Begin,
+    Commit,
+    Abort,
+    Notarize,
+    Validate,
+    Analyse {
+        algorithm: LineAlgorithm,
+    },
+    Now {
+        moment: u64,
+    },
+}

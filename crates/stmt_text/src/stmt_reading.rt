@@ -1,0 +1,228 @@
+//! Reading statements, each from what stands behind its first word.
+
+ghost use Rattle.std.specs.Prelude.{◌≡◌, option_map, codes};
+ghost use Rattle.byte_grammar.specs.Reading.{Gives};
+ghost use Rattle.stmt_text.specs.Tokens.{tokens};
+ghost use Rattle.stmt_text.specs.Words.{compare, algorithm_word};
+ghost use Rattle.stmt_text.specs.Parts.{Read, front, only, moment, kappa, after_word};
+ghost use Rattle.stmt_text.specs.Statements.{create, insert, update, delete, get, history, filter_at, unfiltered, filtered, scan, algorithm, alone, stmt_by};
+
+use crate::error::ReadFail;
+use crate::number::Numbers;
+use crate::part::{as_of_at, end_of, name_at, only_kappa, only_moment, value_at};
+use crate::row_reading::{columns_at, row_at};
+use crate::stmt::{LineAlgorithm, Stmt};
+use crate::token::next_token;
+use crate::word::{Keyword, algorithm_word_of, compare_of, spells};
+use std::alloc::Global;
+use tuple_bytes::{Compare, Filter, Word};
+
+#[tactic(auto, unfolding(crate::specs::Statements::create))]
+fn create_of(alloc: Global, bytes: &[u8]) -> Result<Stmt, ReadFail>
+    ensures value { Read (λ s. s) result (create (tokens bytes.now)) }
+{
+    let (table, rest) = name_at(alloc, bytes)?;
+    let columns = columns_at(alloc, rest)?;
+    Ok(Stmt::Create { table, columns })
+}
+
+#[tactic(auto, unfolding(crate::specs::Statements::insert))]
+fn insert_of(alloc: Global, numbers: Numbers, bytes: &[u8]) -> Result<Stmt, ReadFail>
+    ensures value { Read (λ s. s) result (insert numbers (tokens bytes.now)) }
+{
+    let (table, rest) = name_at(alloc, bytes)?;
+    let row = row_at(alloc, numbers, rest)?;
+    Ok(Stmt::Insert { table, row })
+}
+
+#[tactic(auto, unfolding(crate::specs::Statements::update))]
+fn update_of(alloc: Global, numbers: Numbers, bytes: &[u8]) -> Result<Stmt, ReadFail>
+    ensures value { Read (λ s. s) result (update numbers (tokens bytes.now)) }
+{
+    let (table, rest) = name_at(alloc, bytes)?;
+    let row = row_at(alloc, numbers, rest)?;
+    Ok(Stmt::Update { table, row })
+}
+
+#[tactic(auto, unfolding(crate::specs::Statements::delete))]
+fn delete_of(alloc: Global, numbers: Numbers, bytes: &[u8]) -> Result<Stmt, ReadFail>
+    ensures value { Read (λ s. s) result (delete numbers (tokens bytes.now)) }
+{
+    let (table, rest) = name_at(alloc, bytes)?;
+    let (key, rest) = value_at(alloc, numbers, rest)?;
+    end_of(rest)?;
+    Ok(Stmt::Delete { table, key })
+}
+
+#[tactic(auto, unfolding(crate::specs::Statements::get))]
+fn get_of(alloc: Global, numbers: Numbers, bytes: &[u8]) -> Result<Stmt, ReadFail>
+    ensures value { Read (λ s. s) result (get numbers (tokens bytes.now)) }
+{
+    let (table, rest) = name_at(alloc, bytes)?;
+    let (key, rest) = value_at(alloc, numbers, rest)?;
+    match as_of_at(numbers, rest) {
+        Some(moment) => Ok(Stmt::Get { table, key, moment }),
+        None => Err(ReadFail::Missing),
+    }
+}
+
+#[tactic(auto, unfolding(crate::specs::Statements::history))]
+fn history_of(alloc: Global, numbers: Numbers, bytes: &[u8]) -> Result<Stmt, ReadFail>
+    ensures value { Read (λ s. s) result (history numbers (tokens bytes.now)) }
+{
+    let (table, rest) = name_at(alloc, bytes)?;
+    let (key, rest) = value_at(alloc, numbers, rest)?;
+    end_of(rest)?;
+    Ok(Stmt::History { table, key })
+}
+
+#[tactic(auto, unfolding(crate::specs::Parts::front))]
+fn compare_at(bytes: &[u8]) -> Result<(Compare, &[u8]), ReadFail>
+    ensures value { Read (λ x. (x.0, tokens x.1.now)) result (front compare (tokens bytes.now)) }
+{
+    match next_token(bytes) {
+        Some((token, rest)) => match compare_of(token) {
+            Some(compare) => Ok((compare, rest)),
+            None => Err(ReadFail::Missing),
+        },
+        None => Err(ReadFail::Missing),
+    }
+}
+
+#[tactic(auto, unfolding(crate::specs::Statements::filter_at))]
+fn filter_of(alloc: Global, numbers: Numbers, bytes: &[u8]) -> Result<(Filter, &[u8]), ReadFail>
+    ensures value { Read (λ x. (x.0, tokens x.1.now)) result (filter_at numbers (tokens bytes.now)) }
+{
+    let (column, rest) = name_at(alloc, bytes)?;
+    let (compare, rest) = compare_at(rest)?;
+    let (value, rest) = value_at(alloc, numbers, rest)?;
+    Ok((
+        Filter {
+            column,
+            compare,
+            value,
+        },
+        rest,
+    ))
+}
+
+#[tactic(auto, unfolding(crate::specs::Statements::filtered))]
+fn filtered_of(alloc: Global, numbers: Numbers, table: Word, bytes: &[u8]) -> Result<Stmt, ReadFail>
+    ensures value { Read (λ s. s) result (filtered numbers table (tokens bytes.now)) }
+{
+    let (filter, rest) = filter_of(alloc, numbers, bytes)?;
+    match as_of_at(numbers, rest) {
+        Some(moment) => Ok(Stmt::Scan {
+            table,
+            filter: Some(filter),
+            moment,
+        }),
+        None => Err(ReadFail::Missing),
+    }
+}
+
+#[tactic(auto, unfolding(crate::specs::Statements::scan, crate::specs::Statements::unfiltered))]
+fn scan_of(alloc: Global, numbers: Numbers, bytes: &[u8]) -> Result<Stmt, ReadFail>
+    ensures value { Read (λ s. s) result (scan numbers (tokens bytes.now)) }
+{
+    let (table, rest) = name_at(alloc, bytes)?;
+    match as_of_at(numbers, rest) {
+        Some(moment) => Ok(Stmt::Scan {
+            table,
+            filter: None,
+            moment,
+        }),
+        None => Ok(filtered_of(alloc, numbers, table, rest)?),
+    }
+}
+
+#[tactic(auto, unfolding(crate::specs::Parts::only, crate::specs::Parts::front))]
+fn only_algorithm_word(bytes: &[u8]) -> Option<LineAlgorithm>
+    ensures value { Gives (λ a. a) result (only algorithm_word (tokens bytes.now)) }
+{
+    let (token, rest) = next_token(bytes)?;
+    let algorithm = algorithm_word_of(token)?;
+    match next_token(rest) {
+        None => Some(algorithm),
+        Some(_) => None,
+    }
+}
+
+#[tactic(auto, unfolding(crate::specs::Parts::after_word))]
+fn exactly_of(numbers: Numbers, bytes: &[u8]) -> Option<u32>
+    ensures value { Gives (λ k. k) result (after_word (codes "tiled") (only (kappa numbers)) (tokens bytes.now)) }
+{
+    let (token, rest) = next_token(bytes)?;
+    if !spells(token, b"tiled") {
+        return None;
+    }
+    only_kappa(numbers, rest)
+}
+
+#[tactic(auto, unfolding(crate::specs::Statements::algorithm))]
+fn algorithm_of(numbers: Numbers, bytes: &[u8]) -> Option<LineAlgorithm>
+    ensures value { Gives (λ a. a) result (algorithm numbers (tokens bytes.now)) }
+{
+    if let Some(algorithm) = only_algorithm_word(bytes) {
+        return Some(algorithm);
+    }
+    match exactly_of(numbers, bytes) {
+        Some(kappa) => Some(LineAlgorithm::TiledExactly { kappa }),
+        None => None,
+    }
+}
+
+#[tactic(auto, unfolding(crate::specs::Statements::alone))]
+fn alone_of(stmt: Stmt, bytes: &[u8]) -> Result<Stmt, ReadFail>
+    ensures value { Read (λ s. s) result (alone stmt (tokens bytes.now)) }
+{
+    end_of(bytes)?;
+    Ok(stmt)
+}
+
+fn analyse_of(numbers: Numbers, bytes: &[u8]) -> Result<Stmt, ReadFail>
+    ensures value { Read (λ s. s) result (option_map Stmt.Analyse (algorithm numbers (tokens bytes.now))) }
+{
+    match algorithm_of(numbers, bytes) {
+        Some(algorithm) => Ok(Stmt::Analyse { algorithm }),
+        None => Err(ReadFail::Missing),
+    }
+}
+
+fn now_of(numbers: Numbers, bytes: &[u8]) -> Result<Stmt, ReadFail>
+    ensures value { Read (λ s. s) result (option_map Stmt.Now (only (moment numbers) (tokens bytes.now))) }
+{
+    match only_moment(numbers, bytes) {
+        Some(moment) => Ok(Stmt::Now { moment }),
+        None => Err(ReadFail::Missing),
+    }
+}
+
+/// A statement, from its first word and what stands behind it.
+#[tactic(auto, unfolding(crate::specs::Statements::stmt_by))]
+pub fn stmt_of(
+    alloc: Global,
+    numbers: Numbers,
+    keyword: Keyword,
+    bytes: &[u8],
+) -> Result<Stmt, ReadFail>
+    ensures value { Read (λ s. s) result (stmt_by numbers keyword (tokens bytes.now)) }
+{
+    match keyword {
+        Keyword::Create => create_of(alloc, bytes),
+        Keyword::Insert => insert_of(alloc, numbers, bytes),
+        Keyword::Update => update_of(alloc, numbers, bytes),
+        Keyword::Delete => delete_of(alloc, numbers, bytes),
+        Keyword::Get => get_of(alloc, numbers, bytes),
+        Keyword::Scan => scan_of(alloc, numbers, bytes),
+        Keyword::History => history_of(alloc, numbers, bytes),
+        Keyword::Begin => alone_of(Stmt::Begin, bytes),
+        Keyword::Commit => alone_of(Stmt::Commit, bytes),
+        Keyword::Abort => alone_of(Stmt::Abort, bytes),
+        Keyword::Notarize => alone_of(Stmt::Notarize, bytes),
+        Keyword::Validate => alone_of(Stmt::Validate, bytes),
+        Keyword::Analyse => analyse_of(numbers, bytes),
+        Keyword::Now => now_of(numbers, bytes),
+        Keyword::Init | Keyword::Crash | Keyword::Alter | Keyword::Cut => Err(ReadFail::Missing),
+    }
+}
