@@ -76,3 +76,21 @@ pub fn is_count(limit: u16, count: u16) -> bool
 {
     1 <= count && count <= limit
 }
+
+#[cfg(test)]
+mod tests {
+    use super::*;
+
+    #[test]
+    fn the_front_is_read_and_the_rest_is_left(rt: HostRuntime) {
+        let bytes = [1, 2, 3, 4, 5, 6, 7, 8, 9];
+        assert_eq!(rt; byte_of(&bytes), Some((1, &bytes[1..])));
+        assert_eq!(rt; part_of(2, &bytes), Some((&bytes[..2], &bytes[2..])));
+        assert_eq!(rt; u16_of(&bytes), Some((0x0102, &bytes[2..])));
+        assert_eq!(rt; u32_of(&bytes), Some((0x0102_0304, &bytes[4..])));
+        assert_eq!(rt; u64_of(&bytes), Some((0x0102_0304_0506_0708, &bytes[8..])));
+        assert_eq!(rt; constant_of(&[1, 2], &bytes), Some(&bytes[2..]));
+        assert_eq!(rt; constant_of(&[1, 3], &bytes), None);
+        assert!(rt; is_count(9, 9) && !is_count(9, 0) && !is_count(9, 10));
+    }
+}
