@@ -9,3 +9,6 @@ pub use laws::{
     headers_tell_apart, links_tell_apart, stored_is_history, stored_is_longest, stores_tell_apart,
 };
 pub use stored::Stored;
+
+#[cfg(test)]
+mod tests;
