@@ -1,0 +1,48 @@
+//! What no clause says: that calls succeed, and that a sink which takes little at a time gets all.
+use crate::{MemSink, Sink, StdSink, StreamFail, write_whole};
+use std::test::Fail;
+
+#[test]
+fn the_listed_writes_fail_and_no_other(rt: HostRuntime) -> Result<(), Fail> {
+    let alloc = rt.alloc();
+    let mut out = MemSink::new(alloc, [1, 3].to_vec(alloc)?);
+    assert_eq!(rt; write_whole(&mut out, b"ab"), Err(StreamFail::Failed));
+    assert_eq!(rt; write_whole(&mut out, b"cd"), Ok(()));
+    assert_eq!(rt; write_whole(&mut out, b"ef"), Err(StreamFail::Failed));
+    assert_eq!(rt; write_whole(&mut out, b"gh"), Ok(()));
+    assert_eq!(rt; out.bytes(), b"cdgh".as_slice());
+    Ok(())
+}
+
+// A sink that takes one byte at a time.
+#[derive(Drop)]
+struct Narrow {
+    below: MemSink,
+}
+
+impl Sink for Narrow {
+    ghost use Rattle.outside_io.specs.Memory.{state_of};
+
+    ghost state = { λ s. state_of s.below };
+
+    fn write(&mut self, piece: &[u8]) -> Result<usize, StreamFail> {
+        self.below.write(&piece[..piece.len().min(1)])
+    }
+}
+
+#[test]
+fn a_front_is_out_where_a_later_write_fails(rt: HostRuntime) -> Result<(), Fail> {
+    let alloc = rt.alloc();
+    let below = MemSink::new(alloc, [5].to_vec(alloc)?);
+    let mut out = Narrow { below };
+    assert_eq!(rt; write_whole(&mut out, b"abc"), Ok(()));
+    assert_eq!(rt; write_whole(&mut out, b"def"), Err(StreamFail::Failed));
+    assert_eq!(rt; out.below.bytes(), b"abcd".as_slice());
+    Ok(())
+}
+
+#[test]
+fn an_empty_piece_is_no_fault_of_the_standard_output(rt: HostRuntime) {
+    let mut out = StdSink::new(rt);
+    assert_eq!(rt; out.write(b""), Ok(0));
+}
