@@ -124,8 +124,8 @@ within_of : (head x : List ℕ) → length head ≡ 64 → AllWithin (creation h
 within_of head x long = (omega arith, (omega arith, (omega arith, tt)))
 
 -- before the first write
-untouched : (head x : List ℕ) → CutShort (creation head) x x
-untouched head x = inl (Torn-same 0 1 x)
+untouched : (made x : List ℕ) → CutShort (creation made) x x
+untouched made x = inl (Torn-same 0 1 x)
 
 module _ (is_head : List ℕ → Bool) (shape : Shape) (head : List ℕ) (long : length head ≡ 64) (is_open : get_or head 0 0 ≡ 0xA7) (fits : is_head head ≡ true) where
   holds_head : held_by is_head shape (head ++ 0 ∷ []) ≡ Some (new_file head)

@@ -32,6 +32,16 @@ pub record IsHalfMade (shape : Shape) (head before c : List ℕ) : Type 0 where
   pub head_is : slice_index c 0 ≡ open_gate → head_length < length c → (take head_length c ≡ head) ⊎ (drop 1 (take head_length c) ≡ drop 1 (take head_length before))
   pub from_empty : before ≡ [] → IsFree c ⊎ ((take head_length c ≡ head) × (head_length < length c))
 
+-- the answers that making a file may give
+abbrev pub IsOfCreation : Result (Unit {0}) JournalFail → Type 0
+IsOfCreation (Ok _) = Unit {0}
+IsOfCreation (Err fails.AlreadyThere) = Unit {0}
+IsOfCreation (Err fails.DiskFault) = Unit {0}
+IsOfCreation (Err fails.NoMemory) = Unit {0}
+IsOfCreation (Err fails.NotAStore) = ⊥
+IsOfCreation (Err fails.StoreFull) = ⊥
+IsOfCreation (Err fails.Closed) = ⊥
+
 -- Refused are exactly the devices that are taken, but for a fault and want of memory.
 abbrev pub Refuses : List ℕ → Result (Unit {0}) JournalFail → Type 0
 Refuses bytes (Ok _) = IsFree bytes

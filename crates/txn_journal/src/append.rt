@@ -28,7 +28,12 @@ pub(crate) fn spelled(alloc: Global, payload: &[u8]) -> Result<Vec<u8>, AllocErr
 }
 
 /// Writes what stands behind the gate at the end, and opens that gate.
-pub(crate) fn add<D: Disk>(disk: &mut D, gate_is_open: bool, end: u64, bytes: &[u8]) -> Result<(), DiskFail>
+pub(crate) fn add<D: Disk>(
+    disk: &mut D,
+    gate_is_open: bool,
+    end: u64,
+    bytes: &[u8],
+) -> Result<(), DiskFail>
     requires room { end + 1 < 2 ^ 64 }
     ensures told { WhereTold (D.state disk.old).reads (D.state disk.new).reads
         (Secures (writes_at gate_is_open end bytes.now) result (D.state disk.old) (D.state disk.new)) }

@@ -11,7 +11,7 @@ ghost use Rattle.disk_words.specs.Disk.{GoesOn, Unchanged};
 ghost use Rattle.disk_model.specs.Moments.{Secures};
 ghost use Rattle.byte_grammar.specs.Gated.{open_gate};
 ghost use Rattle.txn_journal.specs.Append.{closed_gate};
-ghost use Rattle.txn_journal.specs.Create.{IsFreeOrTaken, creation, Creates};
+ghost use Rattle.txn_journal.specs.Create.{IsFreeOrTaken, IsOfCreation, creation, Creates};
 
 use crate::gate::{CLOSED, OPEN};
 use crate::{JournalFail, Shape};
@@ -22,6 +22,7 @@ use disk_model::{Disk, DiskFail, write_durably};
 pub fn create<D: Disk, S: Shape>(disk: &mut D, head: &[u8; 64]) -> Result<(), JournalFail>
     requires gate { slice_index head.now 0 ≡ open_gate }
     requires head { IsTrue (S.is_head head.now) }
+    ensures none_other { IsOfCreation result }
     ensures told { WhereTold (D.state disk.old).reads (D.state disk.new).reads
         (Creates S.is_head S.shape head.now result (D.state disk.old) (D.state disk.new)) }
     ensures frame { GoesOn (D.state disk.old) (D.state disk.new) }

@@ -56,3 +56,5 @@ pub use store_shape::StoreShape;
 
 #[cfg(test)]
 mod tests;
+#[cfg(test)]
+mod writing_tests;
