@@ -2,3 +2,9 @@ pub mod Frames
 pub mod Steps
 pub mod Fronts
 pub mod Heads
+pub mod Added
+pub mod Appending
+pub mod InFile
+pub mod SameFront
+pub mod Lifted
+pub mod HalfMade

@@ -1,3 +1,7 @@
 pub mod Front
 pub mod Reading
 pub mod Window
+pub mod Append
+pub mod Create
+pub mod Fail
+pub mod Held

@@ -36,15 +36,25 @@
 //! ```
 #![tactic(auto)]
 
+mod append;
+mod creation;
+mod fail;
+mod gate;
+mod journal;
 mod payload;
 mod records;
 mod shape;
 mod store_shape;
 mod window;
 
+pub use creation::create;
+pub use fail::JournalFail;
+pub use journal::Journal;
 pub use records::Records;
 pub use shape::Shape;
 pub use store_shape::StoreShape;
 
 #[cfg(test)]
 mod tests;
+#[cfg(test)]
+mod writing_tests;
