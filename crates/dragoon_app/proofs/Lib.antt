@@ -1,0 +1,3 @@
+pub mod WordFacts
+pub mod ItemFacts
+pub mod Going

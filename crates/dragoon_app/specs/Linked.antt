@@ -1,0 +1,53 @@
+-- What `link` writes, and how it gets there item by item.
+use Rattle.std.specs.Prelude.{◌≡◌, ℕ, ◌+◌, List, [], ◌∷◌, ◌++◌, length, codes, fold, Option, Some, None}
+use Rattle.std.specs.Fmt.{decimal}
+use Rattle.hex.specs.Hex.{encode_lower}
+use Rattle.tuple_bytes.specs.declared.header.Header.{Header}
+use Rattle.tuple_bytes.specs.declared.item.Txn.{Txn}
+use Rattle.tuple_bytes.specs.declared.item.Item.{Item}
+use Rattle.tuple_bytes.specs.declared.item.Item.TheVariants as items
+use Rattle.tuple_bytes.specs.Spelling.{spell_txn}
+use Rattle.history_model.specs.declared.stored.Stored.{Stored}
+use Rattle.history_model.specs.History.{txns}
+use Rattle.history_model.specs.Digests.{seed, next_link, link_of}
+use Rattle.dragoon_app.specs.declared.status.Status.TheVariants as statuses
+use Rattle.dragoon_app.specs.declared.link.Linked.{Linked}
+use Rattle.dragoon_app.specs.Outcome.{Outcome, refused}
+
+-- ---- the output
+
+-- a count of transactions, and their link in hexadecimal
+unfoldable pub two_lines : ℕ → List ℕ → List ℕ
+two_lines count link = codes "txns " ++ (decimal count ++ (codes "\nlink " ++ (encode_lower link ++ 10 ∷ [])))
+
+abbrev pub link_under : Option Header → List Txn → Outcome
+link_under None ts = refused statuses.NotAStore
+link_under (Some h) ts = record { status = statuses.Ok; text = two_lines (length ts) (link_of h ts) }
+
+-- what `link` over a store is
+abbrev pub link_outcome : Stored → Outcome
+link_outcome s = link_under s.header (txns s.items)
+
+-- ---- item by item
+
+-- after one more item
+abbrev pub after_item : Linked → Item → Linked
+after_item l (items.Txn t) = record { count = l.count + 1; link = next_link l.link (spell_txn t) }
+after_item l (items.Frontier moment) = l
+
+abbrev pub linked_from : Linked → List Item → Linked
+linked_from l is = fold after_item l is
+
+-- before the first item
+abbrev pub linked_at_seed : Header → Linked
+linked_at_seed h = record { count = 0; link = seed h }
+
+-- the number of the transactions and their link, or nothing where there is no header
+abbrev pub IsLinkedUnder : Option Header → List Txn → Option Linked → Type 0
+IsLinkedUnder None ts None = Unit {0}
+IsLinkedUnder (Some h) ts (Some l) = (l.count ≡ length ts) × (l.link ≡ link_of h ts)
+IsLinkedUnder None ts (Some l) = ⊥
+IsLinkedUnder (Some h) ts None = ⊥
+
+unfoldable pub IsLinkOf : Stored → Option Linked → Type 0
+IsLinkOf s found = IsLinkedUnder s.header (txns s.items) found

@@ -1,0 +1,25 @@
+-- Lines that the program writes.
+use Rattle.std.specs.Prelude.{ℕ, List, [], ◌∷◌, ◌++◌, codes}
+use Rattle.dragoon_app.specs.declared.status.Status.{Status}
+use Rattle.dragoon_app.specs.declared.status.Status.TheVariants as statuses
+
+-- the number that the process ends with
+abbrev pub status_code : Status → ℕ
+status_code statuses.Ok = 0
+status_code statuses.Usage = 2
+status_code statuses.NotAStore = 4
+status_code statuses.DiskFault = 5
+status_code statuses.WriteFault = 8
+status_code statuses.NoMemory = 9
+
+abbrev pub status_name : Status → List ℕ
+status_name statuses.Ok = codes "Ok"
+status_name statuses.Usage = codes "Usage"
+status_name statuses.NotAStore = codes "NotAStore"
+status_name statuses.DiskFault = codes "DiskFault"
+status_name statuses.WriteFault = codes "WriteFault"
+status_name statuses.NoMemory = codes "NoMemory"
+
+-- the last line of a run that ends so
+unfoldable pub fault_line : Status → List ℕ
+fault_line s = codes "fault " ++ status_name s ++ codes "\n"

@@ -1,0 +1,49 @@
+//! Writing a text and ending with a status.
+
+ghost use Rattle.std.specs.Prelude.{◌≡◌};
+ghost use Rattle.outside_words.specs.Faults.{Rose};
+ghost use Rattle.outside_io.specs.Sink.{GoesOn};
+ghost use Rattle.dragoon_app.specs.Texts.{fault_line};
+ghost use Rattle.dragoon_app.specs.Outcome.{IsSaid, Said, refused};
+
+use crate::Status;
+use outside_io::{Sink, StreamFail, write_whole};
+
+/// Writes the text, and then ends with the status.
+pub fn say<O: Sink>(out: &mut O, text: &[u8], status: Status) -> Status
+    requires { IsSaid status }
+    ensures said { Said (record { status = status; text = text.now }) result (O.state out.old) (O.state out.new) }
+    ensures cause { result ≡ Status.WriteFault → Rose (O.state out.old).faults (O.state out.new).faults }
+    ensures frame { GoesOn (O.state out.old) (O.state out.new) }
+{
+    match write_whole(out, text) {
+        Ok(()) => status,
+        Err(StreamFail::Failed) => Status::WriteFault,
+        Err(StreamFail::NoMemory) => Status::NoMemory,
+    }
+}
+
+/// Writes the fault line of the status, and then ends with it.
+pub fn refuse<O: Sink>(out: &mut O, status: Status) -> Status
+    requires { IsSaid status }
+    ensures said { Said (refused status) result (O.state out.old) (O.state out.new) }
+    ensures cause { result ≡ Status.WriteFault → Rose (O.state out.old).faults (O.state out.new).faults }
+    ensures frame { GoesOn (O.state out.old) (O.state out.new) }
+{
+    say(out, fault_text(status).as_bytes(), status)
+}
+
+/// The last line of a run that ends so.
+#[tactic(auto, unfolding(crate::specs::Texts::fault_line))]
+fn fault_text(status: Status) -> &'static str
+    ensures value { result.now ≡ fault_line status }
+{
+    match status {
+        Status::Ok => "fault Ok\n",
+        Status::Usage => "fault Usage\n",
+        Status::NotAStore => "fault NotAStore\n",
+        Status::DiskFault => "fault DiskFault\n",
+        Status::WriteFault => "fault WriteFault\n",
+        Status::NoMemory => "fault NoMemory\n",
+    }
+}
