@@ -1,5 +1,5 @@
 -- Going over what is not kept: the bytes behind a reader.
-use Rattle.std.proofs.Common.{◌≡◌, ℕ, suc, ◌-◌, ◌+◌, ◌<◌, ◌≤◌, List, ◌∷◌, Option, Some, None, refl, sym, ap, ◌∙◌, arith}
+use Rattle.std.proofs.Common.{◌≡◌, ℕ, suc, ◌-◌, ◌+◌, ◌<◌, ◌≤◌, List, ◌∷◌, Option, Some, None, refl, sym, ◌∙◌, arith}
 use Rattle.byte_grammar.specs.Reading.{Reader, ◌>>=◌, rest_of, seq, mapped, many}
 
 pub rest_of-mapped : {A B : Type 0} (f : A → B) (r : Reader A) (bytes : List ℕ) → rest_of (mapped f r bytes) ≡ rest_of (r bytes)

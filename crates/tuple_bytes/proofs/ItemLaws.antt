@@ -1,7 +1,7 @@
 -- Each reader reads exactly the spellings.
-use Rattle.std.proofs.Common.{◌≡◌, ℕ, zero, suc, ◌^◌, ◌+◌, ◌<◌, ◌≤◌, ℤ, Bool, true, false, cond, ltb, List, [], ◌∷◌, ◌++◌, length, Option, Some, None, refl, sym, ap, subst, ◌∙◌, append_assoc, arith}
-use Rattle.std.specs.Prelude.{pos, negsuc, IsUtf8, FitsSigned, is_some}
-use Rattle.std.specs.List.{flat_map, AllByRecursion}
+use Rattle.std.proofs.Common.{◌≡◌, ℕ, zero, suc, ◌^◌, ◌<◌, ◌≤◌, ℤ, Bool, true, false, cond, ltb, List, [], ◌∷◌, ◌++◌, length, Option, Some, None, refl, sym, ap, subst, ◌∙◌, arith}
+use Rattle.std.specs.Prelude.{pos, negsuc, FitsSigned, is_some, All}
+use Rattle.std.specs.List.{AllByRecursion}
 use Rattle.std.specs.Str.{is_utf8}
 use Rattle.std.specs.Int.{w16, w32, w64, to_be_bytes, cast_signed, cast_unsigned}
 use Rattle.std.proofs.lemmas.Bool.{leb-true}
@@ -9,7 +9,6 @@ use Rattle.std.proofs.lemmas.Int.{of_z-to_z, to_z-of_z}
 use Rattle.std.proofs.lemmas.Option.{none-some}
 use Rattle.std.proofs.lemmas.Str.{IsUtf8-from_is_utf8, is_utf8-from_IsUtf8}
 use borrow.Author.Gap.{read_sfits}
-use Rattle.tuple_bytes.specs.declared.item.Txn.{Txn}
 use Rattle.tuple_bytes.specs.declared.item.Item.{Item}
 use Rattle.tuple_bytes.specs.declared.item.Item.TheVariants as items
 use Rattle.tuple_bytes.specs.declared.op.Column.{Column}
@@ -21,8 +20,9 @@ use Rattle.tuple_bytes.specs.declared.value.Value.{Value}
 use Rattle.tuple_bytes.specs.declared.value.Value.TheVariants as values
 use Rattle.tuple_bytes.specs.Limits.{max_word, max_columns, max_ops}
 use Rattle.tuple_bytes.specs.Word.{is_word}
-use Rattle.byte_grammar.specs.Reading.{IsBytes, ◌>>=◌, rest_of, byte, number, seq, mapped, checked, sized, tagged}
+use Rattle.byte_grammar.specs.Reading.{IsBytes, ◌>>=◌, rest_of, byte, number, seq, checked, sized, tagged}
 use Rattle.tuple_bytes.specs.Spelling.{spell_word, kind_code, spell_long, bool_code, spell_value, spell_column, spell_columns, spell_row, spell_op, spell_ops, spell_item, FitsValue, FitsWord, FitsColumn, FitsColumns, FitsRow, FitsOp, FitsOps, FitsItem, Spells, IsItemSpelled}
+use Rattle.tuple_bytes.specs.Writing.{IsCounted, IsCountedOp}
 use Rattle.tuple_bytes.specs.Items.{word_at, kind_by, kind_at, bool_by, int_of, value_by, value_at, column_of, column_at, columns_at, row_at, create_of, put_of, remove_of, op_by, op_at, ops_at, txn_of, item_by, item_at, item_of}
 use Rattle.byte_grammar.proofs.Parts.{Reads, and_left, seq_reads, mapped_takes, mapped_again, checked_reads, reads_as, sized_reads}
 use Rattle.byte_grammar.proofs.Tags.{Goes, after_tag, bare, tagged_takes}
@@ -267,3 +267,19 @@ found_spelled (Some i) bytes fits e = whole_takes bytes i fits (sym e)
 -- no spelling begins another
 pub apart : (i j : Item) (x y : List ℕ) → FitsItem i → FitsItem j → spell_item i ++ x ≡ spell_item j ++ y → (i ≡ j) × (x ≡ y)
 apart i j x y fi fj e = any_apart item_at spell_item FitsItem item_reads i j x y fi fj e
+
+-- ---- what fits is counted
+
+every : {A : Type 0} (F G : A → Type 0) → ((a : A) → F a → G a) → (xs : List A) → AllByRecursion F xs → All G xs
+every F G by [] fits k d lt = absurd (omega arith)
+every F G by (x ∷ xs) fits zero d lt = by x fits.0
+every F G by (x ∷ xs) fits (suc k) d lt = every F G by xs fits.1 k d (omega arith)
+
+op_counted : (o : Op) → FitsOp o → IsCountedOp o
+op_counted (ops.Create table columns) fits = fits.1.0
+op_counted (ops.Put table row) fits = fits.1.0
+op_counted (ops.Remove table key) fits = tt
+
+pub fits_counted : (i : Item) → FitsItem i → IsCounted i
+fits_counted (items.Txn t) fits = (fits.2.0.0, every FitsOp IsCountedOp op_counted t.ops fits.2.1)
+fits_counted (items.Frontier moment) fits = tt

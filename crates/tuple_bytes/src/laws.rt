@@ -7,6 +7,7 @@ ghost use Rattle.byte_grammar.specs.Reading.{IsBytes, IsPrefixFree};
 ghost use Rattle.tuple_bytes.specs.HeaderBytes.{header_of};
 ghost use Rattle.tuple_bytes.specs.Items.{item_of};
 ghost use Rattle.tuple_bytes.specs.Spelling.{FitsHeader, FitsItem, Spells, SpellsHeader, spell_header, spell_item};
+ghost use Rattle.tuple_bytes.specs.Writing.{IsCounted};
 
 /// No spelling begins another. So each value has one spelling, and bytes spell one value at most.
 pub fn no_spelling_begins_another()
@@ -24,4 +25,9 @@ pub fn what_is_read_is_spelled()
 pub fn a_spelling_is_read()
     ensures items { (x : List ℕ) (i : Item) → Spells i x → item_of x ≡ Some i }
     ensures headers { (x : List ℕ) (h : Header) → SpellsHeader h x → header_of x ≡ Some h }
+{}
+
+/// What has a spelling may be encoded. So what was decoded may be encoded again.
+pub fn what_fits_may_be_encoded()
+    ensures counted { (i : Item) → FitsItem i → IsCounted i }
 {}

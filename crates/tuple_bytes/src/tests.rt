@@ -126,20 +126,41 @@ fn items_are_written_and_read(rt: HostRuntime) -> Result<(), Fail> {
     is_written_as(&rt, alloc, &Item::Frontier { moment: 480 }, &FRONTIER)
 }
 
+#[test]
+fn a_copy_of_a_list_is_equal(rt: HostRuntime) -> Result<(), Fail> {
+    let alloc = rt.alloc();
+    let mut items = Items::new(alloc);
+    items.push(create(alloc)?)?;
+    items.push(Item::Frontier { moment: 480 })?;
+    let copied = items.copy(alloc)?;
+    assert_eq!(rt; copied.as_slice().len(), 2);
+    assert_eq!(rt;
+        format!(in alloc; "{copied:?}")?,
+        format!(in alloc; "{items:?}")?
+    );
+    let filter = Filter {
+        column: word(alloc, b"k")?,
+        compare: Compare::Less,
+        value: Value::Int(5),
+    };
+    let same = filter.copy(alloc)?;
+    assert_eq!(rt;
+        format!(in alloc; "{same:?}")?,
+        format!(in alloc; "{filter:?}")?
+    );
+    Ok(())
+}
+
 /// Each is a spelling but for one byte.
-const SPOILED: [(&str, &[u8], usize, u8); 14] = [
+const SPOILED: [(&str, &[u8], usize, u8); 10] = [
     ("no item has tag 3", &CREATE, 0, 3),
-    ("no operation", &CREATE, 14, 0),
     ("fewer operations than are counted", &CREATE, 14, 2),
     ("no operation has tag 4", &CREATE, 15, 4),
-    ("a word of no byte", &CREATE, 16, 0),
     ("a word that begins with a digit", &CREATE, 17, b'7'),
     ("a word with a capital letter", &CREATE, 17, b'T'),
-    ("no column", &CREATE, 18, 0),
     ("no kind has number 5", &CREATE, 24, 5),
-    ("no value", &PUT, 18, 0),
-    ("no value has tag 5", &PUT, 19, 5),
-    ("a text that is not UTF-8", &MIXED, 23, 0x20),
+    ("no value has tag 5", &REMOVE, 18, 5),
+    ("a text that is not UTF-8", &MIXED, 23, b' '),
     ("a text without its last byte", &MIXED, 21, 1),
     ("a flag of 2", &MIXED, 30, 2),
 ];
@@ -167,20 +188,21 @@ fn what_spells_no_item_is_refused(rt: HostRuntime) -> Result<(), Fail> {
     Ok(())
 }
 
-/// A front, a count, as many parts and an end.
+/// A front, a count of one or two bytes, as many parts, an end.
 fn counted(
     alloc: Global,
     front: &[u8],
+    is_wide: bool,
     count: u16,
     part: &[u8],
     end: &[u8],
 ) -> Result<Vec<u8>, Fail> {
+    let [high, low] = count.to_be_bytes();
     let mut bytes = front.to_vec(alloc)?;
-    if count < 256 {
-        bytes.push(count as u8)?;
-    } else {
-        bytes.extend_from_slice(&count.to_be_bytes())?;
+    if is_wide {
+        bytes.push(high)?;
     }
+    bytes.push(low)?;
     for _ in 0..count {
         bytes.extend_from_slice(part)?;
     }
@@ -189,20 +211,31 @@ fn counted(
 }
 
 #[test]
-fn counts_end_at_their_limits(rt: HostRuntime) -> Result<(), Fail> {
+fn counts_go_from_one_to_their_limits(rt: HostRuntime) -> Result<(), Fail> {
     let alloc = rt.alloc();
-    let parts: [(&str, &[u8], u16, &[u8], &[u8]); 4] = [
-        ("bytes of a word", &REMOVE[..16], 32, b"a", &[0]),
-        ("columns", &CREATE[..18], 32, &[1, b'c', 4], &[]),
-        ("values", &PUT[..18], 32, &[0], &[]),
-        ("operations", &REMOVE[..13], 256, &[3, 1, b't', 0], &[]),
+    let parts: [(&str, &[u8], bool, u16, &[u8], &[u8]); 4] = [
+        ("bytes of a word", &REMOVE[..16], false, 32, b"a", &[0]),
+        ("columns", &CREATE[..18], false, 32, &[1, b'c', 4], &[]),
+        ("values", &PUT[..18], false, 32, &[0], &[]),
+        (
+            "operations",
+            &REMOVE[..13],
+            true,
+            256,
+            &[3, 1, b't', 0],
+            &[],
+        ),
     ];
-    for (what, front, limit, part, end) in parts {
-        let most = counted(alloc, front, limit, part, end)?;
-        assert!(rt; is_item(&most), "{what}");
-        assert!(rt; decode_item(alloc, &most)?.is_some(), "{what}");
-        let more = counted(alloc, front, limit.saturating_add(1), part, end)?;
-        is_refused(&rt, alloc, what, &more)?;
+    for (what, front, is_wide, limit, part, end) in parts {
+        for count in [1, limit] {
+            let bytes = counted(alloc, front, is_wide, count, part, end)?;
+            assert!(rt; is_item(&bytes), "{count} {what}");
+            assert!(rt; decode_item(alloc, &bytes)?.is_some(), "{count} {what}");
+        }
+        for count in [0, limit.saturating_add(1)] {
+            let bytes = counted(alloc, front, is_wide, count, part, end)?;
+            is_refused(&rt, alloc, what, &bytes)?;
+        }
     }
     Ok(())
 }
