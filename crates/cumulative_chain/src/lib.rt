@@ -1,4 +1,26 @@
-//! The cumulative chain: one value for all transactions so far, each linked to the value before it.
+//! The cumulative chain: one value over all transactions so far, each linked to the value before it.
+//!
+//! To change, drop or move a transaction changes every value from there on, unless two different
+//! inputs share a SHA-256 digest: that law is `links_tell_apart` of `history_model`.
+//!
+//! | Call | Formula |
+//! |---|---|
+//! | `seed` | `SHA-256(00 | header fields)`, the value of no transaction |
+//! | `link` | `SHA-256(01 | previous | spelling)`, the value after one more transaction |
+//! | `header_digest` | `SHA-256(05 | header fields)`, by which a header is known |
+//!
+//! The header fields are 22 bytes: id, epoch, width, exponent and algorithms.
+//!
+//! Each call gives exactly the digest of `history_model` (clause `value`) and takes no memory. A link
+//! raises the count of steps by one (clause `steps`); no transaction is linked without it.
+//! Trusted is the statement of SHA-256 in the kit's `sha2`; tests compare with another program.
+//!
+//! ```rust
+//! let mut value = seed(&header);
+//! for spelling in spellings {
+//!     value = link(&value, spelling, &mut steps);
+//! }
+//! ```
 #![tactic(auto)]
 
 ghost use Rattle.std.specs.Prelude.{◌≡◌, ◌+◌, ◌∷◌};

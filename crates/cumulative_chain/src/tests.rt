@@ -7,8 +7,7 @@ use std::marker::Brand;
 use std::test::Fail;
 use step_count::Blank;
 
-fn header(algs: u8) -> Header
-{
+fn header(algs: u8) -> Header {
     Header {
         id: 7,
         epoch: 0,

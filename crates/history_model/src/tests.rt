@@ -9,8 +9,12 @@ use tuple_bytes::{Header, Item, Items, Ops, Txn};
 use worked::WORKED;
 
 /// The first bytes of the worked store, with some others at a place.
-fn damaged(alloc: Global, length: usize, place: usize, bytes: &[u8]) -> Result<Vec<u8>, AllocError>
-{
+fn damaged(
+    alloc: Global,
+    length: usize,
+    place: usize,
+    bytes: &[u8],
+) -> Result<Vec<u8>, AllocError> {
     let mut store = WORKED[..length.min(445)].to_vec(alloc)?;
     for (i, byte) in bytes.iter().enumerate() {
         if let Some(old) = store.get_mut(place.saturating_add(i)) {
@@ -89,8 +93,7 @@ fn the_link_is_that_of_another_program(rt: HostRuntime) -> Result<(), Fail> {
 }
 
 /// Transactions at these moments, numbered from 1, and a frontier before the last.
-fn history(alloc: Global, moments: &[u64], frontier: u64) -> Result<Items, AllocError>
-{
+fn history(alloc: Global, moments: &[u64], frontier: u64) -> Result<Items, AllocError> {
     let mut items = Items::new(alloc);
     let mut number: u32 = 0;
     for moment in moments {
@@ -145,8 +148,7 @@ fn rows_go_by_granule_where_moments_fall(rt: HostRuntime) -> Result<(), Fail> {
     Ok(())
 }
 
-fn numbers(alloc: Global, txns: &Txns) -> Result<Vec<u32>, AllocError>
-{
+fn numbers(alloc: Global, txns: &Txns) -> Result<Vec<u32>, AllocError> {
     let mut numbers = Vec::new(alloc);
     for txn in txns.as_slice() {
         numbers.push(txn.number)?;
