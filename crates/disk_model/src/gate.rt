@@ -40,7 +40,8 @@ fn write_in_turn<D: Disk>(
     second: &[u8],
 ) -> Result<(), DiskFail>
     ensures told { WhereTold (D.state disk.old).reads (D.state disk.new).reads
-        (Secures ((place, piece.now) ∷ (second_place, second.now) ∷ []) result (D.state disk.old) (D.state disk.new)) }
+        (Secures ((place, piece.now) ∷ (second_place, second.now) ∷ []) result
+        (D.state disk.old) (D.state disk.new)) }
     ensures frame { GoesOn (D.state disk.old) (D.state disk.new) }
     ensures cause { HasCause Failed (D.state disk.old).faults (D.state disk.new).faults result }
 {
