@@ -6,7 +6,7 @@ use Rattle.std.proofs.lemmas.Bool.{cases_eq}
 use Rattle.disk_words.specs.declared.DiskFail.{DiskFail}
 use Rattle.disk_words.specs.Disk.{State, written, Torn}
 use Rattle.disk_words.proofs.TornParts.{torn_front, torn_back}
-use Rattle.disk_model.specs.Runs.{written_all, AllWithin, CutShort, Secures}
+use Rattle.disk_model.specs.Moments.{written_all, AllWithin, CutShort, Secures}
 use Rattle.disk_model.specs.Gate.{gated_writes, IsClosed, with_piece, IsOldOrNew, ShowsAllOrNothing}
 use Rattle.disk_model.proofs.Moments.{weaker}
 

@@ -4,7 +4,7 @@ ghost use Rattle.outside_words.specs.Faults.{HasCause};
 ghost use Rattle.outside_words.specs.Told.{WhereTold};
 ghost use Rattle.disk_words.specs.declared.DiskFail.TheVariants.{Failed};
 ghost use Rattle.disk_words.specs.Disk.{GoesOn};
-ghost use Rattle.disk_model.specs.Runs.{Secures};
+ghost use Rattle.disk_model.specs.Moments.{Secures};
 ghost use Rattle.disk_model.specs.Gate.{gated_writes, ShowsAllOrNothing};
 
 use crate::{Disk, DiskFail, write_durably};
