@@ -1,13 +1,13 @@
 -- What a crash leaves of a piece that is written behind a closed gate before the gate is opened.
-use Rattle.std.proofs.Common.{◌≡◌, inl, inr, ℕ, ◌+◌, ◌<◌, ◌≤◌, List, [], ◌∷◌, ◌++◌, length, take, drop, refl, sym, ◌∙◌, ap, subst, arith, append_assoc, length-append, length-take, length-drop, Result, Ok, Err, OnOk, rules}
-use Rattle.std.specs.Prelude.{◌≢◌, ◌⊎◌, slice_index}
+use Rattle.std.proofs.Common.{◌≡◌, inl, inr, ℕ, ◌+◌, ◌<◌, List, [], ◌∷◌, ◌++◌, length, take, drop, sym, ◌∙◌, ap, subst, arith, append_assoc, length-append, Result, Ok, Err, OnOk, rules}
+use Rattle.std.specs.Prelude.{◌≢◌, slice_index}
 use Rattle.std.proofs.lemmas.List.{places, same_lists, take_at, drop_at, take_more, drop_more, take-append-drop, length-take-le}
 use Rattle.std.proofs.lemmas.Bool.{cases_eq}
 use Rattle.disk_words.specs.declared.DiskFail.{DiskFail}
-use Rattle.disk_words.specs.Disk.{State, Only, written, Torn}
+use Rattle.disk_words.specs.Disk.{State, written, Torn}
 use Rattle.disk_words.proofs.TornParts.{torn_front, torn_back}
-use Rattle.disk_model.specs.Runs.{written_all, AllWithin, CutShort, Secures}
-use Rattle.disk_model.specs.Gate.{gated_writes, IsClosed, with_piece, IsOld, IsOldOrNew, ShowsAllOrNothing}
+use Rattle.disk_model.specs.Moments.{written_all, AllWithin, CutShort, Secures}
+use Rattle.disk_model.specs.Gate.{gated_writes, IsClosed, with_piece, IsOldOrNew, ShowsAllOrNothing}
 use Rattle.disk_model.proofs.Moments.{weaker}
 
 module _ (gate open_byte : ℕ) (piece before : List ℕ) (at : IsClosed gate open_byte before) where

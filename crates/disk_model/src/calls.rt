@@ -28,9 +28,12 @@ pub(crate) fn note(
     change: Change,
     is_done: bool,
 ) -> Result<(), AllocError>
-    ensures first { OnOk result ((now : List ℕ) → first_of first.new now ≡ first_of first.old bytes.now.items) }
-    ensures trace { OnOk result (trace_of made.new.items ≡ (call_of change, is_done) ∷ trace_of made.old.items) }
-    ensures first_kept { OnErr result (first_of first.new bytes.now.items ≡ first_of first.old bytes.now.items) }
+    ensures first { OnOk result
+        ((now : List ℕ) → first_of first.new now ≡ first_of first.old bytes.now.items) }
+    ensures trace { OnOk result
+        (trace_of made.new.items ≡ (call_of change, is_done) ∷ trace_of made.old.items) }
+    ensures first_kept { OnErr result
+        (first_of first.new bytes.now.items ≡ first_of first.old bytes.now.items) }
     ensures trace_kept { OnErr result (made.new.items ≡ made.old.items) }
 {
     if first.is_none() {
@@ -56,7 +59,8 @@ pub(crate) fn is_covered(made: &[Made], place: u64) -> bool
 
 // Whether it did, where this call tells it.
 fn told_by(last: &Made, place: u64) -> Option<bool>
-    ensures value { (calls : _) → is_covered (made_of last.now ∷ calls) place ≡ unwrap_or result (is_covered calls place) }
+    ensures value { (calls : _) → is_covered (made_of last.now ∷ calls) place
+        ≡ unwrap_or result (is_covered calls place) }
 {
     match &last.change {
         Change::Write(from, bytes)

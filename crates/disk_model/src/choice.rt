@@ -6,7 +6,8 @@ ghost use Rattle.disk_model.specs.Calls.{trace_of};
 use crate::calls::{Made, is_covered};
 use std::alloc::{AllocError, Global};
 
-/// Changes each byte that a write since the last sync covered, or that lies past the length of then.
+/// Changes each byte that a write since the last sync covered, or that lies past the length
+/// of then.
 pub(crate) fn garbled(
     alloc: Global,
     bytes: &[u8],

@@ -4,7 +4,7 @@ ghost use Rattle.outside_words.specs.Faults.{HasCause};
 ghost use Rattle.outside_words.specs.Told.{WhereTold};
 ghost use Rattle.disk_words.specs.declared.DiskFail.TheVariants.{Failed};
 ghost use Rattle.disk_words.specs.Disk.{GoesOn};
-ghost use Rattle.disk_model.specs.Runs.{Secures};
+ghost use Rattle.disk_model.specs.Moments.{Secures};
 ghost use Rattle.disk_model.specs.Gate.{gated_writes, ShowsAllOrNothing};
 
 use crate::{Disk, DiskFail, write_durably};
@@ -40,7 +40,8 @@ fn write_in_turn<D: Disk>(
     second: &[u8],
 ) -> Result<(), DiskFail>
     ensures told { WhereTold (D.state disk.old).reads (D.state disk.new).reads
-        (Secures ((place, piece.now) ∷ (second_place, second.now) ∷ []) result (D.state disk.old) (D.state disk.new)) }
+        (Secures ((place, piece.now) ∷ (second_place, second.now) ∷ []) result
+        (D.state disk.old) (D.state disk.new)) }
     ensures frame { GoesOn (D.state disk.old) (D.state disk.new) }
     ensures cause { HasCause Failed (D.state disk.old).faults (D.state disk.new).faults result }
 {

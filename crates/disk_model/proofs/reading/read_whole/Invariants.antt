@@ -1,5 +1,4 @@
-use Rattle.std.proofs.Common.{◌≡◌, ◌-◌, length, take, vec_len, IfSome}
-use Rattle.disk_words.specs.Disk.{Unchanged, GoesOn}
+use Rattle.std.proofs.Common.{◌-◌, vec_len}
 use Rattle.disk_model.proofs.ReadOn.{HasRead}
 use Rattle.disk_model.proofs.reading.read_whole.Given as goal
 
