@@ -1,6 +1,5 @@
-use Rattle.std.proofs.Common.{◌≡◌, true, false, List, ℕ, [], map, take, get_or, arith}
+use Rattle.std.proofs.Common.{true, false}
 use Rattle.std.specs.String.{string_bytes}
-use Rattle.dragoon_app.specs.Words.{is_leading}
 use Rattle.dragoon_app.proofs.WordFacts.{within_words, leads_at, one_more}
 use Rattle.dragoon_app.proofs.leading_words.leading.Goals as goal
 
