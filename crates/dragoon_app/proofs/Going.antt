@@ -35,4 +35,3 @@ starts first opened header link is at = record { told = by first.reads; same = u
     by : (told : Option (List ℕ)) → IfSome told (λ bytes. IsSeenIn bytes opened → IsSeenIn bytes opened × Completes header opened.place (linked 0 link) bytes)
     by None = tt
     by (Some bytes) = λ s. (s, rw (is, at) refl)
-
