@@ -1,8 +1,7 @@
 -- Going over items one by one.
-use Rattle.std.proofs.Common.{◌≡◌, ◌≢◌, ℕ, suc, ◌+◌, Bool, true, false, eqb, List, [], ◌∷◌, length, get_or, map, Some, refl, sym, ap, ◌∙◌, arith}
+use Rattle.std.proofs.Common.{◌≡◌, ℕ, suc, ◌+◌, true, false, eqb, List, [], ◌∷◌, length, get_or, map, Some, refl, ap, ◌∙◌, arith}
 use Rattle.std.specs.Prelude.{fold}
 use Rattle.tuple_bytes.specs.declared.header.Header.{Header}
-use Rattle.tuple_bytes.specs.declared.item.Txn.{Txn}
 use Rattle.tuple_bytes.specs.declared.item.Item.{Item}
 use Rattle.tuple_bytes.specs.declared.item.Item.TheVariants as items
 use Rattle.byte_grammar.specs.Reading.{IsBytes}
@@ -10,7 +9,7 @@ use Rattle.tuple_bytes.specs.Spelling.{spell_txn, spell_item}
 use Rattle.tuple_bytes.specs.Items.{item_of}
 use Rattle.tuple_bytes.proofs.ItemLaws.{whole_takes}
 use Rattle.history_model.specs.History.{txns}
-use Rattle.history_model.specs.Digests.{next_link, link_of, link_of_spelled}
+use Rattle.history_model.specs.Digests.{next_link, link_of}
 use Rattle.dragoon_app.specs.declared.link.Linked.{Linked}
 use Rattle.dragoon_app.specs.Linked.{after_item, linked_from, linked_at_seed}
 

@@ -1,3 +1,5 @@
 pub mod WordFacts
 pub mod ItemFacts
 pub mod Going
+pub mod Stores
+pub mod Answering

@@ -43,11 +43,11 @@ abbrev pub linked_at_seed : Header → Linked
 linked_at_seed h = record { count = 0; link = seed h }
 
 -- the number of the transactions and their link, or nothing where there is no header
-abbrev pub IsLinkedUnder : Option Header → List Txn → Option Linked → Type 0
-IsLinkedUnder None ts None = Unit {0}
-IsLinkedUnder (Some h) ts (Some l) = (l.count ≡ length ts) × (l.link ≡ link_of h ts)
-IsLinkedUnder None ts (Some l) = ⊥
-IsLinkedUnder (Some h) ts None = ⊥
+abbrev pub IsLinkUnder : Option Header → List Item → Option Linked → Type 0
+IsLinkUnder None items None = Unit {0}
+IsLinkUnder (Some h) items (Some l) = (l.count ≡ length (txns items)) × (l.link ≡ link_of h (txns items))
+IsLinkUnder None items (Some l) = ⊥
+IsLinkUnder (Some h) items None = ⊥
 
 unfoldable pub IsLinkOf : Stored → Option Linked → Type 0
-IsLinkOf s found = IsLinkedUnder s.header (txns s.items) found
+IsLinkOf s found = IsLinkUnder s.header s.items found

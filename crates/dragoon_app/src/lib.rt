@@ -10,4 +10,4 @@ mod top;
 
 pub use leading_words::leading;
 pub use status::Status;
-// pub use top::dragoon;
+pub use top::dragoon;

@@ -1,17 +1,19 @@
 //! The command `link`: the number of transactions of a store, and the chain value over them in file order.
 
 ghost use Rattle.std.specs.Prelude.{◌≡◌, ◌≢◌, ◌==◌, ◌+◌, ◌<◌, ◌≤◌, ◌^◌, Some, IfOk, IfSome, slice_index};
+ghost use Rattle.std.specs.String.{string_bytes};
 ghost use Rattle.outside_words.specs.Faults.{HasCause, Rose};
 ghost use Rattle.disk_words.specs.declared.DiskFail.TheVariants.{Failed};
 ghost use Rattle.disk_words.specs.Disk as disks;
 ghost use Rattle.outside_io.specs.Sink as sinks;
 ghost use Rattle.tuple_bytes.specs.declared.item.Item.{Item};
 ghost use Rattle.tuple_bytes.specs.Items.{item_of};
+ghost use Rattle.tuple_bytes.specs.HeaderBytes.{header_of};
 ghost use Rattle.history_model.specs.Stored.{store_shape, items_of, stored};
 ghost use Rattle.step_count.specs.Blank.{IsBlankOf};
 ghost use Rattle.txn_journal.specs.Reading.{Begins, IsSeenIn, left};
 ghost use Rattle.dragoon_app.specs.Outcome.{Answers, Said};
-ghost use Rattle.dragoon_app.specs.Linked.{after_item, linked_from, linked_at_seed, link_outcome, two_lines, IsLinkOf};
+ghost use Rattle.dragoon_app.specs.Linked.{after_item, linked_from, linked_at_seed, link_outcome, two_lines, IsLinkUnder, IsLinkOf};
 
 use crate::Status;
 use crate::saying::{refuse, say};
@@ -19,6 +21,7 @@ use cumulative_chain::{link, seed};
 use disk_model::{Disk, DiskFail};
 use outside_io::Sink;
 use std::alloc::{AllocError, Global};
+use std::marker::Brand;
 use step_count::{Blank, Ledger, Steps};
 use tuple_bytes::{Header, decode_header};
 use txn_journal::{Records, StoreShape};
@@ -75,4 +78,101 @@ fn link_records<D: Disk, L: Ledger>(
         linked = with_item(&linked, records.payload(), steps);
     }
     Ok(linked)
+}
+
+/// The transactions behind the head that was read and the chain value over them, or nothing where it is no header.
+fn link_opened<D: Disk, L: Ledger>(
+    disk: &mut D,
+    records: Records<StoreShape>,
+    steps: &mut Steps<L>,
+) -> Result<Option<Linked>, DiskFail>
+    requires begins { records.place ≡ 64 }
+    ensures value { IfSome (D.state disk.old).reads (λ bytes. IsSeenIn bytes records
+        → IfOk result (IsLinkUnder (header_of records.head) (items_of (left store_shape 64 bytes).0))) }
+    ensures same { disks.Unchanged (D.state disk.old) (D.state disk.new) }
+    ensures frame { disks.GoesOn (D.state disk.old) (D.state disk.new) }
+    ensures cause { HasCause Failed (D.state disk.old).faults (D.state disk.new).faults result }
+{
+    match decode_header(records.head()) {
+        Some(header) => {
+            let linked = link_records(disk, records, &header, steps)?;
+            Ok(Some(linked))
+        }
+        None => Ok(None),
+    }
+}
+
+/// The same over a store from its first byte on.
+fn link_store<D: Disk, L: Ledger>(
+    alloc: Global,
+    disk: &mut D,
+    steps: &mut Steps<L>,
+) -> Result<Option<Linked>, DiskFail>
+    ensures value { IfSome (D.state disk.old).reads (λ bytes. IfOk result (IsLinkOf (stored bytes))) }
+    ensures same { disks.Unchanged (D.state disk.old) (D.state disk.new) }
+    ensures frame { disks.GoesOn (D.state disk.old) (D.state disk.new) }
+    ensures cause { HasCause Failed (D.state disk.old).faults (D.state disk.new).faults result }
+{
+    match Records::<StoreShape>::open(alloc, disk)? {
+        Some(records) => {
+            let found = link_opened(disk, records, steps)?;
+            Ok(found)
+        }
+        None => Ok(None),
+    }
+}
+
+/// The same with a count of steps that is made for it.
+fn link_counted<D: Disk, L: Ledger>(
+    alloc: Global,
+    disk: &mut D,
+    blank: Blank,
+) -> Result<Option<Linked>, DiskFail>
+    requires blank { IsBlankOf L.name L.parts blank }
+    ensures value { IfSome (D.state disk.old).reads (λ bytes. IfOk result (IsLinkOf (stored bytes))) }
+    ensures same { disks.Unchanged (D.state disk.old) (D.state disk.new) }
+    ensures frame { disks.GoesOn (D.state disk.old) (D.state disk.new) }
+    ensures cause { HasCause Failed (D.state disk.old).faults (D.state disk.new).faults result }
+{
+    let mut steps = Steps::<L>::new(blank);
+    link_store(alloc, disk, &mut steps)
+}
+
+/// The two lines that tell what was found.
+fn link_lines(alloc: Global, linked: &Linked) -> Result<String, AllocError>
+    ensures value { IfOk result (λ text. string_bytes text ≡ two_lines linked.now.count linked.now.link) }
+{
+    let count = linked.count;
+    let link = hex::encode(alloc, &linked.link)?;
+    format!(in alloc; "txns {count}\nlink {link}\n")
+}
+
+/// Writes what was found.
+fn say_linked<O: Sink>(alloc: Global, out: &mut O, linked: &Linked) -> Status
+    ensures said { Said (record { status = Status.Ok; text = two_lines linked.now.count linked.now.link }) result (O.state out.old) (O.state out.new) }
+    ensures cause { result ≡ Status.WriteFault → Rose (O.state out.old).faults (O.state out.new).faults }
+    ensures frame { sinks.GoesOn (O.state out.old) (O.state out.new) }
+{
+    match link_lines(alloc, linked) {
+        Ok(text) => say(out, text.as_bytes(), Status::Ok),
+        Err(_) => Status::NoMemory,
+    }
+}
+
+/// The command.
+pub fn run_link<D: Disk, O: Sink>(alloc: Global, store: &mut D, out: &mut O) -> Status
+    ensures told { IfSome (D.state store.old).reads (λ bytes. Answers (link_outcome (stored bytes)) result (O.state out.old) (O.state out.new)) }
+    ensures no_usage { result ≢ Status.Usage }
+    ensures same { disks.Unchanged (D.state store.old) (D.state store.new) }
+    ensures store_frame { disks.GoesOn (D.state store.old) (D.state store.new) }
+    ensures out_frame { sinks.GoesOn (O.state out.old) (O.state out.new) }
+    ensures disk_cause { result ≡ Status.DiskFault → Rose (D.state store.old).faults (D.state store.new).faults }
+    ensures write_cause { result ≡ Status.WriteFault → Rose (O.state out.old).faults (O.state out.new).faults }
+{
+    match link_counted::<D, Brand>(alloc, store, Blank::new(1)) {
+        Ok(Some(linked)) => say_linked(alloc, out, &linked),
+        Ok(None) => refuse(out, Status::NotAStore),
+        Err(DiskFail::Failed) => refuse(out, Status::DiskFault),
+        Err(DiskFail::NoMemory) => Status::NoMemory,
+    }
 }

@@ -8,3 +8,4 @@ pub mod InFile
 pub mod SameFront
 pub mod Lifted
 pub mod HalfMade
+pub mod StoreHeads

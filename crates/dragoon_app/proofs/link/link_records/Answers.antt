@@ -1,4 +1,4 @@
-use Rattle.dragoon_app.proofs.Going.{starts, turns, ends}
+use Rattle.dragoon_app.proofs.Going.{starts}
 use Rattle.dragoon_app.proofs.link.link_records.Goals as goal
 
 pub records-init : goal.records-init

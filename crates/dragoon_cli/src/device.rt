@@ -1,0 +1,75 @@
+//! A device that is a file or stands in memory.
+
+use disk_model::{Disk, DiskFail, FileDisk, MemDisk};
+use std::alloc::AllocError;
+use std::rt::{Files, Runtime};
+
+/// A device of the program.
+#[derive(Drop)]
+pub enum Device<R: Files + Drop> {
+    File(FileDisk<R>),
+    Memory(MemDisk),
+}
+
+impl<R: Runtime + AllocGlobal + Drop> Device<R> {
+    /// The file of this path, or an empty device where none is named.
+    pub fn named(rt: &R, path: Option<&str>) -> Result<Device<R>, AllocError> {
+        let alloc = rt.alloc();
+        match path {
+            Some(path) => Ok(Device::File(FileDisk::new(
+                rt.clone()?,
+                String::from_str(alloc, path)?,
+            ))),
+            None => Ok(Device::Memory(MemDisk::new(alloc))),
+        }
+    }
+}
+
+impl<R: Files + Drop> Disk for Device<R> {
+    ghost use Rattle.dragoon_cli.specs.declared.device.Device.TheVariants.{File, Memory};
+    ghost use Rattle.disk_model.specs.Calls.{first_of, trace_of};
+    ghost use Rattle.disk_words.proofs.Images.{reads_image_at, counts_now as counts_now_of, only_now as only_now_of};
+
+    ghost state = { elim [ File file ↦ ⟦<FileDisk<R> as Disk>⟧.state file | Memory memory ↦ ⟦<MemDisk as Disk>⟧.state memory ] };
+
+    ghost reads_image = { elim [ File file ↦ tt | Memory memory ↦ reads_image_at (first_of memory.first memory.bytes.items) (trace_of memory.made.items) memory.bytes.items memory.replayed ] };
+
+    ghost counts_now = { elim [ File file ↦ λ t c le now. tt | Memory memory ↦ λ t c le now. counts_now_of (first_of memory.first memory.bytes.items) (trace_of memory.made.items) t c now ] };
+
+    ghost only_now = { elim [ File file ↦ λ c was. tt | Memory memory ↦ λ c was. only_now_of (first_of memory.first memory.bytes.items) (trace_of memory.made.items) c was ] };
+
+    fn length(&mut self) -> Result<u64, DiskFail> {
+        match self {
+            Device::File(file) => file.length(),
+            Device::Memory(memory) => memory.length(),
+        }
+    }
+
+    fn read_at(&mut self, place: u64, into: &mut [u8]) -> Result<usize, DiskFail> {
+        match self {
+            Device::File(file) => file.read_at(place, into),
+            Device::Memory(memory) => memory.read_at(place, into),
+        }
+    }
+
+    fn write_at(&mut self, place: u64, bytes: &[u8]) -> Result<(), DiskFail> {
+        match self {
+            Device::File(file) => file.write_at(place, bytes),
+            Device::Memory(memory) => memory.write_at(place, bytes),
+        }
+    }
+
+    fn cut(&mut self, length: u64) -> Result<(), DiskFail> {
+        match self {
+            Device::File(file) => file.cut(length),
+            Device::Memory(memory) => memory.cut(length),
+        }
+    }
+
+    fn sync(&mut self) -> Result<(), DiskFail> {
+        match self {
+            Device::File(file) => file.sync(),
+            Device::Memory(memory) => memory.sync(),
+        }
+    }
+}

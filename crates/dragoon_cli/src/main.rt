@@ -1,0 +1,60 @@
+//! The program: it makes the devices that its leading words name, makes the one call of `dragoon_app`
+//! with the words behind them, and ends with the number of the status.
+//!
+//! What the words, the files and the output do is proved below; here stands what is only tested: that
+//! the right file is opened, and the usage page on standard error.
+#![tactic(auto)]
+
+mod device;
+mod usage;
+
+use crate::device::Device;
+use crate::usage::USAGE;
+use dragoon_app::{Status, dragoon, leading};
+use outside_io::StdSink;
+use std::alloc::{AllocError, Global};
+use std::process::ExitCode;
+use std::rt::Runtime;
+use std::{env, io};
+
+/// The words of the process. Where one of them is no text, none: no command has such a word.
+fn words_of<R: Runtime + AllocGlobal>(rt: &R) -> Result<Vec<String>, AllocError> {
+    let mut words = Vec::new(rt.alloc());
+    match env::args(rt) {
+        Ok(args) => {
+            for word in args.skip(1) {
+                words.push(word)?;
+            }
+            Ok(words)
+        }
+        Err(fail) if fail.kind() == io::ErrorKind::OutOfMemory => Err(AllocError),
+        Err(_) => Ok(words),
+    }
+}
+
+/// What stands behind the prefix in the first word that has it.
+fn path_behind<'a>(prefix: &str, words: &'a [String]) -> Option<&'a str> {
+    words
+        .iter()
+        .find_map(|word| word.as_str().strip_prefix(prefix))
+}
+
+fn run<R: Runtime + AllocGlobal + Drop>(rt: &R) -> Result<Status, AllocError> {
+    let words = words_of(rt)?;
+    let (devices, call) = words.split_at(leading(&words));
+    let mut store = Device::named(rt, path_behind("store=", devices))?;
+    let mut out = StdSink::new(rt.clone()?);
+    Ok(dragoon(rt.alloc(), call, &mut store, &mut out))
+}
+
+fn main(rt: HostRuntime) -> ExitCode {
+    match run(&rt) {
+        Ok(status) => {
+            if status == Status::Usage {
+                let _ = eprint!(rt; "{USAGE}");
+            }
+            ExitCode::from(status.code())
+        }
+        Err(_) => ExitCode::from(9),
+    }
+}
