@@ -1,5 +1,5 @@
 //! What no clause says: that calls succeed, and that a sink which takes little at a time gets all.
-use crate::{MemSink, Sink, StdSink, StreamFail, write_whole};
+use crate::{Clock, MemClock, MemSink, Sink, StdSink, StreamFail, SystemClock, write_whole};
 use std::test::Fail;
 
 #[test]
@@ -45,4 +45,24 @@ fn a_front_is_out_where_a_later_write_fails(rt: HostRuntime) -> Result<(), Fail>
 fn an_empty_piece_is_no_fault_of_the_standard_output(rt: HostRuntime) {
     let mut out = StdSink::new(rt);
     assert_eq!(rt; out.write(b""), Ok(0));
+}
+
+#[test]
+fn a_clock_in_memory_gives_its_last_moment_for_ever(rt: HostRuntime) -> Result<(), Fail> {
+    let alloc = rt.alloc();
+    let mut clock = MemClock::new([3, 8].to_vec(alloc)?);
+    assert_eq!(rt;
+        [clock.now(), clock.now(), clock.now(), clock.now()],
+        [3, 8, 8, 8]
+    );
+    let mut none = MemClock::new(Vec::new(alloc));
+    assert_eq!(rt; [none.now(), none.now()], [0, 0]);
+    Ok(())
+}
+
+#[test]
+fn the_system_gives_unix_seconds(rt: HostRuntime) {
+    let start_of_2020 = 1_577_836_800;
+    let mut clock = SystemClock::new(rt);
+    assert!(rt; clock.now() > start_of_2020);
 }
