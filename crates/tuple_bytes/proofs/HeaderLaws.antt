@@ -1,14 +1,14 @@
 -- A header is read exactly where it is spelled.
-use Rattle.std.proofs.Common.{◌≡◌, ℕ, ◌^◌, ◌+◌, ◌<◌, ◌≤◌, Bool, true, false, cond, ltb, List, [], ◌∷◌, ◌++◌, length, take, drop, Option, Some, None, refl, sym, ap, subst, ◌∙◌, append_assoc, arith}
+use Rattle.std.proofs.Common.{◌≡◌, ℕ, ◌^◌, ◌<◌, ◌≤◌, true, cond, ltb, List, [], ◌∷◌, ◌++◌, length, take, drop, Option, Some, None, refl, sym, ap, subst, ◌∙◌, arith}
 use Rattle.std.specs.Str.{bytes_eq}
 use Rattle.std.specs.Int.{w32, w64, to_be_bytes}
 use Rattle.std.proofs.lemmas.Slice.Eq.{bytes_eq-Decides}
 use Rattle.std.proofs.lemmas.Bool.{ltb-false, leb-true, le-leb}
 use Rattle.std.proofs.lemmas.List.{append-nil, nil_from_length, take_at, drop_at, take-append-drop}
-use Rattle.std.proofs.lemmas.Option.{same_Some, none-some}
+use Rattle.std.proofs.lemmas.Option.{none-some}
 use Rattle.std.specs.Prelude.{MatchOption}
 use Rattle.tuple_bytes.specs.declared.header.Header.{Header}
-use Rattle.byte_grammar.specs.Reading.{IsBytes, is_from_1_to, up_to, ◌>>=◌, byte, number, constant, seq, checked, whole}
+use Rattle.byte_grammar.specs.Reading.{IsBytes, is_from_1_to, up_to, byte, number, constant, seq, checked, whole}
 use Rattle.tuple_bytes.specs.Spelling.{IsFrom1To, FitsHeader, SpellsHeader, spell_header, head_text, head_zeros}
 use Rattle.tuple_bytes.specs.HeaderBytes.{epoch_at, width_at, small_at, Parts, header_from, header_at, header_of}
 use Rattle.byte_grammar.proofs.Parts.{Reads, bind_some, then_some, else_some, seq_reads, mapped_takes, mapped_again, checked_reads, reads_as}

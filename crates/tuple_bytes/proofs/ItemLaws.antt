@@ -1,17 +1,16 @@
 -- Each reader reads exactly the spellings.
-use Rattle.std.proofs.Common.{◌≡◌, ℕ, zero, suc, ◌^◌, ◌+◌, ◌<◌, ◌≤◌, ℤ, Bool, true, false, cond, ltb, List, [], ◌∷◌, ◌++◌, length, Option, Some, None, refl, sym, ap, subst, ◌∙◌, append_assoc, arith}
-use Rattle.std.specs.Prelude.{MatchOption, pos, negsuc, IsUtf8, FitsSigned, ◌&&◌, nat_le, is_some, IsTrue}
+use Rattle.std.proofs.Common.{◌≡◌, ℕ, zero, suc, ◌^◌, ◌<◌, ◌≤◌, ℤ, Bool, true, false, cond, ltb, List, [], ◌∷◌, ◌++◌, length, Option, Some, None, refl, sym, ap, subst, ◌∙◌, arith}
+use Rattle.std.specs.Prelude.{MatchOption, pos, negsuc, FitsSigned, ◌&&◌, nat_le, is_some}
 use Rattle.std.specs.List.{flat_map, AllByRecursion}
 use Rattle.std.specs.Str.{is_utf8}
 use Rattle.std.specs.Int.{w16, w32, w64, to_be_bytes, cast_signed, cast_unsigned}
-use Rattle.std.proofs.lemmas.Bool.{ltb-false, le-ltb, leb-true, le-leb}
+use Rattle.std.proofs.lemmas.Bool.{ltb-false, leb-true, le-leb}
 use Rattle.std.proofs.lemmas.Int.{of_z-to_z, to_z-of_z}
 use Rattle.std.proofs.lemmas.List.{append-nil, nil_from_length}
 use Rattle.std.proofs.lemmas.Option.{same_Some, none-some}
 use Rattle.std.proofs.lemmas.Str.{IsUtf8-from_is_utf8, is_utf8-from_IsUtf8}
 use borrow.Author.Tests.{ltb-true}
 use borrow.Author.Gap.{read_sfits}
-use Rattle.tuple_bytes.specs.declared.item.Txn.{Txn}
 use Rattle.tuple_bytes.specs.declared.item.Item.{Item}
 use Rattle.tuple_bytes.specs.declared.item.Item.TheVariants as items
 use Rattle.tuple_bytes.specs.declared.op.Column.{Column}
@@ -22,10 +21,10 @@ use Rattle.tuple_bytes.specs.declared.op.Op.TheVariants as ops
 use Rattle.tuple_bytes.specs.declared.value.Value.{Value}
 use Rattle.tuple_bytes.specs.declared.value.Value.TheVariants as values
 use Rattle.tuple_bytes.specs.Word.{is_word}
-use Rattle.byte_grammar.specs.Reading.{IsBytes, ◌>>=◌, is_from_1_to, byte, number, seq, mapped, checked, many, counted, sized, tagged, whole}
+use Rattle.byte_grammar.specs.Reading.{IsBytes, is_from_1_to, byte, number, seq, checked, counted, sized, tagged, whole}
 use Rattle.tuple_bytes.specs.Spelling.{spell_word, kind_code, spell_long, bool_code, spell_value, spell_column, spell_columns, spell_row, spell_op, spell_ops, spell_item, FitsValue, FitsWord, IsFrom1To, FitsColumn, FitsColumns, FitsRow, FitsOp, FitsOps, FitsItem, Spells}
 use Rattle.tuple_bytes.specs.Items.{word_at, kind_by, kind_at, bool_by, int_of, value_by, value_at, column_of, column_at, columns_at, row_at, create_of, put_of, remove_of, op_by, op_at, ops_at, txn_of, item_by, item_at, item_of}
-use Rattle.byte_grammar.proofs.Parts.{Reads, bind_some, else_some, seq_reads, mapped_takes, mapped_again, checked_reads, reads_as, counted_reads, sized_reads, IsBytes-after}
+use Rattle.byte_grammar.proofs.Parts.{Reads, bind_some, else_some, seq_reads, mapped_takes, mapped_again, checked_reads, reads_as, counted_reads, sized_reads}
 use Rattle.byte_grammar.proofs.Fields.{cell, IsByte, byte_reads, wide16, wide32, wide64, number_reads}
 
 -- what follows a tag
