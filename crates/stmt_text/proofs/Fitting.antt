@@ -1,21 +1,15 @@
 -- What is said fits: each part is in its range, and it is printed no longer than it was written.
-use Rattle.std.proofs.Common.{◌≡◌, ℕ, zero, suc, ◌+◌, ◌*◌, ◌<◌, ◌≤◌, ◌^◌, Bool, true, false, cond, eqb, ◌&&◌, List, [], ◌∷◌, ◌++◌, length, map, Option, Some, None, option_map, refl, sym, ap, subst, ◌∙◌, arith, ℤ, pos, negsuc, decimal, length-append}
-use Rattle.std.specs.Prelude.{codes, Ok}
+use Rattle.std.proofs.Common.{◌≡◌, ℕ, zero, suc, ◌*◌, ◌<◌, ◌≤◌, ◌^◌, Bool, true, false, cond, eqb, List, [], ◌∷◌, ◌++◌, length, map, Option, Some, None, option_map, refl, subst, arith, ℤ, pos, decimal, length-append}
+use Rattle.std.specs.Prelude.{codes}
 use Rattle.std.specs.Fmt.{signed_decimal}
 use Rattle.std.specs.List.{flat_map, filter, AllByRecursion}
 use Rattle.std.proofs.lemmas.Bool.{leb-true}
-use Rattle.hex.specs.Hex.{encode_lower, encode_with, decode_of}
+use Rattle.hex.specs.Hex.{encode_lower, encode_with}
 use Rattle.hex.proofs.HexLemmas.{decode_of-ok}
 use Rattle.tuple_bytes.specs.declared.value.Value.{Value}
 use Rattle.tuple_bytes.specs.declared.value.Value.TheVariants as values
-use Rattle.tuple_bytes.specs.declared.op.Kind.{Kind}
-use Rattle.tuple_bytes.specs.declared.op.Kind.TheVariants as kinds
 use Rattle.tuple_bytes.specs.declared.op.Column.{Column}
 use Rattle.tuple_bytes.specs.declared.filter.Filter.{Filter}
-use Rattle.tuple_bytes.specs.declared.filter.Compare.{Compare}
-use Rattle.tuple_bytes.specs.declared.filter.Compare.TheVariants as compares
-use Rattle.stmt_text.specs.declared.word.Keyword.{Keyword}
-use Rattle.stmt_text.specs.declared.word.Keyword.TheVariants as words
 use Rattle.stmt_text.specs.declared.stmt.LineAlgorithm.{LineAlgorithm}
 use Rattle.stmt_text.specs.declared.stmt.LineAlgorithm.TheVariants as algorithms
 use Rattle.stmt_text.specs.declared.stmt.Stmt.{Stmt}
@@ -25,11 +19,10 @@ use Rattle.stmt_text.specs.declared.event.Event.TheVariants as events
 use Rattle.stmt_text.specs.declared.line.Line.{Line}
 use Rattle.stmt_text.specs.declared.line.Line.TheVariants as lines
 use Rattle.stmt_text.specs.Tokens.{Token, inside_after, separates, is_filled, with_byte, pieces, tokens}
-use Rattle.stmt_text.specs.Numbers.{in_range, int, number, minus, int_in_range, max_u64}
-use Rattle.stmt_text.specs.Values.{SaysValue, SaysBytes, quoted, hex_quoted}
-use Rattle.stmt_text.specs.Keywords.{stmt_keyword, event_keyword}
+use Rattle.stmt_text.specs.Numbers.{in_range, int, number, minus, int_in_range}
+use Rattle.stmt_text.specs.Values.{SaysBytes, hex_quoted}
 use Rattle.stmt_text.specs.Parts.{max_moment}
-use Rattle.stmt_text.specs.Lines.{without_return, max_line, line}
+use Rattle.stmt_text.specs.Lines.{without_return, line_by}
 use Rattle.stmt_text.specs.Printing.{value_token, kind_token, compare_token, column_tokens, as_of_tokens, filter_tokens, algorithm_tokens, stmt_word, stmt_tokens, event_word, event_tokens, spaced, stmt_text, event_text, line_text}
 use Rattle.stmt_text.specs.Fits.{FitsValue, FitsMoment, FitsFilter, FitsColumn, FitsAlgorithm, FitsStmt, FitsEvent, FitsParts, FitsLine}
 use Rattle.stmt_text.specs.Grammar.{Says, SaysNumber, SayValues, SayColumns, SayAsOf, SayAlgorithm, SayFilter, SayStmt, SayEvent, SayLine, SaysWords, SaysContent, SaysLine}
@@ -276,5 +269,5 @@ content_fits content (lines.Drill e) h = words_fit content (lines.Drill e) h
 pub says_fits : (bytes : List ℕ) (l : Line) → SaysLine bytes l → FitsLine l
 says_fits bytes l h = content_fits (without_return bytes) l h
 
-pub line_fits_read : (bytes : List ℕ) (l : Line) → line in_range bytes ≡ Some l → FitsLine l
+pub line_fits_read : (bytes : List ℕ) (l : Line) → line_by in_range bytes ≡ Some l → FitsLine l
 line_fits_read bytes l e = says_fits bytes l (says_taken bytes l e)

@@ -1,30 +1,13 @@
 -- A line that was printed is read again.
-use Rattle.std.proofs.Common.{◌≡◌, ℕ, ◌≤◌, true, false, List, [], ◌∷◌, ◌++◌, length, Option, Some, refl, sym, subst, arith, decimal}
-use Rattle.std.specs.List.{flat_map}
-use Rattle.tuple_bytes.specs.declared.value.Value.{Value}
-use Rattle.tuple_bytes.specs.declared.value.Value.TheVariants as values
-use Rattle.tuple_bytes.specs.declared.op.Kind.{Kind}
-use Rattle.tuple_bytes.specs.declared.op.Kind.TheVariants as kinds
-use Rattle.tuple_bytes.specs.declared.op.Column.{Column}
-use Rattle.tuple_bytes.specs.declared.filter.Filter.{Filter}
-use Rattle.tuple_bytes.specs.declared.filter.Compare.{Compare}
-use Rattle.tuple_bytes.specs.declared.filter.Compare.TheVariants as compares
-use Rattle.stmt_text.specs.declared.word.Keyword.{Keyword}
-use Rattle.stmt_text.specs.declared.word.Keyword.TheVariants as words
-use Rattle.stmt_text.specs.declared.stmt.LineAlgorithm.{LineAlgorithm}
-use Rattle.stmt_text.specs.declared.stmt.LineAlgorithm.TheVariants as algorithms
-use Rattle.stmt_text.specs.declared.stmt.Stmt.{Stmt}
-use Rattle.stmt_text.specs.declared.stmt.Stmt.TheVariants as stmts
-use Rattle.stmt_text.specs.declared.event.Event.{Event}
-use Rattle.stmt_text.specs.declared.event.Event.TheVariants as events
+use Rattle.std.proofs.Common.{◌≡◌, ℕ, ◌≤◌, false, List, ◌∷◌, length, Some, refl, sym, subst, arith, decimal}
 use Rattle.stmt_text.specs.declared.line.Line.{Line}
 use Rattle.stmt_text.specs.declared.line.Line.TheVariants as lines
-use Rattle.stmt_text.specs.Tokens.{Token, joined, tokens}
+use Rattle.stmt_text.specs.Tokens.{Token, joined}
 use Rattle.stmt_text.specs.Numbers.{in_range}
 use Rattle.stmt_text.specs.Keywords.{stmt_keyword, event_keyword}
-use Rattle.stmt_text.specs.Lines.{without_return, is_blank, max_line, line}
+use Rattle.stmt_text.specs.Lines.{without_return, is_blank, max_line, line_by}
 use Rattle.stmt_text.specs.Printing.{stmt_word, stmt_tokens, event_word, event_tokens, spaced, stmt_text, event_text, line_text}
-use Rattle.stmt_text.specs.Fits.{FitsStmt, FitsParts, FitsLine}
+use Rattle.stmt_text.specs.Fits.{FitsParts, FitsLine}
 use Rattle.stmt_text.specs.Grammar.{SayLine, SaysWords, SaysLine}
 use Rattle.stmt_text.proofs.Printed.{stmt_says, event_says}
 use Rattle.stmt_text.proofs.PrintedTokens.{AllPrinted, IsPrinted, printed, decimal_simple, word_printed, stmt_printed, event_printed, tokens_back, joined_on, no_return}
@@ -58,5 +41,8 @@ says_text (lines.Drill e) h short =
     words_from (event_word e) (event_tokens e) (lines.Drill e) (word_printed (event_keyword e), event_printed e h) (word_not_blank (event_keyword e) (spaced (event_tokens e))) short
     (event_tokens e, refl, event_says e h)
 
-pub line_back : (l : Line) → FitsLine l → line in_range (line_text l) ≡ Some l
+pub line_back : (l : Line) → FitsLine l → line_by in_range (line_text l) ≡ Some l
 line_back l h = says_again (line_text l) l (says_text l h.parts h.short)
+
+pub printed_again : (text : List ℕ) (l : Line) → FitsLine l → text ≡ line_text l → line_by in_range text ≡ Some l
+printed_again text l h is = rw is (line_back l h)

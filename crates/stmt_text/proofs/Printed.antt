@@ -1,28 +1,18 @@
 -- What is printed of a value says that value.
 use Rattle.std.proofs.Common.{◌≡◌, ℕ, ◌<◌, ◌≤◌, ◌^◌, true, false, List, [], ◌∷◌, ◌++◌, map, Option, Some, None, refl, arith, decimal}
-use Rattle.std.specs.Prelude.{codes}
 use Rattle.std.specs.List.{flat_map, AllByRecursion}
 use Rattle.hex.specs.Hex.{encode_lower}
 use Rattle.hex.proofs.HexLemmas.{decode_of-encode_lower}
 use Rattle.tuple_bytes.specs.declared.value.Value.{Value}
 use Rattle.tuple_bytes.specs.declared.value.Value.TheVariants as values
-use Rattle.tuple_bytes.specs.declared.op.Kind.{Kind}
-use Rattle.tuple_bytes.specs.declared.op.Kind.TheVariants as kinds
 use Rattle.tuple_bytes.specs.declared.op.Column.{Column}
 use Rattle.tuple_bytes.specs.declared.filter.Filter.{Filter}
-use Rattle.tuple_bytes.specs.declared.filter.Compare.{Compare}
-use Rattle.tuple_bytes.specs.declared.filter.Compare.TheVariants as compares
-use Rattle.stmt_text.specs.declared.word.Keyword.{Keyword}
-use Rattle.stmt_text.specs.declared.word.Keyword.TheVariants as words
 use Rattle.stmt_text.specs.declared.stmt.LineAlgorithm.{LineAlgorithm}
 use Rattle.stmt_text.specs.declared.stmt.LineAlgorithm.TheVariants as algorithms
 use Rattle.stmt_text.specs.declared.stmt.Stmt.{Stmt}
 use Rattle.stmt_text.specs.declared.stmt.Stmt.TheVariants as stmts
 use Rattle.stmt_text.specs.declared.event.Event.{Event}
 use Rattle.stmt_text.specs.declared.event.Event.TheVariants as events
-use Rattle.stmt_text.specs.declared.line.Line.{Line}
-use Rattle.stmt_text.specs.declared.line.Line.TheVariants as lines
-use Rattle.stmt_text.specs.Numbers.{max_u64}
 use Rattle.stmt_text.specs.Values.{SaysValue, value_in_range}
 use Rattle.stmt_text.specs.Parts.{max_moment}
 use Rattle.stmt_text.specs.Printing.{value_token, column_tokens, as_of_tokens, filter_tokens, algorithm_tokens, stmt_tokens, event_tokens}

@@ -28,7 +28,7 @@ use Rattle.stmt_text.specs.Parts.{kept_value, moment, kappa, value_in, name, fro
 use Rattle.stmt_text.specs.Rows.{is_row, row}
 use Rattle.stmt_text.specs.Statements.{insert, update, delete, get, history, filter_of, filter_at, unfiltered, filtered, scan, exactly, algorithm, stmt_by}
 use Rattle.stmt_text.specs.Events.{event_by}
-use Rattle.stmt_text.specs.Lines.{plain_by, plain, session, session_by, in_session, said_by, said, is_blank, max_line, content_line, line, without_return}
+use Rattle.stmt_text.specs.Lines.{plain_by, plain, session, session_by, in_session, said_by, said, is_blank, max_line, content_line, line_by, without_return}
 use Rattle.stmt_text.proofs.Choices.{both, bind_some, if_some}
 
 map_keeps : {A B : Type 0} (f : A → B) (o p : Option A) (y : B) → ((a : A) → o ≡ Some a → p ≡ Some a) → option_map f o ≡ Some y → option_map f p ≡ Some y
@@ -316,5 +316,5 @@ content_keeps content l e =
     (then_keeps (nat_le (length content) max_line) (said in_range (tokens content)) (said any_width (tokens content)) l (said_keeps (tokens content) l))
     e
 
-pub line_keeps : (bytes : List ℕ) (l : Line) → line in_range bytes ≡ Some l → line any_width bytes ≡ Some l
+pub line_keeps : (bytes : List ℕ) (l : Line) → line_by in_range bytes ≡ Some l → line_by any_width bytes ≡ Some l
 line_keeps bytes l e = content_keeps (without_return bytes) l e

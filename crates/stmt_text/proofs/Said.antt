@@ -1,19 +1,14 @@
 -- What is said is read.
-use Rattle.std.proofs.Common.{◌≡◌, ℕ, ◌<◌, ◌≤◌, ◌^◌, Bool, true, false, cond, List, [], ◌∷◌, length, Option, Some, None, option_map, refl, arith, decimal}
+use Rattle.std.proofs.Common.{◌≡◌, ℕ, ◌≤◌, Bool, true, false, cond, List, [], ◌∷◌, length, Option, Some, None, option_map, refl, arith, decimal}
 use Rattle.std.specs.Prelude.{codes}
 use Rattle.std.specs.Str.{bytes_eq}
 use Rattle.std.proofs.lemmas.Bool.{le-leb}
 use Rattle.byte_grammar.specs.Reading.{◌>>=◌}
 use Rattle.tuple_bytes.specs.declared.value.Value.{Value}
-use Rattle.tuple_bytes.specs.declared.value.Value.TheVariants as values
-use Rattle.tuple_bytes.specs.declared.op.Kind.{Kind}
-use Rattle.tuple_bytes.specs.declared.op.Kind.TheVariants as kinds
 use Rattle.tuple_bytes.specs.declared.op.Column.{Column}
 use Rattle.tuple_bytes.specs.declared.filter.Filter.{Filter}
 use Rattle.tuple_bytes.specs.declared.filter.Compare.{Compare}
 use Rattle.tuple_bytes.specs.declared.filter.Compare.TheVariants as compares
-use Rattle.stmt_text.specs.declared.word.Keyword.{Keyword}
-use Rattle.stmt_text.specs.declared.word.Keyword.TheVariants as words
 use Rattle.stmt_text.specs.declared.stmt.LineAlgorithm.{LineAlgorithm}
 use Rattle.stmt_text.specs.declared.stmt.LineAlgorithm.TheVariants as algorithms
 use Rattle.stmt_text.specs.declared.stmt.Stmt.{Stmt}
@@ -32,7 +27,7 @@ use Rattle.stmt_text.specs.Parts.{moment, kappa, value_in, name, front, only, ea
 use Rattle.stmt_text.specs.Rows.{is_row, are_columns, row, column, each_column, columns}
 use Rattle.stmt_text.specs.Statements.{create, insert, update, delete, get, history, filter_at, unfiltered, filtered, scan, algorithm, alone, stmt_by}
 use Rattle.stmt_text.specs.Events.{altering, init, crash, alter, cut, event_by}
-use Rattle.stmt_text.specs.Lines.{max_line, session, plain_by, plain, session_by, in_session, said, content_line, line, without_return}
+use Rattle.stmt_text.specs.Lines.{max_line, session, plain_by, plain, session_by, in_session, said, content_line, line_by, without_return}
 use Rattle.stmt_text.specs.Printing.{compare_token}
 use Rattle.stmt_text.specs.Fits.{FitsName}
 use Rattle.stmt_text.specs.Grammar.{Says, SaysNumber, SayValues, SayColumns, SayAsOf, SayAlgorithm, SayFilter, SayStmt, SayEvent, SayLine, SaysWords, SaysContent, SaysLine}
@@ -183,5 +178,5 @@ content_said content (lines.Plain s) h = words_said content (lines.Plain s) h
 content_said content (lines.InSession n s) h = words_said content (lines.InSession n s) h
 content_said content (lines.Drill e) h = words_said content (lines.Drill e) h
 
-pub says_again : (bytes : List ℕ) (l : Line) → SaysLine bytes l → line in_range bytes ≡ Some l
+pub says_again : (bytes : List ℕ) (l : Line) → SaysLine bytes l → line_by in_range bytes ≡ Some l
 says_again bytes l h = content_said (without_return bytes) l h

@@ -1,48 +1,35 @@
 -- What is read is said.
-use Rattle.std.proofs.Common.{◌≡◌, ℕ, ◌<◌, ◌≤◌, ◌^◌, Bool, true, false, cond, eqb, ◌&&◌, List, [], ◌∷◌, length, Option, Some, None, option_map, refl, sym, ap, subst, ◌∙◌, arith, decimal}
-use Rattle.std.specs.Prelude.{codes, nat_le, Ok}
+use Rattle.std.proofs.Common.{◌≡◌, ℕ, ◌≤◌, true, ◌&&◌, List, [], ◌∷◌, Option, Some, None, option_map, refl, sym, ap, subst, ◌∙◌}
+use Rattle.std.specs.Prelude.{codes, nat_le}
 use Rattle.std.specs.Str.{bytes_eq}
-use Rattle.std.proofs.lemmas.Bool.{leb-true, eqb-true}
+use Rattle.std.proofs.lemmas.Bool.{leb-true}
 use Rattle.std.proofs.lemmas.Option.{same_Some}
-use Rattle.hex.specs.Hex.{decode_of}
 use Rattle.byte_grammar.specs.Reading.{◌>>=◌}
 use Rattle.tuple_bytes.specs.Word.{is_word}
 use Rattle.tuple_bytes.specs.declared.value.Value.{Value}
-use Rattle.tuple_bytes.specs.declared.value.Value.TheVariants as values
-use Rattle.tuple_bytes.specs.declared.op.Kind.{Kind}
-use Rattle.tuple_bytes.specs.declared.op.Kind.TheVariants as kinds
 use Rattle.tuple_bytes.specs.declared.op.Column.{Column}
 use Rattle.tuple_bytes.specs.declared.filter.Filter.{Filter}
-use Rattle.tuple_bytes.specs.declared.filter.Compare.{Compare}
-use Rattle.tuple_bytes.specs.declared.filter.Compare.TheVariants as compares
 use Rattle.stmt_text.specs.declared.word.Keyword.{Keyword}
 use Rattle.stmt_text.specs.declared.word.Keyword.TheVariants as words
 use Rattle.stmt_text.specs.declared.stmt.LineAlgorithm.{LineAlgorithm}
 use Rattle.stmt_text.specs.declared.stmt.LineAlgorithm.TheVariants as algorithms
 use Rattle.stmt_text.specs.declared.stmt.Stmt.{Stmt}
 use Rattle.stmt_text.specs.declared.stmt.Stmt.TheVariants as stmts
-use Rattle.stmt_text.specs.declared.event.Event.{Event}
-use Rattle.stmt_text.specs.declared.event.Event.TheVariants as events
-use Rattle.stmt_text.specs.declared.line.Line.{Line}
-use Rattle.stmt_text.specs.declared.line.Line.TheVariants as lines
-use Rattle.stmt_text.specs.Options.{or_else, where_true}
-use Rattle.stmt_text.specs.Tokens.{Token, tokens}
-use Rattle.stmt_text.specs.Numbers.{number, in_range, kept, plain_number, max_u64}
-use Rattle.stmt_text.specs.Values.{SaysValue, value, value_in_range, blob_of_digits}
-use Rattle.stmt_text.specs.Words.{keyword, compare, kind, algorithm_word, algs}
-use Rattle.stmt_text.specs.Keywords.{keyword_token, stmt_keyword, event_keyword, is_session_word, is_for_session, is_drill_word}
+use Rattle.stmt_text.specs.Options.{or_else}
+use Rattle.stmt_text.specs.Tokens.{Token}
+use Rattle.stmt_text.specs.Numbers.{number, in_range, kept}
+use Rattle.stmt_text.specs.Values.{SaysValue, value, value_in_range}
+use Rattle.stmt_text.specs.Words.{compare, kind, algorithm_word}
+use Rattle.stmt_text.specs.Keywords.{stmt_keyword}
 use Rattle.stmt_text.specs.Parts.{kept_value, moment, kappa, value_in, name, front, ended, only, each, after_word, as_of, max_moment}
 use Rattle.stmt_text.specs.Rows.{is_row, are_columns, column_of, row, column, each_column, columns}
 use Rattle.stmt_text.specs.Statements.{create, insert, update, delete, get, history, filter_of, filter_at, unfiltered, filtered, scan, exactly, algorithm, alone, stmt_by}
-use Rattle.stmt_text.specs.Events.{is_altering, altering, init, crash, alter, cut, event_by}
-use Rattle.stmt_text.specs.Lines.{max_line, is_blank, session, plain_by, plain, session_by, in_session, said_by, said, content_line, line, without_return}
-use Rattle.stmt_text.specs.Printing.{kind_token, compare_token, algs_token}
+use Rattle.stmt_text.specs.Printing.{kind_token, compare_token}
 use Rattle.stmt_text.specs.Fits.{FitsName}
-use Rattle.stmt_text.specs.Grammar.{Says, SaysNumber, SayValues, SayColumns, SayAsOf, SayAlgorithm, SayFilter, SayStmt, SayEvent, SayLine, SaysWords, SaysContent, SaysLine}
+use Rattle.stmt_text.specs.Grammar.{Says, SaysNumber, SayValues, SayColumns, SayAsOf, SayAlgorithm, SayFilter, SayStmt}
 use Rattle.stmt_text.proofs.Choices.{both, bind_some, if_some, where_some, says_if, or_takes, map_takes, same_text}
-use Rattle.stmt_text.proofs.Numerals.{plain_takes}
-use Rattle.stmt_text.proofs.ValueReads.{value_takes, some_ok}
-use Rattle.stmt_text.proofs.WordReads.{keyword_takes, kind_takes, compare_takes, algs_takes}
+use Rattle.stmt_text.proofs.ValueReads.{value_takes}
+use Rattle.stmt_text.proofs.WordReads.{kind_takes, compare_takes}
 
 -- ---- parts
 

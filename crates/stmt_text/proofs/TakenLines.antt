@@ -1,24 +1,12 @@
 -- Drill lines and whole lines: what is read is said.
-use Rattle.std.proofs.Common.{◌≡◌, ℕ, ◌<◌, ◌≤◌, ◌^◌, Bool, true, false, cond, eqb, List, [], ◌∷◌, length, Option, Some, None, option_map, refl, sym, ap, subst, ◌∙◌, arith, decimal}
+use Rattle.std.proofs.Common.{◌≡◌, ℕ, ◌<◌, ◌≤◌, ◌^◌, Bool, true, false, cond, eqb, List, [], ◌∷◌, length, Option, Some, None, option_map, refl, ap, subst, ◌∙◌, arith, decimal}
 use Rattle.std.specs.Prelude.{nat_le, Ok}
 use Rattle.std.proofs.lemmas.Bool.{leb-true, eqb-true}
 use Rattle.std.proofs.lemmas.Option.{same_Some}
 use Rattle.hex.specs.Hex.{decode_of}
 use Rattle.byte_grammar.specs.Reading.{◌>>=◌}
-use Rattle.tuple_bytes.specs.declared.value.Value.{Value}
-use Rattle.tuple_bytes.specs.declared.value.Value.TheVariants as values
-use Rattle.tuple_bytes.specs.declared.op.Kind.{Kind}
-use Rattle.tuple_bytes.specs.declared.op.Kind.TheVariants as kinds
-use Rattle.tuple_bytes.specs.declared.op.Column.{Column}
-use Rattle.tuple_bytes.specs.declared.filter.Filter.{Filter}
-use Rattle.tuple_bytes.specs.declared.filter.Compare.{Compare}
-use Rattle.tuple_bytes.specs.declared.filter.Compare.TheVariants as compares
 use Rattle.stmt_text.specs.declared.word.Keyword.{Keyword}
 use Rattle.stmt_text.specs.declared.word.Keyword.TheVariants as words
-use Rattle.stmt_text.specs.declared.stmt.LineAlgorithm.{LineAlgorithm}
-use Rattle.stmt_text.specs.declared.stmt.LineAlgorithm.TheVariants as algorithms
-use Rattle.stmt_text.specs.declared.stmt.Stmt.{Stmt}
-use Rattle.stmt_text.specs.declared.stmt.Stmt.TheVariants as stmts
 use Rattle.stmt_text.specs.declared.event.Event.{Event}
 use Rattle.stmt_text.specs.declared.event.Event.TheVariants as events
 use Rattle.stmt_text.specs.declared.line.Line.{Line}
@@ -27,13 +15,13 @@ use Rattle.stmt_text.specs.Tokens.{Token, tokens}
 use Rattle.stmt_text.specs.Numbers.{in_range, plain_number, max_u64}
 use Rattle.stmt_text.specs.Values.{blob_of_digits, some_of}
 use Rattle.stmt_text.specs.Words.{keyword, algs}
-use Rattle.stmt_text.specs.Keywords.{keyword_token, stmt_keyword, event_keyword, is_session_word, is_for_session, is_drill_word}
+use Rattle.stmt_text.specs.Keywords.{keyword_token, event_keyword, is_session_word, is_for_session, is_drill_word}
 use Rattle.stmt_text.specs.Parts.{front, ended}
 use Rattle.stmt_text.specs.Statements.{stmt_by}
 use Rattle.stmt_text.specs.Events.{is_altering, altering, init, crash, alter, cut, event_by}
-use Rattle.stmt_text.specs.Lines.{max_line, is_blank, session, plain_by, plain, session_by, in_session, said_by, said, content_line, line, without_return}
+use Rattle.stmt_text.specs.Lines.{max_line, is_blank, session, plain_by, plain, session_by, in_session, said_by, said, content_line, line_by, without_return}
 use Rattle.stmt_text.specs.Printing.{algs_token}
-use Rattle.stmt_text.specs.Grammar.{SayStmt, SayEvent, SayLine, SaysWords, SaysContent, SaysLine}
+use Rattle.stmt_text.specs.Grammar.{SayEvent, SayLine, SaysContent, SaysLine}
 use Rattle.stmt_text.proofs.Choices.{bind_some, if_some, where_some, map_takes}
 use Rattle.stmt_text.proofs.Numerals.{plain_takes}
 use Rattle.stmt_text.proofs.ValueReads.{some_ok}
@@ -230,5 +218,5 @@ content_takes content l e = by (is_blank content) refl e
         let t = if_some (nat_le (length content) max_line) (said in_range (tokens content)) l h in
         not_blank content l is (leb-true (length content) max_line t.0) (said_takes (tokens content) l t.1)
 
-pub says_taken : (bytes : List ℕ) (l : Line) → line in_range bytes ≡ Some l → SaysLine bytes l
+pub says_taken : (bytes : List ℕ) (l : Line) → line_by in_range bytes ≡ Some l → SaysLine bytes l
 says_taken bytes l e = content_takes (without_return bytes) l e

@@ -1,25 +1,17 @@
 -- Words, read and written.
-use Rattle.std.proofs.Common.{◌≡◌, ℕ, zero, suc, ◌≤◌, Bool, true, false, List, [], ◌∷◌, ◌++◌, Option, Some, None, refl, arith}
+use Rattle.std.proofs.Common.{◌≡◌, ℕ, zero, suc, ◌≤◌, true, false, List, ◌++◌, Some, None, refl, arith}
 use Rattle.std.specs.Prelude.{codes}
 use Rattle.std.specs.Str.{bytes_eq}
-use Rattle.tuple_bytes.specs.declared.value.Value.{Value}
-use Rattle.tuple_bytes.specs.declared.value.Value.TheVariants as values
 use Rattle.tuple_bytes.specs.declared.op.Kind.{Kind}
 use Rattle.tuple_bytes.specs.declared.op.Kind.TheVariants as kinds
-use Rattle.tuple_bytes.specs.declared.op.Column.{Column}
-use Rattle.tuple_bytes.specs.declared.filter.Filter.{Filter}
 use Rattle.tuple_bytes.specs.declared.filter.Compare.{Compare}
 use Rattle.tuple_bytes.specs.declared.filter.Compare.TheVariants as compares
 use Rattle.stmt_text.specs.declared.word.Keyword.{Keyword}
 use Rattle.stmt_text.specs.declared.word.Keyword.TheVariants as words
-use Rattle.stmt_text.specs.declared.stmt.LineAlgorithm.{LineAlgorithm}
-use Rattle.stmt_text.specs.declared.stmt.LineAlgorithm.TheVariants as algorithms
 use Rattle.stmt_text.specs.declared.stmt.Stmt.{Stmt}
 use Rattle.stmt_text.specs.declared.stmt.Stmt.TheVariants as stmts
 use Rattle.stmt_text.specs.declared.event.Event.{Event}
 use Rattle.stmt_text.specs.declared.event.Event.TheVariants as events
-use Rattle.stmt_text.specs.declared.line.Line.{Line}
-use Rattle.stmt_text.specs.declared.line.Line.TheVariants as lines
 use Rattle.stmt_text.specs.Options.{or_else}
 use Rattle.stmt_text.specs.Tokens.{Token}
 use Rattle.stmt_text.specs.Numbers.{number, plain_number}

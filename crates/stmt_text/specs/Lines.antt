@@ -1,5 +1,5 @@
 -- What a line says, and what reading it answers.
-use Rattle.std.specs.Prelude.{◌≡◌, ℕ, Bool, true, false, ◌||◌, ◌==◌, nat_le, if◌then◌else◌, List, [], ◌∷◌, length, Option, Some, None, option_map, Result, Ok, Err, IsSome}
+use Rattle.std.specs.Prelude.{◌≡◌, ◌↔◌, ℕ, Bool, false, ◌||◌, ◌==◌, nat_le, if◌then◌else◌, List, [], ◌∷◌, length, Option, Some, None, option_map, Result, Ok, Err, IsSome}
 use Rattle.std.specs.List.{list_all}
 use Rattle.byte_grammar.specs.Reading.{◌>>=◌}
 use Rattle.stmt_text.specs.declared.error.ParseFail.{ParseFail}
@@ -81,15 +81,19 @@ content_line numbers content =
     else None
 
 -- the line that bytes say
-abbrev pub line : Numbers → List ℕ → Option Line
-line numbers bytes = content_line numbers (without_return bytes)
+abbrev pub line_by : Numbers → List ℕ → Option Line
+line_by numbers bytes = content_line numbers (without_return bytes)
 
 -- ---- what reading a line answers
 
+-- no line of the grammar, whatever the width of its numbers
+abbrev pub IsNoLine : List ℕ → Type 0
+IsNoLine bytes = line_by any_width bytes ≡ None
+
 -- a line of the grammar with numbers of any width, in which a number is out of its range
 pub record IsTooWide (bytes : List ℕ) : Type 0 where
-  pub wide : IsSome (line any_width bytes)
-  pub refused : line in_range bytes ≡ None
+  pub wide : IsSome (line_by any_width bytes)
+  pub refused : line_by in_range bytes ≡ None
 
 abbrev pub answer_by : Option Line → Option Line → Result Line ParseFail
 answer_by (Some l) wide = Ok l
@@ -98,7 +102,7 @@ answer_by None None = Err fails.Syntax
 
 -- the line; else NumberTooWide, where numbers of any width make it a line; else Syntax
 unfoldable pub answer : List ℕ → Result Line ParseFail
-answer bytes = answer_by (line in_range bytes) (line any_width bytes)
+answer bytes = answer_by (line_by in_range bytes) (line_by any_width bytes)
 
 -- this answer, unless memory ran out
 abbrev pub IsAnswer : Result Line ParseFail → Result Line ParseFail → Type 0
@@ -106,3 +110,8 @@ IsAnswer (Ok l) expected = expected ≡ Ok l
 IsAnswer (Err fails.Syntax) expected = expected ≡ Err fails.Syntax
 IsAnswer (Err fails.NumberTooWide) expected = expected ≡ Err fails.NumberTooWide
 IsAnswer (Err fails.NoMemory) expected = Unit {0}
+
+-- this refusal comes exactly where its cause is there, unless memory ran out
+abbrev pub ComesExactly : Result Line ParseFail → ParseFail → Type 0 → Type 0
+ComesExactly (Err fails.NoMemory) fail cause = Unit {0}
+ComesExactly result fail cause = (result ≡ Err fail) ↔ cause

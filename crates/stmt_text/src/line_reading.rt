@@ -1,13 +1,12 @@
 //! Reading a line.
 
-ghost use Rattle.std.specs.Prelude.{◌≡◌, IfOk, None, Err};
+ghost use Rattle.std.specs.Prelude.{◌≡◌, IfOk};
 ghost use Rattle.std.specs.List.{list_all};
 ghost use Rattle.byte_grammar.specs.Reading.{Gives};
 ghost use Rattle.stmt_text.specs.Tokens.{tokens};
 ghost use Rattle.stmt_text.specs.Words.{keyword};
-ghost use Rattle.stmt_text.specs.Numbers.{any_width};
 ghost use Rattle.stmt_text.specs.Parts.{Read, front};
-ghost use Rattle.stmt_text.specs.Lines.{without_return, is_space, is_comment, is_blank, session, plain_by, plain, session_by, in_session, said, content_line, line, answer, IsAnswer, IsTooWide};
+ghost use Rattle.stmt_text.specs.Lines.{without_return, is_space, is_comment, is_blank, session, plain_by, plain, session_by, in_session, said, content_line, line_by, answer, IsAnswer, IsNoLine, IsTooWide, ComesExactly};
 ghost use Rattle.stmt_text.specs.Grammar.{SaysLine};
 ghost use Rattle.stmt_text.specs.Fits.{FitsLine};
 
@@ -24,7 +23,7 @@ use std::alloc::Global;
 
 /// The bytes without one carriage return at their end.
 #[tactic(auto, using(crate::proofs::LineLaws::no_return))]
-fn content_of(bytes: &[u8]) -> &[u8]
+pub fn content_of(bytes: &[u8]) -> &[u8]
     ensures value { result.now ≡ without_return bytes.now }
 {
     let Some((last, content)) = bytes.split_last() else {
@@ -165,7 +164,7 @@ fn content_line_of(alloc: Global, numbers: Numbers, content: &[u8]) -> Result<Li
 }
 
 fn line_by(alloc: Global, numbers: Numbers, bytes: &[u8]) -> Result<Line, ReadFail>
-    ensures value { Read (λ l. l) result (line numbers bytes.now) }
+    ensures value { Read (λ l. l) result (line_by numbers bytes.now) }
 {
     Ok(content_line_of(alloc, numbers, content_of(bytes))?)
 }
@@ -175,13 +174,13 @@ fn line_by(alloc: Global, numbers: Numbers, bytes: &[u8]) -> Result<Line, ReadFa
 /// Syntax is the answer exactly where the bytes are no line with numbers of any width, and else
 /// NumberTooWide exactly where a number is out of its range, wherever in the line it stands; want of
 /// memory may take the place of each answer.
-#[tactic(auto, using(crate::proofs::AnswerLaws::answer_ok, crate::proofs::AnswerLaws::answer_wide, crate::proofs::AnswerLaws::answer_syntax, crate::proofs::TakenLines::says_taken))]
+#[tactic(auto, using(crate::proofs::AnswerLaws::answer_ok, crate::proofs::AnswerLaws::answer_wide, crate::proofs::AnswerLaws::answer_syntax))]
 pub fn parse_line(alloc: Global, bytes: &[u8]) -> Result<Line, ParseFail>
     ensures value { IsAnswer result (answer bytes.now) }
     ensures spelled { IfOk result (SaysLine bytes.now) }
     ensures fits { IfOk result FitsLine }
-    ensures syntax { result ≡ Err ParseFail.Syntax → line any_width bytes.now ≡ None }
-    ensures number_too_wide { result ≡ Err ParseFail.NumberTooWide → IsTooWide bytes.now }
+    ensures syntax { ComesExactly result ParseFail.Syntax (IsNoLine bytes.now) }
+    ensures number_too_wide { ComesExactly result ParseFail.NumberTooWide (IsTooWide bytes.now) }
 {
     match line_by(alloc, Numbers::InRange, bytes) {
         Ok(line) => Ok(line),
