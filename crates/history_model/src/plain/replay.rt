@@ -2,7 +2,7 @@
 
 ghost use Rattle.std.specs.Prelude.{◌≡◌, ◌<◌, ◌≤◌, IfOk, All, length};
 ghost use Rattle.byte_grammar.specs.Reading.{Gives};
-ghost use Rattle.history_model.specs.Replay.{framed_payload, record_at, replayed};
+ghost use Rattle.history_model.specs.Plain.{framed_payload, record_at, replayed};
 ghost use Rattle.history_model.specs.Stored.{IsStorable, IsStored, front_header, header_length, max_file, stored};
 
 use crate::stored::Stored;

@@ -2,7 +2,7 @@ use Rattle.std.proofs.Common.{◌∙◌, ap, fold, List, arith}
 use Rattle.std.proofs.lemmas.List.{take_all}
 use Rattle.tuple_bytes.specs.declared.item.Item.{Item}
 use Rattle.history_model.specs.Digests.{seed}
-use Rattle.history_model.specs.Linked.{after_item}
+use Rattle.history_model.specs.Plain.{after_item}
 use Rattle.history_model.proofs.Chains.{items_linked}
 use Rattle.history_model.proofs.plain.links.link.Goals as goal
 
