@@ -3,6 +3,7 @@ use Rattle.std.specs.Prelude.{◌≡◌, ◌⊎◌, ◌+◌, ◌≤◌, ℕ, Boo
 use Rattle.std.specs.Int.{w32, to_be_bytes}
 use Rattle.disk_words.specs.declared.DiskFail.TheVariants.{Failed, NoMemory}
 use Rattle.disk_words.specs.Disk.{Call, State, Only}
+use Rattle.disk_model.specs.Gate.{gated_writes}
 use Rattle.disk_model.specs.Moments.{EveryImage, MakesCalls, calls_of}
 use Rattle.byte_grammar.specs.Gated.{Shape, open_gate}
 use Rattle.txn_journal.specs.declared.fail.JournalFail.{JournalFail}
@@ -16,14 +17,10 @@ closed_gate = 0
 abbrev pub behind_gate : List ℕ → List ℕ
 behind_gate payload = to_be_bytes w32 (length payload) ++ (payload ++ closed_gate ∷ [])
 
--- these bytes behind a gate, and then the gate, each with a sync behind it
-abbrev pub gated_writes : ℕ → List ℕ → List (ℕ × List ℕ)
-gated_writes end bytes = (end + 1, bytes) ∷ (end, open_gate ∷ []) ∷ []
-
--- an open gate at the end is closed first
+-- these bytes behind a gate, and then the gate; an open gate at the end is closed first
 abbrev pub writes_at : Bool → ℕ → List ℕ → List (ℕ × List ℕ)
-writes_at true end bytes = (end, closed_gate ∷ []) ∷ gated_writes end bytes
-writes_at false end bytes = gated_writes end bytes
+writes_at true end bytes = (end, closed_gate ∷ []) ∷ gated_writes end open_gate bytes
+writes_at false end bytes = gated_writes end open_gate bytes
 
 -- a record of this payload
 abbrev pub addition : Bool → ℕ → List ℕ → List (ℕ × List ℕ)
