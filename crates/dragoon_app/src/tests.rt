@@ -10,7 +10,8 @@ fn put_number(bytes: &mut Vec<u8>, number: u64, len: usize) -> Result<(), AllocE
     bytes.extend_from_slice(&number.to_be_bytes()[8 - len.min(8)..])
 }
 
-/// A header, a table and so many rows, a minute apart, and a Frontier. With eight rows it is the worked store.
+/// A header, a table and so many rows, a minute apart, and a Frontier. With eight rows it is the
+/// worked store.
 fn store(alloc: Global, rows: u32) -> Result<Vec<u8>, AllocError> {
     let mut bytes = b"\xa7DRAGOON1\0\0\0\0\0\0\0\x07\0\0\0\0\0\0\0\0\0\0\0\x3c\x03\x03".to_vec(
         alloc,
@@ -83,7 +84,8 @@ fn a_spoiled_length_ends_the_history(rt: HostRuntime) -> Result<(), Fail> {
     let mut edited = store(alloc, 8)?;
     edited.truncate(95);
     edited.extend_from_slice(&[0, 0, 0x80, 1])?;
-    edited.extend_from_slice(&store(alloc, 8)?[99..])?;
+    let whole = store(alloc, 8)?;
+    edited.extend_from_slice(whole.get(99..).ok_or("short")?)?;
     let (_, text) = outcome(alloc, &["link"], edited, &[], &[])?;
     assert_eq!(rt;
         text.as_slice(),
