@@ -1,6 +1,5 @@
 -- What the words and the bytes of the store define.
 use Rattle.std.specs.Prelude.{ℕ, List, Option, Some, None}
-use Rattle.history_model.specs.Stored.{stored}
 use Rattle.dragoon_app.specs.declared.command.Command.{Command}
 use Rattle.dragoon_app.specs.declared.command.Command.TheVariants as commands
 use Rattle.dragoon_app.specs.declared.status.Status.TheVariants as statuses
@@ -11,7 +10,7 @@ use Rattle.dragoon_app.specs.Words.{command_of}
 -- by the command
 abbrev pub outcome_of : Option Command → List ℕ → Outcome
 outcome_of None bytes = refused statuses.Usage
-outcome_of (Some commands.Link) bytes = link_outcome (stored bytes)
+outcome_of (Some commands.Link) bytes = link_outcome bytes
 
 abbrev pub outcome : List (List ℕ) → List ℕ → Outcome
 outcome words bytes = outcome_of (command_of words) bytes
