@@ -75,7 +75,8 @@ FitsStmt (stmts.Analyse a) = FitsAlgorithm a
 FitsStmt (stmts.Now m) = m ≤ max_moment
 
 abbrev pub FitsEvent : Event → Type 0
-FitsEvent (events.Init id width k algs) = (id ≤ max_u64) × ((1 ≤ width) × (width ≤ 86400)) × (k ≤ 10) × (algs ≤ 3)
+FitsEvent (events.Init id width k algs) =
+    (id ≤ max_u64) × ((1 ≤ width) × (width ≤ 86400)) × (k ≤ 10) × (algs ≤ 3)
 FitsEvent (events.Crash after choice) = (after ≤ 1000000) × (choice ≤ max_u64)
 FitsEvent (events.Alter place bytes) = (place ≤ max_u64) × (is_altering bytes ≡ true) × IsBytes bytes
 FitsEvent (events.Cut len) = len ≤ max_u64

@@ -43,36 +43,54 @@ SayValues (t ∷ ts) (v ∷ vs) = Says t v × SayValues ts vs
 -- a name and a kind for each column
 abbrev pub SayColumns : List Token → List Column → Type 0
 SayColumns ts [] = ts ≡ []
-SayColumns ts (c ∷ cs) = (others : List Token) × (ts ≡ c.name ∷ kind_token c.kind ∷ others) × FitsName c.name × SayColumns others cs
+SayColumns ts (c ∷ cs) =
+    (others : List Token) × (ts ≡ c.name ∷ kind_token c.kind ∷ others) × FitsName c.name
+    × SayColumns others cs
 
 -- nothing, or `as of` and a moment
 abbrev pub SayAsOf : List Token → Option ℕ → Type 0
 SayAsOf ts None = ts ≡ []
-SayAsOf ts (Some m) = (token : Token) × (ts ≡ codes "as" ∷ codes "of" ∷ token ∷ []) × SaysNumber 0 max_moment token m
+SayAsOf ts (Some m) =
+    (token : Token) × (ts ≡ codes "as" ∷ codes "of" ∷ token ∷ []) × SaysNumber 0 max_moment token m
 
 -- the algorithm of an analysis
 abbrev pub SayAlgorithm : List Token → LineAlgorithm → Type 0
 SayAlgorithm ts algorithms.Mono = ts ≡ codes "mono" ∷ []
 SayAlgorithm ts algorithms.Tiled = ts ≡ codes "tiled" ∷ []
-SayAlgorithm ts (algorithms.TiledExactly n) = (token : Token) × (ts ≡ codes "tiled" ∷ token ∷ []) × SaysNumber 1 1024 token n
+SayAlgorithm ts (algorithms.TiledExactly n) =
+    (token : Token) × (ts ≡ codes "tiled" ∷ token ∷ []) × SaysNumber 1 1024 token n
 SayAlgorithm ts algorithms.A3d = ts ≡ codes "a3d" ∷ []
 
 -- a filter, where there is one, and what stands behind it
 abbrev pub SayFilter : List Token → Option Filter → List Token → Type 0
 SayFilter ts None others = ts ≡ others
-SayFilter ts (Some f) others = (bound : Token) × (ts ≡ f.column ∷ compare_token f.compare ∷ bound ∷ others) × FitsName f.column × Says bound f.value
+SayFilter ts (Some f) others =
+    (bound : Token) × (ts ≡ f.column ∷ compare_token f.compare ∷ bound ∷ others)
+    × FitsName f.column × Says bound f.value
 
 -- ---- statements and drill lines
 
 -- what stands behind the first word of a statement
 abbrev pub SayStmt : List Token → Stmt → Type 0
-SayStmt ts (stmts.Create table columns) = (others : List Token) × (ts ≡ table ∷ others) × FitsName table × SayColumns others columns × (are_columns columns ≡ true)
-SayStmt ts (stmts.Insert table row) = (others : List Token) × (ts ≡ table ∷ others) × FitsName table × SayValues others row × (is_row row ≡ true)
-SayStmt ts (stmts.Update table row) = (others : List Token) × (ts ≡ table ∷ others) × FitsName table × SayValues others row × (is_row row ≡ true)
-SayStmt ts (stmts.Delete table key) = (token : Token) × (ts ≡ table ∷ token ∷ []) × FitsName table × Says token key
-SayStmt ts (stmts.Get table key m) = (token : Token) × (others : List Token) × (ts ≡ table ∷ token ∷ others) × FitsName table × Says token key × SayAsOf others m
-SayStmt ts (stmts.Scan table filter m) = (others : List Token) × (more : List Token) × (ts ≡ table ∷ others) × FitsName table × SayFilter others filter more × SayAsOf more m
-SayStmt ts (stmts.History table key) = (token : Token) × (ts ≡ table ∷ token ∷ []) × FitsName table × Says token key
+SayStmt ts (stmts.Create table columns) =
+    (others : List Token) × (ts ≡ table ∷ others) × FitsName table
+    × SayColumns others columns × (are_columns columns ≡ true)
+SayStmt ts (stmts.Insert table row) =
+    (others : List Token) × (ts ≡ table ∷ others) × FitsName table
+    × SayValues others row × (is_row row ≡ true)
+SayStmt ts (stmts.Update table row) =
+    (others : List Token) × (ts ≡ table ∷ others) × FitsName table
+    × SayValues others row × (is_row row ≡ true)
+SayStmt ts (stmts.Delete table key) =
+    (token : Token) × (ts ≡ table ∷ token ∷ []) × FitsName table × Says token key
+SayStmt ts (stmts.Get table key m) =
+    (token : Token) × (others : List Token) × (ts ≡ table ∷ token ∷ others) × FitsName table
+    × Says token key × SayAsOf others m
+SayStmt ts (stmts.Scan table filter m) =
+    (others : List Token) × (more : List Token) × (ts ≡ table ∷ others) × FitsName table
+    × SayFilter others filter more × SayAsOf more m
+SayStmt ts (stmts.History table key) =
+    (token : Token) × (ts ≡ table ∷ token ∷ []) × FitsName table × Says token key
 SayStmt ts stmts.Begin = ts ≡ []
 SayStmt ts stmts.Commit = ts ≡ []
 SayStmt ts stmts.Abort = ts ≡ []
@@ -83,9 +101,14 @@ SayStmt ts (stmts.Now m) = (token : Token) × (ts ≡ token ∷ []) × SaysNumbe
 
 -- what stands behind the first word of a drill line, with each number spelled as it is printed
 abbrev pub SayEvent : List Token → Event → Type 0
-SayEvent ts (events.Init id width k chains) = (ts ≡ decimal id ∷ decimal width ∷ decimal k ∷ algs_token chains ∷ []) × (id ≤ max_u64) × ((1 ≤ width) × (width ≤ 86400)) × (k ≤ 10) × (chains ≤ 3)
-SayEvent ts (events.Crash after choice) = (ts ≡ decimal after ∷ decimal choice ∷ []) × (after ≤ 1000000) × (choice ≤ max_u64)
-SayEvent ts (events.Alter place bytes) = (digits : Token) × (ts ≡ decimal place ∷ digits ∷ []) × (decode_of digits ≡ Ok bytes) × (place ≤ max_u64) × (is_altering bytes ≡ true)
+SayEvent ts (events.Init id width k chains) =
+    (ts ≡ decimal id ∷ decimal width ∷ decimal k ∷ algs_token chains ∷ [])
+    × (id ≤ max_u64) × ((1 ≤ width) × (width ≤ 86400)) × (k ≤ 10) × (chains ≤ 3)
+SayEvent ts (events.Crash after choice) =
+    (ts ≡ decimal after ∷ decimal choice ∷ []) × (after ≤ 1000000) × (choice ≤ max_u64)
+SayEvent ts (events.Alter place bytes) =
+    (digits : Token) × (ts ≡ decimal place ∷ digits ∷ [])
+    × (decode_of digits ≡ Ok bytes) × (place ≤ max_u64) × (is_altering bytes ≡ true)
 SayEvent ts (events.Cut len) = (ts ≡ decimal len ∷ []) × (len ≤ max_u64)
 
 -- ---- lines
@@ -93,8 +116,12 @@ SayEvent ts (events.Cut len) = (ts ≡ decimal len ∷ []) × (len ≤ max_u64)
 -- what the tokens of a line say that is not blank
 abbrev pub SayLine : List Token → Line → Type 0
 SayLine ts lines.Blank = ⊥
-SayLine ts (lines.Plain s) = (others : List Token) × (ts ≡ stmt_word s ∷ others) × SayStmt others s × (is_session_word (stmt_keyword s) ≡ false)
-SayLine ts (lines.InSession n s) = (others : List Token) × (ts ≡ (115 ∷ decimal n) ∷ stmt_word s ∷ others) × (n ≤ 15) × SayStmt others s × (is_for_session (stmt_keyword s) ≡ true)
+SayLine ts (lines.Plain s) =
+    (others : List Token) × (ts ≡ stmt_word s ∷ others)
+    × SayStmt others s × (is_session_word (stmt_keyword s) ≡ false)
+SayLine ts (lines.InSession n s) =
+    (others : List Token) × (ts ≡ (115 ∷ decimal n) ∷ stmt_word s ∷ others)
+    × (n ≤ 15) × SayStmt others s × (is_for_session (stmt_keyword s) ≡ true)
 SayLine ts (lines.Drill e) = (others : List Token) × (ts ≡ event_word e ∷ others) × SayEvent others e
 
 -- a line of words, which is not blank and has no more bytes than a line may have

@@ -57,7 +57,9 @@ plain numbers tokens = do
 
 -- a statement in a session
 unfoldable pub session_by : Numbers → ℕ → Keyword → List Token → Option Line
-session_by numbers n k tokens = if is_for_session k then option_map (lines.InSession n) (stmt_by numbers k tokens) else None
+session_by numbers n k tokens =
+    if is_for_session k then option_map (lines.InSession n) (stmt_by numbers k tokens)
+    else None
 
 unfoldable pub in_session : Numbers → ℕ → List Token → Option Line
 in_session numbers n tokens = do

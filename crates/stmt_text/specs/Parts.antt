@@ -76,7 +76,8 @@ after_word text read (token ∷ tokens) = if bytes_eq token text then read token
 -- nothing, or `as of` and a moment
 unfoldable pub as_of : Numbers → List Token → Option (Option ℕ)
 as_of numbers [] = Some None
-as_of numbers (token ∷ tokens) = option_map Some (after_word (codes "as") (after_word (codes "of") (only (moment numbers))) (token ∷ tokens))
+as_of numbers (token ∷ tokens) =
+    option_map Some (after_word (codes "as") (after_word (codes "of") (only (moment numbers))) (token ∷ tokens))
 
 -- ---- what code answers
 

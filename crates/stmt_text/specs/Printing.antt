@@ -87,7 +87,11 @@ stmt_tokens (stmts.Now m) = decimal m ∷ []
 
 -- the chains that are kept
 abbrev pub algs_token : ℕ → Token
-algs_token n = if n == 0 then codes "m" else if n == 1 then codes "t" else if n == 2 then codes "a" else codes "ta"
+algs_token n =
+    if n == 0 then codes "m"
+    else if n == 1 then codes "t"
+    else if n == 2 then codes "a"
+    else codes "ta"
 
 -- the first word of a drill line
 abbrev pub event_word : Event → Token

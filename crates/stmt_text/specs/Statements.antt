@@ -91,7 +91,9 @@ abbrev pub exactly : ℕ → LineAlgorithm
 exactly n = algorithms.TiledExactly n
 
 unfoldable pub algorithm : Numbers → List Token → Option LineAlgorithm
-algorithm numbers tokens = or_else (only algorithm_word tokens) (option_map exactly (after_word (codes "tiled") (only (kappa numbers)) tokens))
+algorithm numbers tokens =
+    or_else (only algorithm_word tokens)
+    (option_map exactly (after_word (codes "tiled") (only (kappa numbers)) tokens))
 
 unfoldable pub alone : Stmt → List Token → Option Stmt
 alone stmt tokens = do
