@@ -6,9 +6,8 @@ use Rattle.history_model.specs.Plain.{after_item}
 use Rattle.history_model.proofs.Chains.{items_linked}
 use Rattle.history_model.proofs.plain.links.link.Goals as goal
 
-pub returns : goal.returns
-returns c = record {
-  value = c.loop-item.invariant
-      ∙ ap (λ (x : List Item). fold after_item (seed c.args.header.now) x) (take_all c.loop-item.item-index c.args.items.now (omega arith))
-      ∙ items_linked (seed c.args.header.now) c.args.items.now;
-}
+pub returns-clause-value : goal.returns-clause-value
+returns-clause-value c =
+    c.loop-item.invariant
+    ∙ ap (λ (x : List Item). fold after_item (seed c.args.header.now) x) (take_all c.loop-item.item-index c.args.items.now (omega arith))
+    ∙ items_linked (seed c.args.header.now) c.args.items.now
