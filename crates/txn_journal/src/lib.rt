@@ -39,6 +39,9 @@
 //! | on a settled disk a crash at any moment leaves the old payloads, with the new one or without | `images` of `Appends` |
 //! | the changing calls are made in their order, and none after one that failed | `trace` of both |
 //!
+//! `open_journal` gives the journal of a file with its head and payloads, or `NotAStore` exactly where
+//! the bytes have no head of the shape (`value`).
+//!
 //! A journal knows of its file only the place of the next gate and whether that is open, so each call
 //! on it is lent the disk. That a disk's bytes are as the journal left them is `StandsIn`. After a
 //! failure of the disk, and after nothing else, it is closed until the file is opened anew.
@@ -49,6 +52,10 @@
 //!         count(records.payload());
 //!     }
 //! }
+//!
+//! create::<_, StoreShape>(disk, &head)?;
+//! let mut journal = open_journal::<_, StoreShape>(alloc, disk)?.journal;
+//! journal.append(alloc, disk, payload)?;
 //! ```
 #![tactic(auto)]
 
@@ -57,7 +64,9 @@ mod creation;
 mod fail;
 mod gate;
 mod journal;
+mod opening;
 mod payload;
+mod payloads;
 mod records;
 mod shape;
 mod store_shape;
@@ -66,6 +75,8 @@ mod window;
 pub use creation::create;
 pub use fail::JournalFail;
 pub use journal::Journal;
+pub use opening::{Opened, open_journal};
+pub use payloads::Payloads;
 pub use records::Records;
 pub use shape::Shape;
 pub use store_shape::StoreShape;
