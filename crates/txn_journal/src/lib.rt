@@ -70,6 +70,7 @@ mod payloads;
 mod records;
 mod shape;
 mod store_shape;
+mod stored;
 mod window;
 
 pub use creation::create;
@@ -80,6 +81,7 @@ pub use payloads::Payloads;
 pub use records::Records;
 pub use shape::Shape;
 pub use store_shape::StoreShape;
+pub use stored::read_stored;
 
 #[cfg(test)]
 mod tests;

@@ -3,11 +3,11 @@
 ghost use Rattle.std.specs.Prelude.{◌≡◌, refl, true, ◌==◌, ◌&&◌, slice_index};
 ghost use Rattle.std.proofs.Common.{lit<};
 
-use crate::{Journal, JournalFail, Opened, Shape, StoreShape, create, open_journal};
+use crate::{Journal, JournalFail, Opened, Shape, StoreShape, create, open_journal, read_stored};
 use disk_model::{Disk, MemDisk};
 use std::alloc::Global;
 use std::test::Fail;
-use tuple_bytes::{Header, encode_header};
+use tuple_bytes::{Header, Item, encode_header};
 
 /// Any payloads of at most 100 bytes behind a head of the letter T, in a file of at most 127 bytes.
 struct Tiny;
@@ -50,6 +50,16 @@ fn tiny_head() -> [u8; 64]
     head[0] = 0xA7;
     head[1] = b'T';
     head
+}
+
+fn store_head() -> [u8; 64] {
+    encode_header(&Header {
+        id: 7,
+        epoch: 1,
+        width: 60,
+        k: 3,
+        algs: 0,
+    })
 }
 
 #[test]
@@ -165,13 +175,6 @@ fn torn<S: Shape>(
 #[test]
 fn a_torn_append_leaves_the_old_payloads_or_the_new_one_too(rt: HostRuntime) -> Result<(), Fail> {
     let alloc = rt.alloc();
-    let store = encode_header(&Header {
-        id: 7,
-        epoch: 1,
-        width: 60,
-        k: 3,
-        algs: 0,
-    });
     for (gate_is_open, expected) in [(false, 4), (true, 6)] {
         for stop in 1..=7u64 {
             for choice in [0, 1, 200] {
@@ -179,7 +182,7 @@ fn a_torn_append_leaves_the_old_payloads_or_the_new_one_too(rt: HostRuntime) -> 
                     let (calls, added, closed, payloads) = if tiny {
                         torn::<Tiny>(alloc, &tiny_head(), gate_is_open, stop, choice)?
                     } else {
-                        torn::<StoreShape>(alloc, &store, gate_is_open, stop, choice)?
+                        torn::<StoreShape>(alloc, &store_head(), gate_is_open, stop, choice)?
                     };
                     assert_eq!(rt; calls, expected);
                     assert_eq!(rt;
@@ -192,5 +195,25 @@ fn a_torn_append_leaves_the_old_payloads_or_the_new_one_too(rt: HostRuntime) -> 
             }
         }
     }
+    Ok(())
+}
+
+#[test]
+fn a_store_is_read_back(rt: HostRuntime) -> Result<(), Fail> {
+    let alloc = rt.alloc();
+    let mut disk = MemDisk::new(alloc);
+    let none = read_stored(alloc, &mut disk)?;
+    assert!(rt; none.header.is_none() && none.items.as_slice().is_empty() && none.end == 0);
+    let (mut disk, mut opened) = file_with_old::<StoreShape>(alloc, &store_head(), false, 9)?;
+    add(alloc, &mut opened.journal, &mut disk, &NEW)?;
+    let stored = read_stored(alloc, &mut disk)?;
+    assert_eq!(rt; stored.header.map(|header| header.id), Some(7));
+    assert_eq!(rt; (stored.items.as_slice().len(), stored.end), (2, 92));
+    assert!(rt;
+        matches!(
+            stored.items.as_slice(),
+            [Item::Frontier { moment: 1 }, Item::Frontier { moment: 9 }]
+        )
+    );
     Ok(())
 }
