@@ -45,14 +45,14 @@ MakesOf calls (Err fails.StoreFull) old new = new.trace ≡ old.trace
 MakesOf calls (Err fails.Closed) old new = new.trace ≡ old.trace
 
 -- where the journal stands after an answer
-abbrev pub Moves : List ℕ → Result (Unit {0}) JournalFail → Standing → Standing → Type 0
-Moves payload (Ok _) old new = new ≡ behind old payload
-Moves payload (Err fails.DiskFault) old new = new ≡ closed old
-Moves payload (Err fails.NoMemory) old new = (new ≡ old) ⊎ (new ≡ closed old)
-Moves payload (Err fails.StoreFull) old new = new ≡ old
-Moves payload (Err fails.Closed) old new = new ≡ old
-Moves payload (Err fails.AlreadyThere) old new = ⊥
-Moves payload (Err fails.NotAStore) old new = ⊥
+abbrev pub StandsAfter : List ℕ → Result (Unit {0}) JournalFail → Standing → Standing → Type 0
+StandsAfter payload (Ok _) old new = new ≡ behind old payload
+StandsAfter payload (Err fails.DiskFault) old new = new ≡ closed old
+StandsAfter payload (Err fails.NoMemory) old new = (new ≡ old) ⊎ (new ≡ closed old)
+StandsAfter payload (Err fails.StoreFull) old new = new ≡ old
+StandsAfter payload (Err fails.Closed) old new = new ≡ old
+StandsAfter payload (Err fails.AlreadyThere) old new = ⊥
+StandsAfter payload (Err fails.NotAStore) old new = ⊥
 
 -- what an append does with the bytes of its file
 pub record Appends (is_head : List ℕ → Bool) (shape : Shape) (at : Standing) (payload : List ℕ) (result : Result (Unit {0}) JournalFail) (old new : State) (before after : List ℕ) : Type 0 where

@@ -1,7 +1,7 @@
 //! The writes by which a record comes behind all others, each with a sync behind it.
 //!
-//! A closed gate stands at the end while the record is written, so that a crash leaves no part of it. Once the
-//! record is durable, and a closed gate behind it, its own gate is opened.
+//! A closed gate stands at the end while the record is written, so that a crash leaves no part of it.
+//! Once the record is durable, and a closed gate behind it, its own gate is opened.
 
 ghost use Rattle.std.specs.Prelude.{◌≡◌, ◌+◌, ◌<◌, ◌^◌, true, false, [], ◌∷◌, length, IfOk};
 ghost use Rattle.outside_words.specs.Faults.{HasCause};

@@ -5,6 +5,7 @@ ghost use Rattle.outside_words.specs.Faults.{HasCause};
 ghost use Rattle.disk_words.specs.Disk.{Unchanged, GoesOn};
 ghost use Rattle.std.specs.List.{All};
 ghost use Rattle.byte_grammar.specs.Gated.{FitsRecord};
+ghost use Rattle.txn_journal.specs.declared.fail.JournalFail.TheVariants.{DiskFault};
 ghost use Rattle.txn_journal.specs.Reading.{head_length, head_of, IsSeenIn, Begins};
 ghost use Rattle.txn_journal.specs.Held.{StandsIn};
 ghost use Rattle.txn_journal.specs.Opening.{held_of, IsOfOpening, IsOfDisk, IsNoFile};
@@ -36,7 +37,7 @@ pub fn open_journal<D: Disk, S: Shape>(
     ensures none_other { IfErr result IsOfOpening }
     ensures same { Unchanged (D.state disk.old) (D.state disk.new) }
     ensures frame { GoesOn (D.state disk.old) (D.state disk.new) }
-    ensures cause { HasCause JournalFail.DiskFault (D.state disk.old).faults (D.state disk.new).faults result }
+    ensures cause { HasCause DiskFault (D.state disk.old).faults (D.state disk.new).faults result }
 {
     match Records::<S>::open(alloc, disk)? {
         Some(records) => open_behind_head(alloc, disk, records),
@@ -51,15 +52,16 @@ fn open_behind_head<D: Disk, S: Shape>(
     mut records: Records<S>,
 ) -> Result<Opened<S>, JournalFail>
     requires begins { Begins S.is_head records }
-    ensures value { IfSome (D.state disk.old).reads (λ bytes. IsSeenIn bytes records → head_of S.is_head bytes ≡ Some records.head
-        → IfOk result (λ o. StandsIn S.is_head S.shape o.journal (held_of o.head o.payloads o.journal) bytes)) }
+    ensures value { IfSome (D.state disk.old).reads (λ bytes.
+        IsSeenIn bytes records → head_of S.is_head bytes ≡ Some records.head → IfOk result
+        (λ o. StandsIn S.is_head S.shape o.journal (held_of o.head o.payloads o.journal) bytes)) }
     ensures fresh { IfOk result (λ o. o.journal.is_closed ≡ false) }
     ensures head { IfOk result (λ o. o.head ≡ records.head) }
     ensures fit { IfOk result (λ o. All (FitsRecord S.shape) o.payloads) }
     ensures none_other { IfErr result IsOfDisk }
     ensures same { Unchanged (D.state disk.old) (D.state disk.new) }
     ensures frame { GoesOn (D.state disk.old) (D.state disk.new) }
-    ensures cause { HasCause JournalFail.DiskFault (D.state disk.old).faults (D.state disk.new).faults result }
+    ensures cause { HasCause DiskFault (D.state disk.old).faults (D.state disk.new).faults result }
 {
     let mut payloads = Payloads::new(alloc);
     'records: while records.advance(disk)? {

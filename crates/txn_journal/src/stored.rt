@@ -6,6 +6,7 @@ ghost use Rattle.outside_words.specs.Faults.{HasCause};
 ghost use Rattle.disk_words.specs.Disk.{Unchanged, GoesOn};
 ghost use Rattle.tuple_bytes.specs.Items.{item_of};
 ghost use Rattle.history_model.specs.Stored.{store_shape, stored, stored_under};
+ghost use Rattle.txn_journal.specs.declared.fail.JournalFail.TheVariants.{DiskFault};
 ghost use Rattle.txn_journal.specs.Reading.{left, IsSeenIn};
 ghost use Rattle.txn_journal.specs.Opening.{IsOfDisk};
 
@@ -21,7 +22,7 @@ pub fn read_stored<D: Disk>(alloc: Global, disk: &mut D) -> Result<Stored, Journ
     ensures none_other { IfErr result IsOfDisk }
     ensures same { Unchanged (D.state disk.old) (D.state disk.new) }
     ensures frame { GoesOn (D.state disk.old) (D.state disk.new) }
-    ensures cause { HasCause JournalFail.DiskFault (D.state disk.old).faults (D.state disk.new).faults result }
+    ensures cause { HasCause DiskFault (D.state disk.old).faults (D.state disk.new).faults result }
 {
     if let Some(records) = Records::<StoreShape>::open(alloc, disk)? {
         if let Some(header) = decode_header(records.head()) {
@@ -55,7 +56,7 @@ fn read_items<D: Disk>(
     ensures none_other { IfErr result IsOfDisk }
     ensures same { Unchanged (D.state disk.old) (D.state disk.new) }
     ensures frame { GoesOn (D.state disk.old) (D.state disk.new) }
-    ensures cause { HasCause JournalFail.DiskFault (D.state disk.old).faults (D.state disk.new).faults result }
+    ensures cause { HasCause DiskFault (D.state disk.old).faults (D.state disk.new).faults result }
 {
     let mut items = Items::new(alloc);
     'records: while records.advance(disk)? {
