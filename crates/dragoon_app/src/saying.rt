@@ -45,5 +45,7 @@ fn fault_text(status: Status) -> &'static str
         Status::DiskFault => "fault DiskFault\n",
         Status::WriteFault => "fault WriteFault\n",
         Status::NoMemory => "fault NoMemory\n",
+        Status::AlreadyThere => "fault AlreadyThere\n",
+        Status::TooLate => "fault TooLate\n",
     }
 }

@@ -2,7 +2,7 @@
 
 use crate::{Status, dragoon, leading};
 use disk_model::MemDisk;
-use outside_io::MemSink;
+use outside_io::{MemClock, MemSink};
 use std::alloc::{AllocError, Global};
 use std::test::Fail;
 
@@ -54,7 +54,8 @@ fn outcome(
     let mut store = MemDisk::holding(alloc, bytes);
     store.failing(failing_reads.to_vec(alloc)?, Vec::new(alloc));
     let mut out = MemSink::new(alloc, failing_writes.to_vec(alloc)?);
-    let status = dragoon(alloc, &words, &mut store, &mut out);
+    let mut clock = MemClock::new(Vec::new(alloc));
+    let status = dragoon(alloc, &words, &mut store, &mut clock, &mut out);
     Ok((status.code(), out.bytes().to_vec(alloc)?))
 }
 
@@ -189,6 +190,94 @@ fn leading_words_name_devices_once(rt: HostRuntime) -> Result<(), Fail> {
     Ok(())
 }
 
+/// How `init` over these bytes and then `link` end, what they write, and the store's bytes between.
+fn made(
+    alloc: Global,
+    texts: &[&str],
+    bytes: &[u8],
+    now: u64,
+) -> Result<(u8, Vec<u8>, Vec<u8>), AllocError> {
+    let words = words(alloc, texts)?;
+    let mut store = MemDisk::holding(alloc, bytes.to_vec(alloc)?);
+    let mut clock = MemClock::new(vec![in alloc; now]?);
+    let mut out = MemSink::new(alloc, Vec::new(alloc));
+    let status = dragoon(alloc, &words, &mut store, &mut clock, &mut out);
+    Ok((
+        status.code(),
+        out.bytes().to_vec(alloc)?,
+        store.bytes().to_vec(alloc)?,
+    ))
+}
+
+#[test]
+fn init_makes_a_store_of_65_bytes(rt: HostRuntime) -> Result<(), Fail> {
+    let alloc = rt.alloc();
+    let mut wanted = store(alloc, 0)?;
+    wanted.truncate(64);
+    wanted[30] = 0;
+    wanted.push(0)?;
+    let mut free = vec![in alloc; 0u8; 40]?;
+    for before in [b"".as_slice(), b"\xa7".as_slice(), free.as_slice()] {
+        let (status, text, bytes) = made(alloc, &["init", "7", "60", "3", "m"], before, 0)?;
+        assert_eq!(rt; (status, text.as_slice()), (0, b"ready 7\n".as_slice()));
+        assert_eq!(rt; bytes.as_slice(), wanted.as_slice());
+    }
+    let (_, text) = outcome(alloc, &["link"], wanted.to_vec(alloc)?, &[], &[])?;
+    assert_eq!(rt;
+        text.as_slice(),
+        b"txns 0\nlink 7472d54d4aa35e0f4ee072819cb3c15cb704c8fc1c71d3baac0dba7c6fabc9d9\n".as_slice()
+    );
+    free[0] = 0xa7;
+    for before in [wanted.as_slice(), free.as_slice()] {
+        let (status, text, bytes) = made(alloc, &["init", "7", "60", "3", "m"], before, 0)?;
+        assert_eq!(rt;
+            (status, text.as_slice()),
+            (13, b"fault AlreadyThere\n".as_slice())
+        );
+        assert_eq!(rt; bytes.as_slice(), before);
+    }
+    Ok(())
+}
+
+#[test]
+fn the_clock_is_looked_at_before_the_store(rt: HostRuntime) -> Result<(), Fail> {
+    let alloc = rt.alloc();
+    let call = ["init", "7", "60", "3", "m"];
+    let (status, _, bytes) = made(alloc, &call, b"", 1_099_511_627_775)?;
+    assert_eq!(rt;
+        (status, &bytes[17..25]),
+        (0, b"\0\0\0\xff\xff\xff\xff\xff".as_slice())
+    );
+    let (status, text, bytes) = made(alloc, &call, &bytes, 1_099_511_627_776)?;
+    assert_eq!(rt;
+        (status, text.as_slice()),
+        (15, b"fault TooLate\n".as_slice())
+    );
+    assert_eq!(rt; bytes.len(), 65);
+    Ok(())
+}
+
+#[test]
+fn numbers_are_plain_and_in_their_ranges(rt: HostRuntime) -> Result<(), Fail> {
+    let alloc = rt.alloc();
+    for (id, width, k, algs, wanted) in [
+        ("0", "1", "0", "m", 0),
+        ("18446744073709551615", "86400", "10", "m", 0),
+        ("18446744073709551616", "60", "3", "m", 2),
+        ("07", "60", "3", "m", 2),
+        ("+7", "60", "3", "m", 2),
+        ("", "60", "3", "m", 2),
+        ("7", "0", "3", "m", 2),
+        ("7", "86401", "3", "m", 2),
+        ("7", "60", "11", "m", 2),
+        ("7", "60", "3", "x", 2),
+    ] {
+        let (status, _, _) = made(alloc, &["init", id, width, k, algs], b"", 0)?;
+        assert_eq!(rt; status, wanted);
+    }
+    Ok(())
+}
+
 #[test]
 fn each_status_has_its_number(rt: HostRuntime) {
     let numbers = [
@@ -198,7 +287,9 @@ fn each_status_has_its_number(rt: HostRuntime) {
         Status::DiskFault,
         Status::WriteFault,
         Status::NoMemory,
+        Status::AlreadyThere,
+        Status::TooLate,
     ]
     .map(|status| status.code());
-    assert_eq!(rt; numbers, [0, 2, 4, 5, 8, 9]);
+    assert_eq!(rt; numbers, [0, 2, 4, 5, 8, 9, 13, 15]);
 }
