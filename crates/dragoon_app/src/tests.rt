@@ -212,11 +212,13 @@ fn made(
 #[test]
 fn init_makes_a_store_of_65_bytes(rt: HostRuntime) -> Result<(), Fail> {
     let alloc = rt.alloc();
-    let mut wanted = store(alloc, 0)?;
-    wanted.truncate(64);
-    wanted[30] = 0;
-    wanted.push(0)?;
-    let mut free = vec![in alloc; 0u8; 40]?;
+    let mut wanted = b"\xa7DRAGOON1\0\0\0\0\0\0\0\x07\0\0\0\0\0\0\0\0\0\0\0\x3c\x03\0".to_vec(
+        alloc,
+    )?;
+    wanted.extend_from_slice(&[0; 34])?;
+    let free = [0; 40];
+    let mut taken = [0; 40];
+    taken[0] = 0xa7;
     for before in [b"".as_slice(), b"\xa7".as_slice(), free.as_slice()] {
         let (status, text, bytes) = made(alloc, &["init", "7", "60", "3", "m"], before, 0)?;
         assert_eq!(rt; (status, text.as_slice()), (0, b"ready 7\n".as_slice()));
@@ -227,8 +229,7 @@ fn init_makes_a_store_of_65_bytes(rt: HostRuntime) -> Result<(), Fail> {
         text.as_slice(),
         b"txns 0\nlink 7472d54d4aa35e0f4ee072819cb3c15cb704c8fc1c71d3baac0dba7c6fabc9d9\n".as_slice()
     );
-    free[0] = 0xa7;
-    for before in [wanted.as_slice(), free.as_slice()] {
+    for before in [wanted.as_slice(), taken.as_slice()] {
         let (status, text, bytes) = made(alloc, &["init", "7", "60", "3", "m"], before, 0)?;
         assert_eq!(rt;
             (status, text.as_slice()),
@@ -244,9 +245,10 @@ fn the_clock_is_looked_at_before_the_store(rt: HostRuntime) -> Result<(), Fail> 
     let alloc = rt.alloc();
     let call = ["init", "7", "60", "3", "m"];
     let (status, _, bytes) = made(alloc, &call, b"", 1_099_511_627_775)?;
+    assert_eq!(rt; status, 0);
     assert_eq!(rt;
-        (status, &bytes[17..25]),
-        (0, b"\0\0\0\xff\xff\xff\xff\xff".as_slice())
+        bytes.get(17..25),
+        Some(b"\0\0\0\xff\xff\xff\xff\xff".as_slice())
     );
     let (status, text, bytes) = made(alloc, &call, &bytes, 1_099_511_627_776)?;
     assert_eq!(rt;
