@@ -1,6 +1,6 @@
 //! The pieces as code. Each gives what was read and the bytes after it, or nothing; none takes memory.
 
-ghost use Rattle.std.specs.Prelude.{◌≡◌, List, length, Some, None};
+ghost use Rattle.std.specs.Prelude.{◌≡◌};
 ghost use Rattle.std.specs.Int.{w16, w32, w64};
 ghost use Rattle.byte_grammar.specs.Reading.{Gives, byte, constant, is_from_1_to, number, part};
 

@@ -44,10 +44,10 @@ module _ (gate open_byte : ℕ) (piece before : List ℕ) (at : IsClosed gate op
   room : (g : ℕ) → gate < length (behind g)
   room g = let front = length-front in grind (arith, places)
 
-  all_written : written_all (gated_writes gate open_byte piece) before ≡ with_piece gate open_byte piece before
+  pub all_written : written_all (gated_writes gate open_byte piece) before ≡ with_piece gate open_byte piece before
   all_written = ap (written gate (open_byte ∷ [])) wrote ∙ opened (slice_index before gate)
 
-  all_within : AllWithin (gated_writes gate open_byte piece) before
+  pub all_within : AllWithin (gated_writes gate open_byte piece) before
   all_within = (omega (arith, at.within), (omega (arith, ap length wrote, room (slice_index before gate)), tt))
 
   -- the gate is closed, and all before it is as it was
@@ -81,7 +81,7 @@ module _ (gate open_byte : ℕ) (piece before : List ℕ) (at : IsClosed gate op
           ∙ sym (append_assoc (take gate before) (slice_index c gate ∷ piece) tail)
 
   -- all of it
-  each : (c : List ℕ) → CutShort (gated_writes gate open_byte piece) before c → IsOldOrNew gate open_byte piece before c
+  pub each : (c : List ℕ) → CutShort (gated_writes gate open_byte piece) before c → IsOldOrNew gate open_byte piece before c
   each c (inl torn) = on_its_way c torn
   each c (inr (inl torn)) = opening c (subst (λ (l : List ℕ). Torn gate 1 l c) wrote torn)
   each c (inr (inr is)) = inr (is ∙ all_written)

@@ -8,11 +8,11 @@ use Rattle.history_model.specs.Stored.{max_file, store_shape, items_of}
 use Rattle.history_model.specs.Digests.{seed}
 use Rattle.txn_journal.specs.Reading.{Reading, left, IsSeenIn}
 use Rattle.dragoon_app.specs.declared.link.Linked.{Linked}
-use Rattle.dragoon_app.specs.Linked.{linked_from, linked_at_seed}
+use Rattle.dragoon_app.specs.Linked.{items_behind, linked_from, linked_at_seed}
 
 -- what was gone over, and the items from the place on, make all
 abbrev pub Completes : Header → ℕ → Linked → List ℕ → Type 0
-Completes header place l bytes = linked_from l (items_of (left store_shape place bytes).0) ≡ linked_from (linked_at_seed header) (items_of (left store_shape 64 bytes).0)
+Completes header place l bytes = linked_from l (items_of (left store_shape place bytes).0) ≡ linked_from (linked_at_seed header) (items_behind bytes)
 
 -- between two records
 pub record IsGoing (first now : State) (opened r : Reading) (header : Header) (l : Linked) : Type 0 where

@@ -7,9 +7,10 @@ use Rattle.tuple_bytes.specs.declared.item.Txn.{Txn}
 use Rattle.tuple_bytes.specs.declared.item.Item.{Item}
 use Rattle.tuple_bytes.specs.declared.item.Item.TheVariants as items
 use Rattle.tuple_bytes.specs.Spelling.{spell_txn}
-use Rattle.history_model.specs.declared.stored.Stored.{Stored}
+use Rattle.history_model.specs.Stored.{header_length, store_shape, items_of, stored}
 use Rattle.history_model.specs.History.{txns}
 use Rattle.history_model.specs.Digests.{seed, next_link, link_of}
+use Rattle.txn_journal.specs.Reading.{left}
 use Rattle.dragoon_app.specs.declared.status.Status.TheVariants as statuses
 use Rattle.dragoon_app.specs.declared.link.Linked.{Linked}
 use Rattle.dragoon_app.specs.Outcome.{Outcome, refused}
@@ -20,15 +21,23 @@ use Rattle.dragoon_app.specs.Outcome.{Outcome, refused}
 unfoldable pub two_lines : ℕ → List ℕ → List ℕ
 two_lines count link = codes "txns " ++ (decimal count ++ (codes "\nlink " ++ (encode_lower link ++ 10 ∷ [])))
 
+-- how a run ends that has found them
+abbrev pub says_link : ℕ → List ℕ → Outcome
+says_link count link = record { status = statuses.Ok; text = two_lines count link }
+
 abbrev pub link_under : Option Header → List Txn → Outcome
 link_under None ts = refused statuses.NotAStore
-link_under (Some h) ts = record { status = statuses.Ok; text = two_lines (length ts) (link_of h ts) }
+link_under (Some h) ts = says_link (length ts) (link_of h ts)
 
--- what `link` over a store is
-abbrev pub link_outcome : Stored → Outcome
-link_outcome s = link_under s.header (txns s.items)
+-- what `link` over the bytes of a store is
+abbrev pub link_outcome : List ℕ → Outcome
+link_outcome bytes = link_under (stored bytes).header (txns (stored bytes).items)
 
 -- ---- item by item
+
+-- the items behind a header
+abbrev pub items_behind : List ℕ → List Item
+items_behind bytes = items_of (left store_shape header_length bytes).0
 
 -- after one more item
 abbrev pub after_item : Linked → Item → Linked
@@ -49,5 +58,6 @@ IsLinkUnder (Some h) items (Some l) = (l.count ≡ length (txns items)) × (l.li
 IsLinkUnder None items (Some l) = ⊥
 IsLinkUnder (Some h) items None = ⊥
 
-unfoldable pub IsLinkOf : Stored → Option Linked → Type 0
-IsLinkOf s found = IsLinkUnder s.header s.items found
+-- those of a store
+unfoldable pub IsLinkOf : List ℕ → Option Linked → Type 0
+IsLinkOf bytes found = IsLinkUnder (stored bytes).header (stored bytes).items found

@@ -1,5 +1,7 @@
 -- What a run writes, and how it ends.
-use Rattle.std.specs.Prelude.{◌≡◌, ◌⊎◌, ℕ, List}
+use Rattle.std.specs.Prelude.{◌≡◌, ◌⊎◌, ℕ, List, Option, IfSome}
+use Rattle.outside_words.specs.Faults.{Rose}
+use Rattle.disk_words.specs.Disk as disks
 use Rattle.outside_io.specs.Sink.{State, IsOut, FrontIsOut}
 use Rattle.dragoon_app.specs.declared.status.Status.{Status}
 use Rattle.dragoon_app.specs.declared.status.Status.TheVariants as statuses
@@ -36,3 +38,17 @@ Answers defined statuses.DiskFault old new = IsOut (fault_line statuses.DiskFaul
 Answers defined statuses.WriteFault old new = IsCutShort defined old new
 Answers defined statuses.NoMemory old new = IsCutShort defined old new
 Answers defined s old new = (s ≡ defined.status) × IsOut defined.text old new
+
+-- the same of what a store's bytes define, where it tells them
+abbrev pub AnswersFor : (List ℕ → Outcome) → Option (List ℕ) → Status → State → State → Type 0
+AnswersFor define told s old new = IfSome told (λ bytes. Answers (define bytes) s old new)
+
+-- ---- causes
+
+-- a fault of the disk is answered only where its count of faults rose
+abbrev pub DiskCause : Status → disks.State → disks.State → Type 0
+DiskCause s old new = s ≡ statuses.DiskFault → Rose old.faults new.faults
+
+-- a fault of the output is answered only where its count rose
+abbrev pub WriteCause : Status → State → State → Type 0
+WriteCause s old new = s ≡ statuses.WriteFault → Rose old.faults new.faults

@@ -11,6 +11,8 @@ status_code statuses.NotAStore = 4
 status_code statuses.DiskFault = 5
 status_code statuses.WriteFault = 8
 status_code statuses.NoMemory = 9
+status_code statuses.AlreadyThere = 13
+status_code statuses.TooLate = 15
 
 abbrev pub status_name : Status → List ℕ
 status_name statuses.Ok = codes "Ok"
@@ -19,6 +21,8 @@ status_name statuses.NotAStore = codes "NotAStore"
 status_name statuses.DiskFault = codes "DiskFault"
 status_name statuses.WriteFault = codes "WriteFault"
 status_name statuses.NoMemory = codes "NoMemory"
+status_name statuses.AlreadyThere = codes "AlreadyThere"
+status_name statuses.TooLate = codes "TooLate"
 
 -- the last line of a run that ends so
 unfoldable pub fault_line : Status → List ℕ

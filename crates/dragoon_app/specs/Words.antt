@@ -1,9 +1,12 @@
 -- The words that the program is called with.
-use Rattle.std.specs.Prelude.{◌≡◌, ◌<◌, ◌≤◌, ◌&&◌, not, nat_eq, ℕ, Bool, false, IsTrue, List, [], ◌∷◌, length, take, slice_index_or, codes, Option, Some, None, if◌then◌else◌}
+use Rattle.std.specs.Prelude.{◌≡◌, ◌<◌, ◌≤◌, ◌&&◌, not, nat_eq, ℕ, Bool, false, IsTrue, List, [], ◌∷◌, length, take, slice_index_or, codes, Option, Some, None, option_map, if◌then◌else◌}
 use Rattle.std.specs.List.{list_any, starts_with}
 use Rattle.std.specs.Str.{bytes_eq}
+use Rattle.tuple_bytes.specs.Limits.{max_width, max_exponent}
+use Rattle.dragoon_app.specs.declared.command.NewStore.{NewStore}
 use Rattle.dragoon_app.specs.declared.command.Command.{Command}
 use Rattle.dragoon_app.specs.declared.command.Command.TheVariants as commands
+use Rattle.dragoon_app.specs.Numbers.{number_of, max_u64}
 
 -- ---- leading words
 
@@ -30,8 +33,32 @@ pub record IsLeading (words : List (List ℕ)) (n : ℕ) : Type 0 where
 
 -- ---- the words behind them
 
+-- `m`, for neither tile chains nor a tree
+abbrev pub algorithms_of : List ℕ → Option ℕ
+algorithms_of word = if bytes_eq word (codes "m") then Some 0 else None
+
+abbrev pub new_store : Option ℕ → Option ℕ → Option ℕ → Option ℕ → Option NewStore
+new_store (Some id) (Some width) (Some k) (Some algs) = Some (record { id = id; width = width; k = k; algs = algs })
+new_store id width k algs = None
+
+-- what `init` is told: any id, the seconds of a granule, the tile exponent, and the algorithms
+unfoldable pub new_store_of : List ℕ → List ℕ → List ℕ → List ℕ → Option NewStore
+new_store_of id width k algs = new_store (number_of 0 max_u64 id) (number_of 1 max_width width) (number_of 0 max_exponent k) (algorithms_of algs)
+
+-- behind `link` stands nothing
+abbrev pub link_of : List (List ℕ) → Option Command
+link_of [] = Some commands.Link
+link_of (word ∷ words) = None
+
+-- behind `init` stand four words
+abbrev pub init_of : List (List ℕ) → Option Command
+init_of (id ∷ width ∷ k ∷ algs ∷ []) = option_map commands.Init (new_store_of id width k algs)
+init_of words = None
+
 -- the command that the words are
 abbrev pub command_of : List (List ℕ) → Option Command
 command_of [] = None
-command_of (word ∷ []) = if bytes_eq word (codes "link") then Some commands.Link else None
-command_of (word ∷ other ∷ words) = None
+command_of (word ∷ words) =
+    if bytes_eq word (codes "link") then link_of words
+    else if bytes_eq word (codes "init") then init_of words
+    else None

@@ -26,8 +26,8 @@ fn is_leading(before: &[String], word: &str) -> bool
     word.as_bytes().starts_with(STORE) && !is_given(before, STORE)
 }
 
-/// How many words stand before the first one that names no device, or one that was named before: all where each names
-/// one of its own.
+/// How many words stand before the first one that names no device, or one that was named before:
+/// all where each names one of its own.
 pub fn leading(words: &[String]) -> usize
     ensures value { IsLeading (map string_bytes words.now) result }
 {

@@ -1,9 +1,39 @@
-//! The program as one call over its devices.
+//! The program as one call over its devices: the words say which command, the command reads and
+//! changes the devices, and its text goes to a sink.
+//!
+//! | Command | Module | What it writes, by definition |
+//! |---|---|---|
+//! | `link` | `link` | `link_outcome` of what the bytes of the store hold |
+//! | `init ID W K ALGS` | `init` | `init_outcome` of the clock's second and of whether the device is free |
+//!
+//! | The layer above may rely on | Clause of `dragoon` |
+//! |---|---|
+//! | where the store tells its bytes, the status and the whole text are the defined ones, at a second that is the clock's where it tells it, up to a fault or want of memory; of a text that was cut short a front is out | `told` |
+//! | `Usage` comes exactly where the words are no command, whatever the store is | `usage`, `no_command` |
+//! | a fault is answered only where the count of that device's faults rose | `disk_cause`, `write_cause` |
+//! | the store and the clock are left as they were, but for `init` | `leaves` |
+//! | after `init` answered `Ok` the store has 65 bytes: the header of the words and the clock's second, and no item; and it is durable | `made`, `stores`, `durable` of `MakesStore` in `leaves` |
+//! | a taken device, and each device where it is too late, is left as it was | `kept`, `late` there |
+//! | on a settled device a crash during `init` leaves no item, and no header but the new one or one whose bytes stood there | `images` there |
+//!
+//! `leading` says how many words in front of the command name devices. A further device is one more
+//! prefix there, and one more parameter of `dragoon`. A further command is a case of `command_of`, of
+//! `outcome_of`, of `Leaves` and of the call, and a module with its function, its definition and its contract.
+//!
+//! Only tested: that memory is found where there is plenty of it.
+//!
+//! ```rust
+//! let (devices, call) = words.split_at(leading(&words));
+//! let status = dragoon(alloc, call, &mut store, &mut clock, &mut out);
+//! ExitCode::from(status.code())
+//! ```
 #![tactic(auto)]
 
 mod command;
+mod init;
 mod leading_words;
 mod link;
+mod number;
 mod saying;
 mod status;
 mod top;
@@ -11,3 +41,6 @@ mod top;
 pub use leading_words::leading;
 pub use status::Status;
 pub use top::dragoon;
+
+#[cfg(test)]
+mod tests;

@@ -1,19 +1,21 @@
 //! The command `link`: the number of transactions of a store, and the chain value over them in file order.
 
-ghost use Rattle.std.specs.Prelude.{◌≡◌, ◌≢◌, ◌==◌, ◌+◌, ◌<◌, ◌≤◌, ◌^◌, Some, IfOk, IfSome, slice_index};
+ghost use Rattle.std.specs.Prelude.{◌≡◌, ◌≢◌, ◌==◌, ◌+◌, ◌<◌, ◌≤◌, ◌^◌, Some, IfOk, IfSome};
+ghost use Rattle.std.specs.Prelude.{slice_index};
 ghost use Rattle.std.specs.String.{string_bytes};
-ghost use Rattle.outside_words.specs.Faults.{HasCause, Rose};
+ghost use Rattle.outside_words.specs.Faults.{HasCause};
 ghost use Rattle.disk_words.specs.declared.DiskFail.TheVariants.{Failed};
 ghost use Rattle.disk_words.specs.Disk as disks;
 ghost use Rattle.outside_io.specs.Sink as sinks;
 ghost use Rattle.tuple_bytes.specs.declared.item.Item.{Item};
 ghost use Rattle.tuple_bytes.specs.Items.{item_of};
 ghost use Rattle.tuple_bytes.specs.HeaderBytes.{header_of};
-ghost use Rattle.history_model.specs.Stored.{store_shape, items_of, stored};
 ghost use Rattle.step_count.specs.Blank.{IsBlankOf};
-ghost use Rattle.txn_journal.specs.Reading.{Begins, IsSeenIn, left};
-ghost use Rattle.dragoon_app.specs.Outcome.{Answers, Said};
-ghost use Rattle.dragoon_app.specs.Linked.{after_item, linked_from, linked_at_seed, link_outcome, two_lines, IsLinkUnder, IsLinkOf};
+ghost use Rattle.txn_journal.specs.Reading.{IsSeenIn};
+ghost use Rattle.dragoon_app.specs.Outcome.{AnswersFor, Said, DiskCause, WriteCause};
+ghost use Rattle.dragoon_app.specs.Linked.{two_lines, says_link, link_outcome, items_behind};
+ghost use Rattle.dragoon_app.specs.Linked.{after_item, linked_from, linked_at_seed};
+ghost use Rattle.dragoon_app.specs.Linked.{IsLinkUnder, IsLinkOf};
 
 use crate::Status;
 use crate::saying::{refuse, say};
@@ -43,7 +45,8 @@ fn is_txn(payload: &[u8]) -> bool
 /// What was gone over, and one more item, which the payload spells.
 fn with_item<L: Ledger>(linked: &Linked, payload: &[u8], steps: &mut Steps<L>) -> Linked
     requires few { linked.now.count < 2 ^ 32 }
-    ensures value { (item : Item) → item_of payload.now ≡ Some item → result ≡ after_item linked.now item }
+    ensures value { (item : Item) → item_of payload.now ≡ Some item
+        → result ≡ after_item linked.now item }
     ensures count { result.count ≤ linked.now.count + 1 }
 {
     if is_txn(payload) {
@@ -65,7 +68,7 @@ fn link_records<D: Disk, L: Ledger>(
 ) -> Result<Linked, DiskFail>
     requires begins { records.place ≡ 64 }
     ensures value { IfSome (D.state disk.old).reads (λ bytes. IsSeenIn bytes records
-        → IfOk result (λ l. l ≡ linked_from (linked_at_seed header.now) (items_of (left store_shape 64 bytes).0))) }
+        → IfOk result (λ l. l ≡ linked_from (linked_at_seed header.now) (items_behind bytes))) }
     ensures same { disks.Unchanged (D.state disk.old) (D.state disk.new) }
     ensures frame { disks.GoesOn (D.state disk.old) (D.state disk.new) }
     ensures cause { HasCause Failed (D.state disk.old).faults (D.state disk.new).faults result }
@@ -80,7 +83,8 @@ fn link_records<D: Disk, L: Ledger>(
     Ok(linked)
 }
 
-/// The transactions behind the head that was read and the chain value over them, or nothing where it is no header.
+/// The transactions behind the head that was read and the chain value over them, or nothing where it
+/// is no header.
 fn link_opened<D: Disk, L: Ledger>(
     disk: &mut D,
     records: Records<StoreShape>,
@@ -88,7 +92,7 @@ fn link_opened<D: Disk, L: Ledger>(
 ) -> Result<Option<Linked>, DiskFail>
     requires begins { records.place ≡ 64 }
     ensures value { IfSome (D.state disk.old).reads (λ bytes. IsSeenIn bytes records
-        → IfOk result (IsLinkUnder (header_of records.head) (items_of (left store_shape 64 bytes).0))) }
+        → IfOk result (IsLinkUnder (header_of records.head) (items_behind bytes))) }
     ensures same { disks.Unchanged (D.state disk.old) (D.state disk.new) }
     ensures frame { disks.GoesOn (D.state disk.old) (D.state disk.new) }
     ensures cause { HasCause Failed (D.state disk.old).faults (D.state disk.new).faults result }
@@ -108,7 +112,7 @@ fn link_store<D: Disk, L: Ledger>(
     disk: &mut D,
     steps: &mut Steps<L>,
 ) -> Result<Option<Linked>, DiskFail>
-    ensures value { IfSome (D.state disk.old).reads (λ bytes. IfOk result (IsLinkOf (stored bytes))) }
+    ensures value { IfSome (D.state disk.old).reads (λ bytes. IfOk result (IsLinkOf bytes)) }
     ensures same { disks.Unchanged (D.state disk.old) (D.state disk.new) }
     ensures frame { disks.GoesOn (D.state disk.old) (D.state disk.new) }
     ensures cause { HasCause Failed (D.state disk.old).faults (D.state disk.new).faults result }
@@ -129,7 +133,7 @@ fn link_counted<D: Disk, L: Ledger>(
     blank: Blank,
 ) -> Result<Option<Linked>, DiskFail>
     requires blank { IsBlankOf L.name L.parts blank }
-    ensures value { IfSome (D.state disk.old).reads (λ bytes. IfOk result (IsLinkOf (stored bytes))) }
+    ensures value { IfSome (D.state disk.old).reads (λ bytes. IfOk result (IsLinkOf bytes)) }
     ensures same { disks.Unchanged (D.state disk.old) (D.state disk.new) }
     ensures frame { disks.GoesOn (D.state disk.old) (D.state disk.new) }
     ensures cause { HasCause Failed (D.state disk.old).faults (D.state disk.new).faults result }
@@ -140,7 +144,8 @@ fn link_counted<D: Disk, L: Ledger>(
 
 /// The two lines that tell what was found.
 fn link_lines(alloc: Global, linked: &Linked) -> Result<String, AllocError>
-    ensures value { IfOk result (λ text. string_bytes text ≡ two_lines linked.now.count linked.now.link) }
+    ensures value { IfOk result (λ text.
+        string_bytes text ≡ two_lines linked.now.count linked.now.link) }
 {
     let count = linked.count;
     let link = hex::encode(alloc, &linked.link)?;
@@ -149,8 +154,9 @@ fn link_lines(alloc: Global, linked: &Linked) -> Result<String, AllocError>
 
 /// Writes what was found.
 fn say_linked<O: Sink>(alloc: Global, out: &mut O, linked: &Linked) -> Status
-    ensures said { Said (record { status = Status.Ok; text = two_lines linked.now.count linked.now.link }) result (O.state out.old) (O.state out.new) }
-    ensures cause { result ≡ Status.WriteFault → Rose (O.state out.old).faults (O.state out.new).faults }
+    ensures said { Said (says_link linked.now.count linked.now.link) result
+        (O.state out.old) (O.state out.new) }
+    ensures cause { WriteCause result (O.state out.old) (O.state out.new) }
     ensures frame { sinks.GoesOn (O.state out.old) (O.state out.new) }
 {
     match link_lines(alloc, linked) {
@@ -161,13 +167,14 @@ fn say_linked<O: Sink>(alloc: Global, out: &mut O, linked: &Linked) -> Status
 
 /// The command.
 pub fn run_link<D: Disk, O: Sink>(alloc: Global, store: &mut D, out: &mut O) -> Status
-    ensures told { IfSome (D.state store.old).reads (λ bytes. Answers (link_outcome (stored bytes)) result (O.state out.old) (O.state out.new)) }
+    ensures told { AnswersFor link_outcome (D.state store.old).reads
+        result (O.state out.old) (O.state out.new) }
     ensures no_usage { result ≢ Status.Usage }
     ensures same { disks.Unchanged (D.state store.old) (D.state store.new) }
     ensures store_frame { disks.GoesOn (D.state store.old) (D.state store.new) }
     ensures out_frame { sinks.GoesOn (O.state out.old) (O.state out.new) }
-    ensures disk_cause { result ≡ Status.DiskFault → Rose (D.state store.old).faults (D.state store.new).faults }
-    ensures write_cause { result ≡ Status.WriteFault → Rose (O.state out.old).faults (O.state out.new).faults }
+    ensures disk_cause { DiskCause result (D.state store.old) (D.state store.new) }
+    ensures write_cause { WriteCause result (O.state out.old) (O.state out.new) }
 {
     match link_counted::<D, Brand>(alloc, store, Blank::new(1)) {
         Ok(Some(linked)) => say_linked(alloc, out, &linked),

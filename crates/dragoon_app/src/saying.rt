@@ -1,10 +1,9 @@
 //! Writing a text and ending with a status.
 
 ghost use Rattle.std.specs.Prelude.{◌≡◌};
-ghost use Rattle.outside_words.specs.Faults.{Rose};
 ghost use Rattle.outside_io.specs.Sink.{GoesOn};
 ghost use Rattle.dragoon_app.specs.Texts.{fault_line};
-ghost use Rattle.dragoon_app.specs.Outcome.{IsSaid, Said, refused};
+ghost use Rattle.dragoon_app.specs.Outcome.{IsSaid, Said, WriteCause, refused};
 
 use crate::Status;
 use outside_io::{Sink, StreamFail, write_whole};
@@ -12,8 +11,9 @@ use outside_io::{Sink, StreamFail, write_whole};
 /// Writes the text, and then ends with the status.
 pub fn say<O: Sink>(out: &mut O, text: &[u8], status: Status) -> Status
     requires { IsSaid status }
-    ensures said { Said (record { status = status; text = text.now }) result (O.state out.old) (O.state out.new) }
-    ensures cause { result ≡ Status.WriteFault → Rose (O.state out.old).faults (O.state out.new).faults }
+    ensures said { Said (record { status = status; text = text.now }) result
+        (O.state out.old) (O.state out.new) }
+    ensures cause { WriteCause result (O.state out.old) (O.state out.new) }
     ensures frame { GoesOn (O.state out.old) (O.state out.new) }
 {
     match write_whole(out, text) {
@@ -27,7 +27,7 @@ pub fn say<O: Sink>(out: &mut O, text: &[u8], status: Status) -> Status
 pub fn refuse<O: Sink>(out: &mut O, status: Status) -> Status
     requires { IsSaid status }
     ensures said { Said (refused status) result (O.state out.old) (O.state out.new) }
-    ensures cause { result ≡ Status.WriteFault → Rose (O.state out.old).faults (O.state out.new).faults }
+    ensures cause { WriteCause result (O.state out.old) (O.state out.new) }
     ensures frame { GoesOn (O.state out.old) (O.state out.new) }
 {
     say(out, fault_text(status).as_bytes(), status)
@@ -45,5 +45,7 @@ fn fault_text(status: Status) -> &'static str
         Status::DiskFault => "fault DiskFault\n",
         Status::WriteFault => "fault WriteFault\n",
         Status::NoMemory => "fault NoMemory\n",
+        Status::AlreadyThere => "fault AlreadyThere\n",
+        Status::TooLate => "fault TooLate\n",
     }
 }

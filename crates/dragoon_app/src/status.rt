@@ -14,6 +14,10 @@ pub enum Status {
     DiskFault,
     WriteFault,
     NoMemory,
+    /// The device of a store that is to be made is taken.
+    AlreadyThere,
+    /// The clock stands beyond the last moment that a store can tell.
+    TooLate,
 }
 
 impl Status {
@@ -28,6 +32,8 @@ impl Status {
             Status::DiskFault => 5,
             Status::WriteFault => 8,
             Status::NoMemory => 9,
+            Status::AlreadyThere => 13,
+            Status::TooLate => 15,
         }
     }
 }

@@ -1,49 +1,57 @@
 //! The program as one call.
 
-ghost use Rattle.std.specs.Prelude.{◌≡◌, map, None, IfSome};
+ghost use Rattle.std.specs.Prelude.{◌≡◌, map, None};
 ghost use Rattle.std.specs.String.{string_bytes};
-ghost use Rattle.outside_words.specs.Faults.{Rose};
 ghost use Rattle.disk_words.specs.Disk as disks;
 ghost use Rattle.outside_io.specs.Sink as sinks;
+ghost use Rattle.outside_io.specs.Clock as clocks;
 ghost use Rattle.dragoon_app.specs.Words as spec;
-ghost use Rattle.dragoon_app.specs.Outcome.{Answers, Said, refused};
-ghost use Rattle.dragoon_app.specs.Top.{outcome};
+ghost use Rattle.dragoon_app.specs.Outcome.{Said, DiskCause, WriteCause, refused};
+ghost use Rattle.dragoon_app.specs.Top.{outcome, AnswersAt, Leaves};
 
 use crate::Status;
 use crate::command::{Command, command_of};
+use crate::init::run_init;
 use crate::link::run_link;
 use crate::saying::refuse;
 use disk_model::Disk;
-use outside_io::Sink;
+use outside_io::{Clock, Sink};
 use std::alloc::Global;
 
-/// Carries out the command that the words are, and answers how it ended. Its last line of output tells a refusal.
-pub fn dragoon<D: Disk, O: Sink>(
+/// Carries out the command that the words are, and answers how it ended. The last line of output
+/// tells a refusal.
+pub fn dragoon<D: Disk, C: Clock, O: Sink>(
     alloc: Global,
     words: &[String],
     store: &mut D,
+    clock: &mut C,
     out: &mut O,
 ) -> Status
     // Where the store tells its bytes, what they and the words define was answered and is out.
-    ensures told { IfSome (D.state store.old).reads (λ bytes.
-        Answers (outcome (map string_bytes words.now) bytes) result (O.state out.old) (O.state out.new)) }
+    ensures told { AnswersAt (outcome (map string_bytes words.now))
+        (C.state clock.old) (D.state store.old).reads result (O.state out.old) (O.state out.new) }
 
     // The words are looked at first, whatever the store tells.
     ensures usage { result ≡ Status.Usage → spec.command_of (map string_bytes words.now) ≡ None }
     ensures no_command { spec.command_of (map string_bytes words.now) ≡ None
         → Said (refused Status.Usage) result (O.state out.old) (O.state out.new) }
 
-    // A fault has its cause.
-    ensures disk_cause { result ≡ Status.DiskFault → Rose (D.state store.old).faults (D.state store.new).faults }
-    ensures write_cause { result ≡ Status.WriteFault → Rose (O.state out.old).faults (O.state out.new).faults }
+    // The store and the clock are as they were, but for `init`.
+    ensures leaves { Leaves (spec.command_of (map string_bytes words.now)) result
+        (D.state store.old) (D.state store.new) (C.state clock.old) (C.state clock.new)
+        (O.state out.old) (O.state out.new) }
 
-    // The store is only read.
-    ensures same { disks.Unchanged (D.state store.old) (D.state store.new) }
+    // A fault has its cause.
+    ensures disk_cause { DiskCause result (D.state store.old) (D.state store.new) }
+    ensures write_cause { WriteCause result (O.state out.old) (O.state out.new) }
+
     ensures store_frame { disks.GoesOn (D.state store.old) (D.state store.new) }
+    ensures clock_frame { clocks.GoesOn (C.state clock.old) (C.state clock.new) }
     ensures out_frame { sinks.GoesOn (O.state out.old) (O.state out.new) }
 {
     match command_of(words) {
         Some(Command::Link) => run_link(alloc, store, out),
+        Some(Command::Init(new)) => run_init(alloc, &new, store, clock, out),
         None => refuse(out, Status::Usage),
     }
 }

@@ -1,5 +1,8 @@
 //! A device that is a file or stands in memory.
 
+ghost use Rattle.std.specs.Prelude.{◌≡◌, [], IsSome, IsNone, IfOk};
+ghost use Rattle.disk_model.specs.Untold.{TellsOnly};
+
 use disk_model::{Disk, DiskFail, FileDisk, MemDisk};
 use std::alloc::AllocError;
 use std::rt::{Files, Runtime};
@@ -13,7 +16,12 @@ pub enum Device<R: Files + Drop> {
 
 impl<R: Runtime + AllocGlobal + Drop> Device<R> {
     /// The file of this path, or an empty device where none is named.
-    pub fn named(rt: &R, path: Option<&str>) -> Result<Device<R>, AllocError> {
+    pub fn named(rt: &R, path: Option<&str>) -> Result<Device<R>, AllocError>
+        ensures file { IsSome path.entry → IfOk result (λ device.
+            TellsOnly 0 (⟦<Device<R> as Disk>⟧.state device)) }
+        ensures empty { IsNone path.entry → IfOk result (λ device.
+            (⟦<Device<R> as Disk>⟧.state device).reads ≡ Some []) }
+    {
         let alloc = rt.alloc();
         match path {
             Some(path) => Ok(Device::File(FileDisk::new(
@@ -28,15 +36,33 @@ impl<R: Runtime + AllocGlobal + Drop> Device<R> {
 impl<R: Files + Drop> Disk for Device<R> {
     ghost use Rattle.dragoon_cli.specs.declared.device.Device.TheVariants.{File, Memory};
     ghost use Rattle.disk_model.specs.Calls.{first_of, trace_of};
-    ghost use Rattle.disk_words.proofs.Images.{reads_image_at, counts_now as counts_now_of, only_now as only_now_of};
+    ghost use Rattle.disk_model.specs.Memory.{state_of};
+    ghost use Rattle.disk_words.proofs.Images.{reads_image_at};
+    ghost use Rattle.disk_words.proofs.Images.{counts_now as counts_now_of};
+    ghost use Rattle.disk_words.proofs.Images.{only_now as only_now_of};
 
-    ghost state = { elim [ File file ↦ ⟦<FileDisk<R> as Disk>⟧.state file | Memory memory ↦ ⟦<MemDisk as Disk>⟧.state memory ] };
+    ghost state = { elim [
+      | File file ↦ ⟦<FileDisk<R> as Disk>⟧.state file
+      | Memory memory ↦ state_of memory
+    ] };
 
-    ghost reads_image = { elim [ File file ↦ tt | Memory memory ↦ reads_image_at (first_of memory.first memory.bytes.items) (trace_of memory.made.items) memory.bytes.items memory.replayed ] };
+    ghost reads_image = { elim [
+      | File file ↦ tt
+      | Memory memory ↦ reads_image_at (first_of memory.first memory.bytes.items)
+          (trace_of memory.made.items) memory.bytes.items memory.replayed
+    ] };
 
-    ghost counts_now = { elim [ File file ↦ λ t c le now. tt | Memory memory ↦ λ t c le now. counts_now_of (first_of memory.first memory.bytes.items) (trace_of memory.made.items) t c now ] };
+    ghost counts_now = { elim [
+      | File file ↦ λ t c le now. tt
+      | Memory memory ↦ λ t c le now. counts_now_of
+          (first_of memory.first memory.bytes.items) (trace_of memory.made.items) t c now
+    ] };
 
-    ghost only_now = { elim [ File file ↦ λ c was. tt | Memory memory ↦ λ c was. only_now_of (first_of memory.first memory.bytes.items) (trace_of memory.made.items) c was ] };
+    ghost only_now = { elim [
+      | File file ↦ λ c was. tt
+      | Memory memory ↦ λ c was. only_now_of
+          (first_of memory.first memory.bytes.items) (trace_of memory.made.items) c was
+    ] };
 
     fn length(&mut self) -> Result<u64, DiskFail> {
         match self {

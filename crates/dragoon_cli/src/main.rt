@@ -11,7 +11,7 @@ mod usage;
 use crate::device::Device;
 use crate::usage::USAGE;
 use dragoon_app::{Status, dragoon, leading};
-use outside_io::StdSink;
+use outside_io::{StdSink, SystemClock};
 use std::alloc::{AllocError, Global};
 use std::process::ExitCode;
 use std::rt::Runtime;
@@ -43,8 +43,9 @@ fn run<R: Runtime + AllocGlobal + Drop>(rt: &R) -> Result<Status, AllocError> {
     let words = words_of(rt)?;
     let (devices, call) = words.split_at(leading(&words));
     let mut store = Device::named(rt, path_behind("store=", devices))?;
+    let mut clock = SystemClock::new(rt.clone()?);
     let mut out = StdSink::new(rt.clone()?);
-    Ok(dragoon(rt.alloc(), call, &mut store, &mut out))
+    Ok(dragoon(rt.alloc(), call, &mut store, &mut clock, &mut out))
 }
 
 fn main(rt: HostRuntime) -> ExitCode {

@@ -8,6 +8,12 @@ usage: dragoon [store=FILE] COMMAND
   link         reads what the store holds, and prints the number of its transactions and the
                chain value over all of them: `txns N`, then `link H`
 
+  init ID W K ALGS
+               makes a new store that begins now, of this id, with granules of W seconds (1 to
+               86400), tiles of 2^K granules (K to 10), and the algorithms ALGS (`m`); prints
+               `ready ID`
+
 It ends with 0, or with 2 where the words are no command, 4 where the store has no header, 5 where
-its file fails, 8 where the output fails, and 9 for want of memory.
+its file fails, 8 where the output fails, 9 for want of memory, 13 where a store is to be made and
+its file is taken, and 15 where the clock is beyond what a store can tell.
 ";

@@ -1,7 +1,6 @@
 -- A history, and the order in which it is hashed.
-use Rattle.std.specs.Prelude.{ℕ, ◌/◌, ◌==◌, max, Bool, List, filter, fold, Option, Some, None, if◌then◌else◌}
+use Rattle.std.specs.Prelude.{ℕ, ◌/◌, ◌==◌, max, Bool, List, filter, fold, Option, Some, None}
 use Rattle.std.specs.List.{filter_map, flat_map, range_with_len}
-use Rattle.byte_grammar.specs.Reading.{◌>>=◌}
 use Rattle.tuple_bytes.specs.declared.header.Header.{Header}
 use Rattle.tuple_bytes.specs.declared.item.Item.{Item}
 use Rattle.tuple_bytes.specs.declared.item.Item.TheVariants as items
@@ -11,6 +10,10 @@ use Rattle.tuple_bytes.specs.declared.item.Txn.{Txn}
 pub record History : Type 0 where
   pub header : Header
   pub items : List Item
+
+-- made of its parts
+abbrev pub history : Header → List Item → History
+history header items = record { header = header; items = items }
 
 -- the transaction that an item is
 abbrev pub txn_in : Item → Option Txn
@@ -27,12 +30,6 @@ granule_of width moment = moment / width
 
 abbrev pub is_in_granule : Header → ℕ → Txn → Bool
 is_in_granule header g t = granule_of header.width t.moment == g
-
--- the item, where it is a transaction of the granule
-abbrev pub row_in : Header → ℕ → Item → Option Txn
-row_in header g item = do
-  t ← txn_in item
-  if is_in_granule header g t then Some t else None
 
 -- the transactions of a granule, in file order
 unfoldable pub rows : History → ℕ → List Txn

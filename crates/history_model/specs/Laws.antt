@@ -5,7 +5,7 @@ use Rattle.byte_grammar.specs.Reading.{IsBytes}
 use Rattle.tuple_bytes.specs.declared.header.Header.{Header}
 use Rattle.tuple_bytes.specs.Spelling.{spell_fields, FitsHeader}
 use Rattle.history_model.specs.Stored.{stored, IsStorable}
-use Rattle.history_model.specs.History.{History, txns}
+use Rattle.history_model.specs.History.{History, history, txns}
 use Rattle.history_model.specs.Digests.{link_of_spelled, link_of, header_digest, header_input}
 use Rattle.history_model.specs.Inputs.{Clash, link_inputs_of_spelled, link_inputs}
 
@@ -16,7 +16,7 @@ pub record IsHistory (h : History) : Type 0 where
 
 -- what bytes with a header store is such a history
 abbrev pub StoredIsHistory : Type 0
-StoredIsHistory = (bytes : List ℕ) (h : Header) → IsBytes bytes → (stored bytes).header ≡ Some h → IsHistory (record { header = h; items = (stored bytes).items })
+StoredIsHistory = (bytes : List ℕ) (h : Header) → IsBytes bytes → (stored bytes).header ≡ Some h → IsHistory (history h (stored bytes).items)
 
 -- equal header digests are of one header
 abbrev pub HeadersTellApart : Type 0

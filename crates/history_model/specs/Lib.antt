@@ -3,5 +3,4 @@ pub mod History
 pub mod Digests
 pub mod Inputs
 pub mod Laws
-pub mod Replay
-pub mod Linked
+pub mod Plain

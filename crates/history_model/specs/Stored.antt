@@ -4,16 +4,14 @@ use Rattle.std.specs.List.{All, filter_map}
 use Rattle.std.specs.Option.{is_some}
 use Rattle.tuple_bytes.specs.declared.header.Header.{Header}
 use Rattle.tuple_bytes.specs.declared.item.Item.{Item}
+use Rattle.tuple_bytes.specs.Limits.{max_payload}
 use Rattle.tuple_bytes.specs.Spelling.{spell_item, FitsItem, SpellsHeader}
 use Rattle.tuple_bytes.specs.Items.{item_of}
 use Rattle.tuple_bytes.specs.HeaderBytes.{header_of}
 use Rattle.byte_grammar.specs.Gated.{Shape, records, spell_records}
 use Rattle.history_model.specs.declared.stored.Stored.{Stored}
 
--- the most bytes of a payload, and the place that no gate reaches
-abbrev pub max_payload : ℕ
-max_payload = 32768
-
+-- the place that no gate reaches
 abbrev pub max_file : ℕ
 max_file = 67108864
 

@@ -8,8 +8,8 @@ ghost use Rattle.history_model.specs.declared.stored.Stored.{Stored};
 
 /// What bytes store is their header and the longest prefix of valid records, and nothing else.
 pub fn stored_is_longest()
-    ensures longest { (bytes : List ℕ) → IsBytes bytes → IsStored bytes (stored bytes) }
-    ensures only { (bytes : List ℕ) (s : Stored) → IsBytes bytes → IsStored bytes s → s ≡ stored bytes }
+    ensures longest { (x : List ℕ) → IsBytes x → IsStored x (stored x) }
+    ensures only { (x : List ℕ) (s : Stored) → IsBytes x → IsStored x s → s ≡ stored x }
 {}
 
 /// The header and the items of bytes are a history: each has a spelling, and no payload is too long.

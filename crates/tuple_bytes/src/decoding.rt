@@ -1,6 +1,6 @@
 //! Reading items into memory: each function owns what the functions of `reading` find.
 
-ghost use Rattle.std.specs.Prelude.{◌≡◌, IfOk, Some, None};
+ghost use Rattle.std.specs.Prelude.{◌≡◌, IfOk};
 ghost use Rattle.byte_grammar.specs.Reading.{Gives, many};
 ghost use Rattle.tuple_bytes.specs.Items.{word_at, column_at, columns_at, value_at, row_at, op_by, op_at, ops_at, item_by, item_at, item_of};
 ghost use Rattle.tuple_bytes.specs.Found.{value_of_found, FitsFound};

@@ -240,16 +240,19 @@ fn counts_go_from_one_to_their_limits(rt: HostRuntime) -> Result<(), Fail> {
     Ok(())
 }
 
-/// A transaction that puts one byte string, or one that removes so many rows.
-fn long(alloc: Global, bytes: usize) -> Result<Item, Fail>
+/// A transaction that puts one text of so many letters: 22 bytes and the letters.
+fn long(alloc: Global, letters: usize) -> Result<Item, Fail>
     ensures { IfOk result (λ item. IsCounted item) }
 {
+    let letters = vec![in alloc; b'a'; letters]?;
+    let text = Text::new(alloc, &letters)?.ok_or("no text")?;
     let mut row = Row::new(alloc);
-    row.push(Value::Bytes(Blob::from_vec(vec![in alloc; 0; bytes]?)))?;
+    row.push(Value::Text(text))?;
     let table = word(alloc, b"t")?;
     txn(alloc, 1, 0, Op::Put { table, row })
 }
 
+/// A transaction that removes so many rows.
 fn many(alloc: Global, count: usize) -> Result<Item, Fail>
     requires { 0 < count }
     ensures { IfOk result (λ item. IsCounted item) }

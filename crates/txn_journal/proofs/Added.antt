@@ -1,20 +1,20 @@
 -- What an append leaves, whatever gate stood at the end.
-use Rattle.std.proofs.Common.{◌≡◌, ◌≢◌, ◌⊎◌, inl, inr, ℕ, ◌+◌, ◌<◌, ◌≤◌, ◌^◌, Bool, true, false, eqb, List, [], ◌∷◌, ◌++◌, length, get_or, take, drop, Option, Some, None, refl, sym, ap, subst, ◌∙◌, arith, Result, Ok, Err, OnOk, IfSome}
+use Rattle.std.proofs.Common.{◌≡◌, ◌≢◌, inl, inr, ℕ, ◌+◌, ◌<◌, ◌≤◌, ◌^◌, Bool, true, false, eqb, List, [], ◌∷◌, ◌++◌, length, get_or, take, drop, Option, Some, None, sym, ap, subst, ◌∙◌, arith, Result, Ok, Err, IfSome}
 use Rattle.std.proofs.lemmas.Bool.{cases_eq, eqb-true, eqb-false}
 use Rattle.disk_words.specs.declared.DiskFail.{DiskFail}
 use Rattle.disk_words.specs.declared.DiskFail.TheVariants.{Failed, NoMemory}
-use Rattle.disk_words.specs.Disk.{State, turn, written, Torn, Only}
+use Rattle.disk_words.specs.Disk.{State, turn, Torn, Only}
 use Rattle.disk_words.proofs.Images.{Torn-written}
 use Rattle.disk_words.proofs.TornParts.{torn_front, torn_back}
 use Rattle.outside_words.specs.Told.{WhereTold}
-use Rattle.disk_model.specs.Moments.{EveryImage, written_all, AllWithin, CutShort, calls_of, MakesCalls, Secures}
+use Rattle.disk_model.specs.Moments.{written_all, AllWithin, CutShort, MakesCalls, Secures}
 use Rattle.disk_model.proofs.Moments.{weaker}
 use Rattle.byte_grammar.specs.Gated.{Shape, FitsRecord}
 use Rattle.txn_journal.specs.Held.{Standing, behind, Held, held_by, with_payload, HoldsOldOrNew, StandsIn}
 use Rattle.txn_journal.specs.Append.{addition, append_calls, MakesOf, Appends}
 use Rattle.txn_journal.proofs.Lifted.{lifted, on_lifted}
 use Rattle.txn_journal.proofs.InFile.{HasParts, parts_of, held_from, end_inside, keeps}
-use Rattle.txn_journal.proofs.Appending.{split_at, over, at_over, length-over, all_within, each, added, added_gate}
+use Rattle.txn_journal.proofs.Appending.{split_at, over, at_over, all_within, each, added, added_gate}
 
 module _ (is_head : List ℕ → Bool) (shape : Shape) (held : Held) (payload : List ℕ) (small : shape.max_payload < 2 ^ 32) (fits : FitsRecord shape payload) (within : held.end + 5 + length payload < shape.max_file) (x : List ℕ) (p : HasParts is_head shape held x) where
   abbrev end : ℕ

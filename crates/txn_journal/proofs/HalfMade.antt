@@ -1,7 +1,7 @@
 -- What a crash leaves while a file is being made.
-use Rattle.std.proofs.Common.{◌≡◌, ◌≢◌, ◌⊎◌, inl, inr, ℕ, ◌+◌, ◌<◌, ◌≤◌, Bool, true, List, [], ◌∷◌, ◌++◌, length, get_or, take, drop, Option, Some, None, IfSome, refl, sym, ◌∙◌, ap, subst, arith, length-append, length-drop, Result, Ok, Err, OnOk}
+use Rattle.std.proofs.Common.{◌≡◌, ◌≢◌, inl, inr, ℕ, ◌+◌, ◌<◌, ◌≤◌, Bool, true, List, [], ◌∷◌, ◌++◌, length, get_or, take, drop, Option, Some, None, IfSome, sym, ◌∙◌, ap, subst, arith, length-append, length-drop, Result, Ok, Err, OnOk}
 use Rattle.std.proofs.lemmas.Bool.{cases_eq}
-use Rattle.std.proofs.lemmas.List.{take_all, drop_all, drop-take, take_at, drop_at, append-nil}
+use Rattle.std.proofs.lemmas.List.{drop_all, drop-take, take_at, append-nil}
 use Rattle.disk_words.specs.declared.DiskFail.{DiskFail}
 use Rattle.disk_words.specs.declared.DiskFail.TheVariants.{Failed, NoMemory}
 use Rattle.disk_words.specs.Disk.{Call, State, turn, written, Torn, Only, Unchanged}
@@ -12,10 +12,9 @@ use Rattle.outside_words.specs.Told.{WhereTold}
 use Rattle.outside_words.proofs.Told.{told_same}
 use Rattle.disk_model.specs.Moments.{EveryImage, is_done, has_failed, written_all, AllWithin, CutShort, calls_of, MakesCalls, Secures}
 use Rattle.disk_model.proofs.Moments.{started, stays, weaker, joined}
-use Rattle.byte_grammar.specs.Gated.{Shape, payload_at, records, is_framed}
-use Rattle.byte_grammar.proofs.GatedLaws.{framed_from, records_stop}
-use Rattle.txn_journal.specs.Fail.{fail_of}
-use Rattle.txn_journal.specs.Held.{Held, held_by, new_file}
+use Rattle.byte_grammar.specs.Gated.{Shape, records}
+use Rattle.byte_grammar.proofs.GatedLaws.{records_stop}
+use Rattle.txn_journal.specs.Held.{held_by, new_file}
 use Rattle.txn_journal.specs.Create.{IsFree, IsTaken, creation, IsHalfMade, Refuses, MakesAfterReading, Creates}
 use Rattle.txn_journal.proofs.Lifted.{lifted, on_lifted}
 use Rattle.txn_journal.proofs.SameFront.{no_frame}

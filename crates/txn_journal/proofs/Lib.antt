@@ -9,3 +9,4 @@ pub mod SameFront
 pub mod Lifted
 pub mod HalfMade
 pub mod StoreHeads
+pub mod Gathering

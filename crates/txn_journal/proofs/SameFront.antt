@@ -1,7 +1,7 @@
 -- The walk over records finds the same where the same bytes stand up to the place where it stops.
-use Rattle.std.proofs.Common.{◌≡◌, ◌≢◌, ℕ, zero, suc, ◌+◌, ◌-◌, ◌<◌, ◌≤◌, ◌^◌, Bool, true, false, cond, List, [], ◌∷◌, ◌++◌, length, get_or, take, drop, Option, Some, None, refl, sym, ap, subst, ◌∙◌, arith}
+use Rattle.std.proofs.Common.{◌≡◌, ◌≢◌, ℕ, zero, suc, ◌+◌, ◌-◌, ◌<◌, ◌≤◌, ◌^◌, Bool, true, false, cond, List, [], ◌∷◌, ◌++◌, length, get_or, take, drop, Option, Some, None, refl, sym, ap, ◌∙◌, arith}
 use Rattle.std.specs.Prelude.{◌&&◌}
-use Rattle.std.proofs.lemmas.List.{append-nil, drop_at, length-append, length-drop, drop-drop, drop-take, take-take, get_or-take, get_or-drop}
+use Rattle.std.proofs.lemmas.List.{append-nil, drop_at, length-drop, drop-drop, drop-take, take-take, get_or-take, get_or-drop}
 use Rattle.std.proofs.lemmas.Nat.{from_be_bytes-to_be_bytes_4}
 use Rattle.std.specs.Int.{w32, from_be_bytes}
 use Rattle.byte_grammar.specs.Gated.{Shape, named_length, named_payload, is_framed, payload_at, with_first, records, spell_record, FitsRecord}

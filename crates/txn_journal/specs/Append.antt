@@ -3,6 +3,7 @@ use Rattle.std.specs.Prelude.{◌≡◌, ◌⊎◌, ◌+◌, ◌≤◌, ℕ, Boo
 use Rattle.std.specs.Int.{w32, to_be_bytes}
 use Rattle.disk_words.specs.declared.DiskFail.TheVariants.{Failed, NoMemory}
 use Rattle.disk_words.specs.Disk.{Call, State, Only}
+use Rattle.disk_model.specs.Gate.{gated_writes}
 use Rattle.disk_model.specs.Moments.{EveryImage, MakesCalls, calls_of}
 use Rattle.byte_grammar.specs.Gated.{Shape, open_gate}
 use Rattle.txn_journal.specs.declared.fail.JournalFail.{JournalFail}
@@ -16,14 +17,10 @@ closed_gate = 0
 abbrev pub behind_gate : List ℕ → List ℕ
 behind_gate payload = to_be_bytes w32 (length payload) ++ (payload ++ closed_gate ∷ [])
 
--- these bytes behind a gate, and then the gate, each with a sync behind it
-abbrev pub gated_writes : ℕ → List ℕ → List (ℕ × List ℕ)
-gated_writes end bytes = (end + 1, bytes) ∷ (end, open_gate ∷ []) ∷ []
-
--- an open gate at the end is closed first
+-- these bytes behind a gate, and then the gate; an open gate at the end is closed first
 abbrev pub writes_at : Bool → ℕ → List ℕ → List (ℕ × List ℕ)
-writes_at true end bytes = (end, closed_gate ∷ []) ∷ gated_writes end bytes
-writes_at false end bytes = gated_writes end bytes
+writes_at true end bytes = (end, closed_gate ∷ []) ∷ gated_writes end open_gate bytes
+writes_at false end bytes = gated_writes end open_gate bytes
 
 -- a record of this payload
 abbrev pub addition : Bool → ℕ → List ℕ → List (ℕ × List ℕ)
@@ -48,14 +45,14 @@ MakesOf calls (Err fails.StoreFull) old new = new.trace ≡ old.trace
 MakesOf calls (Err fails.Closed) old new = new.trace ≡ old.trace
 
 -- where the journal stands after an answer
-abbrev pub Moves : List ℕ → Result (Unit {0}) JournalFail → Standing → Standing → Type 0
-Moves payload (Ok _) old new = new ≡ behind old payload
-Moves payload (Err fails.DiskFault) old new = new ≡ closed old
-Moves payload (Err fails.NoMemory) old new = (new ≡ old) ⊎ (new ≡ closed old)
-Moves payload (Err fails.StoreFull) old new = new ≡ old
-Moves payload (Err fails.Closed) old new = new ≡ old
-Moves payload (Err fails.AlreadyThere) old new = ⊥
-Moves payload (Err fails.NotAStore) old new = ⊥
+abbrev pub StandsAfter : List ℕ → Result (Unit {0}) JournalFail → Standing → Standing → Type 0
+StandsAfter payload (Ok _) old new = new ≡ behind old payload
+StandsAfter payload (Err fails.DiskFault) old new = new ≡ closed old
+StandsAfter payload (Err fails.NoMemory) old new = (new ≡ old) ⊎ (new ≡ closed old)
+StandsAfter payload (Err fails.StoreFull) old new = new ≡ old
+StandsAfter payload (Err fails.Closed) old new = new ≡ old
+StandsAfter payload (Err fails.AlreadyThere) old new = ⊥
+StandsAfter payload (Err fails.NotAStore) old new = ⊥
 
 -- what an append does with the bytes of its file
 pub record Appends (is_head : List ℕ → Bool) (shape : Shape) (at : Standing) (payload : List ℕ) (result : Result (Unit {0}) JournalFail) (old new : State) (before after : List ℕ) : Type 0 where

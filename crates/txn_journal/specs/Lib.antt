@@ -1,7 +1,8 @@
-pub mod Front
-pub mod Reading
-pub mod Window
 pub mod Append
 pub mod Create
 pub mod Fail
+pub mod Front
 pub mod Held
+pub mod Opening
+pub mod Reading
+pub mod Window

@@ -1,19 +1,18 @@
 //! The writes by which a record comes behind all others, each with a sync behind it.
 //!
-//! A closed gate stands at the end while the record is written, so that a crash leaves no part of it. Once the
-//! record is durable, and a closed gate behind it, its own gate is opened.
+//! A closed gate stands at the end while the record is written, so that a crash leaves no part of it.
+//! Once the record is durable, and a closed gate behind it, its own gate is opened.
 
-ghost use Rattle.std.specs.Prelude.{◌≡◌, ◌+◌, ◌-◌, ◌<◌, ◌^◌, [], ◌∷◌, length, IfOk};
+ghost use Rattle.std.specs.Prelude.{◌≡◌, ◌+◌, ◌<◌, ◌^◌, true, false, [], ◌∷◌, length, IfOk};
 ghost use Rattle.outside_words.specs.Faults.{HasCause};
 ghost use Rattle.outside_words.specs.Told.{WhereTold};
 ghost use Rattle.disk_words.specs.declared.DiskFail.TheVariants.{Failed};
 ghost use Rattle.disk_words.specs.Disk.{GoesOn};
 ghost use Rattle.disk_model.specs.Moments.{Secures};
-ghost use Rattle.byte_grammar.specs.Gated.{open_gate};
-ghost use Rattle.txn_journal.specs.Append.{closed_gate, behind_gate, gated_writes, writes_at};
+ghost use Rattle.txn_journal.specs.Append.{closed_gate, behind_gate, writes_at};
 
 use crate::gate::{CLOSED, OPEN};
-use disk_model::{Disk, DiskFail, write_durably};
+use disk_model::{Disk, DiskFail, write_durably, write_gated};
 use std::alloc::{AllocError, Global};
 
 /// What stands behind the gate of a record: its length, its payload, and the next gate, which is closed.
@@ -27,7 +26,7 @@ pub(crate) fn spelled(alloc: Global, payload: &[u8]) -> Result<Vec<u8>, AllocErr
     Ok(bytes)
 }
 
-/// Writes what stands behind the gate at the end, and opens that gate.
+/// Writes what stands behind the gate at the end, and opens that gate. An open one is closed first.
 pub(crate) fn add<D: Disk>(
     disk: &mut D,
     gate_is_open: bool,
@@ -51,7 +50,7 @@ pub(crate) fn add<D: Disk>(
 fn close_and_add<D: Disk>(disk: &mut D, end: u64, bytes: &[u8]) -> Result<(), DiskFail>
     requires room { end + 1 < 2 ^ 64 }
     ensures told { WhereTold (D.state disk.old).reads (D.state disk.new).reads
-        (Secures ((end, closed_gate ∷ []) ∷ gated_writes end bytes.now) result (D.state disk.old) (D.state disk.new)) }
+        (Secures (writes_at true end bytes.now) result (D.state disk.old) (D.state disk.new)) }
     ensures frame { GoesOn (D.state disk.old) (D.state disk.new) }
     ensures cause { HasCause Failed (D.state disk.old).faults (D.state disk.new).faults result }
 {
@@ -59,18 +58,7 @@ fn close_and_add<D: Disk>(disk: &mut D, end: u64, bytes: &[u8]) -> Result<(), Di
     add_behind_closed(disk, end, bytes)
 }
 
-#[tactic(auto, using(disk_words::proofs::Frame::goes_on_then))]
-fn add_behind_closed<D: Disk>(disk: &mut D, end: u64, bytes: &[u8]) -> Result<(), DiskFail>
-    requires room { end + 1 < 2 ^ 64 }
-    ensures told { WhereTold (D.state disk.old).reads (D.state disk.new).reads
-        (Secures (gated_writes end bytes.now) result (D.state disk.old) (D.state disk.new)) }
-    ensures frame { GoesOn (D.state disk.old) (D.state disk.new) }
-    ensures cause { HasCause Failed (D.state disk.old).faults (D.state disk.new).faults result }
-{
-    write_record(disk, end, bytes)?;
-    open_gate(disk, end)
-}
-
+/// Closes the gate, and syncs.
 fn close_gate<D: Disk>(disk: &mut D, end: u64) -> Result<(), DiskFail>
     ensures told { WhereTold (D.state disk.old).reads (D.state disk.new).reads
         (Secures ((end, closed_gate ∷ []) ∷ []) result (D.state disk.old) (D.state disk.new)) }
@@ -80,21 +68,13 @@ fn close_gate<D: Disk>(disk: &mut D, end: u64) -> Result<(), DiskFail>
     write_durably(disk, end, &[CLOSED])
 }
 
-fn write_record<D: Disk>(disk: &mut D, end: u64, bytes: &[u8]) -> Result<(), DiskFail>
+/// Writes the record, syncs, opens the gate, and syncs.
+fn add_behind_closed<D: Disk>(disk: &mut D, end: u64, bytes: &[u8]) -> Result<(), DiskFail>
     requires room { end + 1 < 2 ^ 64 }
     ensures told { WhereTold (D.state disk.old).reads (D.state disk.new).reads
-        (Secures ((end + 1, bytes.now) ∷ []) result (D.state disk.old) (D.state disk.new)) }
+        (Secures (writes_at false end bytes.now) result (D.state disk.old) (D.state disk.new)) }
     ensures frame { GoesOn (D.state disk.old) (D.state disk.new) }
     ensures cause { HasCause Failed (D.state disk.old).faults (D.state disk.new).faults result }
 {
-    write_durably(disk, end + 1, bytes)
-}
-
-fn open_gate<D: Disk>(disk: &mut D, end: u64) -> Result<(), DiskFail>
-    ensures told { WhereTold (D.state disk.old).reads (D.state disk.new).reads
-        (Secures ((end, open_gate ∷ []) ∷ []) result (D.state disk.old) (D.state disk.new)) }
-    ensures frame { GoesOn (D.state disk.old) (D.state disk.new) }
-    ensures cause { HasCause Failed (D.state disk.old).faults (D.state disk.new).faults result }
-{
-    write_durably(disk, end, &[OPEN])
+    write_gated(disk, end, OPEN, bytes)
 }

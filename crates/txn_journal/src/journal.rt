@@ -5,7 +5,8 @@ ghost use Rattle.outside_words.specs.Faults.{HasCause};
 ghost use Rattle.outside_words.specs.Told.{WhereTold};
 ghost use Rattle.disk_words.specs.Disk.{GoesOn};
 ghost use Rattle.byte_grammar.specs.Gated.{FitsRecord};
-ghost use Rattle.txn_journal.specs.Append.{append_calls, IsRefusedAsFull, Moves, Appends};
+ghost use Rattle.txn_journal.specs.declared.fail.JournalFail.TheVariants.{DiskFault, StoreFull, Closed};
+ghost use Rattle.txn_journal.specs.Append.{append_calls, IsRefusedAsFull, StandsAfter, Appends};
 
 use crate::append::{add, spelled};
 use crate::{JournalFail, Shape};
@@ -13,8 +14,8 @@ use disk_model::Disk;
 use std::alloc::Global;
 use std::marker::{Model, PhantomData};
 
-/// Where the next record goes. It keeps nothing of the file but that, so each call on it is lent the disk,
-/// whose bytes have to be as the last call left them.
+/// Where the next record goes. It keeps nothing of the file but that, so each call on it is lent the
+/// disk, whose bytes have to be as the last call left them.
 #[derive(Drop)]
 pub struct Journal<S: Shape> {
     end: u64,
@@ -66,8 +67,10 @@ impl<S: Shape> Journal<S> {
         self.is_closed
     }
 
-    /// Adds a payload behind all others, or is refused. A crash at any moment leaves the old payloads, or these and
-    /// the new one; after Ok it leaves both. A failed call of the disk closes the journal.
+    /// Adds a payload behind all others. `StoreFull` comes where the next gate would reach the limit,
+    /// and `Closed` behind an earlier failure of the disk, which closes the journal until the file is
+    /// opened anew. A crash at any moment leaves the old payloads, or these and the new one; after Ok
+    /// it leaves both.
     pub fn append<D: Disk>(
         &mut self,
         alloc: Global,
@@ -75,14 +78,14 @@ impl<S: Shape> Journal<S> {
         payload: &[u8],
     ) -> Result<(), JournalFail>
         requires fits { FitsRecord S.shape payload.now }
-        ensures closed { IsErrOf result JournalFail.Closed ↔ IsTrue self.old.is_closed }
-        ensures store_full { IsErrOf result JournalFail.StoreFull ↔ IsRefusedAsFull S.WHOLE self.old payload.now }
-        ensures moves { Moves payload.now result self.old self.new }
+        ensures closed { IsErrOf result Closed ↔ IsTrue self.old.is_closed }
+        ensures store_full { IsErrOf result StoreFull ↔ IsRefusedAsFull S.WHOLE self.old payload.now }
+        ensures moves { StandsAfter payload.now result self.old self.new }
         ensures kept { OnErr result (self.new ≡ self.old → disk.new ≡ disk.old) }
         ensures told { WhereTold (D.state disk.old).reads (D.state disk.new).reads
             (Appends S.is_head S.shape self.old payload.now result (D.state disk.old) (D.state disk.new)) }
         ensures frame { GoesOn (D.state disk.old) (D.state disk.new) }
-        ensures cause { HasCause JournalFail.DiskFault (D.state disk.old).faults (D.state disk.new).faults result }
+        ensures cause { HasCause DiskFault (D.state disk.old).faults (D.state disk.new).faults result }
     {
         if self.is_closed {
             return Err(JournalFail::Closed);

@@ -27,12 +27,35 @@
 //! | after a fault the reader stands where it stood | `err` |
 //! | the disk is only read, and a fault has its cause | `same`, `frame`, `cause` |
 //!
+//! `create` makes a file, and a `Journal` adds to it. Neither writes over an open gate: it is closed,
+//! what stands behind it is written, and it is opened, with a sync behind each write.
+//!
+//! | The layer above may rely on | Field of `told` |
+//! |---|---|
+//! | a device is refused exactly where it is taken, and is then as it was | `refused`, `kept` of `Creates` |
+//! | a made file has this head and no payload, and is durable | `holds`, `durable` of `Creates` |
+//! | on a settled disk a crash leaves no payload, and no head but the new one or one that stood there | `images` of `Creates` |
+//! | after Ok the file holds the old payloads and the new one, and is durable | `added`, `durable` of `Appends` |
+//! | on a settled disk a crash at any moment leaves the old payloads, with the new one or without | `images` of `Appends` |
+//! | the changing calls are made in their order, and none after one that failed | `trace` of both |
+//!
+//! `open_journal` gives the journal of a file with its head and payloads, or `NotAStore` exactly where
+//! the bytes have no head of the shape (`value`).
+//!
+//! A journal knows of its file only the place of the next gate and whether that is open, so each call
+//! on it is lent the disk. That a disk's bytes are as the journal left them is `StandsIn`. After a
+//! failure of the disk, and after nothing else, it is closed until the file is opened anew.
+//!
 //! ```rust
 //! if let Some(mut records) = Records::<StoreShape>::open(alloc, disk)? {
 //!     while records.advance(disk)? {
 //!         count(records.payload());
 //!     }
 //! }
+//!
+//! create::<_, StoreShape>(disk, &head)?;
+//! let mut journal = open_journal::<_, StoreShape>(alloc, disk)?.journal;
+//! journal.append(alloc, disk, payload)?;
 //! ```
 #![tactic(auto)]
 
@@ -41,18 +64,24 @@ mod creation;
 mod fail;
 mod gate;
 mod journal;
+mod opening;
 mod payload;
+mod payloads;
 mod records;
 mod shape;
 mod store_shape;
+mod stored;
 mod window;
 
 pub use creation::create;
 pub use fail::JournalFail;
 pub use journal::Journal;
+pub use opening::{Opened, open_journal};
+pub use payloads::Payloads;
 pub use records::Records;
 pub use shape::Shape;
 pub use store_shape::StoreShape;
+pub use stored::read_stored;
 
 #[cfg(test)]
 mod tests;

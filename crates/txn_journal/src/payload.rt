@@ -6,9 +6,7 @@ ghost use Rattle.byte_grammar.specs.Gated.{payload_at};
 ghost use Rattle.txn_journal.specs.Front.{gated_length, framed_length, IsAtFront};
 
 use crate::Shape;
-
-/// The byte of an open gate.
-const OPEN: u8 = 0xa7;
+use crate::gate::OPEN;
 
 /// The length that stands behind an open gate.
 fn gated_length(bytes: &[u8]) -> Option<u32>
@@ -36,7 +34,8 @@ fn framed_length<S: Shape>(place: u64, bytes: &[u8]) -> Option<usize>
     Some(size)
 }
 
-/// The payload of the valid record at the front of the bytes, which stand at this place of their file.
+/// The payload of the valid record at the front of the bytes, which stand at this place of their
+/// file.
 pub fn payload_of<S: Shape>(place: u64, bytes: &[u8]) -> Option<&[u8]>
     ensures value { Gives (λ payload. payload.now) result (payload_at S.shape place bytes.now) }
     ensures fits { IfSome result (λ payload. IsAtFront S.shape place bytes.now payload.now) }

@@ -9,6 +9,7 @@ ghost use Rattle.txn_journal.specs.Window.{seen_by, room_of};
 ghost use Rattle.txn_journal.specs.Reading.{ReadsNext, Moves, IsSeenIn, IsFilled, StepsOver, Opens, Begins, ahead, head_of};
 
 use crate::Shape;
+use crate::gate::OPEN;
 use crate::payload::payload_of;
 use crate::window::Window;
 use disk_model::{Disk, DiskFail};
@@ -28,22 +29,31 @@ pub struct Records<S: Shape> {
 }
 
 impl<S: Shape> Model for Records<S> {
-    ghost use Rattle.std.specs.Prelude.{◌≤◌, ◌+◌, take, drop, length};
+    ghost use Rattle.std.specs.Prelude.{◌≤◌, ◌+◌, take, drop};
     ghost use Rattle.byte_grammar.specs.Gated.{open_gate};
     ghost use Rattle.txn_journal.specs.Reading.{Reading};
-    ghost use Rattle.txn_journal.specs.Window.{seen_by};
+    ghost use Rattle.txn_journal.specs.Window.{seen_by, room_of};
 
     ghost Value = { Reading };
 
-    ghost view = { λ r. record { head = r.head; place = r.place; payload = take r.size (drop r.from (seen_by r.window)); begin = r.window.begin; seen = seen_by r.window } };
+    ghost view = { λ r. record {
+      head = r.head;
+      place = r.place;
+      payload = take r.size (drop r.from (seen_by r.window));
+      begin = r.window.begin;
+      seen = seen_by r.window;
+    } };
 
-    ghost invariant = { λ r. (r.window.begin ≤ r.place) × (r.from + r.size ≤ r.window.filled) × (S.shape.max_payload + 6 ≤ length r.window.buffer.items) };
+    ghost invariant = { λ r. (r.window.begin ≤ r.place) × (r.from + r.size ≤ r.window.filled)
+        × (S.shape.max_payload + 6 ≤ room_of r.window) };
 }
 
 impl<S: Shape> Records<S> {
-    /// Opens a file, and stands at its first record. Nothing comes back where it has no head of the shape.
+    /// Opens a file, and stands at its first record. Nothing comes back where it has no head of the
+    /// shape.
     pub fn open<D: Disk>(alloc: Global, disk: &mut D) -> Result<Option<Records<S>>, DiskFail>
-        ensures value { IfSome (D.state disk.old).reads (λ bytes. IfOk result (Opens S.is_head bytes)) }
+        ensures value { IfSome (D.state disk.old).reads (λ bytes.
+            IfOk result (Opens S.is_head bytes)) }
         ensures begins { IfOk result (λ opened. IfSome opened (Begins S.is_head)) }
         ensures same { Unchanged (D.state disk.old) (D.state disk.new) }
         ensures frame { GoesOn (D.state disk.old) (D.state disk.new) }
@@ -60,7 +70,8 @@ impl<S: Shape> Records<S> {
         requires begin { window.begin ≡ 0 }
         requires room { S.shape.max_payload + 6 ≤ room_of window }
         requires head { 64 < room_of window }
-        ensures value { (bytes : List ℕ) → seen_by window ≡ take (room_of window) bytes → Opens S.is_head bytes result }
+        ensures value { (bytes : List ℕ) → seen_by window ≡ take (room_of window) bytes
+            → Opens S.is_head bytes result }
         ensures begins { IfSome result (Begins S.is_head) }
     {
         let head = head_of::<S>(window.from(0))?;
@@ -81,7 +92,7 @@ impl<S: Shape> Records<S> {
         &self.head
     }
 
-    /// The payload of the record that was read last, and nothing before the first and after a refusal.
+    /// The payload of the record that was read last: nothing before the first and after a refusal.
     pub fn payload(&self) -> &[u8]
         ensures value { result.now ≡ self.now.payload }
     {
@@ -95,19 +106,20 @@ impl<S: Shape> Records<S> {
         self.place
     }
 
-    /// Whether the gate at the place is open, as far as it is seen: at the end of the records it is.
+    /// Whether the gate at the place is open, as far as it is seen. At the end of the records it is.
     pub fn is_at_open_gate(&self) -> bool
         ensures value { result ≡ (slice_index (ahead self.now) 0 == open_gate) }
     {
-        self.window.from(self.place).first() == Some(&0xa7)
+        self.window.from(self.place).first() == Some(&OPEN)
     }
 
-    /// Reads the next record, and answers whether there is one. At the end it stands at the gate that ends the records.
-    /// After a refusal it stands where it stood.
+    /// Reads the next record, and answers whether there is one. At the end it stands at the gate that
+    /// ends the records. After a refusal it stands where it stood.
     pub fn advance<D: Disk>(&mut self, disk: &mut D) -> Result<bool, DiskFail>
         ensures value { IfSome (D.state disk.old).reads (λ bytes. IsSeenIn bytes self.old
             → IfOk result (λ found. ReadsNext S.shape bytes self.old found self.new)) }
-        ensures seen { IfSome (D.state disk.old).reads (λ bytes. IsSeenIn bytes self.old → IsSeenIn bytes self.new) }
+        ensures seen { IfSome (D.state disk.old).reads (λ bytes.
+            IsSeenIn bytes self.old → IsSeenIn bytes self.new) }
         ensures moves { IfOk result (λ found. Moves S.shape self.old found self.new) }
         ensures err { OnErr result (self.new.place ≡ self.old.place) }
         ensures head { self.new.head ≡ self.old.head }
@@ -144,7 +156,8 @@ impl<S: Shape> Records<S> {
 
     /// Looks at the file from the place on.
     fn refill<D: Disk>(&mut self, disk: &mut D) -> Result<(), DiskFail>
-        ensures filled { IfSome (D.state disk.old).reads (λ bytes. OnOk result (IsFilled S.shape bytes self.new)) }
+        ensures filled { IfSome (D.state disk.old).reads (λ bytes.
+            OnOk result (IsFilled S.shape bytes self.new)) }
         ensures seen { IfSome (D.state disk.old).reads (λ bytes. IsSeenIn bytes self.new) }
         ensures place { self.new.place ≡ self.old.place }
         ensures head { self.new.head ≡ self.old.head }

@@ -34,7 +34,8 @@ impl Window {
 
     /// Reads from a place on, with one call. After a refusal nothing is seen.
     pub fn refill<D: Disk>(&mut self, disk: &mut D, place: u64) -> Result<(), DiskFail>
-        ensures value { IfSome (D.state disk.old).reads (λ bytes. OnOk result (seen_by self.new ≡ take (room_of self.old) (drop place bytes))) }
+        ensures value { IfSome (D.state disk.old).reads (λ bytes.
+            OnOk result (seen_by self.new ≡ take (room_of self.old) (drop place bytes))) }
         ensures err { OnErr result (seen_by self.new ≡ []) }
         ensures begin { self.new.begin ≡ place }
         ensures room { room_of self.new ≡ room_of self.old }

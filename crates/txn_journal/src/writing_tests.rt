@@ -3,11 +3,11 @@
 ghost use Rattle.std.specs.Prelude.{◌≡◌, refl, true, ◌==◌, ◌&&◌, slice_index};
 ghost use Rattle.std.proofs.Common.{lit<};
 
-use crate::{Journal, JournalFail, Records, Shape, StoreShape, create};
+use crate::{Journal, JournalFail, Opened, Shape, StoreShape, create, open_journal, read_stored};
 use disk_model::{Disk, MemDisk};
 use std::alloc::Global;
 use std::test::Fail;
-use tuple_bytes::{Header, encode_header};
+use tuple_bytes::{Header, Item, encode_header};
 
 /// Any payloads of at most 100 bytes behind a head of the letter T, in a file of at most 127 bytes.
 struct Tiny;
@@ -52,12 +52,22 @@ fn tiny_head() -> [u8; 64]
     head
 }
 
+fn store_head() -> [u8; 64] {
+    encode_header(&Header {
+        id: 7,
+        epoch: 1,
+        width: 60,
+        k: 3,
+        algs: 0,
+    })
+}
+
 #[test]
 fn the_next_gate_stays_below_the_limit(rt: HostRuntime) -> Result<(), Fail> {
     let alloc = rt.alloc();
     let mut disk = MemDisk::new(alloc);
     create::<MemDisk, Tiny>(&mut disk, &tiny_head())?;
-    let mut journal = Journal::<Tiny>::standing(64, false);
+    let mut journal = open_journal::<MemDisk, Tiny>(alloc, &mut disk)?.journal;
     let full = journal.append(alloc, &mut disk, &[7; 59]);
     assert_eq!(rt; full, Err(JournalFail::StoreFull));
     assert_eq!(rt; (journal.end(), journal.is_closed()), (64, false));
@@ -119,76 +129,91 @@ fn file_with_old<S: Shape>(
     head: &[u8; 64],
     gate_is_open: bool,
     stop: u64,
-) -> Result<(MemDisk, Journal<S>), Fail> {
+) -> Result<(MemDisk, Opened<S>), Fail> {
     let mut disk = MemDisk::new(alloc);
     if head[0] == 0xA7 && S::head(head) {
         create::<MemDisk, S>(&mut disk, head)?;
     }
-    let mut journal = Journal::<S>::standing(64, false);
-    add(alloc, &mut journal, &mut disk, &OLD)?;
-    let end = journal.end();
+    let mut made = open_journal::<MemDisk, S>(alloc, &mut disk)?;
+    add(alloc, &mut made.journal, &mut disk, &OLD)?;
     if gate_is_open {
-        disk.write_at(end, &[0xA7])?;
+        disk.write_at(made.journal.end(), &[0xA7])?;
         disk.sync()?;
     }
+    let opened = open_journal::<MemDisk, S>(alloc, &mut disk)?;
     disk.failing(Vec::new(alloc), [stop].to_vec(alloc)?);
-    Ok((disk, Journal::standing(end, gate_is_open)))
+    Ok((disk, opened))
 }
 
 /// The payloads, one behind the other.
 fn left<S: Shape>(alloc: Global, disk: &mut MemDisk) -> Result<Vec<u8>, Fail> {
     let mut all = Vec::new(alloc);
-    if let Some(mut records) = Records::<S>::open(alloc, disk)? {
-        for _ in 0..4 {
-            if records.advance(disk)? {
-                all.extend_from_slice(records.payload())?;
-            }
-        }
+    let opened = open_journal::<MemDisk, S>(alloc, disk)?;
+    for payload in opened.payloads.as_slice() {
+        all.extend_from_slice(payload.as_slice())?;
     }
     Ok(all)
 }
 
-/// Adds the new item, up to a changing call that fails, and lets the disk crash: the answer, whether the journal is
-/// closed, and the payloads that are left.
+/// Adds the new item, up to a changing call that fails, and lets the disk crash: the number of calls of an append,
+/// whether it was answered Ok, whether the journal is closed, and the payloads that are left.
 fn torn<S: Shape>(
     alloc: Global,
     head: &[u8; 64],
     gate_is_open: bool,
     stop: u64,
     choice: u64,
-) -> Result<(bool, bool, Vec<u8>), Fail> {
-    let (mut disk, mut journal) = file_with_old::<S>(alloc, head, gate_is_open, stop)?;
-    let answer = add(alloc, &mut journal, &mut disk, &NEW);
+) -> Result<(u8, bool, bool, Vec<u8>), Fail> {
+    let (mut disk, mut opened) = file_with_old::<S>(alloc, head, gate_is_open, stop)?;
+    let calls = opened.journal.calls();
+    let answer = add(alloc, &mut opened.journal, &mut disk, &NEW);
     disk.crash(choice)?;
     let payloads = left::<S>(alloc, &mut disk)?;
-    Ok((answer.is_ok(), journal.is_closed(), payloads))
+    Ok((calls, answer.is_ok(), opened.journal.is_closed(), payloads))
 }
 
 #[test]
 fn a_torn_append_leaves_the_old_payloads_or_the_new_one_too(rt: HostRuntime) -> Result<(), Fail> {
     let alloc = rt.alloc();
-    let store = encode_header(&Header {
-        id: 7,
-        epoch: 1,
-        width: 60,
-        k: 3,
-        algs: 0,
-    });
-    for (gate_is_open, calls) in [(false, 4), (true, 6)] {
+    for (gate_is_open, expected) in [(false, 4), (true, 6)] {
         for stop in 1..=7u64 {
             for choice in [0, 1, 200] {
                 for tiny in [false, true] {
-                    let (added, closed, payloads) = if tiny {
+                    let (calls, added, closed, payloads) = if tiny {
                         torn::<Tiny>(alloc, &tiny_head(), gate_is_open, stop, choice)?
                     } else {
-                        torn::<StoreShape>(alloc, &store, gate_is_open, stop, choice)?
+                        torn::<StoreShape>(alloc, &store_head(), gate_is_open, stop, choice)?
                     };
-                    assert_eq!(rt; (added, closed), (calls < stop, stop <= calls));
+                    assert_eq!(rt; calls, expected);
+                    assert_eq!(rt;
+                        (added, closed),
+                        (u64::from(calls) < stop, stop <= u64::from(calls))
+                    );
                     let both = payloads.as_slice() == BOTH.as_slice();
                     assert!(rt; both || (!added && payloads.as_slice() == OLD.as_slice()));
                 }
             }
         }
     }
+    Ok(())
+}
+
+#[test]
+fn a_store_is_read_back(rt: HostRuntime) -> Result<(), Fail> {
+    let alloc = rt.alloc();
+    let mut disk = MemDisk::new(alloc);
+    let none = read_stored(alloc, &mut disk)?;
+    assert!(rt; none.header.is_none() && none.items.as_slice().is_empty() && none.end == 0);
+    let (mut disk, mut opened) = file_with_old::<StoreShape>(alloc, &store_head(), false, 9)?;
+    add(alloc, &mut opened.journal, &mut disk, &NEW)?;
+    let stored = read_stored(alloc, &mut disk)?;
+    assert_eq!(rt; stored.header.map(|header| header.id), Some(7));
+    assert_eq!(rt; (stored.items.as_slice().len(), stored.end), (2, 92));
+    assert!(rt;
+        matches!(
+            stored.items.as_slice(),
+            [Item::Frontier { moment: 1 }, Item::Frontier { moment: 9 }]
+        )
+    );
     Ok(())
 }

@@ -1,10 +1,10 @@
 //! The cumulative chain over the items of a store, each transaction spelled anew.
 
-ghost use Rattle.std.specs.Prelude.{◌≡◌, ◌∷◌, ◌++◌, IfOk, All};
+ghost use Rattle.std.specs.Prelude.{◌≡◌, ◌∷◌, ◌++◌, IfErr, IfOk, All};
 ghost use Rattle.sha2.specs.Sha256.{sha256};
 ghost use Rattle.history_model.specs.Digests.{seed, link_of};
 ghost use Rattle.history_model.specs.History.{txns};
-ghost use Rattle.history_model.specs.Linked.{after_item};
+ghost use Rattle.history_model.specs.Plain.{after_item};
 ghost use Rattle.history_model.specs.Stored.{IsStorable};
 
 use sha2::{Digest, Sha256};
@@ -32,7 +32,8 @@ pub fn seed(header: &Header) -> [u8; 32]
 /// The value after one more item: a transaction is linked, a frontier is not.
 fn after(alloc: Global, last: &[u8; 32], item: &Item) -> Result<[u8; 32], EncodeFail>
     requires { IsStorable item.now }
-    ensures { IfOk result (λ d. d ≡ after_item last.now item.now) }
+    ensures value { IfOk result (λ d. d ≡ after_item last.now item.now) }
+    ensures no_memory { IfErr result (λ e. e ≡ EncodeFail.NoMemory) }
 {
     match item {
         Item::Txn(_) => {
@@ -47,6 +48,7 @@ fn after(alloc: Global, last: &[u8; 32], item: &Item) -> Result<[u8; 32], Encode
 pub fn link(alloc: Global, header: &Header, items: &[Item]) -> Result<[u8; 32], EncodeFail>
     requires { All IsStorable items.now }
     ensures value { IfOk result (λ d. d ≡ link_of header.now (txns items.now)) }
+    ensures no_memory { IfErr result (λ e. e ≡ EncodeFail.NoMemory) }
 {
     let mut last = seed(header);
     for item in items {

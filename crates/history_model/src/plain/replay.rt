@@ -2,13 +2,16 @@
 
 ghost use Rattle.std.specs.Prelude.{◌≡◌, ◌<◌, ◌≤◌, IfOk, All, length};
 ghost use Rattle.byte_grammar.specs.Reading.{Gives};
-ghost use Rattle.history_model.specs.Replay.{framed_payload, record_at, replayed};
+ghost use Rattle.history_model.specs.Plain.{framed_payload, record_at, replayed};
 ghost use Rattle.history_model.specs.Stored.{IsStorable, IsStored, front_header, header_length, max_file, stored};
 
 use crate::stored::Stored;
 use byte_grammar::{byte_of, u32_of};
 use std::alloc::{AllocError, Global};
-use tuple_bytes::{Header, Item, Items, decode_header, decode_item};
+use tuple_bytes::{Header, Item, Items, MAX_PAYLOAD, decode_header, decode_item};
+
+/// The place that no gate reaches.
+const MAX_FILE: usize = 67_108_864;
 
 /// The payload of the framed record at the front of the bytes, which stand at this place.
 fn framed_payload(place: usize, bytes: &[u8]) -> Option<&[u8]>
@@ -18,10 +21,10 @@ fn framed_payload(place: usize, bytes: &[u8]) -> Option<&[u8]>
     let (gate, rest) = byte_of(bytes)?;
     let (length, rest) = u32_of(rest)?;
     let length = length as usize;
-    if gate != 0xa7 || length > 32_768 || rest.len() <= length {
+    if gate != 0xa7 || length > MAX_PAYLOAD || rest.len() <= length {
         return None;
     }
-    if place + 5 + length >= 67_108_864 {
+    if place + 5 + length >= MAX_FILE {
         return None;
     }
     Some(&rest[..length])

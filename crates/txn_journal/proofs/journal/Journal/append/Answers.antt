@@ -1,6 +1,5 @@
-use Rattle.std.proofs.Common.{◌≡◌, ◌+◌, ◌<◌, ◌∙◌, length, Result, Ok, Err, subst, arith}
+use Rattle.std.proofs.Common.{◌≡◌, ◌+◌, ◌<◌, ◌∙◌, length, Ok, Err, subst, arith}
 use Rattle.outside_words.specs.Told.{WhereTold}
-use Rattle.disk_words.specs.declared.DiskFail.{DiskFail}
 use Rattle.disk_words.proofs.Frame.{goes_on_same}
 use Rattle.txn_journal.specs.Held.{Standing}
 use Rattle.txn_journal.specs.Append.{behind_gate, Appends}

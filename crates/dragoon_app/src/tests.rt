@@ -1,0 +1,295 @@
+//! The top call over worked stores and failing devices.
+
+use crate::{Status, dragoon, leading};
+use disk_model::MemDisk;
+use outside_io::{MemClock, MemSink};
+use std::alloc::{AllocError, Global};
+use std::test::Fail;
+
+fn put_number(bytes: &mut Vec<u8>, number: u64, len: usize) -> Result<(), AllocError> {
+    bytes.extend_from_slice(&number.to_be_bytes()[8 - len.min(8)..])
+}
+
+/// A header, a table and so many rows, a minute apart, and a Frontier. With eight rows it is the
+/// worked store.
+fn store(alloc: Global, rows: u32) -> Result<Vec<u8>, AllocError> {
+    let mut bytes = b"\xa7DRAGOON1\0\0\0\0\0\0\0\x07\0\0\0\0\0\0\0\0\0\0\0\x3c\x03\x03".to_vec(
+        alloc,
+    )?;
+    bytes.extend_from_slice(&[0; 33])?;
+    bytes.extend_from_slice(
+        b"\xa7\0\0\0\x19\x01\0\0\0\x01\0\0\0\0\0\0\0\0\0\x01\x01\x01t\x02\x01k\x01\x01v\x01",
+    )?;
+    for row in 0..rows {
+        bytes.extend_from_slice(b"\xa7\0\0\0\x25\x01")?;
+        put_number(&mut bytes, u64::from(row) + 2, 4)?;
+        put_number(&mut bytes, 60 * u64::from(row), 8)?;
+        bytes.extend_from_slice(b"\0\x01\x02\x01t\x02\x01")?;
+        put_number(&mut bytes, u64::from(row), 8)?;
+        bytes.extend_from_slice(b"\x01\0\0\0\0\0\0\0\0")?;
+    }
+    bytes.extend_from_slice(b"\xa7\0\0\0\x09\x02")?;
+    put_number(&mut bytes, 60 * u64::from(rows), 8)?;
+    bytes.extend_from_slice(b"\0")?;
+    Ok(bytes)
+}
+
+fn words(alloc: Global, texts: &[&str]) -> Result<Vec<String>, AllocError> {
+    let mut words = Vec::new(alloc);
+    for text in texts {
+        words.push(String::from_str(alloc, text)?)?;
+    }
+    Ok(words)
+}
+
+/// How the call over these bytes ends, and what it writes.
+fn outcome(
+    alloc: Global,
+    texts: &[&str],
+    bytes: Vec<u8>,
+    failing_reads: &[u64],
+    failing_writes: &[u64],
+) -> Result<(u8, Vec<u8>), AllocError> {
+    let words = words(alloc, texts)?;
+    let mut store = MemDisk::holding(alloc, bytes);
+    store.failing(failing_reads.to_vec(alloc)?, Vec::new(alloc));
+    let mut out = MemSink::new(alloc, failing_writes.to_vec(alloc)?);
+    let mut clock = MemClock::new(Vec::new(alloc));
+    let status = dragoon(alloc, &words, &mut store, &mut clock, &mut out);
+    Ok((status.code(), out.bytes().to_vec(alloc)?))
+}
+
+#[test]
+fn link_tells_the_transactions_and_their_chain(rt: HostRuntime) -> Result<(), Fail> {
+    let alloc = rt.alloc();
+    let mut empty = store(alloc, 0)?;
+    empty.truncate(64);
+    empty.push(0)?;
+    let (status, text) = outcome(alloc, &["link"], empty, &[], &[])?;
+    assert_eq!(rt; status, 0);
+    assert_eq!(rt;
+        text.as_slice(),
+        b"txns 0\nlink 91bb1e93ad90c2a95e1921cab17bc5aa1e88fb5738aa3a413cd28c70b4f43b92\n".as_slice()
+    );
+    let (_, text) = outcome(alloc, &["link"], store(alloc, 8)?, &[], &[])?;
+    assert_eq!(rt;
+        text.as_slice(),
+        b"txns 9\nlink f87cbf8193e5ef79956ed0ccc181c1f75d54b9efd5ef2653599a6453cc09e26e\n".as_slice()
+    );
+    Ok(())
+}
+
+#[test]
+fn a_spoiled_length_ends_the_history(rt: HostRuntime) -> Result<(), Fail> {
+    let alloc = rt.alloc();
+    let mut edited = store(alloc, 8)?;
+    edited.truncate(95);
+    edited.extend_from_slice(&[0, 0, 0x80, 1])?;
+    let whole = store(alloc, 8)?;
+    edited.extend_from_slice(whole.get(99..).ok_or("short")?)?;
+    let (_, text) = outcome(alloc, &["link"], edited, &[], &[])?;
+    assert_eq!(rt;
+        text.as_slice(),
+        b"txns 1\nlink 57397a1f916ee3760c24b0eafe15ed750382ea2e9ca841430b03cf4c8ba99bc3\n".as_slice()
+    );
+    Ok(())
+}
+
+#[test]
+fn link_goes_across_windows(rt: HostRuntime) -> Result<(), Fail> {
+    let alloc = rt.alloc();
+    let (_, text) = outcome(alloc, &["link"], store(alloc, 10_000)?, &[], &[])?;
+    assert_eq!(rt;
+        text.as_slice(),
+        b"txns 10001\nlink d96dd11a396f09b99ba2fba23ffb0d1edc6e042c26ccb85233565af4647e561a\n".as_slice()
+    );
+    Ok(())
+}
+
+#[test]
+fn each_refusal_is_told_by_its_line(rt: HostRuntime) -> Result<(), Fail> {
+    let alloc = rt.alloc();
+    let no_words: [&str; 0] = [];
+    for (texts, size, failing_reads, failing_writes, wanted) in [
+        (
+            no_words.as_slice(),
+            445,
+            [0],
+            [0],
+            (2, b"fault Usage\n".as_slice()),
+        ),
+        (
+            ["link", "x"].as_slice(),
+            445,
+            [0],
+            [0],
+            (2, b"fault Usage\n".as_slice()),
+        ),
+        (
+            ["link "].as_slice(),
+            445,
+            [0],
+            [0],
+            (2, b"fault Usage\n".as_slice()),
+        ),
+        (
+            ["link"].as_slice(),
+            0,
+            [0],
+            [0],
+            (4, b"fault NotAStore\n".as_slice()),
+        ),
+        (
+            ["link"].as_slice(),
+            64,
+            [0],
+            [0],
+            (4, b"fault NotAStore\n".as_slice()),
+        ),
+        (
+            ["link"].as_slice(),
+            445,
+            [1],
+            [0],
+            (5, b"fault DiskFault\n".as_slice()),
+        ),
+        (
+            ["link"].as_slice(),
+            445,
+            [2],
+            [0],
+            (5, b"fault DiskFault\n".as_slice()),
+        ),
+        (["link"].as_slice(), 445, [0], [1], (8, b"".as_slice())),
+        (["link"].as_slice(), 0, [0], [1], (8, b"".as_slice())),
+    ] {
+        let mut bytes = store(alloc, 8)?;
+        bytes.truncate(size);
+        let (status, text) = outcome(alloc, texts, bytes, &failing_reads, &failing_writes)?;
+        assert_eq!(rt; (status, text.as_slice()), wanted);
+    }
+    Ok(())
+}
+
+#[test]
+fn leading_words_name_devices_once(rt: HostRuntime) -> Result<(), Fail> {
+    let alloc = rt.alloc();
+    let no_words: [&str; 0] = [];
+    for (texts, wanted) in [
+        (no_words.as_slice(), 0),
+        (["link"].as_slice(), 0),
+        (["store=a"].as_slice(), 1),
+        (["store=", "link"].as_slice(), 1),
+        (["store=a", "store=b", "link"].as_slice(), 1),
+        (["notary=a", "store=b"].as_slice(), 0),
+        (["stor=a", "link"].as_slice(), 0),
+        (["link", "store=a"].as_slice(), 0),
+    ] {
+        assert_eq!(rt; leading(&words(alloc, texts)?), wanted);
+    }
+    Ok(())
+}
+
+/// How `init` over these bytes and then `link` end, what they write, and the store's bytes between.
+fn made(
+    alloc: Global,
+    texts: &[&str],
+    bytes: &[u8],
+    now: u64,
+) -> Result<(u8, Vec<u8>, Vec<u8>), AllocError> {
+    let words = words(alloc, texts)?;
+    let mut store = MemDisk::holding(alloc, bytes.to_vec(alloc)?);
+    let mut clock = MemClock::new(vec![in alloc; now]?);
+    let mut out = MemSink::new(alloc, Vec::new(alloc));
+    let status = dragoon(alloc, &words, &mut store, &mut clock, &mut out);
+    Ok((
+        status.code(),
+        out.bytes().to_vec(alloc)?,
+        store.bytes().to_vec(alloc)?,
+    ))
+}
+
+#[test]
+fn init_makes_a_store_of_65_bytes(rt: HostRuntime) -> Result<(), Fail> {
+    let alloc = rt.alloc();
+    let mut wanted = store(alloc, 0)?;
+    wanted.truncate(64);
+    wanted[30] = 0;
+    wanted.push(0)?;
+    let mut free = vec![in alloc; 0u8; 40]?;
+    for before in [b"".as_slice(), b"\xa7".as_slice(), free.as_slice()] {
+        let (status, text, bytes) = made(alloc, &["init", "7", "60", "3", "m"], before, 0)?;
+        assert_eq!(rt; (status, text.as_slice()), (0, b"ready 7\n".as_slice()));
+        assert_eq!(rt; bytes.as_slice(), wanted.as_slice());
+    }
+    let (_, text) = outcome(alloc, &["link"], wanted.to_vec(alloc)?, &[], &[])?;
+    assert_eq!(rt;
+        text.as_slice(),
+        b"txns 0\nlink 7472d54d4aa35e0f4ee072819cb3c15cb704c8fc1c71d3baac0dba7c6fabc9d9\n".as_slice()
+    );
+    free[0] = 0xa7;
+    for before in [wanted.as_slice(), free.as_slice()] {
+        let (status, text, bytes) = made(alloc, &["init", "7", "60", "3", "m"], before, 0)?;
+        assert_eq!(rt;
+            (status, text.as_slice()),
+            (13, b"fault AlreadyThere\n".as_slice())
+        );
+        assert_eq!(rt; bytes.as_slice(), before);
+    }
+    Ok(())
+}
+
+#[test]
+fn the_clock_is_looked_at_before_the_store(rt: HostRuntime) -> Result<(), Fail> {
+    let alloc = rt.alloc();
+    let call = ["init", "7", "60", "3", "m"];
+    let (status, _, bytes) = made(alloc, &call, b"", 1_099_511_627_775)?;
+    assert_eq!(rt;
+        (status, &bytes[17..25]),
+        (0, b"\0\0\0\xff\xff\xff\xff\xff".as_slice())
+    );
+    let (status, text, bytes) = made(alloc, &call, &bytes, 1_099_511_627_776)?;
+    assert_eq!(rt;
+        (status, text.as_slice()),
+        (15, b"fault TooLate\n".as_slice())
+    );
+    assert_eq!(rt; bytes.len(), 65);
+    Ok(())
+}
+
+#[test]
+fn numbers_are_plain_and_in_their_ranges(rt: HostRuntime) -> Result<(), Fail> {
+    let alloc = rt.alloc();
+    for (id, width, k, algs, wanted) in [
+        ("0", "1", "0", "m", 0),
+        ("18446744073709551615", "86400", "10", "m", 0),
+        ("18446744073709551616", "60", "3", "m", 2),
+        ("07", "60", "3", "m", 2),
+        ("+7", "60", "3", "m", 2),
+        ("", "60", "3", "m", 2),
+        ("7", "0", "3", "m", 2),
+        ("7", "86401", "3", "m", 2),
+        ("7", "60", "11", "m", 2),
+        ("7", "60", "3", "x", 2),
+    ] {
+        let (status, _, _) = made(alloc, &["init", id, width, k, algs], b"", 0)?;
+        assert_eq!(rt; status, wanted);
+    }
+    Ok(())
+}
+
+#[test]
+fn each_status_has_its_number(rt: HostRuntime) {
+    let numbers = [
+        Status::Ok,
+        Status::Usage,
+        Status::NotAStore,
+        Status::DiskFault,
+        Status::WriteFault,
+        Status::NoMemory,
+        Status::AlreadyThere,
+        Status::TooLate,
+    ]
+    .map(|status| status.code());
+    assert_eq!(rt; numbers, [0, 2, 4, 5, 8, 9, 13, 15]);
+}

@@ -1,0 +1,80 @@
+//! Reading all that a store holds.
+
+ghost use Rattle.std.specs.Prelude.{◌≡◌, ◌++◌, ◌∷◌, [], Some, None, IfSome, IfOk, IfErr, OnOk, OnErr};
+ghost use Rattle.std.specs.List.{filter_map};
+ghost use Rattle.outside_words.specs.Faults.{HasCause};
+ghost use Rattle.disk_words.specs.Disk.{Unchanged, GoesOn};
+ghost use Rattle.tuple_bytes.specs.Items.{item_of};
+ghost use Rattle.history_model.specs.Stored.{store_shape, stored, stored_under};
+ghost use Rattle.txn_journal.specs.declared.fail.JournalFail.TheVariants.{DiskFault};
+ghost use Rattle.txn_journal.specs.Reading.{left, IsSeenIn};
+ghost use Rattle.txn_journal.specs.Opening.{IsOfDisk};
+
+use crate::{JournalFail, Records, StoreShape};
+use disk_model::Disk;
+use history_model::Stored;
+use std::alloc::{AllocError, Global};
+use tuple_bytes::{Header, Items, decode_header, decode_item};
+
+/// The header of a store, its items, and where they end. Bytes without a header store nothing.
+pub fn read_stored<D: Disk>(alloc: Global, disk: &mut D) -> Result<Stored, JournalFail>
+    ensures value { IfSome (D.state disk.old).reads (λ bytes. IfOk result (λ s. s ≡ stored bytes)) }
+    ensures none_other { IfErr result IsOfDisk }
+    ensures same { Unchanged (D.state disk.old) (D.state disk.new) }
+    ensures frame { GoesOn (D.state disk.old) (D.state disk.new) }
+    ensures cause { HasCause DiskFault (D.state disk.old).faults (D.state disk.new).faults result }
+{
+    if let Some(records) = Records::<StoreShape>::open(alloc, disk)? {
+        if let Some(header) = decode_header(records.head()) {
+            return read_items(alloc, disk, records, header);
+        }
+    }
+    Ok(nothing(alloc))
+}
+
+/// What bytes without a header store.
+fn nothing(alloc: Global) -> Stored
+    ensures value { result ≡ stored_under None ([], 0) }
+{
+    Stored {
+        header: None,
+        items: Items::new(alloc),
+        end: 0,
+    }
+}
+
+/// Reads all items behind a header.
+fn read_items<D: Disk>(
+    alloc: Global,
+    disk: &mut D,
+    mut records: Records<StoreShape>,
+    header: Header,
+) -> Result<Stored, JournalFail>
+    requires begins { records.place ≡ 64 }
+    ensures value { IfSome (D.state disk.old).reads (λ bytes. IsSeenIn bytes records
+        → IfOk result (λ s. s ≡ stored_under (Some header) (left store_shape 64 bytes))) }
+    ensures none_other { IfErr result IsOfDisk }
+    ensures same { Unchanged (D.state disk.old) (D.state disk.new) }
+    ensures frame { GoesOn (D.state disk.old) (D.state disk.new) }
+    ensures cause { HasCause DiskFault (D.state disk.old).faults (D.state disk.new).faults result }
+{
+    let mut items = Items::new(alloc);
+    'records: while records.advance(disk)? {
+        read_item(alloc, &mut items, records.payload())?;
+    }
+    Ok(Stored {
+        header: Some(header),
+        items,
+        end: records.place(),
+    })
+}
+
+/// Adds the item that a payload spells.
+fn read_item(alloc: Global, items: &mut Items, payload: &[u8]) -> Result<(), AllocError>
+    ensures ok { OnOk result (items.new ≡ items.old ++ filter_map item_of (payload.now ∷ [])) }
+{
+    match decode_item(alloc, payload)? {
+        Some(item) => items.push(item),
+        None => Ok(()),
+    }
+}
