@@ -5,7 +5,7 @@ ghost use Rattle.std.specs.List.{list_all};
 ghost use Rattle.byte_grammar.specs.Reading.{Gives};
 ghost use Rattle.stmt_text.specs.Numbers.{are_digits, is_digit, number_after, number, clamped, minus, int, clamped_int, is_plain, plain_number};
 
-/// Which numbers are read: those of any width, where one past its range is read as the greatest in it,
+/// Which numbers are read: those of any width, where one out of its range stands for some other number,
 /// or those in their ranges alone.
 #[derive(Clone, Copy, Debug)]
 pub enum Numbers {
