@@ -5,3 +5,9 @@ pub mod Inputs
 pub mod Laws
 pub mod Replay
 pub mod Linked
+pub mod Ordered
+pub mod Values
+pub mod State
+pub mod Changes
+pub mod Glance
+pub mod Answers

@@ -35,10 +35,18 @@
 //! ```
 #![tactic(auto)]
 
+mod change;
+mod checks;
+mod glance;
 mod laws;
 pub mod plain;
 mod stored;
 
+pub use change::{TableFail, Write};
+pub use checks::{
+    fault_of_key, fault_of_row, first_wrong, fits, is_fitting_row, lacks_key, may_be_columns,
+};
+pub use glance::{Glance, fault_of_write, glance_over, row_of_glance};
 pub use laws::{
     headers_tell_apart, links_tell_apart, stored_is_history, stored_is_longest, stores_tell_apart,
 };
