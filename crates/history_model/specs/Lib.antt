@@ -11,3 +11,4 @@ pub mod State
 pub mod Changes
 pub mod Glance
 pub mod Answers
+pub mod Places
