@@ -1,7 +1,7 @@
 -- Tables and keys, as the maps that hold them are read and written.
 use Rattle.std.proofs.Common.{◌≡◌, ℕ, zero, suc, Option, Some, None, is_some, true, false, List, [], ◌∷◌, map, slice_get, refl, sym, ap, subst, ◌∙◌}
 use Rattle.std.specs.BTreeMap.{insert_entry, is_at}
-use Rattle.std.specs.List.{AllByRecursion}
+use Rattle.std.specs.List.{AllByRecursion, cons_option, filter_map}
 use Rattle.std.specs.List.Sorted.{IsStrictlySortedBy}
 use Rattle.std.specs.Map.{keys_of, values_of, lookup, set_value}
 use Rattle.std.specs.Option.{option_map, option_and_then}
@@ -13,6 +13,7 @@ use Rattle.tuple_bytes.proofs.Exact.{names_exact, values_exact}
 use Rattle.history_model.specs.Ordered.{item_at, changed_at}
 use Rattle.tt_table.specs.declared.version.Version.{Version}
 use Rattle.tt_table.specs.Versions.{KeyVersions, TableVersions, AreVersions, IsChain, IsKey, IsTable, KeysRise, NamesRise, live_row, live_key, at_key, at_name, keyed, named}
+use Rattle.tt_table.specs.Shown.{rows_at}
 use Rattle.tt_table.proofs.Maps.{found_is, keys_shown, map_item, map_written, map_inserted, map_gap}
 use Rattle.tt_table.proofs.Times.{versions_of_key}
 
@@ -21,6 +22,15 @@ pub value_place : (es : List (Value × List Version)) (i : ℕ) → slice_get (v
 value_place [] i = refl
 value_place (e ∷ es) zero = refl
 value_place (e ∷ es) (suc i) = value_place es i
+
+-- the rows of all keys, and that the versions of each are in order
+pub rows_shown : (m : ℕ) (es : List (Value × List Version)) → rows_at m es ≡ filter_map (live_key m) (map keyed es)
+rows_shown m [] = refl
+rows_shown m (e ∷ es) = ap (cons_option (live_row m e.1)) (rows_shown m es)
+
+pub keys_shown_are : (es : List (Value × List Version)) → AllByRecursion (λ k. AreVersions k.versions) (map keyed es) → AllByRecursion (λ k. AreVersions k.1) es
+keys_shown_are [] h = tt
+keys_shown_are (e ∷ es) h = (h.0, keys_shown_are es h.1)
 
 -- the keys of a table
 module _ (key : Value) (es : List (Value × List Version)) where

@@ -6,7 +6,8 @@ ghost use Rattle.std.specs.Option.{option_copied, option_map};
 ghost use Rattle.history_model.specs.Ordered.{changed_at};
 ghost use Rattle.history_model.specs.Values.{key_of};
 ghost use Rattle.tuple_bytes.specs.Limits.{max_columns};
-ghost use Rattle.tt_table.specs.Versions.{keyed, at_key, key_in, glance_in, live_row, AreVersions, IsInOrder, IsKey, IsTable, KeysRise, put_version, end_version, with_version, without_version};
+ghost use Rattle.tt_table.specs.Shown.{shown_at, columns_and_rows};
+ghost use Rattle.tt_table.specs.Versions.{keyed, at_key, key_in, glance_in, live_table, AreVersions, IsInOrder, IsKey, IsTable, KeysRise, put_version, end_version, with_version, without_version};
 
 use crate::version::{Version, row_live_at};
 use crate::versions::Versions;
@@ -20,6 +21,13 @@ use tuple_bytes::{Columns, Row, Value};
 pub type Keys<'a> = btree_map::Iter<'a, Value, Versions>;
 
 type KeyMap = BTreeMap<Value, Versions>;
+
+/// A table as it is at a moment: its columns, and the keys whose versions say its rows.
+#[derive(Drop)]
+pub struct TableAt<'a> {
+    pub columns: &'a Columns,
+    pub keys: Keys<'a>,
+}
 
 /// A table, with each key that it ever held. It stands in a map under its name, and does not know it.
 #[derive(Drop)]
@@ -71,6 +79,21 @@ impl Kept {
         ensures value { map keyed result ≡ self.now.keys }
     {
         self.keys.iter()
+    }
+
+    /// The table at a moment, if it was created by then.
+    pub(crate) fn at(&self, moment: u64) -> Option<TableAt<'_>>
+        requires { IsInOrder self.now }
+        ensures value { option_map (shown_at moment) result ≡ option_map columns_and_rows (live_table moment self.now) }
+        ensures versions { IfSome result (λ t. AllByRecursion (λ k. AreVersions k.1) t.keys) }
+    {
+        if moment < self.created {
+            return None;
+        }
+        Some(TableAt {
+            columns: &self.columns,
+            keys: self.keys.iter(),
+        })
     }
 
     /// The versions of the key at a place.

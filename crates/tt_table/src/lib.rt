@@ -9,7 +9,7 @@ mod version;
 mod versions;
 
 pub use history_model::{TableFail, Write};
-pub use kept::Keys;
+pub use kept::{Keys, TableAt};
 pub use laws::versions_stand_for_transactions;
 pub use tables::Tables;
 pub use version::{Version, row_live_at};

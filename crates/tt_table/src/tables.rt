@@ -1,17 +1,19 @@
 //! The tables, and what is read from them.
 
 ghost use Rattle.std.specs.Prelude.{◌≡◌, ℕ, ◌≤◌, ◌∷◌, [], ◌++◌, List, IfSome, OnOk, OnErr, map, take, slice_get, length};
+ghost use Rattle.std.specs.List.{AllByRecursion};
 ghost use Rattle.std.specs.Option.{option_copied, option_map, option_and_then};
 ghost use Rattle.tuple_bytes.specs.Limits.{max_columns};
 ghost use Rattle.tuple_bytes.specs.declared.item.Txn.{Txn as ATxn};
 ghost use Rattle.history_model.specs.Answers.{row_at, write_fault, prepared, shown};
 ghost use Rattle.history_model.specs.Glance.{glance};
-ghost use Rattle.history_model.specs.State.{after_ops};
+ghost use Rattle.history_model.specs.State.{after_ops, table_of};
 ghost use Rattle.tt_table.specs.Versions.{AreTables, AreVersions, IsInOrder, applied, keyed, named, table_in, key_in, state_at, state_now};
 ghost use Rattle.tt_table.specs.Stands.{StandsFor};
+ghost use Rattle.tt_table.specs.Shown.{shown_at, columns_and_rows};
 
 use crate::apply::{TableMap, apply_all};
-use crate::kept::{Kept, Keys};
+use crate::kept::{Kept, Keys, TableAt};
 use crate::version::Version;
 use crate::versions::Versions;
 use history_model::{Glance, TableFail, Write, fault_of_write, glance_over, row_of_glance};
@@ -109,6 +111,17 @@ impl Tables {
     {
         match self.table(table) {
             Some(table) => Some(table.keys()),
+            None => None,
+        }
+    }
+
+    /// A table as it is at a moment, if it was created by then.
+    pub fn table_at(&self, table: &Word, moment: u64) -> Option<TableAt<'_>>
+        ensures value { option_map (shown_at moment) result ≡ option_map columns_and_rows (table_of table.now (state_at self.now moment)) }
+        ensures versions { IfSome result (λ t. AllByRecursion (λ k. AreVersions k.1) t.keys) }
+    {
+        match self.table(table) {
+            Some(table) => table.at(moment),
             None => None,
         }
     }
