@@ -83,8 +83,10 @@ impl Kept {
 
     /// The table at a moment, if it was created by then.
     pub(crate) fn at(&self, moment: u64) -> Option<TableAt<'_>>
-        requires { IsInOrder self.now }
+        requires sound { IsInOrder self.now }
+        requires few { length self.now.columns ≤ max_columns }
         ensures value { option_map (shown_at moment) result ≡ option_map columns_and_rows (live_table moment self.now) }
+        ensures few { IfSome result (λ t. length t.columns.now ≤ max_columns) }
         ensures versions { IfSome result (λ t. AllByRecursion (λ k. AreVersions k.1) t.keys) }
     {
         if moment < self.created {

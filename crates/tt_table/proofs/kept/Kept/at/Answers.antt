@@ -22,5 +22,5 @@ returns-clause-value c =
 
 pub returns-clause-versions : goal.returns-clause-versions
 returns-clause-versions c =
-    let each : AllByRecursion (λ k. AreVersions k.versions) (map keyed c.self.inside.keys.entries) = subst (λ (t : TableVersions). AllByRecursion (λ k. AreVersions k.versions) t.keys) (sym c.self.view_is) c.requires.each in
+    let each : AllByRecursion (λ k. AreVersions k.versions) (map keyed c.self.inside.keys.entries) = subst (λ (t : TableVersions). AllByRecursion (λ k. AreVersions k.versions) t.keys) (sym c.self.view_is) c.requires.sound.each in
     subst (λ (l : List (Value × List Version)). AllByRecursion (λ k. AreVersions k.1) l) (sym c.iter.ensures.rest) (keys_shown_are c.self.inside.keys.entries each)
