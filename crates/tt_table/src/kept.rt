@@ -1,6 +1,6 @@
 //! A table with all versions of its rows.
 
-ghost use Rattle.std.specs.Prelude.{◌≡◌, ◌<◌, ◌≤◌, ◌^◌, [], OnSome, IfOk, IfSome, OnOk, OnErr, length, map, slice_get};
+ghost use Rattle.std.specs.Prelude.{◌≡◌, ◌<◌, ◌≤◌, ◌^◌, [], OnSome, IfOk, IfSome, OnOk, OnErr, length, map, nat_le, slice_get};
 ghost use Rattle.std.specs.List.{AllByRecursion};
 ghost use Rattle.std.specs.Option.{option_copied, option_map};
 ghost use Rattle.history_model.specs.Ordered.{changed_at};
@@ -74,6 +74,13 @@ impl Kept {
         self.created
     }
 
+    // Whether the table was there at a moment.
+    fn was_there(&self, moment: u64) -> bool
+        ensures value { result ≡ nat_le self.now.created moment }
+    {
+        self.created <= moment
+    }
+
     /// The keys with their versions, from the first on.
     pub(crate) fn keys(&self) -> Keys<'_>
         ensures value { map keyed result ≡ self.now.keys }
@@ -89,7 +96,7 @@ impl Kept {
         ensures few { IfSome result (λ t. length t.columns.now ≤ max_columns) }
         ensures versions { IfSome result (λ t. AllByRecursion (λ k. AreVersions k.1) t.keys) }
     {
-        if moment < self.created {
+        if !self.was_there(moment) {
             return None;
         }
         Some(TableAt {
@@ -119,7 +126,7 @@ impl Kept {
         requires few { length self.now.columns ≤ max_columns }
         ensures value { result ≡ glance_in moment key.now self.now }
     {
-        if moment < self.created {
+        if !self.was_there(moment) {
             return None;
         }
         let row = match self.keys.get(key) {

@@ -1,7 +1,6 @@
-use Rattle.std.proofs.Common.{◌≡◌, ℕ, List, [], Some, None, map, ap, sym, subst, ◌∙◌, arith, true, nat_le, if◌then◌else◌}
+use Rattle.std.proofs.Common.{◌≡◌, ℕ, List, [], Some, None, map, ap, sym, subst, ◌∙◌, true, nat_le, if◌then◌else◌}
 use Rattle.std.specs.List.{AllByRecursion, filter_map}
 use Rattle.std.specs.Option.{option_map}
-use Rattle.std.proofs.lemmas.Bool.Decides.{nat_tests}
 use Rattle.tuple_bytes.specs.declared.value.Value.{Value}
 use Rattle.tuple_bytes.specs.declared.op.Column.{Column}
 use Rattle.history_model.specs.State.{Table}
@@ -15,7 +14,7 @@ pub returns-clause-value : goal.returns-clause-value
 returns-clause-value c =
     let m = c.args.moment in
     let es = c.self.inside.keys.entries in
-    let there : nat_le c.self.inside.created c.args.moment ≡ true = grind (arith, nat_tests, c.if-moment-self.false) in
+    let there : nat_le c.self.inside.created c.args.moment ≡ true = ap (λ (t : TableVersions). nat_le t.created c.args.moment) c.self.view_is ∙ sym c.if-not-was_there.ensures.value in
     ap (λ (r : List (List Value)). Some (c.self.inside.columns, r)) (ap (rows_at m) c.iter.ensures.rest ∙ rows_shown m es)
     ∙ ap (λ b. option_map columns_and_rows (if b then Some (record { name = []; columns = c.self.inside.columns; rows = filter_map (live_key m) (map keyed es) }) else None)) (sym there)
     ∙ ap (λ (t : TableVersions). option_map columns_and_rows (live_table m t)) c.self.view_is

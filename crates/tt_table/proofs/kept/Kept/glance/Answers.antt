@@ -1,7 +1,6 @@
-use Rattle.std.proofs.Common.{◌≡◌, Option, Some, None, List, map, ap, sym, subst, ◌∙◌, arith, true, nat_le, if◌then◌else◌}
+use Rattle.std.proofs.Common.{◌≡◌, Option, Some, None, List, map, ap, sym, subst, ◌∙◌, true, nat_le, if◌then◌else◌}
 use Rattle.std.specs.List.{AllByRecursion}
 use Rattle.std.specs.Option.{option_copied, option_and_then}
-use Rattle.std.proofs.lemmas.Bool.Decides.{nat_tests}
 use Rattle.tuple_bytes.specs.declared.value.Value.{Value}
 use Rattle.history_model.specs.Ordered.{item_at}
 use Rattle.tt_table.specs.Versions.{TableVersions, AreVersions, KeysRise, at_key, keyed, live_row, live_key, glance_in}
@@ -20,7 +19,7 @@ returns c =
     let key = c.args.key.now in
     let es = c.self.inside.keys.entries in
     let rise : KeysRise (map keyed c.self.inside.keys.entries) = subst (λ (t : TableVersions). KeysRise t.keys) (sym c.self.view_is) c.requires.sound.rising in
-    let there : nat_le c.self.inside.created c.args.moment ≡ true = grind (arith, nat_tests, c.if-moment-self.false) in
+    let there : nat_le c.self.inside.created c.args.moment ≡ true = ap (λ (t : TableVersions). nat_le t.created c.args.moment) c.self.view_is ∙ sym c.if-not-was_there.ensures.value in
     let row : option_copied c.match-get.row ≡ option_and_then (live_key c.args.moment) (item_at (at_key c.args.key.now) (map keyed c.self.inside.keys.entries)) =
     elim c.match-get.branch [
       | in-Some w ↦ ap option_copied w.row-is ∙ w.row_live_at-row.ensures.value ∙ ap (live_row m) w.as_slice.ensures.value ∙ ap (option_and_then (live_row m)) w.in-Some.ensures.value ∙ key_live key es rise m
