@@ -61,7 +61,12 @@ fn filter(alloc: Global, column: Name, compare: Compare, value: Value) -> Result
     })
 }
 
-fn scanned(alloc: Global, tables: &Tables, filter: Option<&Filter>, moment: u64) -> Result<String, Fail> {
+fn scanned(
+    alloc: Global,
+    tables: &Tables,
+    filter: Option<&Filter>,
+    moment: u64,
+) -> Result<String, Fail> {
     let t = word(alloc, Name::T)?;
     rows_told(alloc, scan_at(alloc, tables, &t, filter, moment))
 }
@@ -72,7 +77,10 @@ fn a_scan_gives_the_rows_that_pass_in_the_order_of_their_keys(rt: HostRuntime) -
     let tables = history(alloc)?;
     assert_eq!(rt; scanned(alloc, &tables, None, 15)?.as_str(), "5 1, ");
     assert_eq!(rt; scanned(alloc, &tables, None, 39)?.as_str(), "");
-    assert_eq!(rt; scanned(alloc, &tables, None, 40)?.as_str(), "1 1, 2 2, 3 null, ");
+    assert_eq!(rt;
+        scanned(alloc, &tables, None, 40)?.as_str(),
+        "1 1, 2 2, 3 null, "
+    );
     let cases = [
         (Name::V, Compare::Equal, int(2), "2 2, "),
         (Name::V, Compare::NotEqual, int(2), "1 1, 3 null, "),
@@ -83,7 +91,12 @@ fn a_scan_gives_the_rows_that_pass_in_the_order_of_their_keys(rt: HostRuntime) -
         (Name::V, Compare::GreaterOrEqual, int(1), "1 1, 2 2, "),
         (Name::V, Compare::Equal, Value::Null, "3 null, "),
         (Name::X, Compare::Equal, int(1), "NoColumn"),
-        (Name::V, Compare::Equal, text(alloc, b"2")?, "BadType { column: 2 }"),
+        (
+            Name::V,
+            Compare::Equal,
+            text(alloc, b"2")?,
+            "BadType { column: 2 }",
+        ),
     ];
     for (column, compare, value, expected) in cases {
         let wanted = filter(alloc, column, compare, value)?;

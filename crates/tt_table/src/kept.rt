@@ -48,11 +48,7 @@ impl Model for Kept {
 
 impl Kept {
     /// A table without rows.
-    pub(crate) fn new(
-        alloc: Global,
-        columns: &Columns,
-        moment: u64,
-    ) -> Result<Kept, AllocError>
+    pub(crate) fn new(alloc: Global, columns: &Columns, moment: u64) -> Result<Kept, AllocError>
         ensures value { IfOk result (λ t. t ≡ record { name = []; columns = columns.now; created = moment; keys = [] }) }
     {
         Ok(Kept {

@@ -98,7 +98,12 @@ pub(super) fn history(alloc: Global) -> Result<Tables, Fail> {
     apply(alloc, &mut tables, 30, remove(alloc, Name::T, int(5))?)?;
     apply(alloc, &mut tables, 40, put(alloc, Name::T, int(2), int(2))?)?;
     apply(alloc, &mut tables, 40, put(alloc, Name::T, int(1), int(1))?)?;
-    apply(alloc, &mut tables, 40, put(alloc, Name::T, int(3), Value::Null)?)?;
+    apply(
+        alloc,
+        &mut tables,
+        40,
+        put(alloc, Name::T, int(3), Value::Null)?,
+    )?;
     apply(alloc, &mut tables, 50, put(alloc, Name::T, int(7), int(1))?)?;
     apply(alloc, &mut tables, 50, put(alloc, Name::T, int(7), int(2))?)?;
     apply(alloc, &mut tables, 60, create(alloc, Name::U)?)?;

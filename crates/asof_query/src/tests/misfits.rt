@@ -1,6 +1,9 @@
 //! Operations that do not fit, and writes that are refused.
 
-use super::made::{Name, apply, columns, create, history, int, put, remove, row, rows_told, text, versions_told, word};
+use super::made::{
+    Name, apply, columns, create, history, int, put, remove, row, rows_told, text, versions_told,
+    word,
+};
 use crate::{history_of, scan_at};
 use std::alloc::Global;
 use std::test::Fail;
@@ -31,7 +34,11 @@ fn many_columns(alloc: Global) -> Result<Columns, Fail> {
     let mut many = Columns::new(alloc);
     for at in b'a'..b'a' + 33 {
         let byte = if at <= b'z' { at } else { at - 26 };
-        let word = if at <= b'z' { [byte, b'_'] } else { [byte, b'0'] };
+        let word = if at <= b'z' {
+            [byte, b'_']
+        } else {
+            [byte, b'0']
+        };
         many.push(tuple_bytes::Column {
             name: tuple_bytes::Word::new(alloc, &word)?.ok_or("no word")?,
             kind: tuple_bytes::Kind::Int,
@@ -164,8 +171,16 @@ fn a_write_is_refused_by_the_first_thing_that_is_wrong(rt: HostRuntime) -> Resul
     ];
     let mut which: u8 = 0;
     for (now, later) in cases {
-        assert_eq!(rt; prepared(alloc, &tables, &none, which)?.as_str(), now, "{which}");
-        assert_eq!(rt; prepared(alloc, &tables, &pending, which)?.as_str(), later, "{which}");
+        assert_eq!(rt;
+            prepared(alloc, &tables, &none, which)?.as_str(),
+            now,
+            "{which}"
+        );
+        assert_eq!(rt;
+            prepared(alloc, &tables, &pending, which)?.as_str(),
+            later,
+            "{which}"
+        );
         which = which.saturating_add(1);
     }
     Ok(())

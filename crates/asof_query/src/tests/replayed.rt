@@ -1,6 +1,8 @@
 //! The tables beside the plain program, at every moment.
 
-use super::made::{Name, create, int, option_told, put, remove, rows_told, row_told, slice_told, text, word};
+use super::made::{
+    Name, create, int, option_told, put, remove, row_told, rows_told, slice_told, text, word,
+};
 use crate::{get_at, scan_at};
 use history_model::plain::{State, Table, state};
 use rand_core::utils::NextWord;
@@ -11,11 +13,19 @@ use tt_table::Tables;
 use tuple_bytes::{Op, Ops, Txn, Value};
 
 fn below(words: &mut Lcg64Xsh32, limit: u32) -> u32 {
-    if limit == 0 { 0 } else { words.next_word() % limit }
+    if limit == 0 {
+        0
+    } else {
+        words.next_word() % limit
+    }
 }
 
 fn some_table(words: &mut Lcg64Xsh32) -> Name {
-    if below(words, 3) == 0 { Name::U } else { Name::T }
+    if below(words, 3) == 0 {
+        Name::U
+    } else {
+        Name::T
+    }
 }
 
 fn some_value(alloc: Global, words: &mut Lcg64Xsh32) -> Result<Value, Fail> {

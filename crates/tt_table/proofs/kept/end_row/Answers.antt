@@ -11,8 +11,10 @@ stop-requires c = found_chain c.args.key.now c.args.keys.now.entries c.args.mome
 pub returns-in-Some : goal.returns-in-Some
 returns-in-Some c =
     let new = c.stop.new.self in
-    record { value = ap (map keyed) (c.get_mut.follows.holds new).0
-    ∙ key_written c.args.key.now c.args.keys.now.entries (option_map (end_version c.args.moment)) c.get_mut.ensures.ordered c.in-Some.versions.now new (sym c.in-Some.ensures.value) (ap (λ l. Some (keyed (c.args.key.now, l))) (sym c.stop.ensures.value)) }
+    record {
+      value = ap (map keyed) (c.get_mut.follows.holds new).0
+          ∙ key_written c.args.key.now c.args.keys.now.entries (option_map (end_version c.args.moment)) c.get_mut.ensures.ordered c.in-Some.versions.now new (sym c.in-Some.ensures.value) (ap (λ l. Some (keyed (c.args.key.now, l))) (sym c.stop.ensures.value));
+    }
 
 -- it is not
 pub returns-in-None : goal.returns-in-None

@@ -9,6 +9,8 @@ use Rattle.tt_table.proofs.kept.Kept.versions_at.Goals as goal
 
 pub returns : goal.returns
 returns c =
-    record { value = nth_from_yields_List c.nth.result c.nth.new.self c.args.place c.nth.ensures.ran (YieldsList-from_rest {shows = deref} (values_of c.self.inside.keys.entries) c.values.ensures.rest)
-    ∙ value_place c.self.inside.keys.entries c.args.place
-    ∙ ap (λ (t : TableVersions). option_map (λ (k : KeyVersions). k.versions) (slice_get t.keys c.args.place)) c.self.view_is }
+    record {
+      value = nth_from_yields_List c.nth.result c.nth.new.self c.args.place c.nth.ensures.ran (YieldsList-from_rest {shows = deref} (values_of c.self.inside.keys.entries) c.values.ensures.rest)
+          ∙ value_place c.self.inside.keys.entries c.args.place
+          ∙ ap (λ (t : TableVersions). option_map (λ (k : KeyVersions). k.versions) (slice_get t.keys c.args.place)) c.self.view_is;
+    }
