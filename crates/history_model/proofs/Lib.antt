@@ -9,3 +9,9 @@ pub mod Stores
 pub mod Replays
 pub mod Orders
 pub mod Chains
+pub mod Ordered
+pub mod Lookups
+pub mod Histories
+pub mod ChangesMore
+pub mod Pending
+pub mod Search

@@ -4,3 +4,10 @@ pub mod Digests
 pub mod Inputs
 pub mod Laws
 pub mod Plain
+pub mod Ordered
+pub mod Values
+pub mod State
+pub mod Changes
+pub mod Glance
+pub mod Answers
+pub mod Places

@@ -14,6 +14,9 @@
 //! | `seed header` | `SHA-256(00 | header fields)` |
 //! | `next_link p t` | `SHA-256(01 | p | t)`, for the spelling t of a transaction |
 //! | `link_of header txns` | the seed, and then the next link for each transaction |
+//! | `state txns m` | the tables at moment m: those of the moment before, changed by the transactions of moment m in file order; an operation that does not fit changes nothing |
+//! | `changes_of name key txns m` | the rows put at a key, and the removes of it, up to moment m, each with its moment |
+//! | `row_at`, `prepared` | what a read and a write are answered from a state, and each refusal by its cause, in order |
 //!
 //! A record is valid where its gate is open, its length is at most 32,768, its payload spells an
 //! item, and the next gate lies within the bytes and below place 67,108,864.
@@ -35,10 +38,18 @@
 //! ```
 #![tactic(auto)]
 
+mod change;
+mod checks;
+mod glance;
 mod laws;
 pub mod plain;
 mod stored;
 
+pub use change::{TableFail, Write};
+pub use checks::{
+    fault_of_key, fault_of_row, first_wrong, fits, is_fitting_row, lacks_key, may_be_columns,
+};
+pub use glance::{Glance, fault_of_write, glance_over, row_of_glance};
 pub use laws::{
     headers_tell_apart, links_tell_apart, stored_is_history, stored_is_longest, stores_tell_apart,
 };

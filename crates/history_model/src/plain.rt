@@ -3,11 +3,16 @@
 //! No command runs them. Tests compare the faster bodies of the crates above with them.
 
 mod links;
+mod moments;
 mod order;
 mod replay;
+mod table_rows;
+mod tables;
 mod txns;
 
 pub use links::{link, seed};
+pub use moments::state;
 pub use order::{canon, last_moment, rows};
 pub use replay::stored;
+pub use tables::{State, Table};
 pub use txns::Txns;
