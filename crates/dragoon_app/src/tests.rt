@@ -1,7 +1,7 @@
 //! The top call over worked stores and failing devices.
 
 use crate::{Status, dragoon, leading};
-use disk_model::MemDisk;
+use disk_model::{FileDisk, MemDisk};
 use outside_io::{MemClock, MemSink};
 use std::alloc::{AllocError, Global};
 use std::test::Fail;
@@ -237,6 +237,31 @@ fn init_makes_a_store_of_65_bytes(rt: HostRuntime) -> Result<(), Fail> {
         );
         assert_eq!(rt; bytes.as_slice(), before);
     }
+    Ok(())
+}
+
+#[test]
+fn a_store_in_a_file_is_made_once_and_read(rt: HostRuntime) -> Result<(), Fail> {
+    let alloc = rt.alloc();
+    let path = "dragoon_app_test_store";
+    let _ = std::fs::remove_file(&rt, path);
+    let init = ["init", "7", "60", "3", "m"];
+    for (texts, wanted) in [
+        (init.as_slice(), b"ready 7\n".as_slice()),
+        (init.as_slice(), b"fault AlreadyThere\n".as_slice()),
+        (
+            ["link"].as_slice(),
+            b"txns 0\nlink 7472d54d4aa35e0f4ee072819cb3c15cb704c8fc1c71d3baac0dba7c6fabc9d9\n".as_slice(),
+        ),
+    ] {
+        let words = words(alloc, texts)?;
+        let mut store = FileDisk::new(rt, String::from_str(alloc, path)?);
+        let mut clock = MemClock::new(Vec::new(alloc));
+        let mut out = MemSink::new(alloc, Vec::new(alloc));
+        let _ = dragoon(alloc, &words, &mut store, &mut clock, &mut out);
+        assert_eq!(rt; out.bytes(), wanted);
+    }
+    std::fs::remove_file(&rt, path)?;
     Ok(())
 }
 
