@@ -2,9 +2,9 @@
 
 ghost use Rattle.std.specs.Prelude.{◌≡◌, ◌∷◌, ◌++◌, IfErr, IfOk, All};
 ghost use Rattle.sha2.specs.Sha256.{sha256};
-ghost use Rattle.history_model.specs.Digests.{seed, link_of};
+ghost use Rattle.digest_model.specs.Digests.{seed, link_of};
 ghost use Rattle.history_model.specs.History.{txns};
-ghost use Rattle.history_model.specs.Plain.{after_item};
+ghost use Rattle.digest_model.specs.Plain.{after_item};
 ghost use Rattle.history_model.specs.Stored.{IsStorable};
 
 use sha2::{Digest, Sha256};

@@ -5,7 +5,7 @@ use Rattle.sha2.specs.Sha256.{sha256}
 use Rattle.tuple_bytes.specs.declared.header.Header.{Header}
 use Rattle.tuple_bytes.specs.declared.item.Txn.{Txn}
 use Rattle.tuple_bytes.specs.Spelling.{spell_txn}
-use Rattle.history_model.specs.Digests.{seed, seed_input, link_input, next_link}
+use Rattle.digest_model.specs.Digests.{seed, seed_input, link_input, next_link}
 
 -- an input of each side, different and with one digest
 pub record Clash (xs ys : List (List ℕ)) : Type 0 where

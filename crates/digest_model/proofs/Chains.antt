@@ -10,8 +10,8 @@ use Rattle.tuple_bytes.specs.Spelling.{spell_txn, FitsOp}
 use Rattle.tuple_bytes.specs.Writing.{IsCountedOp, IsCounted}
 use Rattle.history_model.specs.Stored.{IsStorable}
 use Rattle.history_model.specs.History.{txns}
-use Rattle.history_model.specs.Digests.{next_link}
-use Rattle.history_model.specs.Plain.{after_item}
+use Rattle.digest_model.specs.Digests.{next_link}
+use Rattle.digest_model.specs.Plain.{after_item}
 
 pub items_linked : (previous : List ℕ) (is : List Item) → fold after_item previous is ≡ fold next_link previous (map spell_txn (txns is))
 items_linked previous [] = refl

@@ -1,22 +1,11 @@
 -- What equal digests say, unless two inputs clash.
-use Rattle.std.specs.Prelude.{◌≡◌, ◌⊎◌, ℕ, List, [], ◌∷◌, Some}
-use Rattle.std.specs.List.{All}
-use Rattle.byte_grammar.specs.Reading.{IsBytes}
+use Rattle.std.specs.Prelude.{◌≡◌, ◌⊎◌, ℕ, List, [], ◌∷◌}
 use Rattle.tuple_bytes.specs.declared.header.Header.{Header}
 use Rattle.tuple_bytes.specs.Spelling.{spell_fields, FitsHeader}
-use Rattle.history_model.specs.Stored.{stored, IsStorable}
-use Rattle.history_model.specs.History.{History, history, txns}
-use Rattle.history_model.specs.Digests.{link_of_spelled, link_of, header_digest, header_input}
-use Rattle.history_model.specs.Inputs.{Clash, link_inputs_of_spelled, link_inputs}
-
--- the history of a file: what its header and its records can spell
-pub record IsHistory (h : History) : Type 0 where
-  pub header : FitsHeader h.header
-  pub items : All IsStorable h.items
-
--- what bytes with a header store is such a history
-abbrev pub StoredIsHistory : Type 0
-StoredIsHistory = (bytes : List ℕ) (h : Header) → IsBytes bytes → (stored bytes).header ≡ Some h → IsHistory (history h (stored bytes).items)
+use Rattle.history_model.specs.History.{History, txns}
+use Rattle.history_model.specs.StoredHistory.{IsHistory}
+use Rattle.digest_model.specs.Digests.{link_of_spelled, link_of, header_digest, header_input}
+use Rattle.digest_model.specs.Inputs.{Clash, link_inputs_of_spelled, link_inputs}
 
 -- equal header digests are of one header
 abbrev pub HeadersTellApart : Type 0

@@ -1,0 +1,4 @@
+pub mod Digests
+pub mod Inputs
+pub mod Laws
+pub mod Plain
