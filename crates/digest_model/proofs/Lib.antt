@@ -5,4 +5,9 @@ pub mod Links
 pub mod Headers
 pub mod Spelled
 pub mod Stores
+pub mod Granules
+pub mod Rows
+pub mod Tiles
+pub mod Nodes
+pub mod Follows
 pub mod Chains

@@ -1,3 +1,4 @@
+pub mod Layout
 pub mod Digests
 pub mod Inputs
 pub mod Laws

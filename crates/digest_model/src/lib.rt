@@ -27,7 +27,10 @@
 mod laws;
 pub mod plain;
 
-pub use laws::{headers_tell_apart, links_tell_apart, stores_tell_apart};
+pub use laws::{
+    cums_tell_apart, granules_tell_apart, headers_tell_apart, links_tell_apart, nodes_tell_apart,
+    same_digests, stores_tell_apart, tiles_tell_apart,
+};
 
 #[cfg(test)]
 mod tests;
