@@ -7,10 +7,12 @@ mod mark;
 mod name;
 mod notary;
 mod seal;
+mod untold;
 
 pub use answer::Answer;
 pub use fail::{AskFail, NotaryFail};
 pub use mark::{Mark, Outcome};
 pub use name::Name;
-pub use notary::NotaryLimits;
+pub use notary::{Notary, NotaryLimits};
 pub use seal::{Seal, Seals};
+pub use untold::Untold;
