@@ -10,10 +10,10 @@ ghost use Rattle.txn_journal.specs.Reading.{head_length, head_of, IsSeenIn, Begi
 ghost use Rattle.txn_journal.specs.Held.{StandsIn};
 ghost use Rattle.txn_journal.specs.Opening.{held_of, IsOfOpening, IsOfDisk, IsNoFile};
 
-use crate::{Journal, JournalFail, Payloads, Records, Shape};
+use crate::{Journal, JournalFail, Records, Shape};
 use disk_model::Disk;
 use std::alloc::{AllocError, Global};
-use tuple_bytes::Blob;
+use tuple_bytes::{Blob, Payloads};
 
 /// A file that is open for appending, and what it holds.
 #[derive(Drop)]
