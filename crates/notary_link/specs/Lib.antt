@@ -1,0 +1,5 @@
+pub mod Batches
+pub mod Fails
+pub mod NameOrder
+pub mod Notary
+pub mod Untold
