@@ -110,6 +110,12 @@ HeaderIsShown = (batches : List Batch) (id : ℕ) (h s : History) (n : ℕ) → 
 abbrev pub HasAltered : History → History → ℕ → ℕ → Type 0
 HasAltered h s n tile = (number : ℕ) × (number < tile_size (layout h) tile) × IsAltered h (Some s) n (first_granule (layout h) tile + number)
 
+-- Where the chain differs at the end of a tile, some granule up to there is altered, without exception.
+abbrev pub ChangedChainHasAltered : Type 0
+ChangedChainHasAltered = (batches : List Batch) (id : ℕ) (h s : History) (n tile : ℕ) → IsAudit batches id h s n → tile < n
+    → answers batches s (Cum tile) ≡ Differs
+    → (g : ℕ) × (g < end_granule (layout h) tile) × IsAltered h (Some s) n g
+
 -- The region begins at a tile with an altered granule.
 abbrev pub RegionBeginsAltered : Type 0
 RegionBeginsAltered = (batches : List Batch) (id : ℕ) (h s : History) (n tile : ℕ) → IsAudit batches id h s n
