@@ -25,7 +25,7 @@ use Rattle.audit_model.proofs.Region.{clean_to}
 use Rattle.digest_model.proofs.Follows.{follow}
 use Rattle.audit_model.specs.Altered.{IsAltered}
 use Rattle.audit_model.specs.Mono.{BeginsRegion, IsStep}
-use Rattle.audit_model.proofs.Lists.{in_range, from_filter}
+use Rattle.digest_model.proofs.Lists.{in_range, from_filter}
 use Rattle.audit_model.proofs.Compare.{compare, same_of, differs_of, one_answer}
 use Rattle.audit_model.proofs.Planned.{adjoin, part_planned, cum_planned, hashed_for, same_view}
 use Rattle.audit_model.proofs.TileAudit.{differing, of_differing, not_same_digest, first_of, part_same}

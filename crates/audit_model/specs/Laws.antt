@@ -13,7 +13,7 @@ use Rattle.digest_model.specs.Roots.{roots_of}
 use Rattle.digest_model.specs.Laws.{SameBelow}
 use Rattle.audit_model.specs.Names.{planned, digest}
 use Rattle.audit_model.specs.Notary.{NotaryOf, answers}
-use Rattle.audit_model.specs.Altered.{IsAltered, HashClash}
+use Rattle.audit_model.specs.Altered.{HasOtherHeader, IsAltered, HashClash}
 use Rattle.audit_model.specs.Mono.{BeginsRegion, IsFirstBad, IsStep}
 use Rattle.audit_model.specs.Tree.{IsFound, IsConsistent, found, checks, digit_count}
 use Rattle.audit_model.specs.Tiled.{IsCandidate, IsCandidateAmong, IsTarget, candidates_of, exactly_of}
@@ -58,6 +58,14 @@ abbrev pub OthersAreAbsent : Type 0
 OthersAreAbsent = (batches : List Batch) (id : ℕ) (h s : History) (n : ℕ) (name : Name) → NotaryOf batches id h n
     → (Contains (planned (layout h) n) name → ⊥)
     → answers batches s name ≡ Absent
+
+-- There is a batch for the header, and one for each sealed tile.
+abbrev pub BatchesAreCounted : Type 0
+BatchesAreCounted = (batches : List Batch) (id : ℕ) (h : History) (n : ℕ) → NotaryOf batches id h n → length batches ≡ n + 1
+
+-- Under another header, or none, every sealed granule is altered.
+abbrev pub OtherHeaderIsAltered : Type 0
+OtherHeaderIsAltered = (h : History) (s : Option History) (n g : ℕ) → HasOtherHeader h s → g < first_granule (layout h) n → IsAltered h s n g
 
 -- Where the chain is the same at the end of a tile, nothing is altered up to there.
 abbrev pub SameChainIsClean : Type 0

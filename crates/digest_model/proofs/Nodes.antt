@@ -8,7 +8,8 @@ use Rattle.history_model.specs.History.{History}
 use Rattle.std.specs.Int.{w32, to_be_bytes}
 use Rattle.digest_model.specs.Digests.{node_input, node_digest}
 use Rattle.digest_model.specs.Inputs.{node_inputs}
-use Rattle.digest_model.specs.Laws.{IsUnder, NodesTellApart}
+use Rattle.digest_model.specs.Laws.{NodesTellApart}
+use Rattle.digest_model.specs.Roots.{IsUnder}
 use Rattle.digest_model.proofs.Members.{here, there}
 use Rattle.digest_model.proofs.Parts.{same_front, same_back}
 use Rattle.digest_model.proofs.Clashes.{same_or_clash, wider}
