@@ -20,7 +20,7 @@ use Rattle.digest_model.proofs.Clashes.{same_or_clash}
 use mathlib.Core.List.{List-discrete}
 use native.Mathlib.Decide.{ℕ_discrete}
 use Rattle.digest_model.proofs.Spelled.{same_header, same_txns, rows_storable}
-use Rattle.digest_model.proofs.Nodes.{twice}
+use Rattle.digest_model.proofs.Nodes.{twice, halves_fit}
 use Rattle.audit_model.proofs.Region.{clean_to}
 use Rattle.digest_model.proofs.Follows.{follow}
 use Rattle.audit_model.specs.Altered.{IsAltered}
@@ -82,9 +82,6 @@ from_children : (h s : History) (level index : ℕ) → node_digest h level (2 *
     → node_digest h (suc level) index ≡ node_digest s (suc level) index
 unfolding node_digest
 from_children h s level index left right = cc
-
-halves_fit : (p q index limit : ℕ) → q ≡ 2 * p → (index + 1) * q ≤ limit → ((2 * index + 1) * p ≤ limit) × ((2 * index + 1 + 1) * p ≤ limit)
-halves_fit p q index limit e h = (let h' : (index + 1) * (2 * p) ≤ limit = rw e at h in (omega (arith, h'), omega (arith, h')))
 
 pub consistent : TreeIsConsistent
 unfolding digest

@@ -12,4 +12,6 @@ pub mod Tiles
 pub mod Nodes
 pub mod Follows
 pub mod Roots
+pub mod Picked
+pub mod Steps
 pub mod Chains

@@ -30,6 +30,9 @@ halves p q index g e low high = elim (cases_lt g ((2 * index + 1) * p)) [
   | inr right ↦ inr (right, (let high' : g < (index + 1) * (2 * p) = rw e at high in omega arith))
 ]
 
+pub halves_fit : (p q index limit : ℕ) → q ≡ 2 * p → (index + 1) * q ≤ limit → ((2 * index + 1) * p ≤ limit) × ((2 * index + 1 + 1) * p ≤ limit)
+halves_fit p q index limit e h = (let h' : (index + 1) * (2 * p) ≤ limit = rw e at h in (omega (arith, h'), omega (arith, h')))
+
 -- a granule under a node is under its left child or its right one
 pub under_child : (level index g : ℕ) → IsUnder (suc level) index g → IsUnder level (2 * index) g ⊎ IsUnder level (2 * index + 1) g
 under_child level index g (low, high) = halves (2 ^ level) (2 ^ suc level) index g (twice level) low high
