@@ -53,9 +53,10 @@
 mod laws;
 
 pub use laws::{
-    answers_compare, batches_are_counted, other_header_is_altered, candidates_among_are_exact, candidates_among_have_altered,
-    candidates_are_exact, candidates_have_altered, changed_chain_has_altered, checks_are_few,
-    descent_has_altered, descent_is_altered, failing_tile_is_altered, found_are_exact,
-    found_ascend, header_is_shown, notarized_is_same, others_are_absent, region_begins_altered,
-    region_has_altered, same_chain_is_clean, step_is_region, tree_is_consistent, worked_examples,
+    answers_compare, batches_are_counted, candidates_among_are_exact,
+    candidates_among_have_altered, candidates_are_exact, candidates_have_altered,
+    changed_chain_has_altered, checks_are_few, descent_has_altered, descent_is_altered,
+    failing_tile_is_altered, found_are_exact, found_ascend, header_is_shown, notarized_is_same,
+    other_header_is_altered, others_are_absent, region_begins_altered, region_has_altered,
+    same_chain_is_clean, step_is_region, tree_is_consistent, worked_examples,
 };

@@ -3,29 +3,26 @@
 mod worked;
 
 use crate::plain::{cum, granule_digest, link, node_digest, tile_digest};
+use history_model::plain::stored;
 use std::test::Fail;
-use worked::{HEADER, items};
+use worked::{HEADER, bytes};
 
 #[test]
 fn the_link_is_that_of_another_program(rt: HostRuntime) -> Result<(), Fail> {
     let alloc = rt.alloc();
-    let items = items(alloc)?;
-    let cases: [(usize, &str); 3] = [
+    let cases = [
         (
             0,
-            "91bb1e93ad90c2a95e1921cab17bc5aa1e88fb5738aa3a413cd28c70b4f43b92",
-        ),
-        (
-            1,
             "57397a1f916ee3760c24b0eafe15ed750382ea2e9ca841430b03cf4c8ba99bc3",
         ),
         (
-            10,
+            8,
             "f87cbf8193e5ef79956ed0ccc181c1f75d54b9efd5ef2653599a6453cc09e26e",
         ),
     ];
-    for (count, value) in cases {
-        let last = link(alloc, &HEADER, &items.as_slice()[..count])?;
+    for (rows, value) in cases {
+        let found = stored(alloc, &bytes(alloc, rows)?)?;
+        let last = link(alloc, &HEADER, found.items.as_slice())?;
         assert_eq!(rt; hex::encode(alloc, last)?.as_str(), value);
     }
     Ok(())
@@ -34,8 +31,8 @@ fn the_link_is_that_of_another_program(rt: HostRuntime) -> Result<(), Fail> {
 #[test]
 fn a_tile_has_the_digests_of_another_program(rt: HostRuntime) -> Result<(), Fail> {
     let alloc = rt.alloc();
-    let items = items(alloc)?;
-    let items = items.as_slice();
+    let found = stored(alloc, &bytes(alloc, 8)?)?;
+    let items = found.items.as_slice();
     let digests = [
         (
             cum(alloc, &HEADER, items, 0)?,
