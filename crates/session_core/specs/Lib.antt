@@ -1,0 +1,5 @@
+pub mod World
+pub mod Refusing
+pub mod Steps
+pub mod Replies
+pub mod Stepping

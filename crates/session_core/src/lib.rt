@@ -1,0 +1,8 @@
+//! The step over one statement: what it does to an open store, and what is replied.
+#![tactic(auto)]
+
+mod reply;
+mod sessions;
+
+pub use reply::{Refusal, Reply, print_reply};
+pub use sessions::{Sessions, StepFail};

@@ -1,0 +1,8 @@
+//! An open store: its tables in memory, and its file behind them, which is written first.
+#![tactic(auto)]
+
+mod fail;
+mod store;
+
+pub use fail::StoreFail;
+pub use store::Store;
