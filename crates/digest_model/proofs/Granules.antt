@@ -15,7 +15,8 @@ use Rattle.digest_model.specs.Laws.{GranulesTellApart}
 use Rattle.digest_model.proofs.Members.{here}
 use Rattle.digest_model.proofs.Parts.{same_front, same_back}
 use Rattle.digest_model.proofs.Clashes.{same_or_clash}
-use Rattle.digest_model.proofs.Spelled.{IsStorableTxn, same_txns, rows_storable}
+use Rattle.digest_model.proofs.Spelled.{same_txns, rows_storable}
+use Rattle.digest_model.specs.Plain.{IsStorableTxn}
 
 abbrev IsShort : List ℕ → Type 0
 IsShort x = length x < 2 ^ 32

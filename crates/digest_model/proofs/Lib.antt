@@ -1,4 +1,5 @@
 pub mod Members
+pub mod Lists
 pub mod Parts
 pub mod Clashes
 pub mod Links
@@ -10,4 +11,7 @@ pub mod Rows
 pub mod Tiles
 pub mod Nodes
 pub mod Follows
+pub mod Roots
+pub mod Picked
+pub mod Steps
 pub mod Chains

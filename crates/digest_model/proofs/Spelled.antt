@@ -11,13 +11,10 @@ use Rattle.tuple_bytes.proofs.ItemLaws.{apart}
 use Rattle.history_model.specs.Stored.{IsStorable}
 use Rattle.history_model.specs.History.{History, txns, is_in_granule, rows, canon}
 use Rattle.history_model.specs.StoredHistory.{IsHistory}
+use Rattle.digest_model.specs.Plain.{IsStorableTxn}
 
 pub same_header : (a b : Header) → FitsHeader a → FitsHeader b → spell_fields a ≡ spell_fields b → a ≡ b
 same_header a b fa fb e = grind arith
-
--- a transaction that a record can hold
-abbrev pub IsStorableTxn : Txn → Type 0
-IsStorableTxn t = IsStorable (items.Txn t)
 
 same_txn : (t u : Txn) → IsStorableTxn t → IsStorableTxn u → spell_txn t ≡ spell_txn u → t ≡ u
 same_txn t u ft fu e =

@@ -1,11 +1,12 @@
 -- What equal digests say, unless two inputs clash; and that digests go by the transactions.
-use Rattle.std.specs.Prelude.{◌≡◌, ◌⊎◌, ℕ, ◌+◌, ◌*◌, ◌^◌, ◌≤◌, ◌<◌, List, [], ◌∷◌}
+use Rattle.std.specs.Prelude.{◌≡◌, ◌⊎◌, ℕ, ◌<◌, List, [], ◌∷◌}
 use Rattle.std.specs.List.{All}
 use Rattle.tuple_bytes.specs.declared.header.Header.{Header}
 use Rattle.tuple_bytes.specs.Spelling.{spell_fields, FitsHeader}
 use Rattle.history_model.specs.History.{History, txns, rows}
 use Rattle.history_model.specs.StoredHistory.{IsHistory}
 use Rattle.digest_model.specs.Layout.{layout, end_granule, part_granules}
+use Rattle.digest_model.specs.Roots.{IsUnder}
 use Rattle.digest_model.specs.Digests.{link_of_spelled, link_of, header_digest, header_input, granule_digest, tile_digest, node_digest, cum}
 use Rattle.digest_model.specs.Inputs.{Clash, link_inputs_of_spelled, link_inputs, cum_inputs, hashed, tile_inputs, node_inputs}
 
@@ -61,10 +62,6 @@ abbrev pub TilesTellApart : Type 0
 TilesTellApart = (h s : History) (tile part : ℕ) → IsHistory h → IsHistory s → layout h ≡ layout s
     → tile_digest h tile part ≡ tile_digest s tile part
     → SameIn h s (part_granules (layout h) tile part) ⊎ Clash (tile_inputs h tile part) (tile_inputs s tile part)
-
--- the granules below a node
-abbrev pub IsUnder : ℕ → ℕ → ℕ → Type 0
-IsUnder level index g = (index * 2 ^ level ≤ g) × (g < (index + 1) * 2 ^ level)
 
 -- two histories have the same transactions in each granule below a node
 abbrev pub SameUnder : History → History → ℕ → ℕ → Type 0
