@@ -1,3 +1,5 @@
+mod FirstDigests
 pub mod Frame
 pub mod InAll
+mod Names
 pub mod Sums

@@ -3,10 +3,12 @@
 
 mod answer;
 mod fail;
+mod firsts;
 mod mark;
 mod name;
 mod notary;
 mod seal;
+mod shelf;
 mod untold;
 
 pub use answer::Answer;
