@@ -33,7 +33,7 @@ digest_put m n seal held has updates name = ap option_flatten (updates.0 name �
     at true is = let same = same_is seal.name name is in subst (λ (x : Name). option_or held (Some seal.digest) ≡ option_or (digest_in m x) (Some seal.digest)) same (ap (λ (o : Option (Option (List ℕ))). option_or (option_flatten o) (Some seal.digest)) (sym has))
     at false is = or_none (digest_in m name)
 
-map_or : (a b : Option Seal) → option_map (λ (s : Seal). s.digest) (option_or a b) ≡ option_or (option_map (λ (s : Seal). s.digest) a) (option_map (λ (s : Seal). s.digest) b)
+pub map_or : (a b : Option Seal) → option_map (λ (s : Seal). s.digest) (option_or a b) ≡ option_or (option_map (λ (s : Seal). s.digest) a) (option_map (λ (s : Seal). s.digest) b)
 map_or None b = refl
 map_or (Some x) b = refl
 

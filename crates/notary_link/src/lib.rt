@@ -2,9 +2,11 @@
 #![tactic(auto)]
 
 mod answer;
+mod calls;
 mod fail;
 mod firsts;
 mod mark;
+mod memory;
 mod name;
 mod notary;
 mod seal;
@@ -14,6 +16,7 @@ mod untold;
 pub use answer::Answer;
 pub use fail::{AskFail, NotaryFail};
 pub use mark::{Mark, Outcome};
+pub use memory::MemNotary;
 pub use name::Name;
 pub use notary::{Notary, NotaryLimits};
 pub use seal::{Seal, Seals};
