@@ -2,9 +2,10 @@ mod Counted
 mod Entered
 mod FiledEach
 mod FirstDigests
+pub mod Found
 pub mod Frame
 pub mod InAll
-mod Names
+pub mod Names
 pub mod Runs
 mod Standing
 pub mod Sums

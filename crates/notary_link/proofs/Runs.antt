@@ -1,10 +1,11 @@
 -- A run of a notary's calls goes on, or stops, and fails where it is planned to.
-use Rattle.std.proofs.Common.{◌≡◌, ◌≤◌, inl, inr, ℕ, Bool, true, false, List, [], ◌∷◌, ◌++◌, length, Option, Some, None, IfSome, Result, Ok, Err, refl, sym, ◌∙◌, ap, subst, arith}
+use Rattle.std.proofs.Common.{◌≡◌, ◌≤◌, ◌+◌, inl, inr, ℕ, Bool, true, false, List, [], ◌∷◌, ◌++◌, length, Option, Some, None, IfSome, Result, Ok, Err, refl, sym, ◌∙◌, ap, subst, arith}
 use Rattle.std.specs.Option.{ForSome}
 use Rattle.outside_words.specs.Runs.{after_calls, StopsAtFailed, StopsBefore}
 use Rattle.outside_words.specs.Told.{WhereTold}
 use Rattle.outside_words.specs.Trace.{AsPlanned, Continues, FirstFails}
-use Rattle.outside_words.proofs.Planned.{fails_after, done_before}
+use Rattle.outside_words.specs.Listed.{listed_from}
+use Rattle.outside_words.proofs.Planned.{first_listed, fails_after, done_before}
 use Rattle.outside_words.proofs.Told.{told_map, told_then}
 use Rattle.notary_link.specs.declared.fail.NotaryFail.{NotaryFail}
 use Rattle.notary_link.specs.declared.fail.NotaryFail.TheVariants.{Failed, OutOfTurn, Full, NoMemory}
@@ -94,3 +95,9 @@ makes_as_planned fails passed calls result old new plan first on made = at old.t
     at None n first goes made = tt
     at (Some before) None first goes made = tt
     at (Some before) (Some after) first goes made = by result before after (first before refl) goes.planned made
+
+-- a run over which the call behind so many others is listed to fail
+pub stops_where_listed : (from passed : ℕ) (listed : List ℕ) (calls : List Call) (result : Result (Unit {0}) NotaryFail) (old new : State) → old.plan ≡ Some (listed_from from listed) → ForSome old.trace (λ before. length before ≡ from) → listed ≡ (passed + 1) ∷ [] → GoesOn old new → WhereTold old.trace new.trace (MakesCalls calls result) → WhereTold old.trace new.trace (MakesAsPlanned passed calls result)
+stops_where_listed from passed listed calls result old new plan here one on made =
+    let first : ForSome old.trace (λ before. FirstFails (listed_from from listed) (length before) passed) = λ before is. subst (λ (t : ℕ). FirstFails (listed_from from listed) t passed) (sym (here before is)) (subst (λ (l : List ℕ). FirstFails (listed_from from l) from passed) (sym one) (first_listed from passed)) in
+    makes_as_planned (listed_from from listed) passed calls result old new plan first on made

@@ -19,20 +19,19 @@ use Rattle.notary_link.specs.Batches.{Batch, same_name, filed, compared, answer_
 use Rattle.notary_link.specs.Notary.{Lists, batch_of, Keeps, Files, Notes}
 use Rattle.notary_link.specs.Shelves.{digest_among, moments_on, marks_on, digest_on, StandsFor, TakesBatch, TakesMark, shelf_of, ChangesShelf}
 use Rattle.notary_link.proofs.FirstDigests.{map_or}
+use Rattle.notary_link.proofs.Found.{filed-append, filed_one, answer_is}
 
 -- ---- What is found there
 
 pub answer_found : (batches : List Batch) (name : Name) (ours first : List ℕ) → Some first ≡ option_map (λ (s : Seal). s.digest) (filed batches name) → answer batches name ours ≡ compared ours first
-unfolding answer
-answer_found batches name ours first is = at (filed batches name) is
+answer_found batches name ours first is = answer_is batches name ours ∙ at (filed batches name) is
   where
     at : (o : Option Seal) → Some first ≡ option_map (λ (s : Seal). s.digest) o → answer_by o ours ≡ compared ours first
     at None e = absurd cc
     at (Some seal) e = let same : seal.digest ≡ first = cc in ap (compared ours) same
 
 pub answer_absent : (batches : List Batch) (name : Name) (ours : List ℕ) → None ≡ option_map (λ (s : Seal). s.digest) (filed batches name) → answer batches name ours ≡ Absent
-unfolding answer
-answer_absent batches name ours is = at (filed batches name) is
+answer_absent batches name ours is = answer_is batches name ours ∙ at (filed batches name) is
   where
     at : (o : Option Seal) → None ≡ option_map (λ (s : Seal). s.digest) o → answer_by o ours ≡ Absent
     at None e = refl
@@ -45,14 +44,6 @@ pub count_stands : {batches : List Batch} {marks : List Mark} {shelf : Option Sh
 count_stands {batches} stands = ap length stands.moments ∙ length-map batches (λ (b : Batch). b.moment)
 
 -- ---- One shelf
-
-filed-append : (xs ys : List Batch) (name : Name) → filed (xs ++ ys) name ≡ option_or (filed xs name) (filed ys name)
-unfolding filed
-filed-append xs ys name = ap (λ (l : List Seal). find (λ (s : Seal). same_name s.name name) l) (flat_map-append (λ (b : Batch). b.seals) xs ys) ∙ find-append (λ (s : Seal). same_name s.name name) (flat_map (λ (b : Batch). b.seals) xs) (flat_map (λ (b : Batch). b.seals) ys)
-
-filed_one : (batch : Batch) (name : Name) → filed (batch ∷ []) name ≡ find (λ (s : Seal). same_name s.name name) batch.seals
-unfolding filed
-filed_one batch name = ap (λ (l : List Seal). find (λ (s : Seal). same_name s.name name) l) (append-nil batch.seals)
 
 digest_more : (batches : List Batch) (batch : Batch) (name : Name) → option_map (λ (s : Seal). s.digest) (filed (batches ++ batch ∷ []) name) ≡ option_or (option_map (λ (s : Seal). s.digest) (filed batches name)) (digest_among batch.seals name)
 digest_more batches batch name = ap (option_map (λ (s : Seal). s.digest)) (filed-append batches (batch ∷ []) name ∙ ap (option_or (filed batches name)) (filed_one batch name)) ∙ map_or (filed batches name) (find (λ (s : Seal). same_name s.name name) batch.seals)

@@ -1,5 +1,5 @@
 -- A notary in memory, as its record of calls tells it.
-use Rattle.std.specs.Prelude.{◌≡◌, ℕ, Bool, false, List, [], Some}
+use Rattle.std.specs.Prelude.{◌≡◌, ℕ, Bool, false, List, [], length, Some}
 use Rattle.outside_words.specs.Listed.{Listed, listed_from}
 use Rattle.notary_link.specs.declared.calls.Made.{Made}
 use Rattle.notary_link.specs.declared.memory.MemNotary.{MemNotary}
@@ -21,6 +21,10 @@ memory_state limits made fails asked faults = record {
 -- it tells all
 abbrev pub state_of : MemNotary → State
 state_of notary = memory_state notary.limits notary.made.items (listed_from notary.failing_from notary.failing_changes.items) notary.asked notary.faults
+
+-- how many changing calls it has met
+abbrev pub turn_of : MemNotary → ℕ
+turn_of notary = length (trace_of notary.made.items)
 
 -- the asking calls so far, and which of them are to fail
 abbrev pub listed_asks_of : MemNotary → Listed

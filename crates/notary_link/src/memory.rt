@@ -49,7 +49,7 @@ pub struct MemNotary {
 impl MemNotary {
     ghost use Rattle.std.specs.Prelude.{Some};
     ghost use Rattle.outside_words.specs.Listed.{listed_from};
-    ghost use Rattle.notary_link.specs.Memory.{state_of, listed_asks_of, IsFresh};
+    ghost use Rattle.notary_link.specs.Memory.{state_of, turn_of, listed_asks_of, IsFresh};
 
     /// An empty notary. It takes no memory.
     pub fn new(alloc: Global, limits: NotaryLimits) -> Self
@@ -78,7 +78,7 @@ impl MemNotary {
     pub fn failing(&mut self, asks: Vec<u64>, changes: Vec<u64>)
         ensures asks { listed_asks_of self.new ≡ record { made = 0; failing = asks.items } }
         ensures changes { (state_of self.new).plan
-            ≡ Some (listed_from (length (trace_of self.old.made.items)) changes.items) }
+            ≡ Some (listed_from (turn_of self.old) changes.items) }
         ensures same { record (state_of self.new) { plan = (state_of self.old).plan } ≡ state_of self.old }
     {
         self.asks = 0;
@@ -90,7 +90,7 @@ impl MemNotary {
     // Whether the next changing call is one that is to fail.
     fn fails_next(&self) -> bool
         ensures value { let n = self.now in
-            result ≡ listed_from n.failing_from n.failing_changes.items (length (trace_of n.made.items)) }
+            result ≡ listed_from n.failing_from n.failing_changes.items (turn_of n) }
     {
         let number = self.made.len() as u64 - self.failing_from + 1;
         self.failing_changes.contains(&number)
@@ -251,12 +251,12 @@ impl MemNotary {
     ghost use Rattle.notary_link.specs.declared.fail.NotaryFail.TheVariants.{Failed, NoMemory};
     ghost use Rattle.notary_link.specs.Calls.{call_of};
     ghost use Rattle.notary_link.specs.Notary.{IsRefusal, HasNoEffect, Answers, GoesOn};
-    ghost use Rattle.notary_link.specs.Memory.{state_of, listed_asks_of};
+    ghost use Rattle.notary_link.specs.Memory.{state_of, turn_of, listed_asks_of};
 
     // Answers a call that is listed to fail.
     fn fail(&mut self, change: Change) -> Result<(), NotaryFail>
         requires fails { let n = self.old in
-            listed_from n.failing_from n.failing_changes.items (length (trace_of n.made.items)) ≡ true }
+            listed_from n.failing_from n.failing_changes.items (turn_of n) ≡ true }
         ensures change { Answers (call_of change) result (state_of self.old) (state_of self.new) }
         ensures only { (result ≡ Err Failed) ⊎ (result ≡ Err NoMemory) }
         ensures frame { GoesOn (state_of self.old) (state_of self.new) }
@@ -273,7 +273,7 @@ impl MemNotary {
     // Answers a call that is refused.
     fn refuse(&mut self, change: Change, fail: NotaryFail) -> Result<(), NotaryFail>
         requires passes { let n = self.old in
-            listed_from n.failing_from n.failing_changes.items (length (trace_of n.made.items)) ≡ false }
+            listed_from n.failing_from n.failing_changes.items (turn_of n) ≡ false }
         requires fail { IsRefusal (call_of change) self.old.limits fail (lists_of self.old.made.items) }
         ensures change { Answers (call_of change) result (state_of self.old) (state_of self.new) }
         ensures only { (result ≡ Err fail) ⊎ (result ≡ Err NoMemory) }

@@ -1,6 +1,4 @@
 use Rattle.std.proofs.Common.{◌≡◌, Err, refl, ◌∙◌, arith, rules}
-
-
 use Rattle.notary_link.proofs.Frame.{goes_on_same, goes_on_then}
 use Rattle.notary_link.proofs.FiledEach.{none_yet, all_taken, filed_more, calls_on, filing_stopped, calls_stopped}
 use Rattle.notary_link.proofs.Runs.{made_none}
