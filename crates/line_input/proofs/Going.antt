@@ -1,18 +1,18 @@
 -- Gathering a line, from piece to piece.
-use Rattle.std.proofs.Common.{◌≡◌, ◌<◌, ◌≤◌, ◌+◌, ◌-◌, ℕ, zero, suc, Bool, true, false, List, [], ◌∷◌, ◌++◌, length, refl, sym, ap, ◌∙◌, subst, append_assoc, arith, length-append, inl, inr}
-use Rattle.std.specs.Prelude.{◌⊎◌, IsTrue, Result, Ok, Err, not, ◌==◌}
+use Rattle.std.proofs.Common.{◌≡◌, ◌<◌, ◌≤◌, ◌+◌, ℕ, zero, suc, Bool, true, false, List, [], ◌∷◌, ◌++◌, length, refl, sym, ap, ◌∙◌, subst, append_assoc, arith, length-append, inl, inr}
+use Rattle.std.specs.Prelude.{IsTrue, Ok, Err, not, ◌==◌}
 use Rattle.std.proofs.lemmas.Bool.{eqb-true}
 use Rattle.std.proofs.lemmas.List.{append-nil}
-use Rattle.outside_words.specs.Told.{WhereTold, TellsAlike}
+use Rattle.outside_words.specs.Told.{WhereTold}
 use Rattle.outside_words.proofs.Told.{told_map, told_then, told_same}
 use Rattle.outside_io.specs.Source.{State, Unchanged, GoesOn}
 use Rattle.line_input.specs.declared.fail.InputFail.{InputFail}
 use Rattle.line_input.specs.declared.gathering.Gathering.{Gathering}
 use Rattle.line_input.specs.Limits.{input_limit, piece_limit}
 use Rattle.line_input.specs.Lines.{feed, has_feed, IsFeedless, lines_of}
-use Rattle.line_input.specs.Piece.{rest_of, IsMoved}
-use Rattle.line_input.specs.Reader.{Reading, Gives, IsLastLine, IsAtEnd, Answers, Tells, Takes, IsAtOnce}
-use Rattle.line_input.specs.Gathering.{reading_of, held_by, Moves, GathersLine, IsUntouched, TakesPiece, TakesNothing}
+use Rattle.line_input.specs.Piece.{rest_of}
+use Rattle.line_input.specs.Reader.{Answers}
+use Rattle.line_input.specs.Gathering.{reading_of, held_by, Moves, GathersLine, TakesPiece}
 use Rattle.line_input.proofs.Lines.{lines_first, lines_last, lines_none}
 
 -- nothing, where it doesn't add up to more

@@ -2,3 +2,4 @@ pub mod Lines
 mod Splits
 mod Cuts
 mod Going
+pub mod Giving
