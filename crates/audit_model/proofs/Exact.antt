@@ -10,7 +10,7 @@ use Rattle.notary_link.specs.declared.answer.Answer.TheVariants.{Same, Differs}
 use Rattle.history_model.specs.History.{History, rows}
 use Rattle.tuple_bytes.specs.Spelling.{spell_txn}
 use Rattle.notary_link.specs.Batches.{Batch, compared}
-use Rattle.history_model.specs.StoredHistory.{IsHistory}
+use Rattle.digest_model.specs.Laws.{HasSpelling}
 use Rattle.digest_model.specs.Layout.{end_granule, Layout, layout, first_granule, tile_size, whole, is_in_part}
 use Rattle.digest_model.specs.Digests.{header_input, header_digest, granule_digest, node_digest, tile_digest, cum}
 use Rattle.audit_model.specs.Laws.{IsAudit, HasAltered, HeaderIsShown, ChangedChainHasAltered, RegionBeginsAltered, FailingTileIsAltered, TreeIsConsistent, StepIsRegion}
@@ -19,7 +19,7 @@ use Rattle.audit_model.specs.Notary.{answers}
 use Rattle.digest_model.proofs.Clashes.{same_or_clash}
 use mathlib.Core.List.{List-discrete}
 use native.Mathlib.Decide.{ℕ_discrete}
-use Rattle.digest_model.proofs.Spelled.{same_header, same_txns, rows_storable}
+use Rattle.digest_model.proofs.Spelled.{same_header, same_txns, rows_fit}
 use Rattle.digest_model.proofs.Nodes.{twice, halves_fit}
 use Rattle.audit_model.proofs.Region.{clean_to}
 use Rattle.digest_model.proofs.Follows.{follow}
@@ -135,9 +135,9 @@ pub step_is : StepIsRegion
 step_is cums n p region step = (step_region cums n p step region, λ e. subst (λ (r : Option ℕ). BeginsRegion cums n r) (sym e) (begins_step cums n p step))
 
 -- the rows of two histories are equal or not
-rows_decided : (h s : History) (g : ℕ) → IsHistory h → IsHistory s → (rows h g ≡ rows s g) ⊎ (rows h g ≡ rows s g → ⊥)
+rows_decided : (h s : History) (g : ℕ) → HasSpelling h → HasSpelling s → (rows h g ≡ rows s g) ⊎ (rows h g ≡ rows s g → ⊥)
 rows_decided h s g ours theirs = elim (List-discrete (List-discrete ℕ_discrete) (map spell_txn (rows h g)) (map spell_txn (rows s g))) [
-  | yes same ↦ inl (same_txns (rows h g) (rows s g) (rows_storable h g ours) (rows_storable s g theirs) same)
+  | yes same ↦ inl (same_txns (rows h g) (rows s g) (rows_fit h g ours) (rows_fit s g theirs) same)
   | no other ↦ inr (λ e. other (ap (map spell_txn) e))
 ]
 

@@ -3,7 +3,7 @@ use Rattle.std.proofs.Common.{◌≡◌, ℕ, zero, suc, ◌+◌, ◌-◌, ◌*�
 use Rattle.std.specs.Prelude.{nat_eq}
 use Rattle.std.specs.List.{Contains, range_with_len}
 use Rattle.std.specs.Int.{bit_at}
-use Rattle.std.proofs.lemmas.Bool.{cases_eq, cases_lt, eq-eqb}
+use Rattle.std.proofs.lemmas.Bool.{cases_lt, eq-eqb}
 use Rattle.std.proofs.lemmas.Nat.{mul-le, pow_pos, shl-shr, shr-shr, shr_split, mod_below, mod_low, div_below}
 use Rattle.std.proofs.Math.Pow.{pow_mono}
 use Rattle.std.proofs.lemmas.List.Elements.{Contains-append_right}
@@ -16,7 +16,6 @@ use Rattle.history_model.specs.History.{History, rows}
 use Rattle.notary_link.specs.Batches.{Batch, compared}
 use Rattle.digest_model.specs.Layout.{Layout, layout, first_granule, tile_size, has_tile_chains, has_tree}
 use Rattle.digest_model.specs.Digests.{node_digest}
-use Rattle.digest_model.specs.Roots.{IsUnder}
 use Rattle.audit_model.specs.Laws.{IsAudit, HasTree, DescentHasAltered, DescentIsAltered}
 use Rattle.audit_model.specs.Names.{digest, inputs_of, tile_names, nodes_ending_at, node_names, sealed_names, planned}
 use Rattle.audit_model.specs.Notary.{answers}

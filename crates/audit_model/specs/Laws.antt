@@ -7,10 +7,9 @@ use Rattle.notary_link.specs.declared.answer.Answer.{Answer}
 use Rattle.notary_link.specs.declared.answer.Answer.TheVariants.{Same, Differs, Absent}
 use Rattle.notary_link.specs.Batches.{Batch, compared}
 use Rattle.history_model.specs.History.{History}
-use Rattle.history_model.specs.StoredHistory.{IsHistory}
 use Rattle.digest_model.specs.Layout.{layout, exponent, first_granule, end_granule, tile_size, whole, has_tile_chains, has_tree}
 use Rattle.digest_model.specs.Roots.{roots_of}
-use Rattle.digest_model.specs.Laws.{SameBelow}
+use Rattle.digest_model.specs.Laws.{HasSpelling, SameBelow}
 use Rattle.audit_model.specs.Names.{planned, digest}
 use Rattle.audit_model.specs.Notary.{NotaryOf, answers}
 use Rattle.audit_model.specs.Altered.{HasOtherHeader, IsAltered, HashClash}
@@ -42,8 +41,8 @@ ChecksAreFew = (granules : ℕ) (nodes : ℕ → ℕ → Answer) → granules < 
 -- a notarized history, and the history of a file under its header, with the tiles in the same places
 pub record IsAudit (batches : List Batch) (id : ℕ) (h s : History) (n : ℕ) : Type 0 where
   pub filed : NotaryOf batches id h n
-  pub ours : IsHistory h
-  pub theirs : IsHistory s
+  pub ours : HasSpelling h
+  pub theirs : HasSpelling s
   pub header : h.header ≡ s.header
   pub places : layout h ≡ layout s
 
@@ -110,7 +109,7 @@ DescentIsAltered = (batches : List Batch) (id : ℕ) (h s : History) (n g : ℕ)
 
 -- The header's answer shows whether the file has the notarized header.
 abbrev pub HeaderIsShown : Type 0
-HeaderIsShown = (batches : List Batch) (id : ℕ) (h s : History) (n : ℕ) → NotaryOf batches id h n → IsHistory h → IsHistory s
+HeaderIsShown = (batches : List Batch) (id : ℕ) (h s : History) (n : ℕ) → NotaryOf batches id h n → HasSpelling h → HasSpelling s
     → answers batches s Header ≡ Same
     → (h.header ≡ s.header) ⊎ HashClash h (Some s) n
 

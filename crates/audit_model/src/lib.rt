@@ -30,7 +30,7 @@
 //! # What the layers above may rely on
 //!
 //! Each is the contract of a function that does nothing. h is the notarized history, s another one
-//! under its header; "or a clash" is `HashClash`.
+//! under its header, both with spellings, as all that files hold; "or a clash" is `HashClash`.
 //!
 //! | Law | Clause |
 //! |---|---|

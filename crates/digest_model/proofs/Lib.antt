@@ -6,6 +6,7 @@ pub mod Links
 pub mod Headers
 pub mod Spelled
 pub mod Stores
+pub mod Lengths
 pub mod Granules
 pub mod Rows
 pub mod Tiles

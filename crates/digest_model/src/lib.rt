@@ -22,7 +22,9 @@
 //! A list of what is hashed stands beside each digest (`link_inputs`, `cum_inputs`, `tile_inputs`,
 //! `node_inputs`). Two such lists clash where an input of each differ and have one digest.
 //!
-//! What the layers above may rely on, each the contract of a function that does nothing:
+//! What the layers above may rely on, each the contract of a function that does nothing. It holds of
+//! every history whose header and items have spellings, as those of files do
+//! (`histories_have_spellings`):
 //!
 //! | Law | Clause |
 //! |---|---|
@@ -44,8 +46,9 @@ mod laws;
 pub mod plain;
 
 pub use laws::{
-    cums_tell_apart, granules_tell_apart, headers_tell_apart, links_tell_apart, nodes_tell_apart,
-    roots_cover, same_digests, stores_tell_apart, tiles_tell_apart, worked_roots,
+    cums_tell_apart, granules_tell_apart, headers_tell_apart, histories_have_spellings,
+    links_tell_apart, nodes_tell_apart, roots_cover, same_digests, stores_tell_apart,
+    tiles_tell_apart, worked_roots,
 };
 
 #[cfg(test)]
