@@ -1,7 +1,7 @@
 //! The cumulative chain: one value over all transactions so far, each linked to the value before it.
 //!
 //! To change, drop or move a transaction changes every value from there on, unless two different
-//! inputs share a SHA-256 digest: that law is `links_tell_apart` of `history_model`.
+//! inputs share a SHA-256 digest: that law is `links_tell_apart` of `digest_model`.
 //!
 //! | Call | Formula |
 //! |---|---|
@@ -11,7 +11,7 @@
 //!
 //! The header fields are 22 bytes: id, epoch, width, exponent and algorithms.
 //!
-//! Each call gives exactly the digest of `history_model` (clause `value`) and takes no memory. A link
+//! Each call gives exactly the digest of `digest_model` (clause `value`) and takes no memory. A link
 //! raises the count of steps by one (clause `steps`); no transaction is linked without it.
 //! Trusted is the statement of SHA-256 in the kit's `sha2`; tests compare with another program.
 //!
@@ -25,7 +25,7 @@
 
 ghost use Rattle.std.specs.Prelude.{◌≡◌, ◌+◌, ◌∷◌};
 ghost use Rattle.sha2.specs.Sha256.{sha256};
-ghost use Rattle.history_model.specs.Digests.{seed, header_digest, next_link};
+ghost use Rattle.digest_model.specs.Digests.{seed, header_digest, next_link};
 
 use sha2::{Digest, Sha256};
 use step_count::{Ledger, Steps};

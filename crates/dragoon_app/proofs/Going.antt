@@ -5,7 +5,7 @@ use Rattle.disk_words.specs.Disk.{State, Unchanged, GoesOn}
 use Rattle.disk_words.proofs.Frame.{goes_on_same}
 use Rattle.tuple_bytes.specs.declared.header.Header.{Header}
 use Rattle.history_model.specs.Stored.{max_file, store_shape, items_of}
-use Rattle.history_model.specs.Digests.{seed}
+use Rattle.digest_model.specs.Digests.{seed}
 use Rattle.txn_journal.specs.Reading.{Reading, left, IsSeenIn}
 use Rattle.dragoon_app.specs.declared.link.Linked.{Linked}
 use Rattle.dragoon_app.specs.Linked.{items_behind, linked_from, linked_at_seed}

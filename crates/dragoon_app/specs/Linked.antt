@@ -9,7 +9,7 @@ use Rattle.tuple_bytes.specs.declared.item.Item.TheVariants as items
 use Rattle.tuple_bytes.specs.Spelling.{spell_txn}
 use Rattle.history_model.specs.Stored.{header_length, store_shape, items_of, stored}
 use Rattle.history_model.specs.History.{txns}
-use Rattle.history_model.specs.Digests.{seed, next_link, link_of}
+use Rattle.digest_model.specs.Digests.{seed, next_link, link_of}
 use Rattle.txn_journal.specs.Reading.{left}
 use Rattle.dragoon_app.specs.declared.status.Status.TheVariants as statuses
 use Rattle.dragoon_app.specs.declared.link.Linked.{Linked}

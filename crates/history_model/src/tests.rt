@@ -1,8 +1,8 @@
-//! The definitions on a store that was made and hashed by another program.
+//! The definitions on a store that was made by another program.
 
 mod worked;
 
-use crate::plain::{Txns, canon, last_moment, link, rows, stored};
+use crate::plain::{Txns, canon, last_moment, rows, stored};
 use std::alloc::{AllocError, Global};
 use std::test::Fail;
 use tuple_bytes::{Header, Item, Items, Ops, Txn};
@@ -54,40 +54,6 @@ fn a_store_holds_the_longest_prefix_of_valid_records(rt: HostRuntime) -> Result<
         assert_eq!(rt; found.header.is_some(), has_header, "{name}");
         assert_eq!(rt; found.items.as_slice().len(), items, "{name}");
         assert_eq!(rt; found.end, end, "{name}");
-    }
-    Ok(())
-}
-
-#[test]
-fn the_link_is_that_of_another_program(rt: HostRuntime) -> Result<(), Fail> {
-    let alloc = rt.alloc();
-    let cases: [(usize, usize, &[u8], &str); 3] = [
-        (
-            65,
-            0,
-            &[],
-            "91bb1e93ad90c2a95e1921cab17bc5aa1e88fb5738aa3a413cd28c70b4f43b92",
-        ),
-        (
-            445,
-            0,
-            &[],
-            "f87cbf8193e5ef79956ed0ccc181c1f75d54b9efd5ef2653599a6453cc09e26e",
-        ),
-        (
-            445,
-            97,
-            &[0x80, 0x01],
-            "57397a1f916ee3760c24b0eafe15ed750382ea2e9ca841430b03cf4c8ba99bc3",
-        ),
-    ];
-    for (length, place, bytes, value) in cases {
-        let found = stored(alloc, &damaged(alloc, length, place, bytes)?)?;
-        assert!(rt; found.header.is_some());
-        if let Some(header) = &found.header {
-            let last = link(alloc, header, found.items.as_slice())?;
-            assert_eq!(rt; hex::encode(alloc, last)?.as_str(), value);
-        }
     }
     Ok(())
 }

@@ -1,0 +1,13 @@
+pub mod Members
+pub mod Parts
+pub mod Clashes
+pub mod Links
+pub mod Headers
+pub mod Spelled
+pub mod Stores
+pub mod Granules
+pub mod Rows
+pub mod Tiles
+pub mod Nodes
+pub mod Follows
+pub mod Chains

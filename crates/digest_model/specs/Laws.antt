@@ -1,0 +1,87 @@
+-- What equal digests say, unless two inputs clash; and that digests go by the transactions.
+use Rattle.std.specs.Prelude.{◌≡◌, ◌⊎◌, ℕ, ◌+◌, ◌*◌, ◌^◌, ◌≤◌, ◌<◌, List, [], ◌∷◌}
+use Rattle.std.specs.List.{All}
+use Rattle.tuple_bytes.specs.declared.header.Header.{Header}
+use Rattle.tuple_bytes.specs.Spelling.{spell_fields, FitsHeader}
+use Rattle.history_model.specs.History.{History, txns, rows}
+use Rattle.history_model.specs.StoredHistory.{IsHistory}
+use Rattle.digest_model.specs.Layout.{layout, end_granule, part_granules}
+use Rattle.digest_model.specs.Digests.{link_of_spelled, link_of, header_digest, header_input, granule_digest, tile_digest, node_digest, cum}
+use Rattle.digest_model.specs.Inputs.{Clash, link_inputs_of_spelled, link_inputs, cum_inputs, hashed, tile_inputs, node_inputs}
+
+-- equal header digests are of one header
+abbrev pub HeadersTellApart : Type 0
+HeadersTellApart = (a b : Header) → FitsHeader a → FitsHeader b
+    → header_digest a ≡ header_digest b
+    → (a ≡ b) ⊎ Clash (header_input a ∷ []) (header_input b ∷ [])
+
+-- equal links are of the same header fields and one list of spellings
+abbrev pub LinksTellApart : Type 0
+LinksTellApart = (a b : Header) (ts us : List (List ℕ))
+    → link_of_spelled a ts ≡ link_of_spelled b us
+    → ((spell_fields a ≡ spell_fields b) × (ts ≡ us)) ⊎ Clash (link_inputs_of_spelled a ts) (link_inputs_of_spelled b us)
+
+-- two histories have one header and the same transactions in file order
+abbrev pub IsSameHistory : History → History → Type 0
+IsSameHistory h s = (h.header ≡ s.header) × (txns h.items ≡ txns s.items)
+
+-- among what is hashed for the links of two histories, two inputs clash
+abbrev pub LinkClash : History → History → Type 0
+LinkClash h s = Clash (link_inputs h.header (txns h.items)) (link_inputs s.header (txns s.items))
+
+-- equal links over all transactions are of the same history
+abbrev pub StoresTellApart : Type 0
+StoresTellApart = (h s : History) → IsHistory h → IsHistory s
+    → link_of h.header (txns h.items) ≡ link_of s.header (txns s.items)
+    → IsSameHistory h s ⊎ LinkClash h s
+
+-- one header, and the same transactions in each granule below m
+pub record SameBelow (h s : History) (m : ℕ) : Type 0 where
+  pub header : h.header ≡ s.header
+  pub rows : (g : ℕ) → g < m → rows h g ≡ rows s g
+
+-- equal links at the end of a tile are of the same transactions up to there
+abbrev pub CumsTellApart : Type 0
+CumsTellApart = (h s : History) (tile : ℕ) → IsHistory h → IsHistory s → layout h ≡ layout s
+    → cum h tile ≡ cum s tile
+    → SameBelow h s (end_granule (layout h) tile) ⊎ Clash (cum_inputs h tile) (cum_inputs s tile)
+
+-- equal digests of a granule are of the same transactions
+abbrev pub GranulesTellApart : Type 0
+GranulesTellApart = (h s : History) (g : ℕ) → IsHistory h → IsHistory s
+    → granule_digest h g ≡ granule_digest s g
+    → (rows h g ≡ rows s g) ⊎ Clash (hashed h g ∷ []) (hashed s g ∷ [])
+
+-- two histories have the same transactions in each of these granules
+abbrev pub SameIn : History → History → List ℕ → Type 0
+SameIn h s granules = All (λ g. rows h g ≡ rows s g) granules
+
+-- equal digests of a part of a tile are of the same transactions in each of its granules
+abbrev pub TilesTellApart : Type 0
+TilesTellApart = (h s : History) (tile part : ℕ) → IsHistory h → IsHistory s → layout h ≡ layout s
+    → tile_digest h tile part ≡ tile_digest s tile part
+    → SameIn h s (part_granules (layout h) tile part) ⊎ Clash (tile_inputs h tile part) (tile_inputs s tile part)
+
+-- the granules below a node
+abbrev pub IsUnder : ℕ → ℕ → ℕ → Type 0
+IsUnder level index g = (index * 2 ^ level ≤ g) × (g < (index + 1) * 2 ^ level)
+
+-- two histories have the same transactions in each granule below a node
+abbrev pub SameUnder : History → History → ℕ → ℕ → Type 0
+SameUnder h s level index = (g : ℕ) → IsUnder level index g → rows h g ≡ rows s g
+
+-- equal digests of a node are of the same transactions in each granule below it
+abbrev pub NodesTellApart : Type 0
+NodesTellApart = (h s : History) (level index : ℕ) → IsHistory h → IsHistory s
+    → node_digest h level index ≡ node_digest s level index
+    → SameUnder h s level index ⊎ Clash (node_inputs h level index) (node_inputs s level index)
+
+-- the same transactions have the same digests
+pub record SameDigests : Type 0 where
+  pub granules : (h s : History) (g : ℕ) → rows h g ≡ rows s g → granule_digest h g ≡ granule_digest s g
+  pub cums : (h s : History) (tile : ℕ) → layout h ≡ layout s
+      → SameBelow h s (end_granule (layout h) tile) → cum h tile ≡ cum s tile
+  pub tiles : (h s : History) (tile part : ℕ) → layout h ≡ layout s
+      → SameIn h s (part_granules (layout h) tile part) → tile_digest h tile part ≡ tile_digest s tile part
+  pub nodes : (h s : History) (level index : ℕ)
+      → SameUnder h s level index → node_digest h level index ≡ node_digest s level index

@@ -1,0 +1,43 @@
+//! What equal digests say, each law the contract of a function that does nothing.
+
+ghost use Rattle.digest_model.specs.Laws.{HeadersTellApart, LinksTellApart, StoresTellApart, CumsTellApart, GranulesTellApart, TilesTellApart, NodesTellApart, SameDigests};
+
+/// Equal header digests are of one header, unless the two inputs clash.
+pub fn headers_tell_apart()
+    ensures { HeadersTellApart }
+{}
+
+/// Equal links are of one header and one list of spellings, unless two inputs clash.
+pub fn links_tell_apart()
+    ensures { LinksTellApart }
+{}
+
+/// Equal links over all transactions are of one header and one list of them, unless two inputs clash.
+pub fn stores_tell_apart()
+    ensures { StoresTellApart }
+{}
+
+/// Equal links at the end of a tile are of one header and the same transactions up to there, unless two inputs clash.
+pub fn cums_tell_apart()
+    ensures { CumsTellApart }
+{}
+
+/// Equal digests of a granule are of the same transactions, unless the two inputs clash.
+pub fn granules_tell_apart()
+    ensures { GranulesTellApart }
+{}
+
+/// Equal digests of a part of a tile are of the same transactions in each of its granules, unless two inputs clash.
+pub fn tiles_tell_apart()
+    ensures { TilesTellApart }
+{}
+
+/// Equal digests of a node are of the same transactions in each granule below it, unless two inputs clash.
+pub fn nodes_tell_apart()
+    ensures { NodesTellApart }
+{}
+
+/// The same transactions have the same digests.
+pub fn same_digests()
+    ensures { SameDigests }
+{}
