@@ -1,0 +1,3 @@
+pub mod Frame
+pub mod InAll
+pub mod Sums
