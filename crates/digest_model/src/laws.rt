@@ -1,5 +1,6 @@
 //! What equal digests say, each law the contract of a function that does nothing.
 
+ghost use Rattle.digest_model.specs.Roots.{WorkedRoots};
 ghost use Rattle.digest_model.specs.Laws.{HeadersTellApart, LinksTellApart, StoresTellApart, CumsTellApart, GranulesTellApart, TilesTellApart, NodesTellApart, SameDigests};
 
 /// Equal header digests are of one header, unless the two inputs clash.
@@ -40,4 +41,9 @@ pub fn nodes_tell_apart()
 /// The same transactions have the same digests.
 pub fn same_digests()
     ensures { SameDigests }
+{}
+
+/// The roots over twelve and over 168 granules.
+pub fn worked_roots()
+    ensures { WorkedRoots }
 {}

@@ -29,7 +29,7 @@ pub mod plain;
 
 pub use laws::{
     cums_tell_apart, granules_tell_apart, headers_tell_apart, links_tell_apart, nodes_tell_apart,
-    same_digests, stores_tell_apart, tiles_tell_apart,
+    same_digests, stores_tell_apart, tiles_tell_apart, worked_roots,
 };
 
 #[cfg(test)]
