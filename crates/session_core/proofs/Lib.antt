@@ -1,0 +1,4 @@
+pub mod Staying
+pub mod Reads
+pub mod Untouched
+pub mod Committing
