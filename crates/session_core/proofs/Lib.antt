@@ -2,3 +2,4 @@ pub mod Staying
 pub mod Reads
 pub mod Untouched
 pub mod Committing
+pub mod Promising

@@ -4,3 +4,4 @@ pub mod Steps
 pub mod Reading
 pub mod Replies
 pub mod Stepping
+pub mod Promises

@@ -1,5 +1,5 @@
 -- What a statement does to a world, and what is replied.
-use Rattle.std.specs.Prelude.{ℕ, List, ◌∷◌, [], Option, Some, None, Result, Ok, Err}
+use Rattle.std.specs.Prelude.{ℕ, false, List, ◌∷◌, [], Option, Some, None, Result, Ok, Err}
 use Rattle.tuple_bytes.specs.declared.value.Value.{Value}
 use Rattle.tuple_bytes.specs.declared.op.Op.{Op}
 use Rattle.tuple_bytes.specs.declared.item.Txn.{Txn}
@@ -109,6 +109,8 @@ IsTableLine (lines.Plain stmt) = IsOnTables stmt
 IsTableLine lines.Blank = ⊥
 IsTableLine (lines.InSession session stmt) = ⊥
 IsTableLine (lines.Drill event) = ⊥
+
+-- ---- a line
 
 -- What a line does at these clock seconds. A line that is none of these does nothing here.
 unfoldable pub step : World → Line → ℕ → Step

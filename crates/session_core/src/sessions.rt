@@ -1,12 +1,12 @@
 //! Statements, one after another.
 
-ghost use Rattle.std.specs.Prelude.{◌≡◌, false, OnOk, OnErr};
+ghost use Rattle.std.specs.Prelude.{◌≡◌, ◌↔◌, false, IsTrue, OnOk, OnErr};
 ghost use Rattle.outside_words.specs.Faults.{HasCause};
 ghost use Rattle.outside_words.specs.Told.{WhereTold};
 ghost use Rattle.disk_words.specs.Disk.{GoesOn};
 ghost use Rattle.stmt_text.specs.Fits.{FitsParts, FitsStmt};
 ghost use Rattle.session_core.specs.declared.sessions.StepFail.TheVariants.{DiskFault, NoMemory};
-ghost use Rattle.session_core.specs.Steps.{IsTableLine, IsOnTables, write_in, write_or_read};
+ghost use Rattle.session_core.specs.Steps.{IsOnTables, IsTableLine, write_in, write_or_read};
 ghost use Rattle.session_core.specs.Stepping.{DoesAs, IsLeft, StepsTo};
 
 use crate::reading::read;
@@ -69,7 +69,37 @@ impl Sessions {
     }
 }
 
-/// Carries out a statement on tables.
+fn is_on_tables(stmt: &Stmt) -> bool
+    ensures value { IsTrue result ↔ IsOnTables stmt.now }
+{
+    match stmt {
+        Stmt::Create { .. } => true,
+        Stmt::Insert { .. } => true,
+        Stmt::Update { .. } => true,
+        Stmt::Delete { .. } => true,
+        Stmt::Get { .. } => true,
+        Stmt::Scan { .. } => true,
+        Stmt::History { .. } => true,
+        Stmt::Begin | Stmt::Commit | Stmt::Abort => false,
+        Stmt::Notarize | Stmt::Validate => false,
+        Stmt::Analyse { .. } => false,
+        Stmt::Now { .. } => false,
+    }
+}
+
+/// Whether a line is a statement on tables, outside sessions.
+pub fn is_table_line(line: &Line) -> bool
+    ensures value { IsTrue result ↔ IsTableLine line.now }
+{
+    match line {
+        Line::Plain { stmt } => is_on_tables(stmt),
+        Line::Blank => false,
+        Line::InSession { .. } => false,
+        Line::Drill { .. } => false,
+    }
+}
+
+/// A statement that writes is carried out, and another one answered.
 fn write_or_read<D: Disk>(
     alloc: Global,
     store: &mut Store,
@@ -78,7 +108,6 @@ fn write_or_read<D: Disk>(
     now: u64,
 ) -> Result<Reply, StepFail>
     requires open { store.old.at.is_closed ≡ false }
-    requires on_tables { IsOnTables stmt.now }
     requires fits { FitsStmt stmt.now }
     ensures open { OnOk result (store.new.at.is_closed ≡ false) }
     ensures kept { OnErr result (IsLeft store.old store.new) }
