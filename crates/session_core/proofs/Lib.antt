@@ -1,5 +1,5 @@
 pub mod Staying
-pub mod Reads
+pub mod ReadFrom
 pub mod Untouched
 pub mod Committing
 pub mod Promising
