@@ -2,4 +2,6 @@ pub mod Staying
 pub mod ReadFrom
 pub mod Untouched
 pub mod Committing
+pub mod Preparing
 pub mod Promising
+pub mod Refusals
