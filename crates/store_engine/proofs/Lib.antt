@@ -2,3 +2,4 @@ pub mod StoredFiles
 pub mod Adding
 pub mod Reordering
 pub mod Telling
+pub mod Opening

@@ -4,7 +4,7 @@
 //! that order, so each is applied as it is read. In any other file their moments may fall: then all are
 //! read, and sorted by moment, those of one moment in file order.
 
-ghost use Rattle.std.specs.Prelude.{◌≡◌, ◌+◌, ◌<◌, ◌≤◌, ◌^◌, ℕ, List, length, IfOk, IfSome, OnOk};
+ghost use Rattle.std.specs.Prelude.{◌≡◌, ◌+◌, ◌<◌, ◌≤◌, ◌^◌, ◌++◌, ◌∷◌, [], ℕ, true, List, length, IfOk, IfSome, OnOk};
 ghost use Rattle.std.specs.List.{AllByRecursion};
 ghost use Rattle.std.specs.List.Sorted.{IsNonDecreasingBy};
 ghost use Rattle.tuple_bytes.specs.declared.item.Txn.{Txn as ATxn};
@@ -35,14 +35,30 @@ fn read_in_file_order(alloc: Global, payloads: &[Blob]) -> Result<Option<Content
 {
     let mut contents = Contents::new(alloc);
     for payload in payloads {
-        if let Some(item) = decode_item(alloc, payload.as_slice())? {
-            if !contents.may_follow(&item) {
-                return Ok(None);
-            }
-            contents.add(alloc, &item)?;
+        let follows = read_next(alloc, &mut contents, payload.as_slice())?;
+        if !follows {
+            return Ok(None);
         }
     }
     Ok(Some(contents))
+}
+
+/// Adds the item that a payload spells, and answers whether it may come next.
+fn read_next(alloc: Global, contents: &mut Contents, payload: &[u8]) -> Result<bool, AllocError>
+    requires room { contents.old.count + 1 < 2 ^ 32 }
+    ensures value { IfOk result (λ follows. follows ≡ true → (payloads : List (List ℕ))
+        → IsRead payloads contents.old → IsRead (payloads ++ payload.now ∷ []) contents.new) }
+{
+    match decode_item(alloc, payload)? {
+        Some(item) => {
+            if !contents.may_follow(&item) {
+                return Ok(false);
+            }
+            contents.add(alloc, &item)?;
+            Ok(true)
+        }
+        None => Ok(true),
+    }
 }
 
 /// The same, whatever the moments are.
@@ -67,29 +83,46 @@ struct Gathered {
     last: u64,
 }
 
+/// Those of all payloads.
 fn gather(alloc: Global, payloads: &[Blob]) -> Result<Gathered, AllocError>
     ensures value { IfOk result (λ g. IsGathered g (items_of payloads.now)) }
-    ensures few { IfOk result (λ g. length g.txns.items ≤ length payloads.now) }
 {
-    let mut txns = Vec::new(alloc);
-    let mut last = 0;
+    let mut gathered = Gathered {
+        txns: Vec::new(alloc),
+        last: 0,
+    };
     for payload in payloads {
-        match decode_item(alloc, payload.as_slice())? {
+        gathered.add(alloc, payload.as_slice())?;
+    }
+    Ok(gathered)
+}
+
+impl Gathered {
+    /// Adds the item that a payload spells.
+    fn add(&mut self, alloc: Global, payload: &[u8]) -> Result<(), AllocError>
+        ensures value { OnOk result ((payloads : List (List ℕ)) → IsGathered self.old (items_of payloads)
+            → IsGathered self.new (items_of (payloads ++ payload.now ∷ []))) }
+    {
+        match decode_item(alloc, payload)? {
             Some(Item::Txn(txn)) => {
-                last = last.max(txn.moment);
-                txns.push(txn)?;
+                self.last = self.last.max(txn.moment);
+                self.txns.push(txn)?;
+                Ok(())
             }
-            Some(Item::Frontier { moment }) => last = last.max(moment),
-            None => {}
+            Some(Item::Frontier { moment }) => {
+                self.last = self.last.max(moment);
+                Ok(())
+            }
+            None => Ok(()),
         }
     }
-    Ok(Gathered { txns, last })
 }
 
 /// Sorts by moment, and keeps the order of those of one moment.
 fn sort_by_moment(txns: &mut Vec<Txn>) -> Result<(), AllocError>
     ensures rise { OnOk result (IsNonDecreasingBy (λ (t : ATxn). t.moment) txns.new.items) }
     ensures same { OnOk result (IsReordered txns.old.items txns.new.items) }
+    ensures as_many { length txns.new.items ≡ length txns.old.items }
 {
     txns.sort_by_key(|txn| txn.moment)
 }
@@ -98,7 +131,8 @@ fn sort_by_moment(txns: &mut Vec<Txn>) -> Result<(), AllocError>
 fn apply_all(alloc: Global, txns: &[Txn]) -> Result<Tables, AllocError>
     requires rise { IsNonDecreasingBy (λ (t : ATxn). t.moment) txns.now }
     ensures value { IfOk result (λ tables. StandsFor tables txns.now) }
-    ensures in_time { IfOk result (λ tables. (last : ℕ) → AllByRecursion (λ (t : ATxn). t.moment ≤ last) txns.now → tables.last ≤ last) }
+    ensures in_time { IfOk result (λ tables. (last : ℕ)
+        → AllByRecursion (λ (t : ATxn). t.moment ≤ last) txns.now → tables.last ≤ last) }
 {
     let mut tables = Tables::new(alloc);
     for txn in txns {

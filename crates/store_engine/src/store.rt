@@ -72,7 +72,10 @@ impl Store {
         ensures frame { GoesOn (D.state disk.old) (D.state disk.new) }
         ensures cause { HasCause DiskFault (D.state disk.old).faults (D.state disk.new).faults result }
     {
-        let opened = open_journal::<D, StoreShape>(alloc, disk)?;
+        let opened = match open_journal::<D, StoreShape>(alloc, disk) {
+            Ok(opened) => opened,
+            Err(fail) => return Err(StoreFail::from(fail)),
+        };
         let Some(header) = decode_header(&opened.head) else {
             return Err(StoreFail::NotAStore);
         };

@@ -39,8 +39,8 @@ returns-in-Err-clause-told g c =
     let new_stand : Opened = record { header = c.self.inside.header; count = known.count; last = known.last; tables = known.tables; at = record { end = now.end; gate_is_open = now.gate_is_open; is_closed = c.closes-self-inside.result } } in
     let same = λ (e : now ≡ at). subst (λ d. Unchanged old (S d)) (sym (c.in-Err.ensures.kept e)) (unchanged_same old) in
     let all = told_map old.reads new.reads (Appends is_header store_shape at payload (Err fail) old new) (Adds {A = Unit {0}} item (Err (fail_of_journal fail)) stand new_stand old new) c.in-Err.ensures.told
-        (λ b a appends. adds_failed item payload is spelled at old new stand refl refl b a (Err fail) appends new_stand (fail_of_journal fail)
-            (makes_failed (Unit {0}) fail payload at now (append_calls at payload) old new c.in-Err.ensures.moves same appends.trace)) in
+    (λ b a appends. adds_failed item payload is spelled at old new stand refl refl b a (Err fail) appends new_stand (fail_of_journal fail)
+    (makes_failed (Unit {0}) fail payload at now (append_calls at payload) old new c.in-Err.ensures.moves same appends.trace)) in
     rw c.from-fail.ensures (subst (λ (s : Opened). WhereTold old.reads new.reads (Adds {A = Unit {0}} item (Err (fail_of_journal fail)) s new_stand old new)) c.self.view_is all)
 
 pub returns-in-Ok-clause-told : goal.returns-in-Ok-clause-told
@@ -65,7 +65,7 @@ returns-in-Ok-clause-told g c =
       knows = λ items k. let t = c.in-Ok.ensures.tells items (record { count = k.count; last = k.last; tables = k.tables }) in record { count = t.count; last = t.last; tables = t.tables };
     } in
     let all = told_map old.reads new.reads (Appends is_header store_shape at payload (Ok tt) old new) (Adds {A = Unit {0}} item (Ok tt) stand new_stand old new) c.in_default.ensures.told
-        (λ b a appends. adds_done item payload is spelled at old new stand refl refl b a appends new_stand behind_item) in
+    (λ b a appends. adds_done item payload is spelled at old new stand refl refl b a appends new_stand behind_item) in
     subst (λ (s : Opened). WhereTold old.reads new.reads (Adds {A = Unit {0}} item (Ok tt) s new_stand old new)) c.self.view_is all
 
 pub returns-in-Err-add-clause-told : goal.returns-in-Err-add-clause-told
@@ -84,5 +84,5 @@ returns-in-Err-add-clause-told g c =
     let more = c.add.new.self in
     let new_stand : Opened = record { header = c.self.inside.header; count = more.count; last = more.last; tables = more.tables; at = record { end = now.end; gate_is_open = now.gate_is_open; is_closed = true } } in
     let all = told_map old.reads new.reads (Appends is_header store_shape at payload (Ok tt) old new) (Adds {A = Unit {0}} item (Err fails.NoMemory) stand new_stand old new) c.in_default.ensures.told
-        (λ b a appends. adds_failed item payload is spelled at old new stand refl refl b a (Ok tt) appends new_stand fails.NoMemory (inl appends.trace)) in
+    (λ b a appends. adds_failed item payload is spelled at old new stand refl refl b a (Ok tt) appends new_stand fails.NoMemory (inl appends.trace)) in
     subst (λ (s : Opened). WhereTold old.reads new.reads (Adds {A = Unit {0}} item (Err fails.NoMemory) s new_stand old new)) c.self.view_is all
