@@ -1,28 +1,26 @@
 -- What an append does to a store, by its items.
-use Rattle.std.proofs.Common.{◌≡◌, inl, inr, ℕ, ◌+◌, ◌==◌, Bool, true, false, List, [], ◌∷◌, ◌++◌, length, Option, Some, None, Result, Ok, Err, refl, sym, ap, subst, ◌∙◌}
-use Rattle.std.specs.Prelude.{OnOk, slice_index}
-use Rattle.outside_words.specs.Told.{WhereTold}
-use Rattle.disk_words.specs.Disk.{State, turn, Only, Unchanged, Call}
+use Rattle.std.proofs.Common.{◌≡◌, inr, ℕ, ◌+◌, ◌==◌, Bool, false, List, [], ◌∷◌, ◌++◌, length, Some, Result, Ok, Err, refl, sym, ap, subst, ◌∙◌}
+use Rattle.std.specs.Prelude.{slice_index}
+use Rattle.disk_words.specs.Disk.{State, Only, Unchanged, Call}
 use Rattle.disk_model.specs.Moments.{EveryImage, calls_of}
-use Rattle.disk_model.proofs.Moments.{started, weaker}
+use Rattle.disk_model.proofs.Moments.{weaker}
 use Rattle.byte_grammar.specs.Gated.{open_gate}
 use Rattle.tuple_bytes.specs.declared.header.Header.{Header}
 use Rattle.tuple_bytes.specs.declared.item.Item.{Item}
 use Rattle.tuple_bytes.specs.Items.{item_of}
 use Rattle.tuple_bytes.specs.Spelling.{spell_item}
 use Rattle.history_model.specs.declared.stored.Stored.{Stored}
-use Rattle.history_model.specs.Stored.{store_shape, stored}
+use Rattle.history_model.specs.Stored.{store_shape}
 use Rattle.txn_journal.specs.declared.fail.JournalFail.{JournalFail}
 use Rattle.txn_journal.specs.declared.fail.JournalFail.TheVariants as journals
-use Rattle.txn_journal.specs.Held.{Held, Standing, StandsIn, behind, with_payload}
+use Rattle.txn_journal.specs.Held.{Standing, with_payload}
 use Rattle.txn_journal.specs.Append as journal
 use Rattle.txn_journal.specs.Append.{Appends, append_calls, addition}
 use Rattle.store_engine.specs.declared.fail.StoreFail.{StoreFail}
-use Rattle.store_engine.specs.declared.fail.StoreFail.TheVariants as fails
 use Rattle.store_engine.specs.Fail.{fail_of_journal}
 use Rattle.store_engine.specs.Opened.{Opened, Knows, Stores, StoresOldOrNew, IsOpenOn}
 use Rattle.store_engine.specs.Commits.{MakesOf, Adds}
-use Rattle.store_engine.proofs.StoredFiles.{is_header, HasHeld, stored_as, stored_of_held, stands_held, stands_in, stores_old, stores_new, stores_either}
+use Rattle.store_engine.proofs.StoredFiles.{is_header, stored_of_held, stands_held, stands_in, stores_new, stores_either}
 
 -- what a store behind one item more has to be
 pub record IsBehind (item : Item) (payload : List ℕ) (old new : Opened) : Type 0 where

@@ -2,4 +2,3 @@ pub mod StoredFiles
 pub mod Adding
 pub mod Reordering
 pub mod Telling
-pub mod Opening

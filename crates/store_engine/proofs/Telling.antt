@@ -12,8 +12,7 @@ use Rattle.tuple_bytes.specs.Items.{item_of}
 use Rattle.history_model.specs.Stored.{items_of}
 use Rattle.history_model.specs.History.{txn_in, txns, moment_in, last_moment}
 use Rattle.tt_table.specs.Stands.{StandsFor}
-use Rattle.tt_table.specs.Versions.{TablesVersions, applied}
-use Rattle.tt_table.proofs.Law.{stands_empty}
+use Rattle.tt_table.specs.Versions.{TablesVersions}
 use Rattle.store_engine.specs.declared.contents.Contents.{Contents}
 use Rattle.store_engine.specs.Contents.{Tells, IsInTime}
 use Rattle.store_engine.specs.declared.replay.Gathered.{Gathered}

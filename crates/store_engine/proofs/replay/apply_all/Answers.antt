@@ -1,4 +1,4 @@
-use Rattle.std.proofs.Common.{ℕ, ◌≤◌, List, sym, subst, arith}
+use Rattle.std.proofs.Common.{◌≤◌, sym, subst, arith}
 use Rattle.std.specs.List.{AllByRecursion}
 use Rattle.tuple_bytes.specs.declared.item.Txn.{Txn}
 use Rattle.tt_table.proofs.Law.{stands_empty}

@@ -1,4 +1,4 @@
-use Rattle.std.proofs.Common.{ℕ, ◌≤◌, List, take}
+use Rattle.std.proofs.Common.{ℕ, ◌≤◌, take}
 use Rattle.std.specs.List.{AllByRecursion}
 use Rattle.tuple_bytes.specs.declared.item.Txn.{Txn}
 use Rattle.tt_table.specs.Stands.{StandsFor}

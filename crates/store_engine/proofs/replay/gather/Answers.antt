@@ -1,7 +1,7 @@
 use Rattle.std.proofs.Common.{ℕ, List, sym, subst}
 use Rattle.history_model.specs.Stored.{items_of}
 use Rattle.store_engine.specs.Replay.{IsGathered}
-use Rattle.store_engine.proofs.Telling.{next_taken, take_all}
+use Rattle.store_engine.proofs.Telling.{next_taken}
 use Rattle.store_engine.proofs.replay.gather.Goals as goal
 
 pub loop-payload-preserved : goal.loop-payload-preserved

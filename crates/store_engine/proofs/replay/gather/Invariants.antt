@@ -1,4 +1,4 @@
-use Rattle.std.proofs.Common.{List, take}
+use Rattle.std.proofs.Common.{take}
 use Rattle.history_model.specs.Stored.{items_of}
 use Rattle.store_engine.specs.Replay.{IsGathered}
 use Rattle.store_engine.proofs.replay.gather.Given as goal

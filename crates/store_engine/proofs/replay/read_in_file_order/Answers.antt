@@ -1,4 +1,4 @@
-use Rattle.std.proofs.Common.{◌≡◌, ℕ, ◌≤◌, List, true, take, length, sym, subst, arith}
+use Rattle.std.proofs.Common.{◌≡◌, ℕ, List, true, take, sym, subst, arith}
 use Rattle.std.proofs.lemmas.List.{length-take-le}
 use Rattle.store_engine.specs.Replay.{IsRead}
 use Rattle.store_engine.proofs.Telling.{next_taken, few_txns}

@@ -1,4 +1,4 @@
-use Rattle.std.proofs.Common.{List, take}
+use Rattle.std.proofs.Common.{take}
 use Rattle.store_engine.specs.Replay.{IsRead}
 use Rattle.store_engine.proofs.replay.read_in_file_order.Given as goal
 

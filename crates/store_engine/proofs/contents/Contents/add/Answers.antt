@@ -1,4 +1,4 @@
-use Rattle.std.proofs.Common.{◌≡◌, max, OnErr, Result, Ok, Err, refl}
+use Rattle.std.proofs.Common.{OnErr, Result, Ok, Err, refl}
 use Rattle.std.proofs.lemmas.Result.{on_ok_weaker}
 use Rattle.store_engine.proofs.Telling.{tells_txn, tells_frontier}
 use Rattle.store_engine.proofs.contents.Contents.add.Goals as goal

@@ -1,4 +1,4 @@
-use Rattle.std.proofs.Common.{◌≡◌, ◌<◌, ◌≤◌, ◌+◌, ℕ, true, false, List, length, sym, ap, subst, ◌∙◌, arith}
+use Rattle.std.proofs.Common.{ℕ, List, subst, arith}
 use Rattle.store_engine.specs.Replay.{IsRead}
 use Rattle.store_engine.proofs.Telling.{few_txns}
 use Rattle.store_engine.proofs.store.Store.open_store.Goals as goal
