@@ -1,6 +1,6 @@
 //! A store that is open.
 
-ghost use Rattle.std.specs.Prelude.{◌≡◌, ◌+◌, ◌<◌, ◌≤◌, ℕ, List, [], true, false, length, IfOk, IsOk, IfErr, IfSome, MatchOption, MatchResult, if◌then◌else◌};
+ghost use Rattle.std.specs.Prelude.{◌≡◌, ◌+◌, ◌<◌, ◌≤◌, ℕ, List, [], true, false, length, IfOk, IsOk, IfErr, IfSome, IsSome, MatchOption, MatchResult, if◌then◌else◌};
 ghost use Rattle.std.specs.List.{All};
 ghost use Rattle.outside_words.specs.Faults.{HasCause};
 ghost use Rattle.outside_words.specs.Told.{WhereTold};
@@ -106,6 +106,7 @@ impl Store {
         ensures number { IfOk result (λ n. n ≡ self.old.count + 1) }
         ensures refused { IsRefusedBy (commit_fault (tail_of self.old) self.old.at.is_closed ops.now now) result }
         ensures stands { StandsAfter result self.old (with_txn self.old (next_txn (tail_of self.old) ops.now now)) self.new }
+        ensures same { IsSome (commit_fault (tail_of self.old) self.old.at.is_closed ops.now now) → Unchanged (D.state disk.old) (D.state disk.new) }
         ensures told { WhereTold (D.state disk.old).reads (D.state disk.new).reads
             (Adds (items.Txn (next_txn (tail_of self.old) ops.now now)) result self.old self.new (D.state disk.old) (D.state disk.new)) }
         ensures frame { GoesOn (D.state disk.old) (D.state disk.new) }
@@ -183,6 +184,7 @@ impl Store {
         requires follows { self.old.last ≤ moment_in item.now }
         ensures refused { IsRefusedBy (item_fault (tail_of self.old) self.old.at.is_closed item.now) result }
         ensures stands { StandsAfter result self.old (with_item self.old item.now) self.new }
+        ensures same { IsSome (item_fault (tail_of self.old) self.old.at.is_closed item.now) → Unchanged (D.state disk.old) (D.state disk.new) }
         ensures told { WhereTold (D.state disk.old).reads (D.state disk.new).reads
             (Adds item.now result self.old self.new (D.state disk.old) (D.state disk.new)) }
         ensures frame { GoesOn (D.state disk.old) (D.state disk.new) }
@@ -211,6 +213,7 @@ impl Store {
         requires follows { self.old.last ≤ moment_in item.now }
         ensures refused { IsRefusedBy (item_fault (tail_of self.old) self.old.at.is_closed item.now) result }
         ensures stands { StandsAfter result self.old (with_item self.old item.now) self.new }
+        ensures same { IsSome (item_fault (tail_of self.old) self.old.at.is_closed item.now) → Unchanged (D.state disk.old) (D.state disk.new) }
         ensures told { WhereTold (D.state disk.old).reads (D.state disk.new).reads
             (Adds item.now result self.old self.new (D.state disk.old) (D.state disk.new)) }
         ensures frame { GoesOn (D.state disk.old) (D.state disk.new) }
