@@ -1,12 +1,14 @@
 -- What `run` leaves: what it wrote, what its store holds at every moment, and what it took from its input and the clock.
-use Rattle.std.specs.Prelude.{◌≡◌, ◌≢◌, ◌⊎◌, ◌<◌, ◌+◌, ◌-◌, ℕ, Bool, true, false, List, [], ◌∷◌, ◌++◌, length, take, drop, map, slice_index, Option, Some, None, IfSome}
+use Rattle.std.specs.Prelude.{◌≡◌, ◌≢◌, ◌⊎◌, ◌<◌, ◌≤◌, ◌+◌, ◌-◌, ℕ, Bool, true, false, List, [], ◌∷◌, ◌++◌, length, take, drop, map, slice_index, Option, Some, None}
 use Rattle.outside_words.specs.Told.{WhereTold}
+use Rattle.outside_words.specs.Faults.{Rose}
 use Rattle.disk_words.specs.Disk as disks
 use Rattle.disk_model.specs.Moments.{EveryImage}
 use Rattle.outside_io.specs.Sink as sinks
 use Rattle.outside_io.specs.Source as sources
 use Rattle.outside_io.specs.Clock as clocks
 use Rattle.line_input.specs.Lines.{lines_of, complete_lines}
+use Rattle.line_input.specs.Reader.{input_limit}
 use Rattle.tuple_bytes.specs.declared.header.Header.{Header}
 use Rattle.history_model.specs.Stored.{stored}
 use Rattle.store_engine.specs.Opened.{Stores}
@@ -15,11 +17,7 @@ use Rattle.dragoon_app.specs.declared.status.Status.{Status}
 use Rattle.dragoon_app.specs.declared.status.Status.TheVariants as statuses
 use Rattle.dragoon_app.specs.Outcome.{Said, refused}
 use Rattle.dragoon_app.specs.Texts.{fault_line}
-use Rattle.dragoon_app.specs.Running.{Running, Timed, start, carry, carried, world_of, seconds_taken}
-
--- how many bytes a run takes at most
-abbrev pub max_input : ℕ
-max_input = 67108864
+use Rattle.dragoon_app.specs.Running.{Running, Timed, start, carried, world_of, seconds_taken}
 
 -- ---- what was written
 
@@ -60,15 +58,23 @@ AreFirst done input = done ≡ take (length done) (lines_of input)
 -- All lines were carried out of an input that was read to its end, and that is shorter than a run takes. After a fault
 -- of the source, and at the limit, those whose end was read were. Else some first ones.
 abbrev pub Ends : List (List ℕ) → Status → List ℕ → List ℕ → Type 0
-Ends done statuses.Ok input left = (done ≡ lines_of input) × (left ≡ []) × (length input < max_input)
-Ends done statuses.Refused input left = (done ≡ lines_of input) × (left ≡ []) × (length input < max_input)
+Ends done statuses.Ok input left = (done ≡ lines_of input) × (left ≡ []) × (length input < input_limit)
+Ends done statuses.Refused input left = (done ≡ lines_of input) × (left ≡ []) × (length input < input_limit)
 Ends done statuses.ReadFault input left = AreComplete done input left
-Ends done statuses.InputLimit input left = AreComplete done input left × (length input ≡ length left + max_input)
+Ends done statuses.InputLimit input left = AreComplete done input left × (length input ≡ length left + input_limit)
 Ends done s input left = AreFirst done input
+
+abbrev pub lines_in : List Timed → List (List ℕ)
+lines_in timed = map (λ t. t.line) timed
 
 -- this line comes behind those that were carried out, or none was under way, which an empty line stands for
 abbrev pub IsUnderWay : List Timed → Timed → List ℕ → Type 0
-IsUnderWay done next input = (next.line ≡ []) ⊎ AreFirst (map (λ t. t.line) (done ++ next ∷ [])) input
+IsUnderWay done next input = (next.line ≡ []) ⊎ AreFirst (lines_in (done ++ next ∷ [])) input
+
+-- no more was taken than a run takes, from the front on
+pub record TakesFront (input left : List ℕ) : Type 0 where
+  pub within : length input ≤ length left + input_limit
+  pub front : left ≡ drop (length input - length left) input
 
 -- ---- the clock
 
@@ -92,28 +98,31 @@ StoresWorld w bytes = Stores w.header w.items bytes
 abbrev pub StoresFront : Bool → World → List Timed → List ℕ → Type 0
 StoresFront scripted w timed c = (n : ℕ) × StoresWorld (carried scripted (start w) (take n timed)).world c
 
--- the statuses after which no line was under way
-abbrev pub IsSettled : Status → Type 0
-IsSettled statuses.DiskFault = ⊥
-IsSettled statuses.NoMemory = ⊥
-IsSettled s = Unit {0}
+-- Whether no line was under way: not after a fault of the disk, which stands behind a fault of the output where the line
+-- that tells it was cut short.
+abbrev pub IsSettled : Status → disks.State → disks.State → Type 0
+IsSettled statuses.DiskFault old new = ⊥
+IsSettled statuses.NoMemory old new = ⊥
+IsSettled statuses.WriteFault old new = Rose old.faults new.faults → ⊥
+IsSettled s old new = Unit {0}
 
 -- What a run over the world w leaves, with these lines carried out and this one perhaps under way.
 pub record RunsOver (scripted : Bool) (w : World) (done : List Timed) (next : Timed) (result : Status) (old new : disks.State) (before after : List ℕ) : Type 0 where
   -- a crash at any moment leaves what stood there after some first lines
   pub images : disks.Only before old → EveryImage old new (StoresFront scripted w (done ++ next ∷ []))
-  -- and now at least what the lines say that were carried out, so each reply that is out stands for good
+  -- and now at least what the lines left that were carried out, so each reply that is out stands for good
   pub kept : disks.Only before old → (c : List ℕ) → new.is_image c → StoresWorld (carried scripted (start w) done).world c ⊎ StoresWorld (carried scripted (start w) (done ++ next ∷ [])).world c
-  pub settled : IsSettled result → disks.Only before old → disks.Only after new
-  pub stores : IsSettled result → StoresWorld (carried scripted (start w) done).world after
+  pub settled : IsSettled result old new → disks.Only before old → disks.Only after new
+  pub stores : IsSettled result old new → StoresWorld (carried scripted (start w) done).world after
 
 -- A run whose store was opened.
 pub record Runs (scripted : Bool) (w : World) (result : Status) (old new : disks.State) (before after : List ℕ) (clock ahead : clocks.State) (input left : sources.State) (out later : sinks.State) : Type 0 where
   -- the lines that were carried out, and the one under way
   pub done : List Timed
   pub next : Timed
-  pub lines : WhereTold input.rest left.rest (Ends (map (λ t. t.line) done) result)
+  pub lines : WhereTold input.rest left.rest (Ends (lines_in done) result)
   pub next_is : WhereTold input.rest left.rest (λ all others. IsUnderWay done next all)
+  pub taken : WhereTold input.rest left.rest TakesFront
   pub written : Writes (carried scripted (start w) done) result out later
   pub clock : Takes scripted (done ++ next ∷ []) clock ahead
   pub store : RunsOver scripted w done next result old new before after
