@@ -8,7 +8,7 @@ use Rattle.tuple_bytes.specs.declared.item.Item.TheVariants as items
 use Rattle.tuple_bytes.specs.declared.item.Txn.{Txn}
 use Rattle.tuple_bytes.specs.declared.op.Op.{Op}
 use Rattle.tuple_bytes.specs.Spelling.{spell_txn, spell_frontier, spell_item}
-use Rattle.tt_table.specs.Versions.{applied}
+use Rattle.tt_table.specs.Versions.{TablesVersions, applied}
 use Rattle.txn_journal.specs.Held.{behind, closed}
 use Rattle.txn_journal.specs.Append.{append_calls}
 use Rattle.store_engine.specs.declared.fail.StoreFail.{StoreFail}
@@ -37,19 +37,28 @@ with_frontier s moment = record {
   at = behind s.at (spell_frontier moment);
 }
 
+-- with the one or the other
+abbrev pub with_item : Opened → Item → Opened
+with_item s (items.Txn t) = with_txn s t
+with_item s (items.Frontier moment) = with_frontier s moment
+
 -- it has one where its last moment is before that
 abbrev pub frontier_at : Opened → ℕ → Opened
 frontier_at s moment = if nat_le moment s.last then s else with_frontier s moment
 
--- closed until the file is opened anew; some of a transaction's operations may be in the tables
-abbrev pub IsClosedFrom : Opened → Opened → Type 0
-IsClosedFrom old new = new ≡ record { header = old.header; count = old.count; last = old.last; tables = new.tables; at = closed old.at }
+-- closed until the file is opened anew
+abbrev pub shut : Opened → Opened
+shut s = record s { at = closed s.at }
 
--- where the store stands after an answer that would be this after Ok
+-- want of memory came before the item was stored, or behind it: then some of its operations may be missing in the tables
+abbrev pub IsCutShort : Opened → Opened → Opened → Type 0
+IsCutShort old with_item new = (new ≡ shut old) ⊎ ((tables : TablesVersions) × (new ≡ shut (record with_item { tables = tables })))
+
+-- where the store stands after an answer, and with_item after Ok
 abbrev pub StandsAfter : {A : Type 0} → Result A StoreFail → Opened → Opened → Opened → Type 0
 StandsAfter (Ok done) old with_item new = new ≡ with_item
-StandsAfter (Err fails.DiskFault) old with_item new = IsClosedFrom old new
-StandsAfter (Err fails.NoMemory) old with_item new = IsClosedFrom old new
+StandsAfter (Err fails.DiskFault) old with_item new = new ≡ shut old
+StandsAfter (Err fails.NoMemory) old with_item new = IsCutShort old with_item new
 StandsAfter (Err fails.NotAStore) old with_item new = ⊥
 StandsAfter (Err (fails.ClockBack last)) old with_item new = new ≡ old
 StandsAfter (Err fails.TooLate) old with_item new = new ≡ old

@@ -1,10 +1,12 @@
 -- Why an item is not stored: the first cause in order.
-use Rattle.std.specs.Prelude.{◌≡◌, ℕ, ◌+◌, ◌-◌, nat_lt, nat_le, Bool, if◌then◌else◌, List, length, Option, Some, None, Result, Ok, Err}
+use Rattle.std.specs.Prelude.{◌≡◌, ◌≤◌, ℕ, ◌+◌, ◌-◌, nat_lt, nat_le, Bool, if◌then◌else◌, List, length, Option, Some, None, Result, Ok, Err}
 use Rattle.tuple_bytes.specs.declared.header.Header.{Header}
+use Rattle.tuple_bytes.specs.declared.item.Item.{Item}
+use Rattle.tuple_bytes.specs.declared.item.Item.TheVariants as items
 use Rattle.tuple_bytes.specs.declared.item.Txn.{Txn}
 use Rattle.tuple_bytes.specs.declared.op.Op.{Op}
 use Rattle.tuple_bytes.specs.Limits.{max_ops, max_payload}
-use Rattle.tuple_bytes.specs.Spelling.{spell_txn, spell_frontier}
+use Rattle.tuple_bytes.specs.Spelling.{spell_item, spell_frontier}
 use Rattle.history_model.specs.History.{granule_of}
 use Rattle.history_model.specs.Stored.{max_file}
 use Rattle.store_engine.specs.declared.fail.StoreFail.{StoreFail}
@@ -30,10 +32,11 @@ max_granules = 1048576
 abbrev pub moment_at : Header → ℕ → ℕ
 moment_at header now = now - header.epoch
 
--- before the last moment, or before the store's first second
+-- the clock is before the last moment, or before the store's first second
 abbrev pub is_back : Tail → ℕ → Bool
 is_back t now = nat_lt now (t.header.epoch + t.last)
 
+-- there is no granule of that number
 abbrev pub is_late : Tail → ℕ → Bool
 is_late t now = nat_le max_granules (granule_of t.header.width (moment_at t.header now))
 
@@ -45,18 +48,36 @@ is_full t bytes = nat_le max_file (t.end + 5 + bytes)
 abbrev pub next_txn : Tail → List Op → ℕ → Txn
 next_txn t ops now = record { number = t.count + 1; moment = moment_at t.header now; ops = ops }
 
+-- this fault where its cause is there, else the others
 abbrev pub where_true : Bool → StoreFail → Option StoreFail → Option StoreFail
 where_true cause fail others = if cause then Some fail else others
+
+-- why nothing is committed at these clock seconds, and what else stands against it
+abbrev pub moment_fault : Tail → ℕ → Option StoreFail → Option StoreFail
+moment_fault t now others = where_true (is_back t now) (fails.ClockBack t.last) (where_true (is_late t now) fails.TooLate others)
+
+-- a moment at which something may be stored, or why none may
+pub record IsNextMoment (t : Tail) (now moment : ℕ) : Type 0 where
+  pub is : moment ≡ moment_at t.header now
+  pub follows : t.last ≤ moment
+  pub free : (others : Option StoreFail) → moment_fault t now others ≡ others
+
+abbrev pub IsRefusedMoment : Tail → ℕ → StoreFail → Type 0
+IsRefusedMoment t now fail = (others : Option StoreFail) → moment_fault t now others ≡ Some fail
+
+-- why an item is not stored
+abbrev pub item_fault : Tail → Bool → Item → Option StoreFail
+item_fault t is_closed item =
+    where_true (nat_lt max_payload (length (spell_item item))) fails.TooLong
+    (where_true is_closed fails.Closed
+    (where_true (is_full t (length (spell_item item))) fails.StoreFull None))
 
 -- why operations are not committed at these clock seconds
 abbrev pub commit_fault : Tail → Bool → List Op → ℕ → Option StoreFail
 commit_fault t is_closed ops now =
-    where_true (is_back t now) (fails.ClockBack t.last)
-    (where_true (is_late t now) fails.TooLate
+    moment_fault t now
     (where_true (nat_lt max_ops (length ops)) fails.TooManyOps
-    (where_true (nat_lt max_payload (length (spell_txn (next_txn t ops now)))) fails.TooLong
-    (where_true is_closed fails.Closed
-    (where_true (is_full t (length (spell_txn (next_txn t ops now)))) fails.StoreFull None)))))
+    (item_fault t is_closed (items.Txn (next_txn t ops now))))
 
 -- why no Frontier is stored; where the last moment is not before it, none is asked for
 abbrev pub frontier_fault : Tail → Bool → ℕ → Option StoreFail

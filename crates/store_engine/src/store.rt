@@ -1,15 +1,15 @@
 //! A store that is open.
 
-ghost use Rattle.std.specs.Prelude.{◌≡◌, ◌+◌, ◌<◌, ◌≤◌, ℕ, List, [], false, length, IfOk, IfErr, IfSome, MatchResult, if◌then◌else◌};
+ghost use Rattle.std.specs.Prelude.{◌≡◌, ◌+◌, ◌<◌, ◌≤◌, ℕ, List, [], false, length, IfOk, IsOk, IfErr, IfSome, MatchResult, if◌then◌else◌};
 ghost use Rattle.std.specs.List.{All};
 ghost use Rattle.outside_words.specs.Faults.{HasCause};
 ghost use Rattle.outside_words.specs.Told.{WhereTold};
 ghost use Rattle.disk_words.specs.Disk.{Unchanged, GoesOn};
 ghost use Rattle.tuple_bytes.specs.declared.item.Item.TheVariants as items;
 ghost use Rattle.tuple_bytes.specs.Writing.{IsCountedOp};
-ghost use Rattle.tuple_bytes.specs.Spelling.{FitsHeader};
-ghost use Rattle.tt_table.specs.Versions.{AreTables};
+ghost use Rattle.tuple_bytes.specs.Spelling.{FitsHeader, spell_frontier};
 ghost use Rattle.history_model.specs.Stored.{stored};
+ghost use Rattle.txn_journal.specs.Append.{append_calls};
 ghost use Rattle.store_engine.specs.declared.fail.StoreFail.TheVariants.{DiskFault};
 ghost use Rattle.store_engine.specs.Opened.{IsOpenOn};
 ghost use Rattle.store_engine.specs.Refusals.{tail_of, next_txn, commit_fault, frontier_fault, IsRefusedBy, IsOfOpening, IsNoStore};
@@ -45,11 +45,11 @@ impl Model for Store {
     ghost Value = { Opened };
 
     ghost view = { λ s. record {
-        header = s.header;
-        count = s.count;
-        last = s.last;
-        tables = s.tables;
-        at = record { end = s.journal.end; gate_is_open = s.journal.gate_is_open; is_closed = s.is_closed };
+      header = s.header;
+      count = s.count;
+      last = s.last;
+      tables = s.tables;
+      at = record { end = s.journal.end; gate_is_open = s.journal.gate_is_open; is_closed = s.is_closed };
     } };
 }
 
@@ -103,12 +103,16 @@ impl Store {
     ) -> Result<(), StoreFail>
         ensures refused { IsRefusedBy (frontier_fault (tail_of self.old) self.old.at.is_closed moment) result }
         ensures stands { StandsAfter result self.old (frontier_at self.old moment) self.new }
+        ensures done { moment ≤ self.old.last → IsOk result }
         ensures same { moment ≤ self.old.last → Unchanged (D.state disk.old) (D.state disk.new) }
         ensures told { self.old.last < moment → WhereTold (D.state disk.old).reads (D.state disk.new).reads
             (Adds (items.Frontier moment) result self.old self.new (D.state disk.old) (D.state disk.new)) }
         ensures frame { GoesOn (D.state disk.old) (D.state disk.new) }
         ensures cause { HasCause DiskFault (D.state disk.old).faults (D.state disk.new).faults result }
     {
+        if moment <= self.last {
+            return Ok(());
+        }
         self.is_closed = true;
         Err(StoreFail::NoMemory)
     }
@@ -153,6 +157,7 @@ impl Store {
     /// How many changing calls the append of a Frontier makes that is carried out.
     pub fn frontier_calls(&self) -> u8
         ensures value { result ≡ (if self.now.at.gate_is_open then 6 else 4) }
+        ensures spelled { (moment : ℕ) → result ≡ length (append_calls self.now.at (spell_frontier moment)) }
     {
         self.journal.calls()
     }
