@@ -1,5 +1,5 @@
 -- How the parts of `run` carry lines out: where a runner stands, and what one line and all lines leave.
-use Rattle.std.specs.Prelude.{◌≡◌, ◌⊎◌, ◌+◌, ℕ, min, Bool, true, false, List, [], ◌∷◌, ◌++◌, Some, Result, Ok, Err, OnOk, IfOk}
+use Rattle.std.specs.Prelude.{◌≡◌, ◌⊎◌, ◌+◌, ℕ, min, Bool, true, false, List, [], ◌∷◌, ◌++◌, codes, Some, Result, Ok, Err, OnOk, IfOk}
 use Rattle.outside_words.specs.Told.{WhereTold}
 use Rattle.disk_words.specs.Disk as disks
 use Rattle.disk_model.specs.Moments.{EveryImage}
@@ -11,6 +11,7 @@ use Rattle.outside_io.specs.Clock as clocks
 use Rattle.line_input.specs.declared.fail.InputFail.{InputFail}
 use Rattle.line_input.specs.declared.fail.InputFail.TheVariants as inputs
 use Rattle.history_model.specs.Stored.{stored}
+use Rattle.stmt_text.specs.declared.line.Line.{Line}
 use Rattle.session_core.specs.declared.sessions.StepFail.{StepFail}
 use Rattle.session_core.specs.declared.sessions.StepFail.TheVariants as steps
 use Rattle.session_core.specs.World.{World, IsIn, StoresEither}
@@ -19,10 +20,12 @@ use Rattle.dragoon_app.specs.declared.status.Status.TheVariants as statuses
 use Rattle.dragoon_app.specs.declared.run_fail.RunFail.{RunFail}
 use Rattle.dragoon_app.specs.declared.run_fail.RunFail.TheVariants as fails
 use Rattle.dragoon_app.specs.declared.runner.Runner.{Runner}
+use Rattle.dragoon_app.specs.declared.line_kind.LineKind.{LineKind}
+use Rattle.dragoon_app.specs.declared.line_kind.LineKind.TheVariants as kinds
 use Rattle.dragoon_app.specs.Numbers.{max_u64}
 use Rattle.dragoon_app.specs.Outcome.{Said, refused}
-use Rattle.dragoon_app.specs.Running.{Running, Timed, start, carry, carried, world_of}
-use Rattle.dragoon_app.specs.Ran.{AreFirst, Ends, IsUnderWay, TakesFront, lines_in, StoresFront, StoresWorld, Takes}
+use Rattle.dragoon_app.specs.Running.{Running, Timed, start, carry, carried, world_of, seconds_of, said_by, kind_of, refused_text}
+use Rattle.dragoon_app.specs.Ran.{Runs, AreFirst, Ends, IsUnderWay, TakesFront, lines_in, StoresFront, StoresWorld, Takes}
 
 -- ---- failures
 
@@ -70,6 +73,30 @@ abbrev pub GivesSeconds : Bool → Runner → ℕ → clocks.State → clocks.St
 GivesSeconds true runner now clock ahead = (now ≡ min (runner.store.header.epoch + runner.moment) max_u64) × (ahead ≡ clock)
 GivesSeconds false runner now clock ahead = clocks.Tells now clock ahead
 
+-- ---- a runner alone
+
+-- with one more refusal
+abbrev pub refusing : Runner → Runner
+refusing runner = record { store = runner.store; sessions = runner.sessions; moment = runner.moment; is_scripted = runner.is_scripted; is_refused = true }
+
+-- at another moment
+abbrev pub moved : Runner → ℕ → Runner
+moved runner moment = record { store = runner.store; sessions = runner.sessions; moment = moment; is_scripted = runner.is_scripted; is_refused = runner.is_refused }
+
+-- a line is refused by this name
+pub record Refuses (name : List ℕ) (result : Result (List ℕ) AllocError) (runner later : Runner) : Type 0 where
+  pub text : IfOk result (λ text. text ≡ refused_text name)
+  pub later_is : later ≡ refusing runner
+
+-- the moment is set
+pub record Moves (moment : ℕ) (result : Result (List ℕ) AllocError) (runner later : Runner) : Type 0 where
+  pub text : IfOk result (λ text. text ≡ codes "ok\n")
+  pub later_is : later ≡ moved runner moment
+
+abbrev pub SetsMoment : Bool → ℕ → Result (List ℕ) AllocError → Runner → Runner → Type 0
+SetsMoment true moment result runner later = Moves moment result runner later
+SetsMoment false moment result runner later = Refuses (codes "NotScripted") result runner later
+
 -- ---- one line
 
 -- On the way from r to next: what is replied, where the runner stands then, and the store.
@@ -82,6 +109,18 @@ pub record Goes (r next : Running) (result : Result (List ℕ) StepFail) (runner
 -- from wherever the runner stands
 abbrev pub GoesTo : (Running → Running) → Result (List ℕ) StepFail → Runner → Runner → disks.State → disks.State → List ℕ → List ℕ → Type 0
 GoesTo next result runner later old new before after = (r : Running) → IsAt r runner before → Goes r (next r) result later old new before after
+
+-- a line that is not blank takes the clock's second, unless the run is scripted
+abbrev pub TakesFor : LineKind → Bool → ℕ → clocks.State → clocks.State → Type 0
+TakesFor kinds.Blank scripted second clock ahead = ahead ≡ clock
+TakesFor kind true second clock ahead = ahead ≡ clock
+TakesFor kind false second clock ahead = clocks.Tells second clock ahead
+
+-- a line of the grammar was carried out
+pub record GoesBy (line : Line) (result : Result (List ℕ) StepFail) (runner later : Runner) (old new : disks.State) (clock ahead : clocks.State) : Type 0 where
+  pub second : ℕ
+  pub clock : TakesFor (kind_of line) runner.is_scripted second clock ahead
+  pub told : WhereTold old.reads new.reads (GoesTo (λ r. said_by (kind_of line) runner.is_scripted (seconds_of runner.is_scripted r second) r line) result runner later old new)
 
 -- a line was carried out, and after a failure it may not have been begun, which an empty one stands for
 abbrev pub IsLineOf : {A : Type 0} → List ℕ → Result A StepFail → List ℕ → Type 0
@@ -132,3 +171,8 @@ pub record Carries (result : Result (Unit {0}) RunFail) (runner last : Runner) (
   pub taken : WhereTold input.rest left.rest TakesFront
   pub clock : Takes runner.is_scripted (done ++ next ∷ []) clock ahead
   pub told : WhereTold old.reads new.reads (λ before after. (w : World) → IsAt (start w) runner before → CarriesOver runner.is_scripted w done next result last old new before after out later)
+
+-- a run from where the runner stands, at the first line of a world
+abbrev pub RunsFrom : Status → Runner → disks.State → disks.State → clocks.State → clocks.State → sources.State → sources.State → sinks.State → sinks.State → Type 0
+RunsFrom result runner old new clock ahead input left out later = WhereTold old.reads new.reads (λ before after.
+    (w : World) → IsAt (start w) runner before → Runs runner.is_scripted w result old new before after clock ahead input left out later)
