@@ -1,0 +1,5 @@
+pub mod Staying
+pub mod Reads
+pub mod Untouched
+pub mod Committing
+pub mod Promising
