@@ -1,0 +1,4 @@
+pub mod Lines
+mod Splits
+mod Cuts
+mod Going

@@ -1,9 +1,12 @@
 -- A line that is gathered from pieces.
-use Rattle.std.specs.Prelude.{Bool, true, false, List, [], ◌++◌, ℕ, Result, Ok, Err, if◌then◌else◌}
-use Rattle.outside_io.specs.Source.{State}
-use Rattle.line_input.specs.Lines.{IsFeedless}
+use Rattle.std.specs.Prelude.{◌≡◌, ◌<◌, ◌+◌, ◌↔◌, length, IsTrue, Bool, true, false, List, [], ◌∷◌, ◌++◌, ℕ, Result, Ok, Err, if◌then◌else◌}
+use Rattle.outside_words.specs.Told.{WhereTold}
+use Rattle.outside_io.specs.Source.{State, Unchanged}
+use Rattle.line_input.specs.Limits.{input_limit, piece_limit}
+use Rattle.line_input.specs.Lines.{feed, IsFeedless}
 use Rattle.line_input.specs.declared.fail.InputFail.{InputFail}
-use Rattle.line_input.specs.Piece.{rest_of}
+use Rattle.line_input.specs.declared.fail.InputFail.TheVariants.{NoMemory}
+use Rattle.line_input.specs.Piece.{rest_of, IsMoved}
 use Rattle.line_input.specs.Reader.{Reading, Tells, Takes, IsAtOnce}
 use Rattle.line_input.specs.declared.gathering.Gathering.{Gathering}
 
@@ -29,3 +32,35 @@ pub record Moves (result : Result Bool InputFail) (old new : Gathering) (from to
 -- all that was taken was looked at, and no line ends in it
 abbrev pub IsCut : Gathering → Type 0
 IsCut g = IsFeedless (reading_of false g).pending
+
+-- all the bytes that were taken and not given out
+abbrev pub held_by : Gathering → List ℕ
+held_by g = g.line.items ++ rest_of g.piece
+
+-- the line is what comes before the first feed, which is gone over
+pub record GathersLine (old new : Gathering) : Type 0 where
+  pub held : held_by old ≡ new.line.items ++ feed ∷ rest_of new.piece
+  pub less : length (rest_of new.piece) < piece_limit
+
+-- the line is gathered, or there is no feed, and it is all
+abbrev pub Gathers : Gathering → Gathering → Bool → Type 0
+Gathers old new true = GathersLine old new
+Gathers old new false = (held_by old ≡ new.line.items) × (rest_of new.piece ≡ [])
+
+-- no memory was left, and nothing was moved
+pub record IsUntouched (old new : Gathering) (fail : InputFail) : Type 0 where
+  pub no_memory : fail ≡ NoMemory
+  pub held : held_by new ≡ held_by old
+
+-- the next piece was taken, or the source has none
+pub record TakesPiece (old new : Gathering) (from to : State) (is_next : Bool) : Type 0 where
+  pub taken : new.taken ≡ old.taken + length (rest_of new.piece)
+  pub some : IsTrue is_next ↔ (old.taken < new.taken)
+  pub below : old.taken < input_limit
+  pub moved : WhereTold from.rest to.rest (IsMoved (rest_of new.piece))
+
+-- nothing was taken
+pub record TakesNothing (old new : Gathering) (from to : State) : Type 0 where
+  pub taken : new.taken ≡ old.taken
+  pub rest : rest_of new.piece ≡ []
+  pub same : Unchanged from to

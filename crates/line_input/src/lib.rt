@@ -3,8 +3,12 @@
 
 mod fail;
 mod gathering;
+mod laws;
+mod limits;
 mod piece;
 mod reader;
 
 pub use fail::InputFail;
+pub use laws::lines_are_the_only_ones;
+pub use limits::{INPUT_LIMIT, PIECE_LIMIT};
 pub use reader::LineReader;
