@@ -51,6 +51,10 @@ taken_of input left = take (length input - length left) input
 abbrev pub AreComplete : List (List ℕ) → List ℕ → List ℕ → Type 0
 AreComplete done input left = done ≡ complete_lines (taken_of input left)
 
+-- the lines whose end was read, and the last one where the end of the input was
+abbrev pub AreEnded : List (List ℕ) → List ℕ → List ℕ → Type 0
+AreEnded done input left = AreComplete done input left ⊎ ((done ≡ lines_of input) × (left ≡ []))
+
 -- the lines are the first of the input
 abbrev pub AreFirst : List (List ℕ) → List ℕ → Type 0
 AreFirst done input = done ≡ take (length done) (lines_of input)
@@ -60,7 +64,7 @@ AreFirst done input = done ≡ take (length done) (lines_of input)
 abbrev pub Ends : List (List ℕ) → Status → List ℕ → List ℕ → Type 0
 Ends done statuses.Ok input left = (done ≡ lines_of input) × (left ≡ []) × (length input < input_limit)
 Ends done statuses.Refused input left = (done ≡ lines_of input) × (left ≡ []) × (length input < input_limit)
-Ends done statuses.ReadFault input left = AreComplete done input left
+Ends done statuses.ReadFault input left = AreEnded done input left
 Ends done statuses.InputLimit input left = AreComplete done input left × (length input ≡ length left + input_limit)
 Ends done s input left = AreFirst done input
 

@@ -74,8 +74,13 @@ fn run_opened<D: Disk, C: Clock, I: Source, O: Sink>(
     ensures write_cause { WriteCause result (O.state out.old) (O.state out.new) }
 {
     match carry_lines(alloc, runner, disk, clock, input, out) {
-        Ok(()) if runner.is_refused => Status::Refused,
-        Ok(()) => Status::Ok,
+        Ok(()) => {
+            if runner.is_refused {
+                Status::Refused
+            } else {
+                Status::Ok
+            }
+        }
         Err(fail) => end(out, fail),
     }
 }

@@ -116,9 +116,7 @@ impl Runner {
         ensures cause { HasCause steps.DiskFault (D.state disk.old).faults (D.state disk.new).faults result }
     {
         let reply = self.sessions.step(alloc, &mut self.store, disk, line, now)?;
-        if reply.is_refusal() {
-            self.is_refused = true;
-        }
+        self.is_refused |= reply.is_refusal();
         Ok(print_reply(alloc, &reply)?)
     }
 
