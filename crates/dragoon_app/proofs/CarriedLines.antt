@@ -69,6 +69,11 @@ pub record IsGoing (first runner : Runner) (old now : disks.State) (clock ahead 
   pub clock_frame : clocks.GoesOn clock ahead
   pub input_frame : sources.GoesOn input left
 
+-- the same, with what every call of the output keeps
+pub record IsCarrying (first runner : Runner) (old now : disks.State) (clock ahead : clocks.State) (input left : sources.State) (reader : Reading) (out later : sinks.State) : Type 0 where
+  pub going : IsGoing first runner old now clock ahead input left reader (λ text. sinks.IsOut text out later)
+  pub out_frame : sinks.GoesOn out later
+
 pub begins : (runner : Runner) (s : disks.State) (clock : clocks.State) (input : sources.State) (reader : Reading) (out : sinks.State)
     → ((c : List ℕ) → s.was_image (disks.turn s) c → s.is_image c) → reader ≡ record { line = []; pending = []; taken = 0 } → runner.store.at.is_closed ≡ false
     → IsGoing runner runner s s clock clock input input reader (λ text. sinks.IsOut text out out)

@@ -43,9 +43,9 @@ fn carry_lines<D: Disk, C: Clock, I: Source, O: Sink>(
     ensures read_cause { HasCause fails.ReadFault (I.state input.old).faults (I.state input.new).faults result }
     ensures write_cause { HasCause fails.WriteFault (O.state out.old).faults (O.state out.new).faults result }
 {
-    let mut lines = LineReader::new(alloc);
-    'lines: while lines.read_line(input)? {
-        let text = runner.reply(alloc, disk, clock, lines.line())?;
+    let mut reader = LineReader::new(alloc);
+    'lines: while reader.read_line(input)? {
+        let text = runner.reply(alloc, disk, clock, reader.line())?;
         write_whole(out, text.as_slice())?;
     }
     Ok(())
