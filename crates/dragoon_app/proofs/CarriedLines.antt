@@ -111,7 +111,7 @@ goes_on first runner later old mid new clock tick tock input left rest reader ne
   done = g.done ++ replies.timed ∷ [];
   within = takes.within;
   read = subst (λ (ls : List (List ℕ)). WhereTold input.rest rest.rest (IsRead ls next)) (sym (lines_more g.done replies.timed next.line replies.line_is)) (read_on g.done reader next input left rest g.input_frame.told g.read tells clear takes);
-  takes = takes_then first.is_scripted g.done (replies.timed ∷ []) clock tick tock g.clock_frame.told g.takes (subst (λ (s : Bool). Takes s (replies.timed ∷ []) tick tock) g.scripted replies.clock);
+  takes = takes_then first.is_scripted g.done (replies.timed ∷ []) clock tick tock g.clock_frame.told g.takes (subst (λ (s : Bool). Takes s (replies.timed ∷ []) tick tock) g.scripted replies.seconds);
   scripted = scripted ∙ g.scripted;
   open = open;
   told = told_then old.reads mid.reads new.reads _ _ _ g.disk_frame.told g.told replies.told (λ before here after so_far goes w at.
@@ -176,7 +176,7 @@ between first runner old now clock ahead input left reader out later Written res
   lines = told_map input.rest left.rest _ _ g.read (λ all others r. ends (lines_in g.done) all others r);
   next_is = told_map input.rest left.rest _ _ g.read (λ all others r. inl refl);
   taken = told_map input.rest left.rest _ _ g.read (λ all others r. takes_front (lines_in g.done) reader all others r);
-  clock = takes_then first.is_scripted g.done (nothing ∷ []) clock ahead ahead g.clock_frame.told g.takes (takes_blank first.is_scripted nothing ahead ahead blank_nothing refl);
+  seconds = takes_then first.is_scripted g.done (nothing ∷ []) clock ahead ahead g.clock_frame.told g.takes (takes_blank first.is_scripted nothing ahead ahead blank_nothing refl);
   told = told_map old.reads now.reads _ _ g.told (λ before after so_far w at. let s = so_far w at in
       over_between first.is_scripted w g.done result runner old now before after out later s.0 (writes (carried first.is_scripted (start w) g.done).text s.1));
 }
@@ -244,7 +244,7 @@ under_way first runner later old mid new clock tick tock input left rest reader 
       lines = told_map input.rest rest.rest _ _ read (λ all others r. ends_under_way fail (lines_in g.done) all others (first_before (lines_in g.done) next.line all (first_of (lines_in g.done ++ next.line ∷ []) next all others r)));
       next_is = told_map input.rest rest.rest _ _ read (λ all others r. ⊎_elim (λ (e : replies.timed.line ≡ []). inl e) (λ (e : replies.timed.line ≡ next.line). inr (subst (λ (ls : List (List ℕ)). AreFirst ls all) (sym (lines_more g.done replies.timed next.line e)) (first_of (lines_in g.done ++ next.line ∷ []) next all others r))) replies.line_is);
       taken = told_map input.rest rest.rest _ _ read (λ all others r. takes_front (lines_in g.done ++ next.line ∷ []) next all others r);
-      clock = takes_then first.is_scripted g.done (replies.timed ∷ []) clock tick tock g.clock_frame.told g.takes (subst (λ (s : Bool). Takes s (replies.timed ∷ []) tick tock) g.scripted replies.clock);
+      seconds = takes_then first.is_scripted g.done (replies.timed ∷ []) clock tick tock g.clock_frame.told g.takes (subst (λ (s : Bool). Takes s (replies.timed ∷ []) tick tock) g.scripted replies.seconds);
       told = told_then old.reads mid.reads new.reads _ _ _ g.disk_frame.told g.told replies.told (λ before here after so_far goes w at.
           let s = so_far w at in
           let r : Running = carried first.is_scripted (start w) g.done in

@@ -49,7 +49,7 @@ ran result r first last old new clock ahead input left out mid later c ends sett
       next_is = c.next_is;
       taken = c.taken;
       written = writes x after o.stands o.written;
-      clock = c.clock;
+      seconds = c.seconds;
       store = record {
         images = o.images;
         kept = o.kept;
@@ -177,7 +177,7 @@ runs_from scripted w result first old new before after clock ahead input left ou
   next_is = r.next_is;
   taken = r.taken;
   written = r.written;
-  clock = r.clock;
+  seconds = r.seconds;
   store = record {
     images = λ only. images_from first old new _ same (r.store.images (only_from first old before same only));
     kept = λ only. r.store.kept (only_from first old before same only);
@@ -206,7 +206,7 @@ pub ran_nowhere : (scripted : Bool) (id : ℕ) (result : Status) (old new : disk
 ran_nowhere scripted id result old new clock input out later none same said = inr (told_from old.reads new.reads new.reads _ (λ b a. Unit {0}) _ same.reads none (nothing new.reads) (λ before after other x. by before after (stored before).header other))
   where
     early : Early statuses.NotAStore result old new clock input out later
-    early = record { said = said; same = same; clock = refl; input = refl }
+    early = record { said = said; same = same; none_taken = refl; none_read = refl }
 
     nothing : (o : Option (List ℕ)) → WhereTold o o (λ b a. Unit {0})
     nothing None = tt
@@ -218,4 +218,4 @@ ran_nowhere scripted id result old new clock input out later none same said = in
 
 pub ran_unopened : (scripted : Bool) (id : ℕ) (result : Status) (old new : disks.State) (clock : clocks.State) (input : sources.State) (out later : State)
     → disks.Unchanged old new → Said (refused statuses.DiskFault) result out later → RunsOn scripted id result old new clock clock input input out later
-ran_unopened scripted id result old new clock input out later same said = inl (record { said = said; same = same; clock = refl; input = refl })
+ran_unopened scripted id result old new clock input out later same said = inl (record { said = said; same = same; none_taken = refl; none_read = refl })

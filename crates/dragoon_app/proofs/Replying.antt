@@ -64,7 +64,7 @@ refuses_goes name text runner later s still spelled is = told_same s.reads s.rea
     goes_still r (refused_line r name) (Ok text) runner later s bytes still at (ap (λ (x : List ℕ). r.text ++ x) (sym spelled)) (refused_at r name bytes runner later at is))
 
 -- the moment is set
-pub sets_goes : (scripted : Bool) (moment : ℕ) (text : List ℕ) (runner later : Runner) (s : State) → IsStill s → SetsMoment scripted moment (Ok text) runner later → WhereTold s.reads s.reads (GoesTo (λ r. set_moment scripted r moment) (Ok text) runner later s s)
+pub sets_goes : (scripted : Bool) (moment : ℕ) (text : List ℕ) (runner later : Runner) (s : State) → IsStill s → SetsMoment {E = StepFail} scripted moment (Ok text) runner later → WhereTold s.reads s.reads (GoesTo (λ r. set_moment scripted r moment) (Ok text) runner later s s)
 sets_goes true moment text runner later s still sets = told_same s.reads s.reads _ refl (λ bytes r at.
     goes_still r (set_moment true r moment) (Ok text) runner later s bytes still at (ap (λ (x : List ℕ). r.text ++ x) (sym sets.text)) (record {
       stands = subst (λ (o : Opened). IsIn r.world o bytes) (sym (ap (λ (x : Runner). x.store) sets.later_is)) at.stands;
@@ -122,7 +122,7 @@ pub goes_by : (line : Line) (kind : LineKind) (second : ℕ) (result : Result (L
     → WhereTold old.reads new.reads (GoesTo (λ r. said_by kind runner.is_scripted (seconds_of runner.is_scripted r second) r line) result runner later old new) → GoesBy line result runner later old new clock ahead
 goes_by line kind second result runner later old new clock ahead is takes told = record {
   second = second;
-  clock = subst (λ (k : LineKind). TakesFor k runner.is_scripted second clock ahead) (sym is) takes;
+  seconds = subst (λ (k : LineKind). TakesFor k runner.is_scripted second clock ahead) (sym is) takes;
   told = subst (λ (k : LineKind). WhereTold old.reads new.reads (GoesTo (λ r. said_by k runner.is_scripted (seconds_of runner.is_scripted r second) r line) result runner later old new)) (sym is) told;
 }
 
@@ -202,7 +202,7 @@ replies_by bytes l result runner later old new clock ahead is said g =
     record {
       timed = t;
       line_is = line_of bytes result;
-      clock = takes_line runner.is_scripted t l clock ahead said g.clock;
+      seconds = takes_line runner.is_scripted t l clock ahead said g.seconds;
       told = told_map old.reads new.reads _ _ g.told (λ before after goes r at. subst (λ (n : Running). Goes r n result later old new before after) (sym (carry_is runner.is_scripted r t (Ok l) is)) (goes r at));
     }
 
@@ -223,7 +223,7 @@ replies_refused bytes name fail second result runner later s clock ahead is name
     record {
       timed = t;
       line_is = line_of bytes result;
-      clock = takes_filled kinds.Unbuilt runner.is_scripted t clock ahead (λ e. cc) (filled_answer bytes (is_blank (without_return bytes)) fail refl is) (takes_for kinds.Unbuilt runner.is_scripted runner second clock ahead (λ e. cc) gives);
+      seconds = takes_filled kinds.Unbuilt runner.is_scripted t clock ahead (λ e. cc) (filled_answer bytes (is_blank (without_return bytes)) fail refl is) (takes_for kinds.Unbuilt runner.is_scripted runner second clock ahead (λ e. cc) gives);
       told = told_map s.reads s.reads _ _ told (λ before after goes r at. subst (λ (n : Running). Goes r n result later s s before after) (sym (carry_is runner.is_scripted r t (Err fail) is ∙ names runner.is_scripted (seconds_of runner.is_scripted r second) r)) (goes r at));
     }
 
@@ -238,6 +238,6 @@ replies_none bytes fail runner later s clock still =
     record {
       timed = t;
       line_is = inl refl;
-      clock = takes_blank runner.is_scripted t clock clock blank_nothing refl;
+      seconds = takes_blank runner.is_scripted t clock clock blank_nothing refl;
       told = fails_goes (λ r. carry runner.is_scripted r t) fail runner later s still;
     }

@@ -84,16 +84,16 @@ abbrev pub moved : Runner → ℕ → Runner
 moved runner moment = record { store = runner.store; sessions = runner.sessions; moment = moment; is_scripted = runner.is_scripted; is_refused = runner.is_refused }
 
 -- a line is refused by this name
-pub record Refuses (name : List ℕ) (result : Result (List ℕ) AllocError) (runner later : Runner) : Type 0 where
+pub record Refuses {E : Type 0} (name : List ℕ) (result : Result (List ℕ) E) (runner later : Runner) : Type 0 where
   pub text : IfOk result (λ text. text ≡ refused_text name)
   pub later_is : later ≡ refusing runner
 
 -- the moment is set
-pub record Moves (moment : ℕ) (result : Result (List ℕ) AllocError) (runner later : Runner) : Type 0 where
+pub record Moves {E : Type 0} (moment : ℕ) (result : Result (List ℕ) E) (runner later : Runner) : Type 0 where
   pub text : IfOk result (λ text. text ≡ codes "ok\n")
   pub later_is : later ≡ moved runner moment
 
-abbrev pub SetsMoment : Bool → ℕ → Result (List ℕ) AllocError → Runner → Runner → Type 0
+abbrev pub SetsMoment : {E : Type 0} → Bool → ℕ → Result (List ℕ) E → Runner → Runner → Type 0
 SetsMoment true moment result runner later = Moves moment result runner later
 SetsMoment false moment result runner later = Refuses (codes "NotScripted") result runner later
 
@@ -119,7 +119,7 @@ TakesFor kind false second clock ahead = clocks.Tells second clock ahead
 -- a line of the grammar was carried out
 pub record GoesBy (line : Line) (result : Result (List ℕ) StepFail) (runner later : Runner) (old new : disks.State) (clock ahead : clocks.State) : Type 0 where
   pub second : ℕ
-  pub clock : TakesFor (kind_of line) runner.is_scripted second clock ahead
+  pub seconds : TakesFor (kind_of line) runner.is_scripted second clock ahead
   pub told : WhereTold old.reads new.reads (GoesTo (λ r. said_by (kind_of line) runner.is_scripted (seconds_of runner.is_scripted r second) r line) result runner later old new)
 
 -- a line was carried out, and after a failure it may not have been begun, which an empty one stands for
@@ -131,7 +131,7 @@ IsLineOf line (Err fail) taken = (taken ≡ []) ⊎ (taken ≡ line)
 pub record Replies (line : List ℕ) (result : Result (List ℕ) StepFail) (runner later : Runner) (old new : disks.State) (clock ahead : clocks.State) : Type 0 where
   pub timed : Timed
   pub line_is : IsLineOf line result timed.line
-  pub clock : Takes runner.is_scripted (timed ∷ []) clock ahead
+  pub seconds : Takes runner.is_scripted (timed ∷ []) clock ahead
   pub told : WhereTold old.reads new.reads (GoesTo (λ r. carry runner.is_scripted r timed) result runner later old new)
 
 -- ---- all lines
@@ -169,7 +169,7 @@ pub record Carries (result : Result (Unit {0}) RunFail) (runner last : Runner) (
   pub lines : WhereTold input.rest left.rest (Ends (lines_in done) (ending result))
   pub next_is : WhereTold input.rest left.rest (λ all others. IsUnderWay done next all)
   pub taken : WhereTold input.rest left.rest TakesFront
-  pub clock : Takes runner.is_scripted (done ++ next ∷ []) clock ahead
+  pub seconds : Takes runner.is_scripted (done ++ next ∷ []) clock ahead
   pub told : WhereTold old.reads new.reads (λ before after. (w : World) → IsAt (start w) runner before → CarriesOver runner.is_scripted w done next result last old new before after out later)
 
 -- a run from where the runner stands, at the first line of a world

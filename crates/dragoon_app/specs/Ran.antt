@@ -8,7 +8,7 @@ use Rattle.outside_io.specs.Sink as sinks
 use Rattle.outside_io.specs.Source as sources
 use Rattle.outside_io.specs.Clock as clocks
 use Rattle.line_input.specs.Lines.{lines_of, complete_lines}
-use Rattle.line_input.specs.Reader.{input_limit}
+use Rattle.line_input.specs.Limits.{input_limit}
 use Rattle.tuple_bytes.specs.declared.header.Header.{Header}
 use Rattle.history_model.specs.Stored.{stored}
 use Rattle.store_engine.specs.Opened.{Stores}
@@ -128,15 +128,15 @@ pub record Runs (scripted : Bool) (w : World) (result : Status) (old new : disks
   pub next_is : WhereTold input.rest left.rest (λ all others. IsUnderWay done next all)
   pub taken : WhereTold input.rest left.rest TakesFront
   pub written : Writes (carried scripted (start w) done) result out later
-  pub clock : Takes scripted (done ++ next ∷ []) clock ahead
+  pub seconds : Takes scripted (done ++ next ∷ []) clock ahead
   pub store : RunsOver scripted w done next result old new before after
 
 -- Only a fault line is out, and nothing was asked but the store.
 pub record EndsEarly (why : Status) (result : Status) (old new : disks.State) (clock ahead : clocks.State) (input left : sources.State) (out later : sinks.State) : Type 0 where
   pub said : Said (refused why) result out later
   pub same : disks.Unchanged old new
-  pub clock : ahead ≡ clock
-  pub input : left ≡ input
+  pub none_taken : ahead ≡ clock
+  pub none_read : left ≡ input
 
 -- a run over bytes with this header, or with none
 abbrev pub RunsUnder : Bool → ℕ → Option Header → Status → disks.State → disks.State → List ℕ → List ℕ → clocks.State → clocks.State → sources.State → sources.State → sinks.State → sinks.State → Type 0
