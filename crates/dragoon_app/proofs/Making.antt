@@ -74,12 +74,15 @@ from_created s now h head r result old new before after is fits spelled taken ok
 said_status : (d : Outcome) (s : Status) (old new : State) → Said d s old new → IsSaid s → s ≡ d.status
 said_status d statuses.Ok old new h is = h.0
 said_status d statuses.Usage old new h is = h.0
+said_status d statuses.Refused old new h is = h.0
 said_status d statuses.NotAStore old new h is = h.0
 said_status d statuses.DiskFault old new h is = h.0
+said_status d statuses.ReadFault old new h is = h.0
 said_status d statuses.WriteFault old new h is = absurd is
 said_status d statuses.NoMemory old new h is = absurd is
 said_status d statuses.AlreadyThere old new h is = h.0
 said_status d statuses.TooLate old new h is = h.0
+said_status d statuses.InputLimit old new h is = h.0
 
 -- one status was said, and so no other
 pub said_other : (d : Outcome) (s x : Status) (old new : State) → Said d s old new → IsSaid x → x ≢ d.status → s ≢ x

@@ -32,8 +32,12 @@
 mod command;
 mod init;
 mod leading_words;
+mod line_kind;
 mod link;
 mod number;
+mod run;
+mod run_fail;
+mod runner;
 mod saying;
 mod status;
 mod top;

@@ -2,7 +2,7 @@
 
 use crate::{Status, dragoon, leading};
 use disk_model::{FileDisk, MemDisk};
-use outside_io::{MemClock, MemSink};
+use outside_io::{MemClock, MemSink, MemSource};
 use std::alloc::{AllocError, Global};
 use std::test::Fail;
 
@@ -55,7 +55,15 @@ fn outcome(
     store.failing(failing_reads.to_vec(alloc)?, Vec::new(alloc));
     let mut out = MemSink::new(alloc, failing_writes.to_vec(alloc)?);
     let mut clock = MemClock::new(Vec::new(alloc));
-    let status = dragoon(alloc, &words, &mut store, &mut clock, &mut out);
+    let mut input = MemSource::new(Vec::new(alloc), 1, Vec::new(alloc));
+    let status = dragoon(
+        alloc,
+        &words,
+        &mut store,
+        &mut clock,
+        &mut input,
+        &mut out,
+    );
     Ok((status.code(), out.bytes().to_vec(alloc)?))
 }
 
@@ -200,8 +208,16 @@ fn made(
     let words = words(alloc, texts)?;
     let mut store = MemDisk::holding(alloc, bytes.to_vec(alloc)?);
     let mut clock = MemClock::new(vec![in alloc; now]?);
+    let mut input = MemSource::new(Vec::new(alloc), 1, Vec::new(alloc));
     let mut out = MemSink::new(alloc, Vec::new(alloc));
-    let status = dragoon(alloc, &words, &mut store, &mut clock, &mut out);
+    let status = dragoon(
+        alloc,
+        &words,
+        &mut store,
+        &mut clock,
+        &mut input,
+        &mut out,
+    );
     Ok((
         status.code(),
         out.bytes().to_vec(alloc)?,
@@ -257,8 +273,16 @@ fn a_store_in_a_file_is_made_once_and_read(rt: HostRuntime) -> Result<(), Fail> 
         let words = words(alloc, texts)?;
         let mut store = FileDisk::new(rt, String::from_str(alloc, path)?);
         let mut clock = MemClock::new(Vec::new(alloc));
+        let mut input = MemSource::new(Vec::new(alloc), 1, Vec::new(alloc));
         let mut out = MemSink::new(alloc, Vec::new(alloc));
-        let _ = dragoon(alloc, &words, &mut store, &mut clock, &mut out);
+        let _ = dragoon(
+        alloc,
+        &words,
+        &mut store,
+        &mut clock,
+        &mut input,
+        &mut out,
+    );
         assert_eq!(rt; out.bytes(), wanted);
     }
     std::fs::remove_file(&rt, path)?;
@@ -310,13 +334,16 @@ fn each_status_has_its_number(rt: HostRuntime) {
     let numbers = [
         Status::Ok,
         Status::Usage,
+        Status::Refused,
         Status::NotAStore,
         Status::DiskFault,
+        Status::ReadFault,
         Status::WriteFault,
         Status::NoMemory,
         Status::AlreadyThere,
         Status::TooLate,
+        Status::InputLimit,
     ]
     .map(|status| status.code());
-    assert_eq!(rt; numbers, [0, 2, 4, 5, 8, 9, 13, 15]);
+    assert_eq!(rt; numbers, [0, 2, 3, 4, 5, 7, 8, 9, 13, 15, 17]);
 }
