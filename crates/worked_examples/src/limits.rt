@@ -76,9 +76,12 @@ fn a_source_or_a_sink_that_fails_ends_the_run(rt: HostRuntime) -> Result<(), Fai
 #[test]
 fn an_input_without_an_end_is_refused(rt: HostRuntime) -> Result<(), Fail> {
     let alloc = rt.alloc();
-    let mut ends = Vec::new(alloc);
-    ends.resize(67_108_864, b'\n')?;
-    let (status, text) = failing(alloc, ends, 4096, &[], &[])?;
+    let mut blank = Vec::new(alloc);
+    for _ in 0..16_384 {
+        blank.extend_from_slice(&[b' '; 4095])?;
+        blank.push(b'\n')?;
+    }
+    let (status, text) = failing(alloc, blank, 4096, &[], &[])?;
     assert_eq!(rt; (status, text.as_slice()), (17, b"fault InputLimit\n".as_slice()));
     Ok(())
 }
