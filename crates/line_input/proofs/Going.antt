@@ -10,9 +10,9 @@ use Rattle.line_input.specs.declared.fail.InputFail.{InputFail}
 use Rattle.line_input.specs.declared.gathering.Gathering.{Gathering}
 use Rattle.line_input.specs.Limits.{input_limit, piece_limit}
 use Rattle.line_input.specs.Lines.{feed, has_feed, IsFeedless, lines_of}
-use Rattle.line_input.specs.Piece.{rest_of}
-use Rattle.line_input.specs.Reader.{Answers}
-use Rattle.line_input.specs.Gathering.{reading_of, held_by, Moves, GathersLine, TakesPiece}
+use Rattle.line_input.specs.Piece.{rest_of, IsMoved}
+use Rattle.line_input.specs.Reader.{Reading, Gives, IsLastLine, IsAtEnd, Answers, Tells, Takes, IsAtOnce, GivesMore}
+use Rattle.line_input.specs.Gathering.{reading_of, held_by, Moves, GathersLine, IsUntouched, TakesPiece, TakesNothing}
 use Rattle.line_input.proofs.Lines.{lines_first, lines_last, lines_none}
 
 -- nothing, where it doesn't add up to more
@@ -32,6 +32,7 @@ pub record IsGoing (old new : Gathering) (from to : State) : Type 0 where
   pub held : WhereTold from.rest to.rest (λ before after. held_by old ++ before ≡ held_by new ++ after)
   pub lost : WhereTold from.rest to.rest (λ before after. new.taken + length after ≡ old.taken + length before)
   pub rises : old.taken ≤ new.taken
+  pub sum : new.taken + length (held_by old) ≡ old.taken + length (held_by new)
   pub at_once : IsTrue (has_feed (held_by old)) → (new.taken ≡ old.taken) × (held_by new ≡ held_by old)
   pub frame : GoesOn from to
 
@@ -40,6 +41,7 @@ going_same g s = record {
   held = told_same s.rest s.rest _ refl (λ b. refl);
   lost = told_same s.rest s.rest _ refl (λ b. refl);
   rises = omega arith;
+  sum = refl;
   at_once = λ has. (refl, refl);
   frame = record { told = refl; faults = omega arith };
 }
@@ -50,6 +52,7 @@ going_moved old mid new from to so_far same taken = record {
   held = told_map from.rest to.rest _ _ so_far.held (λ b a e. e ∙ ap (λ (x : List ℕ). x ++ a) (sym same));
   lost = told_map from.rest to.rest _ _ so_far.lost (λ b a e. omega (arith, e));
   rises = omega (arith, so_far.rises);
+  sum = omega (arith, so_far.sum, taken, ap length same);
   at_once = λ has. let h = so_far.at_once has in (taken ∙ h.0, same ∙ h.1);
   frame = so_far.frame;
 }
@@ -62,6 +65,7 @@ going_still old mid new from to later so_far same taken unchanged on =
       held = subst (λ (rest : _). WhereTold from.rest rest (λ before after. held_by old ++ before ≡ held_by new ++ after)) (sym unchanged) moved.held;
       lost = subst (λ (rest : _). WhereTold from.rest rest (λ before after. new.taken + length after ≡ old.taken + length before)) (sym unchanged) moved.lost;
       rises = moved.rises;
+      sum = moved.sum;
       at_once = moved.at_once;
       frame = record { told = on.told ∙ so_far.frame.told; faults = omega (arith, on.faults, so_far.frame.faults) };
     }
@@ -81,6 +85,7 @@ going_on old mid new from to later some so_far used line takes on =
           first ∙ ap (λ (y : List ℕ). y ++ x) held_mid ∙ sym ahead);
       lost = told_then from.rest to.rest later.rest _ _ _ so_far.frame.told so_far.lost takes.moved (λ b x a first next. omega (arith, first, takes.taken, ap length next.whole, length-append (rest_of new.piece) a));
       rises = omega (arith, so_far.rises, takes.taken);
+      sum = omega (arith, so_far.sum, takes.taken, ap length held_mid, length-append new.line.items (rest_of new.piece), ap (λ (l : _). length l.items) line);
       at_once = λ has. let h = so_far.at_once has in let no : true ≡ false = sym has ∙ ap has_feed (sym h.1) ∙ clear in absurd (cc no);
       frame = record { told = on.told ∙ so_far.frame.told; faults = omega (arith, on.faults, so_far.frame.faults) };
     }
@@ -91,6 +96,7 @@ moves_none old new from to fail going = record {
   told = told_map from.rest to.rest _ _ going.held (λ b a e. sym e);
   taken = record { within = new.limited; rises = going.rises; as_lost = going.lost };
   at_once = record { none_taken = λ has. (going.at_once has).0; little_more = tt };
+  more = tt;
 }
 
 -- a line that a feed ends
@@ -101,6 +107,7 @@ moves_line old mid new from to going line taken = record {
       record { lines = ap lines_of whole ∙ lines_first new.line.items (rest_of new.piece ++ a) new.feedless; ends = inl whole });
   taken = record { within = new.limited; rises = omega (arith, going.rises, taken); as_lost = told_map from.rest to.rest _ _ going.lost (λ b a e. omega (arith, e, taken)) };
   at_once = record { none_taken = λ has. taken ∙ (going.at_once has).0; little_more = line.less };
+  more = omega (arith, going.sum, taken, ap length line.held, length-append new.line.items (feed ∷ rest_of new.piece));
 }
 
 above_zero : (n : ℕ) → (n == 0) ≡ false → 0 < n
@@ -126,6 +133,12 @@ answers_end false new before after empty used end whole below =
       ends = inr (record { whole = whole; some = some; end = nothing; below = below });
     }
 
+more_end : (is_empty : Bool) (old new : Gathering) → is_empty ≡ (length new.line.items == 0) → rest_of new.piece ≡ [] → new.taken + length (held_by old) ≡ old.taken + length (held_by new) → GivesMore (Ok (not is_empty)) (reading_of false old) (reading_of (not is_empty) new)
+more_end true old new empty used sum = tt
+more_end false old new empty used sum =
+    let some : 0 < length new.line.items = above_zero (length new.line.items) (sym empty) in
+    omega (arith, sum, some, ap length used, length-append new.line.items (rest_of new.piece))
+
 -- a line that the end of input ends, or none
 pub moves_end : (old mid new : Gathering) (from to later : State) (is_empty : Bool) → is_empty ≡ (length new.line.items == 0) → IsGoing old mid from to → rest_of mid.piece ≡ [] → new.line ≡ mid.line → TakesPiece mid new to later false → GoesOn to later → Moves (Ok (not is_empty)) old new from later
 moves_end old mid new from to later is_empty empty going used line takes on =
@@ -141,4 +154,5 @@ moves_end old mid new from to later is_empty empty going used line takes on =
           answers_end is_empty new (held_by old ++ b) a empty used_new end whole below);
       taken = record { within = new.limited; rises = on_going.rises; as_lost = on_going.lost };
       at_once = record { none_taken = λ has. (on_going.at_once has).0; little_more = little is_empty new empty used_new };
+      more = more_end is_empty old new empty used_new on_going.sum;
     }

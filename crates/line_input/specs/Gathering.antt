@@ -7,7 +7,7 @@ use Rattle.line_input.specs.Lines.{feed, IsFeedless}
 use Rattle.line_input.specs.declared.fail.InputFail.{InputFail}
 use Rattle.line_input.specs.declared.fail.InputFail.TheVariants.{NoMemory}
 use Rattle.line_input.specs.Piece.{rest_of, IsMoved}
-use Rattle.line_input.specs.Reader.{Reading, Tells, Takes, IsAtOnce}
+use Rattle.line_input.specs.Reader.{Reading, Tells, Takes, IsAtOnce, GivesMore}
 use Rattle.line_input.specs.declared.gathering.Gathering.{Gathering}
 
 -- what callers see of it, where the line is given out and where it isn't
@@ -28,6 +28,7 @@ pub record Moves (result : Result Bool InputFail) (old new : Gathering) (from to
   pub told : Tells result (reading_of false old) (reading_of (is_found result) new) from to
   pub taken : Takes (reading_of false old) (reading_of (is_found result) new) from to
   pub at_once : IsAtOnce result (reading_of false old) (reading_of (is_found result) new)
+  pub more : GivesMore result (reading_of false old) (reading_of (is_found result) new)
 
 -- all that was taken was looked at, and no line ends in it
 abbrev pub IsCut : Gathering → Type 0

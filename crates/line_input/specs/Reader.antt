@@ -56,3 +56,9 @@ pub record IsAtLimit (new : Reading) : Type 0 where
 pub record IsAtOnce (result : Result Bool InputFail) (old new : Reading) : Type 0 where
   pub none_taken : IsTrue (has_feed old.pending) → new.taken ≡ old.taken
   pub little_more : OnOk result (length new.pending < piece_limit)
+
+-- With a line more bytes were given out: those that were taken and are not pending. Its feed is one, or it isn't empty.
+abbrev pub GivesMore : Result Bool InputFail → Reading → Reading → Type 0
+GivesMore (Ok true) old new = old.taken + length new.pending < new.taken + length old.pending
+GivesMore (Ok false) old new = Unit {0}
+GivesMore (Err fail) old new = Unit {0}

@@ -23,6 +23,7 @@
 //! | nothing is taken while a line's end is pending; behind a line less than a piece is pending | `at_once` |
 //! | `InputLimit` comes where all bytes that may be taken were, and no line's end is pending | `input_limit` |
 //! | and the end of input is seen only below the limit | `end`, `told` |
+//! | with each line more bytes are given out, so a loop over lines ends | `more` |
 //! | `ReadFault` comes only where the source counted a fault, and with no line's end pending | `cause`, `read_fault` |
 //! | the source stays told or untold, its faults never fall | `frame` |
 //!

@@ -6,7 +6,7 @@ ghost use Rattle.outside_io.specs.Source.{GoesOn};
 ghost use Rattle.line_input.specs.declared.fail.InputFail.TheVariants.{ReadFault, InputLimit};
 ghost use Rattle.line_input.specs.Limits.{input_limit};
 ghost use Rattle.line_input.specs.Lines.{IsFeedless};
-ghost use Rattle.line_input.specs.Reader.{Tells, Takes, IsAtLimit, IsAtOnce};
+ghost use Rattle.line_input.specs.Reader.{Tells, Takes, IsAtLimit, IsAtOnce, GivesMore};
 
 use crate::InputFail;
 use crate::gathering::Gathering;
@@ -60,6 +60,7 @@ impl LineReader {
         ensures kept { OnErr result (self.new.line ≡ []) }
         ensures taken { Takes self.old self.new (I.state input.old) (I.state input.new) }
         ensures at_once { IsAtOnce result self.old self.new }
+        ensures more { GivesMore result self.old self.new }
         ensures end { IfOk result (λ found. IsFalse found → self.new.taken < input_limit) }
         ensures input_limit { IsErrOf result InputLimit → IsAtLimit self.new }
         ensures read_fault { IsErrOf result ReadFault → IsFeedless self.new.pending }
