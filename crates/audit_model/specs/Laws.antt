@@ -7,12 +7,14 @@ use Rattle.notary_link.specs.declared.answer.Answer.{Answer}
 use Rattle.notary_link.specs.declared.answer.Answer.TheVariants.{Same, Differs, Absent}
 use Rattle.notary_link.specs.Batches.{Batch, compared}
 use Rattle.history_model.specs.History.{History}
+use Rattle.history_model.specs.Stored.{stored}
 use Rattle.digest_model.specs.Layout.{layout, exponent, first_granule, end_granule, tile_size, whole, has_tile_chains, has_tree}
 use Rattle.digest_model.specs.Roots.{roots_of}
 use Rattle.digest_model.specs.Laws.{HasSpelling, SameBelow}
 use Rattle.audit_model.specs.Names.{planned, digest}
 use Rattle.audit_model.specs.Notary.{NotaryOf, answers}
-use Rattle.audit_model.specs.Altered.{HasOtherHeader, IsAltered, HashClash}
+use Rattle.audit_model.specs.Altered.{history_in, HasOtherHeader, IsAltered, HashClash}
+use Rattle.audit_model.specs.Sound.{HoldsNotarized}
 use Rattle.audit_model.specs.Mono.{BeginsRegion, IsFirstBad, IsStep}
 use Rattle.audit_model.specs.Tree.{IsFound, IsConsistent, found, checks, digit_count}
 use Rattle.audit_model.specs.Tiled.{IsCandidate, IsCandidateAmong, IsTarget, candidates_of, exactly_of}
@@ -173,3 +175,15 @@ abbrev pub NotarizedIsSame : Type 0
 NotarizedIsSame = (batches : List Batch) (id : ℕ) (s : History) (n : ℕ) (name : Name) → NotaryOf batches id s n
     → Contains (planned (layout s) n) name
     → answers batches s name ≡ Same
+
+-- bytes hold a history under the id, for which each planned name is answered Same
+pub record IsAnsweredSame (batches : List Batch) (id n : ℕ) (bytes : List ℕ) : Type 0 where
+  pub history : History
+  pub is_stored : history_in (stored bytes) ≡ Some history
+  pub header : history.header.id ≡ id
+  pub same : (name : Name) → Contains (planned (layout history) n) name → answers batches history name ≡ Same
+
+-- Bytes that hold what is filed, as each image of a sound store, are answered the same for each planned name.
+abbrev pub HeldIsSame : Type 0
+HeldIsSame = (batches : List Batch) (id n : ℕ) (bytes : List ℕ) → HoldsNotarized batches id n (history_in (stored bytes))
+    → IsAnsweredSame batches id n bytes
