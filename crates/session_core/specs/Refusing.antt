@@ -1,12 +1,14 @@
 -- The refusals of statements, by what the layers below call them.
+use Rattle.std.specs.Prelude.{ℕ, Result, Ok, Err}
 use Rattle.history_model.specs.declared.change.TableFail.{TableFail}
 use Rattle.history_model.specs.declared.change.TableFail.TheVariants as tables
 use Rattle.store_engine.specs.declared.fail.StoreFail.{StoreFail}
 use Rattle.store_engine.specs.declared.fail.StoreFail.TheVariants as stores
-use Rattle.session_core.specs.declared.reply.Refusal.{Refusal}
 use Rattle.session_core.specs.declared.reply.Refusal.TheVariants as refusals
 use Rattle.session_core.specs.declared.reply.Reply.{Reply}
 use Rattle.session_core.specs.declared.reply.Reply.TheVariants as replies
+use Rattle.session_core.specs.declared.sessions.StepFail.{StepFail}
+use Rattle.session_core.specs.declared.sessions.StepFail.TheVariants as steps
 
 -- what the tables refuse; memory is no refusal
 abbrev pub refused_by_tables : TableFail → Reply
@@ -31,3 +33,10 @@ refused_by_store stores.NotAStore = replies.Done
 refused_by_store stores.DiskFault = replies.Done
 refused_by_store stores.Closed = replies.Done
 refused_by_store stores.NoMemory = replies.Done
+
+-- what a commit answers, as a reply
+abbrev pub answered : Result ℕ StoreFail → Result Reply StepFail
+answered (Ok number) = Ok (replies.Committed number)
+answered (Err stores.DiskFault) = Err steps.DiskFault
+answered (Err stores.NoMemory) = Err steps.NoMemory
+answered (Err fail) = Ok (refused_by_store fail)

@@ -1,5 +1,5 @@
 -- What a statement does to a world, and what is replied.
-use Rattle.std.specs.Prelude.{ℕ, List, ◌∷◌, [], Option, Some, None, Result, Ok, Err}
+use Rattle.std.specs.Prelude.{ℕ, false, List, ◌∷◌, [], Option, Some, None, Result, Ok, Err}
 use Rattle.tuple_bytes.specs.declared.value.Value.{Value}
 use Rattle.tuple_bytes.specs.declared.op.Op.{Op}
 use Rattle.tuple_bytes.specs.declared.item.Txn.{Txn}
@@ -13,6 +13,8 @@ use Rattle.asof_query.specs.Filters.{scan_of}
 use Rattle.asof_query.specs.Told.{history_told}
 use Rattle.stmt_text.specs.declared.stmt.Stmt.{Stmt}
 use Rattle.stmt_text.specs.declared.stmt.Stmt.TheVariants as stmts
+use Rattle.stmt_text.specs.declared.line.Line.{Line}
+use Rattle.stmt_text.specs.declared.line.Line.TheVariants as lines
 use Rattle.store_engine.specs.declared.fail.StoreFail.{StoreFail}
 use Rattle.store_engine.specs.Refusals.{next_txn, commit_fault}
 use Rattle.session_core.specs.declared.reply.Reply.{Reply}
@@ -65,6 +67,26 @@ write w change now = commit_prepared w (prepared (tables_now w) change) now
 
 -- ---- a statement on tables, outside sessions
 
+-- the change that a statement asks for, if it asks for one
+abbrev pub write_in : Stmt → Option Write
+write_in (stmts.Create table columns) = Some (writes.Create table columns)
+write_in (stmts.Insert table row) = Some (writes.Insert table row)
+write_in (stmts.Update table row) = Some (writes.Update table row)
+write_in (stmts.Delete table key) = Some (writes.Delete table key)
+write_in stmt = None
+
+-- what a statement that only reads is replied
+abbrev pub read : World → Stmt → Reply
+read w (stmts.Get table key moment) = found (row_at (tables_at w moment) table key)
+read w (stmts.Scan table filter moment) = scanned (scan_of (tables_at w moment) table filter)
+read w (stmts.History table key) = told (history_told table key (txns w.items) (last_moment w.items))
+read w stmt = replies.Done
+
+-- a statement writes, or else reads
+abbrev pub write_or_read : World → Option Write → Stmt → ℕ → Step
+write_or_read w (Some change) stmt now = write w change now
+write_or_read w None stmt now = says w (read w stmt)
+
 abbrev pub IsOnTables : Stmt → Type 0
 IsOnTables (stmts.Create table columns) = Unit {0}
 IsOnTables (stmts.Insert table row) = Unit {0}
@@ -81,13 +103,16 @@ IsOnTables stmts.Validate = ⊥
 IsOnTables (stmts.Analyse algorithm) = ⊥
 IsOnTables (stmts.Now moment) = ⊥
 
--- at these clock seconds; `get` and `scan` without a moment read the state of now. Others do nothing here.
-unfoldable pub step : World → Stmt → ℕ → Step
-step w (stmts.Create table columns) now = write w (writes.Create table columns) now
-step w (stmts.Insert table row) now = write w (writes.Insert table row) now
-step w (stmts.Update table row) now = write w (writes.Update table row) now
-step w (stmts.Delete table key) now = write w (writes.Delete table key) now
-step w (stmts.Get table key moment) now = says w (found (row_at (tables_at w moment) table key))
-step w (stmts.Scan table filter moment) now = says w (scanned (scan_of (tables_at w moment) table filter))
-step w (stmts.History table key) now = says w (told (history_told table key (txns w.items) (last_moment w.items)))
-step w stmt now = says w replies.Done
+-- a line that is one
+abbrev pub IsTableLine : Line → Type 0
+IsTableLine (lines.Plain stmt) = IsOnTables stmt
+IsTableLine lines.Blank = ⊥
+IsTableLine (lines.InSession session stmt) = ⊥
+IsTableLine (lines.Drill event) = ⊥
+
+-- ---- a line
+
+-- What a line does at these clock seconds. A line that is none of these does nothing here.
+unfoldable pub step : World → Line → ℕ → Step
+step w (lines.Plain stmt) now = write_or_read w (write_in stmt) stmt now
+step w line now = says w replies.Done

@@ -1,6 +1,6 @@
 //! A store that is open.
 
-ghost use Rattle.std.specs.Prelude.{◌≡◌, ◌+◌, ◌<◌, ◌≤◌, ℕ, List, [], false, length, IfOk, IsOk, IfErr, IfSome, MatchResult, if◌then◌else◌};
+ghost use Rattle.std.specs.Prelude.{◌≡◌, ◌+◌, ◌<◌, ◌≤◌, ℕ, List, [], false, length, IfOk, IsOk, IfErr, IfSome, IsSome, MatchResult, if◌then◌else◌};
 ghost use Rattle.std.specs.List.{All};
 ghost use Rattle.outside_words.specs.Faults.{HasCause};
 ghost use Rattle.outside_words.specs.Told.{WhereTold};
@@ -84,6 +84,7 @@ impl Store {
         ensures number { IfOk result (λ n. n ≡ self.old.count + 1) }
         ensures refused { IsRefusedBy (commit_fault (tail_of self.old) self.old.at.is_closed ops.now now) result }
         ensures stands { StandsAfter result self.old (with_txn self.old (next_txn (tail_of self.old) ops.now now)) self.new }
+        ensures same { IsSome (commit_fault (tail_of self.old) self.old.at.is_closed ops.now now) → Unchanged (D.state disk.old) (D.state disk.new) }
         ensures told { WhereTold (D.state disk.old).reads (D.state disk.new).reads
             (Adds (items.Txn (next_txn (tail_of self.old) ops.now now)) result self.old self.new (D.state disk.old) (D.state disk.new)) }
         ensures frame { GoesOn (D.state disk.old) (D.state disk.new) }
