@@ -1,0 +1,9 @@
+use Rattle.store_engine.proofs.Adding.{unchanged_same}
+use Rattle.disk_words.proofs.Frame.{goes_on_same}
+use Rattle.store_engine.proofs.store.Store.store_item.Goals as goal
+
+pub returns-in-Err-clause-frame : goal.returns-in-Err-clause-frame
+returns-in-Err-clause-frame g c = goes_on_same _
+
+pub returns-in-Err-clause-same : goal.returns-in-Err-clause-same
+returns-in-Err-clause-same g c = λ refused. unchanged_same _
