@@ -52,4 +52,3 @@ mod store;
 
 pub use fail::StoreFail;
 pub use store::Store;
-
