@@ -37,3 +37,6 @@ mod plan;
 mod trees;
 
 pub use plan::Plan;
+
+#[cfg(test)]
+mod tests;
