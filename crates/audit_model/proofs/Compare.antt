@@ -1,10 +1,11 @@
 -- What a notary that holds h's batches answers.
-use Rattle.std.proofs.Common.{◌≡◌, ℕ, ◌+◌, true, List, [], ◌∷◌, ◌++◌, map, refl, sym, ap, subst, ◌∙◌, ◌⊎◌, inl, inr, Option, Some, None}
+use Rattle.std.proofs.Common.{◌≡◌, ℕ, ◌+◌, true, List, [], ◌∷◌, ◌++◌, length, map, refl, sym, ap, subst, ◌∙◌, ◌⊎◌, inl, inr, Option, Some, None}
 use Rattle.std.specs.Prelude.{nat_eq}
 use Rattle.std.specs.List.{Contains, flat_map, find, range_with_len}
 use lib.Pointwise.{pointwise, bytes_decides}
 use Rattle.std.proofs.lemmas.Bool.{cases_Bool, and_parts, and_from, eqb-true, eq-eqb, false≢true}
-use Rattle.std.proofs.lemmas.List.{map-append}
+use Rattle.std.proofs.lemmas.List.{length-map, map-append}
+use Rattle.std.proofs.lemmas.List.FromFn.{length-range_with_len}
 use Rattle.std.proofs.lemmas.List.Folds.{flat_map-map}
 use Rattle.notary_link.specs.declared.name.Name.{Name}
 use Rattle.notary_link.specs.declared.name.Name.TheVariants as names
@@ -13,11 +14,11 @@ use Rattle.notary_link.specs.declared.answer.Answer.TheVariants.{Same, Differs}
 use Rattle.history_model.specs.History.{History}
 use Rattle.notary_link.specs.Batches.{Batch, same_name, filed, compared, answer_by, answer}
 use Rattle.digest_model.specs.Layout.{layout}
-use Rattle.audit_model.specs.Laws.{AnswersCompare, NotarizedIsSame, OthersAreAbsent}
+use Rattle.audit_model.specs.Laws.{AnswersCompare, BatchesAreCounted, NotarizedIsSame, OthersAreAbsent}
 use Rattle.audit_model.specs.Names.{batch_names, planned, digest, seal, batch}
 use Rattle.audit_model.specs.Notary.{NotaryOf}
 use Rattle.digest_model.proofs.Members.{here, there}
-use Rattle.audit_model.proofs.Lists.{one_of, none_of}
+use Rattle.digest_model.proofs.Lists.{one_of, none_of}
 
 pub same_name_is : (a b : Name) → same_name a b ≡ true → a ≡ b
 same_name_is names.Header names.Header e = refl
@@ -94,3 +95,10 @@ own_same batches id s n name is in' = compare batches id s s n name is in' ∙ e
   | inl same ↦ same.1
   | inr other ↦ absurd (other.0 refl)
 ]
+
+pub counted : BatchesAreCounted
+counted batches id h n is =
+    sym (length-map batches (λ (b : Batch). b.seals))
+    ∙ ap (λ (l : List (List Seal)). length l) is.seals
+    ∙ length-map (range_with_len 0 (n + 1)) (batch h)
+    ∙ length-range_with_len 0 (n + 1)

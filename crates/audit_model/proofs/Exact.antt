@@ -10,7 +10,7 @@ use Rattle.notary_link.specs.declared.answer.Answer.TheVariants.{Same, Differs}
 use Rattle.history_model.specs.History.{History, rows}
 use Rattle.tuple_bytes.specs.Spelling.{spell_txn}
 use Rattle.notary_link.specs.Batches.{Batch, compared}
-use Rattle.history_model.specs.StoredHistory.{IsHistory}
+use Rattle.digest_model.specs.Laws.{HasSpelling}
 use Rattle.digest_model.specs.Layout.{end_granule, Layout, layout, first_granule, tile_size, whole, is_in_part}
 use Rattle.digest_model.specs.Digests.{header_input, header_digest, granule_digest, node_digest, tile_digest, cum}
 use Rattle.audit_model.specs.Laws.{IsAudit, HasAltered, HeaderIsShown, ChangedChainHasAltered, RegionBeginsAltered, FailingTileIsAltered, TreeIsConsistent, StepIsRegion}
@@ -19,13 +19,13 @@ use Rattle.audit_model.specs.Notary.{answers}
 use Rattle.digest_model.proofs.Clashes.{same_or_clash}
 use mathlib.Core.List.{List-discrete}
 use native.Mathlib.Decide.{ℕ_discrete}
-use Rattle.digest_model.proofs.Spelled.{same_header, same_txns, rows_storable}
-use Rattle.digest_model.proofs.Nodes.{twice}
+use Rattle.digest_model.proofs.Spelled.{same_header, same_txns, rows_fit}
+use Rattle.digest_model.proofs.Nodes.{twice, halves_fit}
 use Rattle.audit_model.proofs.Region.{clean_to}
 use Rattle.digest_model.proofs.Follows.{follow}
 use Rattle.audit_model.specs.Altered.{IsAltered}
 use Rattle.audit_model.specs.Mono.{BeginsRegion, IsStep}
-use Rattle.audit_model.proofs.Lists.{in_range, from_filter}
+use Rattle.digest_model.proofs.Lists.{in_range, from_filter}
 use Rattle.audit_model.proofs.Compare.{compare, same_of, differs_of, one_answer}
 use Rattle.audit_model.proofs.Planned.{adjoin, part_planned, cum_planned, hashed_for, same_view}
 use Rattle.audit_model.proofs.TileAudit.{differing, of_differing, not_same_digest, first_of, part_same}
@@ -63,7 +63,7 @@ in_tile size tile number n below inside =
 differing_altered : (h s : History) (n tile number : ℕ) → h.header ≡ s.header → tile < n → Contains (differing h s tile) number → HasAltered h s n tile
 differing_altered h s n tile number one inside is =
     let d = of_differing h s tile number is in
-    (number, d.0, digest_altered h s n (first_granule (layout h) tile + number) one (in_tile (tile_size (layout h) tile) tile number n d.0 inside) (not_same_digest h s (first_granule (layout h) tile + number) d.1))
+    (number, (d.0, digest_altered h s n (first_granule (layout h) tile + number) one (in_tile (tile_size (layout h) tile) tile number n d.0 inside) (not_same_digest h s (first_granule (layout h) tile + number) d.1)))
 
 pub failing_altered : FailingTileIsAltered
 unfolding digest
@@ -82,9 +82,6 @@ from_children : (h s : History) (level index : ℕ) → node_digest h level (2 *
     → node_digest h (suc level) index ≡ node_digest s (suc level) index
 unfolding node_digest
 from_children h s level index left right = cc
-
-halves_fit : (p q index limit : ℕ) → q ≡ 2 * p → (index + 1) * q ≤ limit → ((2 * index + 1) * p ≤ limit) × ((2 * index + 1 + 1) * p ≤ limit)
-halves_fit p q index limit e h = (let h' : (index + 1) * (2 * p) ≤ limit = rw e at h in (omega (arith, h'), omega (arith, h')))
 
 pub consistent : TreeIsConsistent
 unfolding digest
@@ -138,9 +135,9 @@ pub step_is : StepIsRegion
 step_is cums n p region step = (step_region cums n p step region, λ e. subst (λ (r : Option ℕ). BeginsRegion cums n r) (sym e) (begins_step cums n p step))
 
 -- the rows of two histories are equal or not
-rows_decided : (h s : History) (g : ℕ) → IsHistory h → IsHistory s → (rows h g ≡ rows s g) ⊎ (rows h g ≡ rows s g → ⊥)
+rows_decided : (h s : History) (g : ℕ) → HasSpelling h → HasSpelling s → (rows h g ≡ rows s g) ⊎ (rows h g ≡ rows s g → ⊥)
 rows_decided h s g ours theirs = elim (List-discrete (List-discrete ℕ_discrete) (map spell_txn (rows h g)) (map spell_txn (rows s g))) [
-  | yes same ↦ inl (same_txns (rows h g) (rows s g) (rows_storable h g ours) (rows_storable s g theirs) same)
+  | yes same ↦ inl (same_txns (rows h g) (rows s g) (rows_fit h g ours) (rows_fit s g theirs) same)
   | no other ↦ inr (λ e. other (ap (map spell_txn) e))
 ]
 
@@ -188,8 +185,7 @@ differs_in batches id h s n tile is inside e before =
       }))))
       | inr one ↦ (
         one.0,
-        one.1,
-        rows_altered h s n (first_granule (layout h) tile + one.0) is.header (in_tile (tile_size (layout h) tile) tile one.0 n one.1 inside) one.2,
+        (one.1, rows_altered h s n (first_granule (layout h) tile + one.0) is.header (in_tile (tile_size (layout h) tile) tile one.0 n one.1 inside) one.2),
       )
     ]
 

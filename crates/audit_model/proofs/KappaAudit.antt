@@ -8,7 +8,7 @@ use Rattle.digest_model.specs.Layout.{first_granule, tile_size, layout}
 use Rattle.audit_model.specs.Laws.{CandidatesAmongHaveAltered}
 use Rattle.audit_model.specs.Altered.{HashClash}
 use Rattle.digest_model.proofs.Members.{here, there}
-use Rattle.audit_model.proofs.Lists.{one_of, none_of, increasing_tail, above_head}
+use Rattle.digest_model.proofs.Lists.{one_of, none_of, increasing_tail, above_head}
 use Rattle.audit_model.proofs.TileAudit.{differing, of_differing, set_differing, not_same_digest, altered_differs, differing_explain, each_or}
 use Rattle.audit_model.proofs.Exact.{digest_altered, in_tile}
 

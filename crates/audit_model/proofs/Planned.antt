@@ -1,7 +1,9 @@
 -- Which names are planned, and that what is hashed for them is hashed for the history.
-use Rattle.std.proofs.Common.{◌≡◌, ℕ, suc, ◌+◌, ◌<◌, Bool, true, cond, List, [], ◌++◌, map, refl, sym, ap, subst, ◌∙◌, ◌⊎◌, inl, inr, Some, arith}
+use Rattle.std.proofs.Common.{◌≡◌, ℕ, suc, ◌+◌, ◌<◌, Bool, true, cond, List, [], ◌++◌, map, refl, sym, ap, subst, ◌∙◌, ◌⊎◌, inl, inr, Some, None, arith}
 use Rattle.std.specs.List.{Contains, range_with_len}
 use lib.Pointwise.{bytes_decides}
+use Rattle.std.proofs.lemmas.Bool.{cases_Bool}
+use Rattle.std.proofs.lemmas.Option.{none-some}
 use Rattle.std.proofs.lemmas.List.Elements.{Contains-append_left}
 use Rattle.tuple_bytes.specs.declared.item.Txn.{Txn}
 use Rattle.tuple_bytes.specs.Spelling.{spell_fields}
@@ -13,8 +15,9 @@ use Rattle.digest_model.specs.Inputs.{Clash}
 use Rattle.audit_model.specs.Names.{tile_names, node_names, sealed_names, batch_names, planned, inputs_of, inputs}
 use Rattle.digest_model.proofs.Members.{here, there, Contains-map, Contains-flat_map}
 use Rattle.digest_model.proofs.Clashes.{wider}
+use Rattle.audit_model.specs.Laws.{OtherHeaderIsAltered}
 use Rattle.audit_model.specs.Altered.{IsAltered, HashClash, has_fields_of, view}
-use Rattle.audit_model.proofs.Lists.{in_range}
+use Rattle.digest_model.proofs.Lists.{in_range}
 
 pub in_planned : (l : Layout) (n tile : ℕ) (name : Name) → tile < n → Contains (sealed_names l tile) name → Contains (planned l n) name
 unfolding planned batch_names
@@ -57,6 +60,13 @@ same_view h s g one =
 
 pub not_same_rows : (h s : History) (n g : ℕ) → h.header ≡ s.header → IsAltered h (Some s) n g → rows h g ≡ rows s g → ⊥
 not_same_rows h s n g one is e = is.differs (same_view h s g one ∙ ap (λ (ts : List Txn). Some ts) (sym e))
+
+pub other_altered : OtherHeaderIsAltered
+other_altered h None n g other inside = record { is_sealed = inside; differs = λ e. none-some (rows h g) e }
+other_altered h (Some s) n g other inside = elim (cases_Bool (has_fields_of h.header s.header)) [
+  | inl one ↦ absurd (other ((bytes_decides (spell_fields h.header) (spell_fields s.header)).0 one))
+  | inr not_one ↦ record { is_sealed = inside; differs = rw not_one (λ e. none-some (rows h g) e) }
+]
 
 -- a tile ends where the next begins
 pub adjoin : (l : Layout) (tile : ℕ) → end_granule l tile ≡ first_granule l (tile + 1)

@@ -24,7 +24,7 @@ use Rattle.digest_model.proofs.Tiles.{tiles_apart}
 use Rattle.digest_model.proofs.Follows.{follow}
 use Rattle.audit_model.specs.Altered.{IsAltered, HashClash}
 use Rattle.audit_model.specs.Tiled.{Explains}
-use Rattle.audit_model.proofs.Lists.{none_of, Any-of, Any-from, passes, from_filter, in_filter, in_range, from_range, increasing_range, from_map}
+use Rattle.digest_model.proofs.Lists.{none_of, Any-of, Any-from, passes, from_filter, in_filter, in_range, from_range, increasing_range, from_map}
 use Rattle.audit_model.proofs.Among.{all_of}
 use Rattle.audit_model.proofs.Compare.{compare, one_answer}
 use Rattle.audit_model.proofs.Planned.{part_planned, clash_of, not_same_rows}

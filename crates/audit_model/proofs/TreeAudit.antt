@@ -3,7 +3,7 @@ use Rattle.std.proofs.Common.{◌≡◌, ℕ, zero, suc, ◌+◌, ◌-◌, ◌*�
 use Rattle.std.specs.Prelude.{nat_eq}
 use Rattle.std.specs.List.{Contains, range_with_len}
 use Rattle.std.specs.Int.{bit_at}
-use Rattle.std.proofs.lemmas.Bool.{cases_eq, cases_lt, eq-eqb}
+use Rattle.std.proofs.lemmas.Bool.{cases_lt, eq-eqb}
 use Rattle.std.proofs.lemmas.Nat.{mul-le, pow_pos, shl-shr, shr-shr, shr_split, mod_below, mod_low, div_below}
 use Rattle.std.proofs.Math.Pow.{pow_mono}
 use Rattle.std.proofs.lemmas.List.Elements.{Contains-append_right}
@@ -16,7 +16,6 @@ use Rattle.history_model.specs.History.{History, rows}
 use Rattle.notary_link.specs.Batches.{Batch, compared}
 use Rattle.digest_model.specs.Layout.{Layout, layout, first_granule, tile_size, has_tile_chains, has_tree}
 use Rattle.digest_model.specs.Digests.{node_digest}
-use Rattle.digest_model.specs.Laws.{IsUnder}
 use Rattle.audit_model.specs.Laws.{IsAudit, HasTree, DescentHasAltered, DescentIsAltered}
 use Rattle.audit_model.specs.Names.{digest, inputs_of, tile_names, nodes_ending_at, node_names, sealed_names, planned}
 use Rattle.audit_model.specs.Notary.{answers}
@@ -25,7 +24,8 @@ use Rattle.digest_model.proofs.Members.{there, Contains-map, Contains-flat_map}
 use Rattle.digest_model.proofs.Nodes.{twice, nodes_apart}
 use Rattle.digest_model.proofs.Follows.{follow}
 use Rattle.audit_model.specs.Altered.{IsAltered, HashClash}
-use Rattle.audit_model.proofs.Lists.{in_range, in_filter}
+use Rattle.digest_model.proofs.Lists.{in_range, in_filter}
+use Rattle.digest_model.proofs.Roots.{root_fits, root_over, under_own}
 use Rattle.audit_model.proofs.Compare.{compare, one_answer, differs_of}
 use Rattle.audit_model.proofs.Planned.{in_planned, clash_of, not_same_rows, same_view}
 
@@ -74,47 +74,12 @@ node_planned l n level index has within small =
 
 -- ---- roots
 
-root_fits : (granules level : ℕ) → bit_at granules level ≡ 1 → (2 * (granules / 2 ^ (level + 1)) + 1) * 2 ^ level ≤ granules
-root_fits granules level one =
-    let half : granules / 2 ^ level / 2 ^ 1 ≡ granules / 2 ^ (level + 1) = shr-shr granules level 1 in
-    let odd : 2 * (granules / 2 ^ (level + 1)) + 1 ≡ granules / 2 ^ level = omega (arith, half, one) in
-    let split = shr_split granules level in
-    rw odd (omega (arith, split))
-
 doubled : (p q i : ℕ) (limit : ℕ) → q ≡ 2 * p → (i / 2 + 1) * q ≤ limit → (i + 1) * p ≤ limit
 doubled p q i limit e h = (let h' : (i / 2 + 1) * (2 * p) ≤ limit = rw e at h in let near : i + 1 ≤ 2 * (i / 2) + 2 = omega arith in let more : (i + 1) * p ≤ (2 * (i / 2) + 2) * p = mul-le (i + 1) p (2 * (i / 2) + 2) p near (omega arith) in omega (arith, more, h'))
 
 pub reached_within : (granules : ℕ) (nodes : ℕ → ℕ → Answer) (level index : ℕ) → Reached granules nodes level index → (index + 1) * 2 ^ level ≤ granules
 reached_within granules nodes level index (as_root r) = (let e = r.place in rw e (root_fits granules level r.digit))
 reached_within granules nodes level index (as_child above e) = doubled (2 ^ level) (2 ^ suc level) index granules (twice level) (reached_within granules nodes (suc level) (index / 2) above)
-
-shr_order : (m n w : ℕ) → m ≤ n → m / 2 ^ w ≤ n / 2 ^ w
-shr_order m n w below = elim (cases_lt (n / 2 ^ w) (m / 2 ^ w)) [
-  | inr yes_it ↦ yes_it
-  | inl other ↦ absurd
-      (let more : (n / 2 ^ w + 1) * 2 ^ w ≤ m / 2 ^ w * 2 ^ w = mul-le (n / 2 ^ w + 1) (2 ^ w) (m / 2 ^ w) (2 ^ w) (omega arith) (omega arith) in
-      let split_m = shr_split m w in
-      let split_n = shr_split n w in
-      let rest = mod_below n (2 ^ w) (pow_pos w) in
-      omega (arith, more, split_m, split_n, rest, below))
-]
-
--- each granule is under a root
-root_over : (granules g w : ℕ) → g < granules → g / 2 ^ w ≡ granules / 2 ^ w → (l : ℕ) × (bit_at granules l ≡ 1) × (g / 2 ^ l ≡ 2 * (granules / 2 ^ (l + 1)))
-root_over granules g zero below same = absurd (omega (arith, below, same))
-root_over granules g (suc w) below same =
-    let half_g : g / 2 ^ w / 2 ^ 1 ≡ g / 2 ^ (w + 1) = shr-shr g w 1 in
-    let half_n : granules / 2 ^ w / 2 ^ 1 ≡ granules / 2 ^ (w + 1) = shr-shr granules w 1 in
-    let next : suc w ≡ w + 1 = omega arith in
-    let same' : g / 2 ^ (w + 1) ≡ granules / 2 ^ (w + 1) = subst (λ x. g / 2 ^ x ≡ granules / 2 ^ x) next same in
-    let order : g / 2 ^ w ≤ granules / 2 ^ w = shr_order g granules w (omega arith) in
-    elim (cases_eq (g / 2 ^ w) (granules / 2 ^ w)) [
-      | inl e ↦ root_over granules g w below e
-      | inr other ↦ (w, omega (arith, half_g, half_n, same', order, other), omega (arith, half_g, half_n, same', order, other))
-    ]
-
-under_own : (level g : ℕ) → IsUnder level (g / 2 ^ level) g
-under_own level g = (let split = shr_split g level in let rest = mod_below g (2 ^ level) (pow_pos level) in (omega (arith, split), omega (arith, split, rest)))
 
 -- ---- the descent to an altered granule
 

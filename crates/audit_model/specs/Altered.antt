@@ -1,5 +1,5 @@
 -- Which granules of a file differ from the notarized ones.
-use Rattle.std.specs.Prelude.{◌≢◌, ℕ, ◌<◌, nat_eq, if◌then◌else◌, Bool, List, [], Option, Some, None}
+use Rattle.std.specs.Prelude.{◌≢◌, ℕ, ◌<◌, nat_eq, if◌then◌else◌, Bool, ⊤, List, [], Option, Some, None}
 use Rattle.std.specs.Cmp.Lexicographic.{pointwise}
 use Rattle.std.specs.Option.{option_map}
 use Rattle.tuple_bytes.specs.declared.header.Header.{Header}
@@ -23,6 +23,11 @@ has_fields_of a b = pointwise nat_eq (spell_fields a) (spell_fields b)
 abbrev pub view : History → Option History → ℕ → Option (List Txn)
 view h None g = None
 view h (Some s) g = if has_fields_of h.header s.header then Some (rows s g) else None
+
+-- a file without the header of h
+abbrev pub HasOtherHeader : History → Option History → Type 0
+HasOtherHeader h None = ⊤
+HasOtherHeader h (Some s) = spell_fields h.header ≢ spell_fields s.header
 
 -- a sealed granule that the file shows otherwise
 pub record IsAltered (h : History) (s : Option History) (n g : ℕ) : Type 0 where

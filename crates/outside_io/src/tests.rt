@@ -1,5 +1,9 @@
-//! What no clause says: that calls succeed, and that a sink which takes little at a time gets all.
-use crate::{Clock, MemClock, MemSink, Sink, StdSink, StreamFail, SystemClock, write_whole};
+//! What no clause says: that calls succeed, and that all comes through a few bytes at a time.
+use crate::{
+    Clock, MemClock, MemSink, MemSource, Sink, Source, StdSink, StdSource, StreamFail, SystemClock,
+    write_whole,
+};
+use std::alloc::AllocError;
 use std::test::Fail;
 
 #[test]
@@ -65,4 +69,43 @@ fn the_system_gives_unix_seconds(rt: HostRuntime) {
     let start_of_2020 = 1_577_836_800;
     let mut clock = SystemClock::new(rt);
     assert!(rt; clock.now() > start_of_2020);
+}
+
+// What is read until the end of input, with a letter for each answer: `f` for a failure, `e` for the end.
+fn read_to_end(source: &mut MemSource, text: &mut Vec<u8>) -> Result<(), AllocError> {
+    let mut into = [0; 4];
+    for _ in 0..16 {
+        match source.read(&mut into) {
+            Ok(0) => {
+                text.push(b'e')?;
+                break;
+            }
+            Ok(count) => text.extend_from_slice(&into[..count])?,
+            Err(_) => text.push(b'f')?,
+        }
+    }
+    Ok(())
+}
+
+#[test]
+fn a_source_in_memory_gives_all_in_pieces(rt: HostRuntime) -> Result<(), Fail> {
+    let alloc = rt.alloc();
+    for (piece, failing, wanted) in [
+        (0, [0, 0], b"ABCDEFe".as_slice()),
+        (2, [2, 4], b"ABfCDfEFe".as_slice()),
+        (100, [1, 3], b"fABCDfEFe".as_slice()),
+    ] {
+        let bytes = b"ABCDEF".to_vec(alloc)?;
+        let mut source = MemSource::new(bytes, piece, failing.to_vec(alloc)?);
+        let mut text = Vec::new(alloc);
+        read_to_end(&mut source, &mut text)?;
+        assert_eq!(rt; text.as_slice(), wanted);
+    }
+    Ok(())
+}
+
+#[test]
+fn no_room_is_no_fault_of_the_standard_input(rt: HostRuntime) {
+    let mut source = StdSource::new(rt);
+    assert_eq!(rt; source.read(&mut []), Ok(0));
 }

@@ -1,6 +1,6 @@
 //! Opening a file for appending.
 
-ghost use Rattle.std.specs.Prelude.{◌≡◌, ◌++◌, ◌∷◌, [], Some, false, length, IsTrue, IfSome, IfOk, IfErr, OnOk, OnErr, MatchResult};
+ghost use Rattle.std.specs.Prelude.{◌≡◌, ◌<◌, ◌++◌, ◌∷◌, [], Some, false, length, max, IsTrue, IfSome, IfOk, IfErr, OnOk, OnErr, MatchResult};
 ghost use Rattle.outside_words.specs.Faults.{HasCause};
 ghost use Rattle.disk_words.specs.Disk.{Unchanged, GoesOn};
 ghost use Rattle.std.specs.List.{All};
@@ -34,6 +34,8 @@ pub fn open_journal<D: Disk, S: Shape>(
     ensures fresh { IfOk result (λ o. o.journal.is_closed ≡ false) }
     ensures head { IfOk result (λ o. IsTrue (S.is_head o.head)) }
     ensures fit { IfOk result (λ o. All (FitsRecord S.shape) o.payloads) }
+    ensures few { IfOk result (λ o. length o.payloads < o.journal.end) }
+    ensures within { IfOk result (λ o. o.journal.end < max 65 S.shape.max_file) }
     ensures none_other { IfErr result IsOfOpening }
     ensures same { Unchanged (D.state disk.old) (D.state disk.new) }
     ensures frame { GoesOn (D.state disk.old) (D.state disk.new) }
@@ -58,6 +60,8 @@ fn open_behind_head<D: Disk, S: Shape>(
     ensures fresh { IfOk result (λ o. o.journal.is_closed ≡ false) }
     ensures head { IfOk result (λ o. o.head ≡ records.head) }
     ensures fit { IfOk result (λ o. All (FitsRecord S.shape) o.payloads) }
+    ensures few { IfOk result (λ o. length o.payloads < o.journal.end) }
+    ensures within { IfOk result (λ o. o.journal.end < max 65 S.shape.max_file) }
     ensures none_other { IfErr result IsOfDisk }
     ensures same { Unchanged (D.state disk.old) (D.state disk.new) }
     ensures frame { GoesOn (D.state disk.old) (D.state disk.new) }

@@ -1,4 +1,4 @@
-use Rattle.std.proofs.Common.{◌≡◌, true, false, List, ℕ, [], ◌∷◌, ◌++◌, Some, ap, sym, subst, ◌∙◌, arith}
+use Rattle.std.proofs.Common.{◌≡◌, true, false, List, ℕ, [], ◌∷◌, ◌++◌, Some, length, length-append, ap, sym, subst, ◌∙◌, arith}
 use Rattle.std.specs.List.{All}
 use Rattle.std.proofs.lemmas.List.Elements.{All-push}
 use Rattle.std.specs.Prelude.{◌==◌, slice_index}
@@ -12,6 +12,8 @@ pub records-init : goal.records-init
 records-init g c = rw c.new-payloads.ensures.value (record {
   gathering = starts (λ (p : List ℕ). Some p) g.S.Shape.shape (g.D.Disk.state c.args.disk.now) c.args.records;
   fit = λ k d none. absurd (omega arith);
+  few = omega (arith, c.requires.begins.place);
+  within = omega (arith, c.requires.begins.place);
 })
 
 pub records-preserved : goal.records-preserved
@@ -24,6 +26,8 @@ records-preserved g c =
     record {
       gathering = one_more (λ (p : List ℕ). Some p) g.S.Shape.shape (S c.args.disk.now) (S c.records.disk) (S c.advance.new.disk) c.args.records c.records.records c.advance.new.self c.records.payloads c.keep.new.payloads c.records.invariant.gathering reads c.advance.ensures.seen c.advance.ensures.head c.advance.ensures.same c.advance.ensures.frame kept;
       fit = subst (λ (ps : List (List ℕ)). All (FitsRecord g.S.Shape.shape) ps) (sym kept) (All-push (FitsRecord g.S.Shape.shape) c.records.payloads c.advance.new.self.payload c.records.invariant.fit moves.fits);
+      few = omega (arith, ap (λ (ps : List (List ℕ)). length ps) kept, length-append c.records.payloads (c.advance.new.self.payload ∷ []), moves.place, c.records.invariant.few);
+      within = omega (arith, moves.within);
     }
 
 pub returns-clause-value : goal.returns-clause-value

@@ -1,0 +1,5 @@
+pub mod Lines
+mod Splits
+mod Cuts
+mod Going
+pub mod Giving

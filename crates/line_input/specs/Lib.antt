@@ -1,0 +1,7 @@
+pub mod Fail
+pub mod Gathering
+pub mod Giving
+pub mod Limits
+pub mod Lines
+pub mod Piece
+pub mod Reader

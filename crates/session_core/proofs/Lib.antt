@@ -1,0 +1,7 @@
+pub mod Staying
+pub mod ReadFrom
+pub mod Untouched
+pub mod Committing
+pub mod Preparing
+pub mod Promising
+pub mod Refusals

@@ -1,0 +1,32 @@
+-- A step over an open store: it does to the world that the store stands for what the definition says.
+use Rattle.std.specs.Prelude.{◌≡◌, ◌⊎◌, true, ℕ, List, Result, OnOk, IfOk}
+use Rattle.disk_words.specs.Disk.{State, Only}
+use Rattle.disk_model.specs.Moments.{EveryImage}
+use Rattle.store_engine.specs.Opened.{Opened}
+use Rattle.stmt_text.specs.declared.line.Line.{Line}
+use Rattle.session_core.specs.declared.reply.Reply.{Reply}
+use Rattle.session_core.specs.declared.sessions.StepFail.{StepFail}
+use Rattle.session_core.specs.World.{World, IsIn, StoresEither}
+use Rattle.session_core.specs.Steps.{Step, step}
+
+-- stand and new_stand are the open store before and after, w is what it stands for before, and next what is to be done
+pub record StepsIn (w : World) (next : Step) (result : Result Reply StepFail) (stand new_stand : Opened) (old new : State) (before after : List ℕ) : Type 0 where
+  pub reply : IfOk result (λ reply. reply ≡ next.reply)
+  pub stands : OnOk result (IsIn next.world new_stand after)
+  pub settled : Only before old → OnOk result (Only after new)
+  pub images : Only before old → EveryImage old new (StoresEither w next.world)
+  -- whatever was answered
+  pub kept : Only before old → StoresEither w next.world after
+
+-- whatever world the store stands for, this is done to it
+abbrev pub DoesAs : (World → Step) → Result Reply StepFail → Opened → Opened → State → State → List ℕ → List ℕ → Type 0
+DoesAs next result stand new_stand old new before after =
+    (w : World) → IsIn w stand before → StepsIn w (next w) result stand new_stand old new before after
+
+-- what a line does
+abbrev pub StepsTo : Line → ℕ → Result Reply StepFail → Opened → Opened → State → State → List ℕ → List ℕ → Type 0
+StepsTo line now = DoesAs (λ w. step w line now)
+
+-- the store is closed, or is as it was
+abbrev pub IsLeft : Opened → Opened → Type 0
+IsLeft old new = (new.at.is_closed ≡ true) ⊎ (new ≡ old)

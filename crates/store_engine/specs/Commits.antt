@@ -1,0 +1,90 @@
+-- An item is stored behind all others.
+use Rattle.std.specs.Prelude.{◌≡◌, ◌⊎◌, ℕ, ◌+◌, nat_le, if◌then◌else◌, List, ◌++◌, ◌∷◌, [], Result, Ok, Err, OnOk}
+use Rattle.disk_words.specs.declared.DiskFail.TheVariants.{Failed, NoMemory}
+use Rattle.disk_words.specs.Disk.{Call, State, Only, Unchanged}
+use Rattle.disk_model.specs.Moments.{EveryImage, MakesCalls}
+use Rattle.tuple_bytes.specs.declared.item.Item.{Item}
+use Rattle.tuple_bytes.specs.declared.item.Item.TheVariants as items
+use Rattle.tuple_bytes.specs.declared.item.Txn.{Txn}
+use Rattle.tuple_bytes.specs.Spelling.{spell_txn, spell_frontier, spell_item}
+use Rattle.tt_table.specs.Versions.{TablesVersions, applied}
+use Rattle.txn_journal.specs.Held.{behind, closed}
+use Rattle.txn_journal.specs.Append.{append_calls}
+use Rattle.store_engine.specs.declared.fail.StoreFail.{StoreFail}
+use Rattle.store_engine.specs.declared.fail.StoreFail.TheVariants as fails
+use Rattle.store_engine.specs.Opened.{Opened, IsOpenOn, StoresOldOrNew}
+
+-- ---- the store
+
+-- the store with a transaction more, or with a Frontier
+abbrev pub with_txn : Opened → Txn → Opened
+with_txn s t = record {
+  header = s.header;
+  count = s.count + 1;
+  last = t.moment;
+  tables = applied t.moment t.ops s.tables;
+  at = behind s.at (spell_txn t);
+}
+
+abbrev pub with_frontier : Opened → ℕ → Opened
+with_frontier s moment = record {
+  header = s.header;
+  count = s.count;
+  last = moment;
+  tables = s.tables;
+  at = behind s.at (spell_frontier moment);
+}
+
+-- with the one or the other
+abbrev pub with_item : Opened → Item → Opened
+with_item s (items.Txn t) = with_txn s t
+with_item s (items.Frontier moment) = with_frontier s moment
+
+-- it has one where its last moment is before that
+abbrev pub frontier_at : Opened → ℕ → Opened
+frontier_at s moment = if nat_le moment s.last then s else with_frontier s moment
+
+-- closed until the file is opened anew
+abbrev pub shut : Opened → Opened
+shut s = record s { at = closed s.at }
+
+-- want of memory came before the item was stored, or behind it: then some of its operations may be missing in the tables
+abbrev pub IsCutShort : Opened → Opened → Opened → Type 0
+IsCutShort old with_item new = (new ≡ shut old) ⊎ ((tables : TablesVersions) × (new ≡ shut (record with_item { tables = tables })))
+
+-- where the store stands after an answer, and with_item after Ok
+abbrev pub StandsAfter : {A : Type 0} → Result A StoreFail → Opened → Opened → Opened → Type 0
+StandsAfter (Ok done) old with_item new = new ≡ with_item
+StandsAfter (Err fails.DiskFault) old with_item new = new ≡ shut old
+StandsAfter (Err fails.NoMemory) old with_item new = IsCutShort old with_item new
+StandsAfter (Err fails.NotAStore) old with_item new = ⊥
+StandsAfter (Err (fails.ClockBack last)) old with_item new = new ≡ old
+StandsAfter (Err fails.TooLate) old with_item new = new ≡ old
+StandsAfter (Err fails.TooManyOps) old with_item new = new ≡ old
+StandsAfter (Err fails.TooLong) old with_item new = new ≡ old
+StandsAfter (Err fails.StoreFull) old with_item new = new ≡ old
+StandsAfter (Err fails.Closed) old with_item new = new ≡ old
+
+-- ---- the disk
+
+-- The calls were made in order, and none after one that failed; after a refusal, none at all.
+abbrev pub MakesOf : {A : Type 0} → List Call → Result A StoreFail → State → State → Type 0
+MakesOf calls (Ok done) old new = MakesCalls calls (Ok tt) old new
+MakesOf calls (Err fails.DiskFault) old new = MakesCalls calls (Err Failed) old new
+MakesOf calls (Err fails.NoMemory) old new = MakesCalls calls (Ok tt) old new ⊎ MakesCalls calls (Err NoMemory) old new
+MakesOf calls (Err fails.NotAStore) old new = ⊥
+MakesOf calls (Err (fails.ClockBack last)) old new = Unchanged old new
+MakesOf calls (Err fails.TooLate) old new = Unchanged old new
+MakesOf calls (Err fails.TooManyOps) old new = Unchanged old new
+MakesOf calls (Err fails.TooLong) old new = Unchanged old new
+MakesOf calls (Err fails.StoreFull) old new = Unchanged old new
+MakesOf calls (Err fails.Closed) old new = Unchanged old new
+
+-- what storing an item does with the bytes of a store; stand and new_stand are the open store before and after
+pub record Adds {A : Type 0} (item : Item) (result : Result A StoreFail) (stand new_stand : Opened) (old new : State) (before after : List ℕ) : Type 0 where
+  pub added : OnOk result ((stored_items : List Item) → IsOpenOn stand stored_items before → IsOpenOn new_stand (stored_items ++ item ∷ []) after)
+  pub durable : OnOk result (Only after new)
+  pub images : (stored_items : List Item) → IsOpenOn stand stored_items before → Only before old → EveryImage old new (StoresOldOrNew stand.header stored_items item)
+  -- whatever was answered
+  pub kept : (stored_items : List Item) → IsOpenOn stand stored_items before → Only before old → StoresOldOrNew stand.header stored_items item after
+  pub trace : MakesOf (append_calls stand.at (spell_item item)) result old new
