@@ -63,7 +63,7 @@ in_tile size tile number n below inside =
 differing_altered : (h s : History) (n tile number : ℕ) → h.header ≡ s.header → tile < n → Contains (differing h s tile) number → HasAltered h s n tile
 differing_altered h s n tile number one inside is =
     let d = of_differing h s tile number is in
-    (number, d.0, digest_altered h s n (first_granule (layout h) tile + number) one (in_tile (tile_size (layout h) tile) tile number n d.0 inside) (not_same_digest h s (first_granule (layout h) tile + number) d.1))
+    (number, (d.0, digest_altered h s n (first_granule (layout h) tile + number) one (in_tile (tile_size (layout h) tile) tile number n d.0 inside) (not_same_digest h s (first_granule (layout h) tile + number) d.1)))
 
 pub failing_altered : FailingTileIsAltered
 unfolding digest
@@ -185,8 +185,7 @@ differs_in batches id h s n tile is inside e before =
       }))))
       | inr one ↦ (
         one.0,
-        one.1,
-        rows_altered h s n (first_granule (layout h) tile + one.0) is.header (in_tile (tile_size (layout h) tile) tile one.0 n one.1 inside) one.2,
+        (one.1, rows_altered h s n (first_granule (layout h) tile + one.0) is.header (in_tile (tile_size (layout h) tile) tile one.0 n one.1 inside) one.2),
       )
     ]
 

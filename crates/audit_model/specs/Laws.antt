@@ -7,12 +7,14 @@ use Rattle.notary_link.specs.declared.answer.Answer.{Answer}
 use Rattle.notary_link.specs.declared.answer.Answer.TheVariants.{Same, Differs, Absent}
 use Rattle.notary_link.specs.Batches.{Batch, compared}
 use Rattle.history_model.specs.History.{History}
+use Rattle.history_model.specs.Stored.{stored}
 use Rattle.digest_model.specs.Layout.{layout, exponent, first_granule, end_granule, tile_size, whole, has_tile_chains, has_tree}
 use Rattle.digest_model.specs.Roots.{roots_of}
 use Rattle.digest_model.specs.Laws.{HasSpelling, SameBelow}
 use Rattle.audit_model.specs.Names.{planned, digest}
 use Rattle.audit_model.specs.Notary.{NotaryOf, answers}
-use Rattle.audit_model.specs.Altered.{HasOtherHeader, IsAltered, HashClash}
+use Rattle.audit_model.specs.Altered.{history_in, HasOtherHeader, IsAltered, HashClash}
+use Rattle.audit_model.specs.Sound.{HoldsNotarized}
 use Rattle.audit_model.specs.Mono.{BeginsRegion, IsFirstBad, IsStep}
 use Rattle.audit_model.specs.Tree.{IsFound, IsConsistent, found, checks, digit_count}
 use Rattle.audit_model.specs.Tiled.{IsCandidate, IsCandidateAmong, IsTarget, candidates_of, exactly_of}
@@ -60,11 +62,13 @@ OthersAreAbsent = (batches : List Batch) (id : ℕ) (h s : History) (n : ℕ) (n
 
 -- There is a batch for the header, and one for each sealed tile.
 abbrev pub BatchesAreCounted : Type 0
-BatchesAreCounted = (batches : List Batch) (id : ℕ) (h : History) (n : ℕ) → NotaryOf batches id h n → length batches ≡ n + 1
+BatchesAreCounted = (batches : List Batch) (id : ℕ) (h : History) (n : ℕ) → NotaryOf batches id h n
+    → length batches ≡ n + 1
 
 -- Under another header, or none, every sealed granule is altered.
 abbrev pub OtherHeaderIsAltered : Type 0
-OtherHeaderIsAltered = (h : History) (s : Option History) (n g : ℕ) → HasOtherHeader h s → g < first_granule (layout h) n → IsAltered h s n g
+OtherHeaderIsAltered = (h : History) (s : Option History) (n g : ℕ) → HasOtherHeader h s → g < first_granule (layout h) n
+    → IsAltered h s n g
 
 -- Where the chain is the same at the end of a tile, nothing is altered up to there.
 abbrev pub SameChainIsClean : Type 0
@@ -86,8 +90,8 @@ RegionHasAltered = (batches : List Batch) (id : ℕ) (h s : History) (n : ℕ) (
 
 -- An altered granule is a candidate of its tile.
 abbrev pub CandidatesHaveAltered : Type 0
-CandidatesHaveAltered = (batches : List Batch) (id : ℕ) (h s : History) (n tile number : ℕ) → IsAudit batches id h s n → has_tile_chains (layout h) tile ≡ true
-    → tile < n → number < tile_size (layout h) tile
+CandidatesHaveAltered = (batches : List Batch) (id : ℕ) (h s : History) (n tile number : ℕ) → IsAudit batches id h s n
+    → has_tile_chains (layout h) tile ≡ true → tile < n → number < tile_size (layout h) tile
     → IsAltered h (Some s) n (first_granule (layout h) tile + number)
     → IsCandidate (exponent (layout h) tile) (λ part. answers batches s (Tile tile part)) number ⊎ HashClash h (Some s) n
 
@@ -113,9 +117,14 @@ HeaderIsShown = (batches : List Batch) (id : ℕ) (h s : History) (n : ℕ) → 
     → answers batches s Header ≡ Same
     → (h.header ≡ s.header) ⊎ HashClash h (Some s) n
 
+-- the granule of this number within a tile is altered
+abbrev pub IsAlteredIn : History → History → ℕ → ℕ → ℕ → Type 0
+IsAlteredIn h s n tile number =
+    (number < tile_size (layout h) tile) × IsAltered h (Some s) n (first_granule (layout h) tile + number)
+
 -- some granule of a tile is altered
 abbrev pub HasAltered : History → History → ℕ → ℕ → Type 0
-HasAltered h s n tile = (number : ℕ) × (number < tile_size (layout h) tile) × IsAltered h (Some s) n (first_granule (layout h) tile + number)
+HasAltered h s n tile = (number : ℕ) × IsAlteredIn h s n tile number
 
 -- Where the chain differs at the end of a tile, some granule up to there is altered, without exception.
 abbrev pub ChangedChainHasAltered : Type 0
@@ -131,7 +140,8 @@ RegionBeginsAltered = (batches : List Batch) (id : ℕ) (h s : History) (n tile 
 
 -- A tile that differs has an altered granule, without exception.
 abbrev pub FailingTileIsAltered : Type 0
-FailingTileIsAltered = (batches : List Batch) (id : ℕ) (h s : History) (n tile : ℕ) → IsAudit batches id h s n → has_tile_chains (layout h) tile ≡ true → tile < n
+FailingTileIsAltered = (batches : List Batch) (id : ℕ) (h s : History) (n tile : ℕ) → IsAudit batches id h s n
+    → has_tile_chains (layout h) tile ≡ true → tile < n
     → answers batches s (Tile tile whole) ≡ Differs
     → HasAltered h s n tile
 
@@ -142,17 +152,18 @@ TreeIsConsistent = (batches : List Batch) (id : ℕ) (h s : History) (n : ℕ) �
 
 -- Where the answers are the same up to a tile and differ from there on, the region begins there and nowhere else.
 abbrev pub StepIsRegion : Type 0
-StepIsRegion = (cums : ℕ → Answer) (n p : ℕ) (region : Option ℕ) → IsStep cums n p → BeginsRegion cums n region ↔ (region ≡ Some p)
+StepIsRegion = (cums : ℕ → Answer) (n p : ℕ) (region : Option ℕ) → IsStep cums n p
+    → BeginsRegion cums n region ↔ (region ≡ Some p)
 
 -- the numbers of the altered granules of a tile, ascending
 pub record IsAlteredSet (h s : History) (n tile : ℕ) (numbers : List ℕ) : Type 0 where
   pub set : IsStrictlyIncreasing numbers
-  pub members : (number : ℕ) → Contains numbers number ↔ ((number < tile_size (layout h) tile) × IsAltered h (Some s) n (first_granule (layout h) tile + number))
+  pub members : (number : ℕ) → Contains numbers number ↔ IsAlteredIn h s n tile number
 
 -- Where kappa granules of a tile are altered, they are candidates among sets of kappa members.
 abbrev pub CandidatesAmongHaveAltered : Type 0
-CandidatesAmongHaveAltered = (batches : List Batch) (id : ℕ) (h s : History) (n tile number : ℕ) (numbers : List ℕ) → IsAudit batches id h s n → has_tile_chains (layout h) tile ≡ true
-    → tile < n → IsAlteredSet h s n tile numbers → Contains numbers number
+CandidatesAmongHaveAltered = (batches : List Batch) (id : ℕ) (h s : History) (n tile number : ℕ) (numbers : List ℕ) → IsAudit batches id h s n
+    → has_tile_chains (layout h) tile ≡ true → tile < n → IsAlteredSet h s n tile numbers → Contains numbers number
     → IsCandidateAmong (length numbers) (exponent (layout h) tile) (λ part. answers batches s (Tile tile part)) number ⊎ HashClash h (Some s) n
 
 -- The leaves that are found ascend.
@@ -164,3 +175,15 @@ abbrev pub NotarizedIsSame : Type 0
 NotarizedIsSame = (batches : List Batch) (id : ℕ) (s : History) (n : ℕ) (name : Name) → NotaryOf batches id s n
     → Contains (planned (layout s) n) name
     → answers batches s name ≡ Same
+
+-- bytes hold a history under the id, for which each planned name is answered Same
+pub record IsAnsweredSame (batches : List Batch) (id n : ℕ) (bytes : List ℕ) : Type 0 where
+  pub history : History
+  pub is_stored : history_in (stored bytes) ≡ Some history
+  pub header : history.header.id ≡ id
+  pub same : (name : Name) → Contains (planned (layout history) n) name → answers batches history name ≡ Same
+
+-- Bytes that hold what is filed, as each image of a sound store, are answered the same for each planned name.
+abbrev pub HeldIsSame : Type 0
+HeldIsSame = (batches : List Batch) (id n : ℕ) (bytes : List ℕ) → HoldsNotarized batches id n (history_in (stored bytes))
+    → IsAnsweredSame batches id n bytes

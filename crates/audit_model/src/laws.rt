@@ -1,7 +1,7 @@
 //! What the answers of a notary show, each law the contract of a function that does nothing.
 
 ghost use Rattle.audit_model.specs.Examples.{WorkedExamples};
-ghost use Rattle.audit_model.specs.Laws.{CandidatesAreExact, CandidatesAmongAreExact, FoundAreExact, ChecksAreFew, AnswersCompare, OthersAreAbsent, BatchesAreCounted, OtherHeaderIsAltered, SameChainIsClean, RegionHasAltered, CandidatesHaveAltered, DescentHasAltered, DescentIsAltered, HeaderIsShown, RegionBeginsAltered, FailingTileIsAltered, ChangedChainHasAltered, TreeIsConsistent, StepIsRegion, CandidatesAmongHaveAltered, FoundAscend, NotarizedIsSame};
+ghost use Rattle.audit_model.specs.Laws.{CandidatesAreExact, CandidatesAmongAreExact, FoundAreExact, ChecksAreFew, AnswersCompare, OthersAreAbsent, BatchesAreCounted, OtherHeaderIsAltered, SameChainIsClean, RegionHasAltered, CandidatesHaveAltered, DescentHasAltered, DescentIsAltered, HeaderIsShown, RegionBeginsAltered, FailingTileIsAltered, ChangedChainHasAltered, TreeIsConsistent, StepIsRegion, CandidatesAmongHaveAltered, FoundAscend, NotarizedIsSame, HeldIsSame};
 
 /// The candidates of a tile are the numbers that have every bit of the target.
 pub fn candidates_are_exact()
@@ -116,4 +116,9 @@ pub fn found_ascend()
 /// A notarized history is answered the same for each planned name.
 pub fn notarized_is_same()
     ensures { NotarizedIsSame }
+{}
+
+/// Bytes that hold what is filed, as each image of a sound store, are answered the same for each planned name.
+pub fn held_is_same()
+    ensures { HeldIsSame }
 {}

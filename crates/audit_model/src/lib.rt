@@ -34,7 +34,7 @@
 //!
 //! | Law | Clause |
 //! |---|---|
-//! | a planned name is answered by comparing the two digests, every other name is absent, h itself is the same throughout; there are n + 1 batches | `answers_compare`, `others_are_absent`, `notarized_is_same`, `batches_are_counted` |
+//! | a planned name is answered by comparing the two digests, every other name is absent, h itself is the same throughout; there are n + 1 batches; so each image of a sound store is answered the same | `answers_compare`, `others_are_absent`, `notarized_is_same`, `batches_are_counted`, `held_is_same` |
 //! | the header's answer is Same: the headers are equal, or a clash; under another header every sealed granule is altered | `header_is_shown`, `other_header_is_altered` |
 //! | the chain is the same at a tile's end: nothing is altered up to there, or a clash; it differs: some granule up to there is altered | `same_chain_is_clean`, `changed_chain_has_altered` |
 //! | the region has every altered granule and begins at an altered tile, or a clash; where the answers change once, it begins there | `region_has_altered`, `region_begins_altered`, `step_is_region` |
@@ -56,7 +56,7 @@ pub use laws::{
     answers_compare, batches_are_counted, candidates_among_are_exact,
     candidates_among_have_altered, candidates_are_exact, candidates_have_altered,
     changed_chain_has_altered, checks_are_few, descent_has_altered, descent_is_altered,
-    failing_tile_is_altered, found_are_exact, found_ascend, header_is_shown, notarized_is_same,
-    other_header_is_altered, others_are_absent, region_begins_altered, region_has_altered,
-    same_chain_is_clean, step_is_region, tree_is_consistent, worked_examples,
+    failing_tile_is_altered, found_are_exact, found_ascend, header_is_shown, held_is_same,
+    notarized_is_same, other_header_is_altered, others_are_absent, region_begins_altered,
+    region_has_altered, same_chain_is_clean, step_is_region, tree_is_consistent, worked_examples,
 };

@@ -1,7 +1,7 @@
 -- One batch more of several, or one that was not filed.
-use Rattle.std.proofs.Common.{◌≡◌, ◌⊎◌, inl, inr, ℕ, zero, suc, ◌+◌, ◌<◌, ◌≤◌, false, List, [], ◌∷◌, ◌++◌, length, take, drop, map, get_or, Option, Some, Ok, Err, refl, sym, ap, subst, ◌∙◌, arith, append_assoc}
+use Rattle.std.proofs.Common.{◌≡◌, ℕ, ◌+◌, ◌<◌, ◌≤◌, List, [], ◌∷◌, ◌++◌, length, take, drop, get_or, Option, Some, Ok, Err, refl, sym, ap, subst, ◌∙◌, arith, append_assoc}
 use Rattle.std.specs.List.{slice_get}
-use Rattle.std.specs.Option.{is_some, option_map}
+use Rattle.std.specs.Option.{option_map}
 use Rattle.std.proofs.lemmas.List.{append-nil, take_more, take_all, take-append-drop, length-map, get_or-map, length-take}
 use Rattle.std.proofs.lemmas.Option.{slice_get-map, slice_get_read}
 use Rattle.outside_words.specs.Told.{WhereTold}
@@ -10,7 +10,7 @@ use Rattle.notary_link.specs.declared.fail.NotaryFail.{NotaryFail}
 use Rattle.notary_link.specs.declared.notary.NotaryLimits.{NotaryLimits}
 use Rattle.notary_link.specs.declared.seal.Seal.{Seal}
 use Rattle.notary_link.specs.Batches.{Batch}
-use Rattle.notary_link.specs.Filing.{planned, filings, FilesAll, StopsFiling, FilesEach}
+use Rattle.notary_link.specs.Filing.{planned, filings, FilesAll, FilesEach}
 use Rattle.notary_link.specs.Notary.{Call, file, Lists, State, batch_of, Files, Changes, Answers, GoesOn}
 use Rattle.notary_link.specs.Runs.{MakesCalls}
 use Rattle.notary_link.proofs.Runs.{made_one, made_then, made_less}

@@ -1,6 +1,6 @@
 -- First digests, as the map that holds them is written.
 use Rattle.std.proofs.Common.{◌≡◌, ◌⊎◌, inl, inr, ◌<◌, ◌≤◌, ◌+◌, length, take, get_or, arith, Bool, true, false, cond, List, ℕ, [], ◌∷◌, ◌++◌, Option, None, Some, refl, sym, ap, subst, ◌∙◌}
-use Rattle.std.specs.BTreeMap.{BTreeMap, get, is_at, Updates, UpdatesBy}
+use Rattle.std.specs.BTreeMap.{BTreeMap, get, Updates, UpdatesBy}
 use Rattle.std.specs.List.{find}
 use Rattle.std.specs.Option.{is_some, option_flatten, option_map, option_or}
 use Rattle.std.proofs.lemmas.Bool.{cases_lt}

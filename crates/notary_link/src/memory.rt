@@ -5,7 +5,7 @@ ghost use Rattle.outside_words.specs.Faults.{Rose};
 ghost use Rattle.notary_link.specs.Batches.{compared};
 ghost use Rattle.notary_link.specs.Calls.{trace_of, lists_of};
 ghost use Rattle.notary_link.specs.Notary.{seals_in_all, marks_in_all};
-ghost use Rattle.notary_link.specs.Shelves.{shelf_of, StandsFor};
+ghost use Rattle.notary_link.specs.Shelves.{StandForLists};
 
 use crate::answer::Answer;
 use crate::calls::{Change, Filed, Made, enter};
@@ -37,7 +37,7 @@ pub struct MemNotary {
     failing_changes: Vec<u64>,
     asked: u64,
     faults: u64,
-    ghost stands: { (id : ℕ) → StandsFor ((lists_of made.items).batches id) ((lists_of made.items).marks id) (shelf_of shelves id) },
+    ghost stands: { StandForLists (lists_of made.items) shelves },
     ghost seals_are: { seals ≡ seals_in_all (lists_of made.items) },
     ghost marks_are: { marks ≡ marks_in_all (lists_of made.items) },
     ghost few: { (id : ℕ) → length ((lists_of made.items).batches id) ≤ seals },

@@ -1,10 +1,14 @@
 //! What no clause says: that calls succeed, and the worked refusals.
 
+ghost use Rattle.std.specs.Prelude.{◌≡◌, IfOk};
+ghost use Rattle.notary_link.specs.Batches.{IsBatch};
+ghost use Rattle.notary_link.specs.declared.name.Name.TheVariants.{Cum};
+
 use crate::{
     Answer, Mark, MemNotary, Name, Notary, NotaryFail, NotaryLimits, Outcome, Seal, Seals, Untold,
     file_each,
 };
-use std::alloc::Global;
+use std::alloc::{AllocError, Global};
 use std::test::Fail;
 
 const CLEAN: Mark = Mark {
@@ -13,11 +17,21 @@ const CLEAN: Mark = Mark {
     outcome: Outcome::Clean,
 };
 
-fn cum(tile: u32, byte: u8) -> Seal {
+fn cum(tile: u32, byte: u8) -> Seal
+    ensures { result.name ≡ Cum tile }
+{
     Seal {
         name: Name::Cum { tile },
         digest: [byte; 32],
     }
+}
+
+fn one(alloc: Global, tile: u32) -> Result<Seals, AllocError>
+    ensures { IfOk result IsBatch }
+{
+    let mut seals = Seals::new(alloc);
+    seals.push(cum(tile, 1))?;
+    Ok(seals)
 }
 
 fn small(alloc: Global) -> MemNotary {
@@ -92,12 +106,7 @@ fn the_listed_calls_fail_and_no_other(rt: HostRuntime) -> Result<(), Fail> {
 #[test]
 fn no_batch_is_filed_behind_one_that_failed(rt: HostRuntime) -> Result<(), Fail> {
     let alloc = rt.alloc();
-    let mut batches = Vec::new(alloc);
-    for tile in 0..3u32 {
-        let mut seals = Seals::new(alloc);
-        seals.push(cum(tile, 1))?;
-        batches.push(seals)?;
-    }
+    let batches = [one(alloc, 0)?, one(alloc, 1)?, one(alloc, 2)?];
     for (stop, filed) in [(1, 0), (3, 2), (4, 3)] {
         let mut notary = small(alloc);
         notary.failing(Vec::new(alloc), [stop].to_vec(alloc)?);

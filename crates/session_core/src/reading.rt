@@ -51,18 +51,19 @@ fn scan(
 ) -> Result<Reply, AllocError>
     ensures value { IfOk result (λ reply. reply ≡ scanned (scan_of (shown_at store.now moment) table.now (option_copied filter.entry))) }
 {
-    match scan_at(alloc, store.tables(), table, filter, moment_of(store, moment)) {
+    match scan_at(
+        alloc,
+        store.tables(),
+        table,
+        filter,
+        moment_of(store, moment),
+    ) {
         Ok(rows) => Ok(Reply::Scanned { rows }),
         Err(fail) => refused_by_tables(fail),
     }
 }
 
-fn history(
-    alloc: Global,
-    store: &Store,
-    table: &Word,
-    key: &Value,
-) -> Result<Reply, AllocError>
+fn history(alloc: Global, store: &Store, table: &Word, key: &Value) -> Result<Reply, AllocError>
     ensures value { IfOk result (λ reply. reply ≡ told (history_in key.now (table_in store.now.tables table.now))) }
     ensures in_order { AreTables store.now.tables }
 {

@@ -45,9 +45,11 @@ impl Contents {
         requires follows { MayFollow self.old item.now }
         requires room { self.old.count + 1 < 2 ^ 32 }
         ensures ok { OnOk result (self.new ≡ after_item self.old item.now) }
-        ensures err { OnErr result ((tables : TablesVersions) × (self.new ≡ with_tables tables (after_item self.old item.now))) }
+        ensures err { OnErr result ((tables : TablesVersions)
+            × (self.new ≡ with_tables tables (after_item self.old item.now))) }
         ensures in_time { IsInTime self.old → IsInTime self.new }
-        ensures tells { OnOk result ((items : List AnItem) → Tells self.old items → Tells self.new (items ++ item.now ∷ [])) }
+        ensures tells { OnOk result ((items : List AnItem)
+            → Tells self.old items → Tells self.new (items ++ item.now ∷ [])) }
     {
         match item {
             Item::Txn(txn) => {

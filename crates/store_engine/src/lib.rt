@@ -53,3 +53,5 @@ mod store;
 pub use fail::StoreFail;
 pub use store::Store;
 
+#[cfg(test)]
+mod tests;

@@ -104,11 +104,15 @@ impl Store {
         requires some { 0 < length ops.now }
         requires counted { All IsCountedOp ops.now }
         ensures number { IfOk result (λ n. n ≡ self.old.count + 1) }
-        ensures refused { IsRefusedBy (commit_fault (tail_of self.old) self.old.at.is_closed ops.now now) result }
-        ensures stands { StandsAfter result self.old (with_txn self.old (next_txn (tail_of self.old) ops.now now)) self.new }
-        ensures same { IsSome (commit_fault (tail_of self.old) self.old.at.is_closed ops.now now) → Unchanged (D.state disk.old) (D.state disk.new) }
+        ensures refused { IsRefusedBy
+            (commit_fault (tail_of self.old) self.old.at.is_closed ops.now now) result }
+        ensures stands { StandsAfter result self.old
+            (with_txn self.old (next_txn (tail_of self.old) ops.now now)) self.new }
+        ensures same { IsSome (commit_fault (tail_of self.old) self.old.at.is_closed ops.now now)
+            → Unchanged (D.state disk.old) (D.state disk.new) }
         ensures told { WhereTold (D.state disk.old).reads (D.state disk.new).reads
-            (Adds (items.Txn (next_txn (tail_of self.old) ops.now now)) result self.old self.new (D.state disk.old) (D.state disk.new)) }
+            (Adds (items.Txn (next_txn (tail_of self.old) ops.now now)) result
+            self.old self.new (D.state disk.old) (D.state disk.new)) }
         ensures frame { GoesOn (D.state disk.old) (D.state disk.new) }
         ensures cause { HasCause DiskFault (D.state disk.old).faults (D.state disk.new).faults result }
     {
@@ -146,12 +150,14 @@ impl Store {
         disk: &mut D,
         moment: u64,
     ) -> Result<(), StoreFail>
-        ensures refused { IsRefusedBy (frontier_fault (tail_of self.old) self.old.at.is_closed moment) result }
+        ensures refused { IsRefusedBy
+            (frontier_fault (tail_of self.old) self.old.at.is_closed moment) result }
         ensures stands { StandsAfter result self.old (frontier_at self.old moment) self.new }
         ensures done { moment ≤ self.old.last → IsOk result }
         ensures same { moment ≤ self.old.last → Unchanged (D.state disk.old) (D.state disk.new) }
         ensures told { self.old.last < moment → WhereTold (D.state disk.old).reads (D.state disk.new).reads
-            (Adds (items.Frontier moment) result self.old self.new (D.state disk.old) (D.state disk.new)) }
+            (Adds (items.Frontier moment) result self.old self.new
+            (D.state disk.old) (D.state disk.new)) }
         ensures frame { GoesOn (D.state disk.old) (D.state disk.new) }
         ensures cause { HasCause DiskFault (D.state disk.old).faults (D.state disk.new).faults result }
     {
@@ -163,7 +169,8 @@ impl Store {
 
     /// The moment of these clock seconds, where that isn't before the last one.
     fn moment_at(&self, now: u64) -> Option<u64>
-        ensures value { MatchOption result (is_back (tail_of self.now) now ≡ true) (IsNextMoment (tail_of self.now) now) }
+        ensures value { MatchOption result (is_back (tail_of self.now) now ≡ true)
+            (IsNextMoment (tail_of self.now) now) }
     {
         let moment = now.checked_sub(self.header.epoch)?;
         if moment < self.contents.last {
@@ -182,9 +189,11 @@ impl Store {
         requires counted { IsCounted item.now }
         requires few_ops { op_count_of item.now ≤ max_ops }
         requires follows { self.old.last ≤ moment_in item.now }
-        ensures refused { IsRefusedBy (item_fault (tail_of self.old) self.old.at.is_closed item.now) result }
+        ensures refused { IsRefusedBy
+            (item_fault (tail_of self.old) self.old.at.is_closed item.now) result }
         ensures stands { StandsAfter result self.old (with_item self.old item.now) self.new }
-        ensures same { IsSome (item_fault (tail_of self.old) self.old.at.is_closed item.now) → Unchanged (D.state disk.old) (D.state disk.new) }
+        ensures same { IsSome (item_fault (tail_of self.old) self.old.at.is_closed item.now)
+            → Unchanged (D.state disk.old) (D.state disk.new) }
         ensures told { WhereTold (D.state disk.old).reads (D.state disk.new).reads
             (Adds item.now result self.old self.new (D.state disk.old) (D.state disk.new)) }
         ensures frame { GoesOn (D.state disk.old) (D.state disk.new) }
@@ -211,9 +220,11 @@ impl Store {
         requires spelled { Spells item.now payload.now }
         requires short { length payload.now ≤ max_payload }
         requires follows { self.old.last ≤ moment_in item.now }
-        ensures refused { IsRefusedBy (item_fault (tail_of self.old) self.old.at.is_closed item.now) result }
+        ensures refused { IsRefusedBy
+            (item_fault (tail_of self.old) self.old.at.is_closed item.now) result }
         ensures stands { StandsAfter result self.old (with_item self.old item.now) self.new }
-        ensures same { IsSome (item_fault (tail_of self.old) self.old.at.is_closed item.now) → Unchanged (D.state disk.old) (D.state disk.new) }
+        ensures same { IsSome (item_fault (tail_of self.old) self.old.at.is_closed item.now)
+            → Unchanged (D.state disk.old) (D.state disk.new) }
         ensures told { WhereTold (D.state disk.old).reads (D.state disk.new).reads
             (Adds item.now result self.old self.new (D.state disk.old) (D.state disk.new)) }
         ensures frame { GoesOn (D.state disk.old) (D.state disk.new) }
@@ -278,7 +289,8 @@ impl Store {
     /// How many changing calls the append of a Frontier makes that is carried out.
     pub fn frontier_calls(&self) -> u8
         ensures value { result ≡ (if self.now.at.gate_is_open then 6 else 4) }
-        ensures spelled { (moment : ℕ) → result ≡ length (append_calls self.now.at (spell_frontier moment)) }
+        ensures spelled { (moment : ℕ)
+            → result ≡ length (append_calls self.now.at (spell_frontier moment)) }
     {
         self.journal.calls()
     }

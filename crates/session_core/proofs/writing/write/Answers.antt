@@ -46,7 +46,7 @@ returns-clause-told g c =
     let is : prepared (state_now store.tables) c.args.change ≡ Ok op = answered_by c.args.change (Ok op) _ _ store.tables c.in-Ok.ensures.value c.new-pending.ensures.value c.tables.ensures.value in
     let one : c.push.new.self ≡ op ∷ [] = c.in_ok-push.ensures.ok ∙ ap (λ (l : List Op). l ++ op ∷ []) c.new-ops.ensures.value in
     told_map (S c.args.disk.now).reads (S c.commit.new.disk).reads
-        (DoesAs (λ w. commit w c.push.new.self c.args.now) c.commit.result store c.commit.new.store (S c.args.disk.now) (S c.commit.new.disk))
-        (DoesAs (λ w. write w c.args.change c.args.now) c.commit.result store c.commit.new.store (S c.args.disk.now) (S c.commit.new.disk))
-        c.commit.ensures.told
-        (λ b a does w i. subst (λ (next : Step). StepsIn w next c.commit.result store c.commit.new.store (S c.args.disk.now) (S c.commit.new.disk) b a) (ap (λ (ops : List Op). commit w ops c.args.now) one ∙ becomes store c.tables.ensures.last c.args.change c.args.now op is w b i) (does w i))
+    (DoesAs (λ w. commit w c.push.new.self c.args.now) c.commit.result store c.commit.new.store (S c.args.disk.now) (S c.commit.new.disk))
+    (DoesAs (λ w. write w c.args.change c.args.now) c.commit.result store c.commit.new.store (S c.args.disk.now) (S c.commit.new.disk))
+    c.commit.ensures.told
+    (λ b a does w i. subst (λ (next : Step). StepsIn w next c.commit.result store c.commit.new.store (S c.args.disk.now) (S c.commit.new.disk) b a) (ap (λ (ops : List Op). commit w ops c.args.now) one ∙ becomes store c.tables.ensures.last c.args.change c.args.now op is w b i) (does w i))

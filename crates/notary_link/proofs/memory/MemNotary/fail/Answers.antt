@@ -1,9 +1,8 @@
-use Rattle.std.proofs.Common.{Err, sym, subst, arith, List}
-use Rattle.notary_link.specs.declared.calls.Made.{Made}
+use Rattle.std.proofs.Common.{Err, sym, arith}
 use Rattle.notary_link.specs.declared.fail.NotaryFail.TheVariants.{Failed}
 use Rattle.notary_link.specs.Calls.{lists_of}
 use Rattle.notary_link.proofs.Counted.{kept, same_seals, same_marks, same_few}
-use Rattle.notary_link.proofs.Entered.{once_reserved, failed, quiet, one_on}
+use Rattle.notary_link.proofs.Entered.{once_reserved, quiet, one_on}
 use Rattle.notary_link.proofs.Standing.{kept_stands}
 use Rattle.notary_link.proofs.memory.MemNotary.fail.Goals as goal
 
