@@ -1,4 +1,4 @@
 pub mod Lines
-mod Splits
+pub mod Splits
 mod Cuts
 mod Going
