@@ -49,7 +49,7 @@ clock_then old mid new first next = record { told = next.told ∙ first.told }
 pub clock_same : (s : clocks.State) → clocks.GoesOn s s
 clock_same s = record { told = refl }
 
-told_both : {A : Type 0} → (o n : Option A) (P Q : A → A → Type 0) → WhereTold o n P → WhereTold o n Q → WhereTold o n (λ b a. P b a × Q b a)
+pub told_both : {A : Type 0} → (o n : Option A) (P Q : A → A → Type 0) → WhereTold o n P → WhereTold o n Q → WhereTold o n (λ b a. P b a × Q b a)
 told_both (Some b) (Some a) P Q p q = (p, q)
 told_both (Some b) None P Q p q = tt
 told_both None n P Q p q = tt
@@ -63,7 +63,7 @@ pub record IsGoing (first runner : Runner) (old now : disks.State) (clock ahead 
   pub read : WhereTold input.rest left.rest (IsRead (lines_in done) reader)
   pub takes : Takes first.is_scripted done clock ahead
   pub scripted : runner.is_scripted ≡ first.is_scripted
-  pub open : runner.store.at.is_closed ≡ false
+  pub stays_open : runner.store.at.is_closed ≡ false
   pub told : WhereTold old.reads now.reads (λ before after. (w : World) → IsAt (start w) first before → Stands first.is_scripted w done runner old now before after × Written (carried first.is_scripted (start w) done).text)
   pub disk_frame : disks.GoesOn old now
   pub clock_frame : clocks.GoesOn clock ahead
@@ -77,13 +77,13 @@ pub record IsCarrying (first runner : Runner) (old now : disks.State) (clock ahe
 pub begins : (runner : Runner) (s : disks.State) (clock : clocks.State) (input : sources.State) (reader : Reading) (out : sinks.State)
     → ((c : List ℕ) → s.was_image (disks.turn s) c → s.is_image c) → reader ≡ record { line = []; pending = []; taken = 0 } → runner.store.at.is_closed ≡ false
     → IsGoing runner runner s s clock clock input input reader (λ text. sinks.IsOut text out out)
-begins runner s clock input reader out only_now fresh open = record {
+begins runner s clock input reader out only_now fresh is_open = record {
   done = [];
   within = omega (arith, ap (λ (r : Reading). r.taken) fresh);
   read = told_same input.rest input.rest _ refl (λ all. read_none reader all (ap (λ (r : Reading). r.pending) fresh) (ap (λ (r : Reading). r.taken) fresh));
   takes = takes_none runner.is_scripted clock;
   scripted = refl;
-  open = open;
+  stays_open = is_open;
   told = told_same s.reads s.reads _ refl (λ bytes w at. (stands_first runner.is_scripted w runner s bytes only_now at, nothing_out out out refl));
   disk_frame = disk_frames.goes_on_same s;
   clock_frame = clock_same clock;
@@ -107,13 +107,13 @@ pub goes_on : (first runner later : Runner) (old mid new : disks.State) (clock t
     → Replies next.line (Ok text) runner later mid new tick tock → later.store.at.is_closed ≡ false → later.is_scripted ≡ runner.is_scripted → disks.GoesOn mid new → clocks.GoesOn tick tock
     → ((xs : List ℕ) → Written xs → After (xs ++ text))
     → IsGoing first later old new clock tock input rest next After
-goes_on first runner later old mid new clock tick tock input left rest reader next text Written After g tells clear takes input_on replies open scripted disk_on clock_on writes = record {
+goes_on first runner later old mid new clock tick tock input left rest reader next text Written After g tells clear takes input_on replies is_open scripted disk_on clock_on writes = record {
   done = g.done ++ replies.timed ∷ [];
   within = takes.within;
   read = subst (λ (ls : List (List ℕ)). WhereTold input.rest rest.rest (IsRead ls next)) (sym (lines_more g.done replies.timed next.line replies.line_is)) (read_on g.done reader next input left rest g.input_frame.told g.read tells clear takes);
   takes = takes_then first.is_scripted g.done (replies.timed ∷ []) clock tick tock g.clock_frame.told g.takes (subst (λ (s : Bool). Takes s (replies.timed ∷ []) tick tock) g.scripted replies.seconds);
   scripted = scripted ∙ g.scripted;
-  open = open;
+  stays_open = is_open;
   told = told_then old.reads mid.reads new.reads _ _ _ g.disk_frame.told g.told replies.told (λ before here after so_far goes w at.
       let s = so_far w at in
       let r : Running = carried first.is_scripted (start w) g.done in
@@ -137,7 +137,7 @@ goes_no_further first runner old now clock ahead input left rest reader next Wri
       (λ all others left so_far n. read_same (lines_in g.done) reader next all others left so_far n.0 n.1 takes.within);
   takes = g.takes;
   scripted = g.scripted;
-  open = g.open;
+  stays_open = g.stays_open;
   told = g.told;
   disk_frame = g.disk_frame;
   clock_frame = g.clock_frame;
@@ -164,16 +164,16 @@ over_between scripted w done result runner old now before after out later s writ
   written = written;
 }
 
-pub between : (first runner : Runner) (old now : disks.State) (clock ahead : clocks.State) (input left : sources.State) (reader : Reading) (out later : sinks.State) (Written : List ℕ → Type 0) (result : Result (Unit {0}) RunFail)
-    → IsGoing first runner old now clock ahead input left reader Written
-    → ((done : List (List ℕ)) (all others : List ℕ) → IsRead done reader all others → Ends done (ending result) all others)
+between_with : (first runner : Runner) (old now : disks.State) (clock ahead : clocks.State) (input left : sources.State) (reader : Reading) (out later : sinks.State) (Written : List ℕ → Type 0) (result : Result (Unit {0}) RunFail)
+    → (g : IsGoing first runner old now clock ahead input left reader Written)
+    → WhereTold input.rest left.rest (Ends (lines_in g.done) (ending result))
     → ((text : List ℕ) → Written text → IsWritten text result out later)
     → Carries result first runner old now clock ahead input left out later
-between first runner old now clock ahead input left reader out later Written result g ends writes = record {
+between_with first runner old now clock ahead input left reader out later Written result g lines writes = record {
   done = g.done;
   next = nothing;
   first = told_map input.rest left.rest _ _ g.read (λ all others r. first_of (lines_in g.done) reader all others r);
-  lines = told_map input.rest left.rest _ _ g.read (λ all others r. ends (lines_in g.done) all others r);
+  lines = lines;
   next_is = told_map input.rest left.rest _ _ g.read (λ all others r. inl refl);
   taken = told_map input.rest left.rest _ _ g.read (λ all others r. takes_front (lines_in g.done) reader all others r);
   seconds = takes_then first.is_scripted g.done (nothing ∷ []) clock ahead ahead g.clock_frame.told g.takes (takes_blank first.is_scripted nothing ahead ahead blank_nothing refl);
@@ -181,14 +181,33 @@ between first runner old now clock ahead input left reader out later Written res
       over_between first.is_scripted w g.done result runner old now before after out later s.0 (writes (carried first.is_scripted (start w) g.done).text s.1));
 }
 
+pub between : (first runner : Runner) (old now : disks.State) (clock ahead : clocks.State) (input left : sources.State) (reader : Reading) (out later : sinks.State) (Written : List ℕ → Type 0) (result : Result (Unit {0}) RunFail)
+    → IsGoing first runner old now clock ahead input left reader Written
+    → ((done : List (List ℕ)) (all others : List ℕ) → IsRead done reader all others → Ends done (ending result) all others)
+    → ((text : List ℕ) → Written text → IsWritten text result out later)
+    → Carries result first runner old now clock ahead input left out later
+between first runner old now clock ahead input left reader out later Written result g ends writes =
+    between_with first runner old now clock ahead input left reader out later Written result g (told_map input.rest left.rest _ _ g.read (λ all others r. ends (lines_in g.done) all others r)) writes
+
 -- the input ended
-pub at_end : (reader : Reading) (before after : List ℕ) → IsAtEnd reader before after → after ≡ before
-at_end reader before after h = h.end ∙ sym h.none
+pub at_end : {reader : Reading} (before after : List ℕ) → IsAtEnd reader before after → after ≡ before
+at_end before after h = h.end ∙ sym h.none
 
 pub ends_all : (reader : Reading) (left : List ℕ) (done : List (List ℕ)) (all : List ℕ) → IsRead done reader all left → reader.pending ++ left ≡ [] → reader.taken < input_limit → Ends done statuses.Ok all left
 ends_all reader left done all r none below =
     let h = all_read done reader all left r none in
     (h.0, h.1, omega (arith, r.count, ap length h.1, below))
+
+pub ended : (first runner : Runner) (old now : disks.State) (clock ahead : clocks.State) (input left rest : sources.State) (reader next : Reading) (out later : sinks.State)
+    → IsGoing first runner old now clock ahead input left reader (λ text. sinks.IsOut text out later)
+    → Tells (Ok false) reader next left rest → readers.Takes reader next left rest → sources.GoesOn left rest → next.taken < input_limit
+    → Carries (Ok tt) first runner old now clock ahead input rest out later
+ended first runner old now clock ahead input left rest reader next out later g tells takes input_on below =
+    between_with first runner old now clock ahead input rest next out later (λ text. sinks.IsOut text out later) (Ok tt)
+      (goes_no_further first runner old now clock ahead input left rest reader next (λ text. sinks.IsOut text out later) g (told_map left.rest rest.rest _ _ tells (λ before after h. at_end (reader.pending ++ before) (next.pending ++ after) h)) takes input_on)
+      (told_then input.rest left.rest rest.rest _ _ _ g.input_frame.told g.read (told_both left.rest rest.rest _ _ tells takes.as_lost) (λ all others behind so_far n.
+        ends_all next behind (lines_in g.done) all (read_same (lines_in g.done) reader next all others behind so_far (at_end (reader.pending ++ others) (next.pending ++ behind) n.0) n.1 takes.within) n.0.end below))
+      (λ text is. is)
 
 -- the input failed
 pub ends_failed : (fail : InputFail) (reader : Reading) (done : List (List ℕ)) (all others : List ℕ) → (IsErrOf {T = Bool} (Err fail) inputs.InputLimit → IsAtLimit reader) → (IsErrOf {T = Bool} (Err fail) inputs.ReadFault → IsFeedless reader.pending)

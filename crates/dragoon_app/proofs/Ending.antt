@@ -21,7 +21,7 @@ use Rattle.dragoon_app.specs.declared.run_fail.RunFail.{RunFail}
 use Rattle.dragoon_app.specs.declared.run_fail.RunFail.TheVariants as fails
 use Rattle.dragoon_app.specs.declared.runner.Runner.{Runner}
 use Rattle.dragoon_app.specs.Texts.{fault_line}
-use Rattle.dragoon_app.specs.Outcome.{Said, refused}
+use Rattle.dragoon_app.specs.Outcome.{Said, WriteCause, refused}
 use Rattle.dragoon_app.specs.Running.{Running, Timed, start, carried, world_of}
 use Rattle.dragoon_app.specs.Ran.{AreFirst, Ends, Writes, IsCutShort, IsSettled, Runs, RunsOver, RunsUnder, RunsOn, EndsEarly, lines_in}
 use Rattle.dragoon_app.specs.Carrying.{IsAt, IsReady, Carries, IsWritten, IsBetween, ending, status_of, EndsWith, RunsFrom}
@@ -142,6 +142,18 @@ module _ (first last : Runner) (old new : disks.State) (clock ahead : clocks.Sta
 
 rose_from : (first old new : ℕ) → first ≤ old → Rose old new → Rose first new
 rose_from first old new le rose = omega (arith, le, rose)
+
+rose_on : (old mid new : ℕ) → mid ≤ new → Rose old mid → Rose old new
+rose_on old mid new le rose = omega (arith, le, rose)
+
+-- a fault of the output, while the lines were carried out or behind them
+pub written_cause : (fail : RunFail) (result : Status) (out mid later : State) → (IsErrOf {T = Unit {0}} (Err fail) fails.WriteFault → Rose out.faults mid.faults) → out.faults ≤ mid.faults → mid.faults ≤ later.faults
+    → (fail ≢ fails.WriteFault → WriteCause result mid later) → WriteCause result out later
+written_cause fails.DiskFault result out mid later before le on cause = λ e. rose_from out.faults mid.faults later.faults le (cause (λ x. cc) e)
+written_cause fails.ReadFault result out mid later before le on cause = λ e. rose_from out.faults mid.faults later.faults le (cause (λ x. cc) e)
+written_cause fails.InputLimit result out mid later before le on cause = λ e. rose_from out.faults mid.faults later.faults le (cause (λ x. cc) e)
+written_cause fails.WriteFault result out mid later before le on cause = λ e. rose_on out.faults mid.faults later.faults on (before refl)
+written_cause fails.NoMemory result out mid later before le on cause = λ e. rose_from out.faults mid.faults later.faults le (cause (λ x. cc) e)
 
 images_from : (first old new : disks.State) (P : List ℕ → Type 0) → disks.Unchanged first old → EveryImage old new P → EveryImage first new P
 images_from first old new P same every =

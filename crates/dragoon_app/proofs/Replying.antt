@@ -64,14 +64,14 @@ refuses_goes name text runner later s still spelled is = told_same s.reads s.rea
     goes_still r (refused_line r name) (Ok text) runner later s bytes still at (ap (λ (x : List ℕ). r.text ++ x) (sym spelled)) (refused_at r name bytes runner later at is))
 
 -- the moment is set
-pub sets_goes : (scripted : Bool) (moment : ℕ) (text : List ℕ) (runner later : Runner) (s : State) → IsStill s → SetsMoment {E = StepFail} scripted moment (Ok text) runner later → WhereTold s.reads s.reads (GoesTo (λ r. set_moment scripted r moment) (Ok text) runner later s s)
-sets_goes true moment text runner later s still sets = told_same s.reads s.reads _ refl (λ bytes r at.
+pub sets_goes : (E : Type 0) (scripted : Bool) (moment : ℕ) (text : List ℕ) (runner later : Runner) (s : State) → IsStill s → SetsMoment {E = E} scripted moment (Ok text) runner later → WhereTold s.reads s.reads (GoesTo (λ r. set_moment scripted r moment) (Ok text) runner later s s)
+sets_goes E true moment text runner later s still sets = told_same s.reads s.reads _ refl (λ bytes r at.
     goes_still r (set_moment true r moment) (Ok text) runner later s bytes still at (ap (λ (x : List ℕ). r.text ++ x) (sym sets.text)) (record {
       stands = subst (λ (o : Opened). IsIn r.world o bytes) (sym (ap (λ (x : Runner). x.store) sets.later_is)) at.stands;
       moment = ap (λ (x : Runner). x.moment) sets.later_is;
       refused = ap (λ (x : Runner). x.is_refused) sets.later_is ∙ at.refused;
     }))
-sets_goes false moment text runner later s still sets = refuses_goes (codes "NotScripted") text runner later s still sets.text sets.later_is
+sets_goes E false moment text runner later s still sets = refuses_goes (codes "NotScripted") text runner later s still sets.text sets.later_is
 
 -- nothing is said
 pub blank_goes : (text : List ℕ) (runner : Runner) (s : State) → IsStill s → text ≡ [] → WhereTold s.reads s.reads (GoesTo (λ r. r) (Ok text) runner runner s s)

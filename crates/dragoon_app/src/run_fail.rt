@@ -1,6 +1,6 @@
 //! Why a run stopped before the end of its input.
 
-ghost use Rattle.std.specs.Prelude.{◌≡◌};
+ghost use Rattle.std.specs.Prelude.{◌≡◌, ◌≢◌};
 ghost use Rattle.dragoon_app.specs.Carrying.{of_step, of_input, of_output, EndsWith};
 ghost use Rattle.dragoon_app.specs.Outcome.{WriteCause};
 ghost use Rattle.outside_io.specs.Sink.{GoesOn};
@@ -58,6 +58,7 @@ impl From<StreamFail> for RunFail {
 /// Tells a failure by its line, where the output did not fail, and ends the run.
 pub fn end<O: Sink>(out: &mut O, fail: RunFail) -> Status
     ensures value { EndsWith fail result (O.state out.old) (O.state out.new) }
+    ensures cause { fail ≢ RunFail.WriteFault → WriteCause result (O.state out.old) (O.state out.new) }
     ensures frame { GoesOn (O.state out.old) (O.state out.new) }
 {
     match fail {

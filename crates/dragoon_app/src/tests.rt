@@ -329,6 +329,58 @@ fn numbers_are_plain_and_in_their_ranges(rt: HostRuntime) -> Result<(), Fail> {
     Ok(())
 }
 
+/// How a call over a new store of id 7 ends that has this input, and what it writes.
+fn carried_out(
+    alloc: Global,
+    texts: &[&str],
+    input: &[u8],
+) -> Result<(u8, Vec<u8>), AllocError> {
+    let (_, _, bytes) = made(alloc, &["init", "7", "60", "3", "m"], b"", 5)?;
+    let words = words(alloc, texts)?;
+    let mut store = MemDisk::holding(alloc, bytes);
+    let mut clock = MemClock::new(vec![in alloc; 9]?);
+    let mut input = MemSource::new(input.to_vec(alloc)?, 3, Vec::new(alloc));
+    let mut out = MemSink::new(alloc, Vec::new(alloc));
+    let status = dragoon(
+        alloc, &words, &mut store, &mut clock, &mut input, &mut out,
+    );
+    Ok((status.code(), out.bytes().to_vec(alloc)?))
+}
+
+#[test]
+fn a_script_is_carried_out_line_by_line(rt: HostRuntime) -> Result<(), Fail> {
+    let alloc = rt.alloc();
+    for (texts, input, wanted) in [
+        (
+            ["run", "7", "scripted"].as_slice(),
+            b"create t k int v int\n\ninsert t 1 5\r\nnow 60\nget t 1".as_slice(),
+            (0, b"ok 1\nok 2\nok\nrow 1 5\n".as_slice()),
+        ),
+        (
+            ["run", "7"].as_slice(),
+            b"now 60\nbegin\nget t x\n".as_slice(),
+            (
+                3,
+                b"refused NotScripted\nrefused Syntax\nrefused Syntax\n".as_slice(),
+            ),
+        ),
+        (
+            ["run", "8"].as_slice(),
+            b"now 60\n".as_slice(),
+            (4, b"fault NotAStore\n".as_slice()),
+        ),
+        (
+            ["run", "7", "again"].as_slice(),
+            b"now 60\n".as_slice(),
+            (2, b"fault Usage\n".as_slice()),
+        ),
+    ] {
+        let (status, text) = carried_out(alloc, texts, input)?;
+        assert_eq!(rt; (status, text.as_slice()), wanted);
+    }
+    Ok(())
+}
+
 #[test]
 fn each_status_has_its_number(rt: HostRuntime) {
     let numbers = [
