@@ -33,9 +33,14 @@ pub record IsLeading (words : List (List ℕ)) (n : ℕ) : Type 0 where
 
 -- ---- the words behind them
 
--- `m`, for neither tile chains nor a tree
+-- `t` for tile chains, `a` for the tree, `ta` for both and `m` for neither
 abbrev pub algorithms_of : List ℕ → Option ℕ
-algorithms_of word = if bytes_eq word (codes "m") then Some 0 else None
+algorithms_of word =
+    if bytes_eq word (codes "m") then Some 0
+    else if bytes_eq word (codes "t") then Some 1
+    else if bytes_eq word (codes "a") then Some 2
+    else if bytes_eq word (codes "ta") then Some 3
+    else None
 
 abbrev pub new_store : Option ℕ → Option ℕ → Option ℕ → Option ℕ → Option NewStore
 new_store (Some id) (Some width) (Some k) (Some algs) = Some (record { id = id; width = width; k = k; algs = algs })

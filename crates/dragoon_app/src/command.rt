@@ -46,6 +46,12 @@ fn algorithms_of(word: &[u8]) -> Option<u8>
 {
     if word == b"m".as_slice() {
         Some(0)
+    } else if word == b"t".as_slice() {
+        Some(1)
+    } else if word == b"a".as_slice() {
+        Some(2)
+    } else if word == b"ta".as_slice() {
+        Some(3)
     } else {
         None
     }
