@@ -202,6 +202,7 @@ pub ended : (first runner : Runner) (old now : disks.State) (clock ahead : clock
     → IsGoing first runner old now clock ahead input left reader (λ text. sinks.IsOut text out later)
     → Tells (Ok false) reader next left rest → readers.Takes reader next left rest → sources.GoesOn left rest → next.taken < input_limit
     → Carries (Ok tt) first runner old now clock ahead input rest out later
+unfolding goes_no_further
 ended first runner old now clock ahead input left rest reader next out later g tells takes input_on below =
     between_with first runner old now clock ahead input rest next out later (λ text. sinks.IsOut text out later) (Ok tt)
       (goes_no_further first runner old now clock ahead input left rest reader next (λ text. sinks.IsOut text out later) g (told_map left.rest rest.rest _ _ tells (λ before after h. at_end (reader.pending ++ before) (next.pending ++ after) h)) takes input_on)

@@ -93,3 +93,9 @@ pub returns-clause-told : goal.returns-clause-told
 returns-clause-told g c =
     ended c.args.runner.now c.lines.runner (g.D.Disk.state c.args.disk.now) (g.D.Disk.state c.lines.disk) (g.C.Clock.state c.args.clock.now) (g.C.Clock.state c.lines.clock) (g.I.Source.state c.args.input.now) (g.I.Source.state c.lines.input) (g.I.Source.state c.read_line.new.input) c.lines.reader c.read_line.new.self (g.O.Sink.state c.args.out.now) (g.O.Sink.state c.lines.out)
       c.lines.invariant.going (rw c.if-branch.false at c.in_ok-read_line.ensures.told) c.read_line.ensures.taken c.read_line.ensures.frame (rw c.if-branch.false at c.in_ok-read_line.ensures.end refl)
+
+pub returns-in_err-text-clause-disk_frame : goal.returns-in_err-text-clause-disk_frame
+returns-in_err-text-clause-disk_frame g c = disk_frames.goes_on_then _ _ _ c.lines.invariant.going.disk_frame c.reply.ensures.disk_frame
+
+pub returns-in_err-write_whole-clause-disk_frame : goal.returns-in_err-write_whole-clause-disk_frame
+returns-in_err-write_whole-clause-disk_frame g c = disk_frames.goes_on_then _ _ _ c.lines.invariant.going.disk_frame c.reply.ensures.disk_frame
