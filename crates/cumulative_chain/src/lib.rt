@@ -7,6 +7,7 @@
 //! |---|---|
 //! | `seed` | `SHA-256(00 | header fields)`, the value of no transaction |
 //! | `link` | `SHA-256(01 | previous | spelling)`, the value after one more transaction |
+//! | `links_at_tiles` | for each tile, the value over the transactions of all granules up to its end, in canonical order |
 //! | `header_digest` | `SHA-256(05 | header fields)`, by which a header is known |
 //!
 //! The header fields are 22 bytes: id, epoch, width, exponent and algorithms.
@@ -27,8 +28,11 @@ ghost use Rattle.std.specs.Prelude.{◌≡◌, ◌+◌, ◌∷◌};
 ghost use Rattle.sha2.specs.Sha256.{sha256};
 ghost use Rattle.digest_model.specs.Digests.{seed, header_digest, next_link};
 
+mod tiles;
+
 use sha2::{Digest, Sha256};
 use step_count::{Ledger, Steps};
+pub use tiles::links_at_tiles;
 use tuple_bytes::{Header, header_fields};
 
 /// `SHA-256(tag | bytes)`.

@@ -1,13 +1,18 @@
 //! The digests against values that another program computed.
 
+ghost use Rattle.std.specs.Prelude.{◌≡◌};
 ghost use Rattle.step_count.specs.Blank.{IsBlankOf};
 
 use super::*;
+use std::alloc::{AllocError, Global};
 use std::marker::Brand;
 use std::test::Fail;
 use step_count::Blank;
+use tuple_bytes::{Blob, Granules, Payloads};
 
-fn header(algs: u8) -> Header {
+fn header(algs: u8) -> Header
+    ensures { result.k ≡ 3 }
+{
     Header {
         id: 7,
         epoch: 0,
@@ -77,6 +82,37 @@ fn a_link_is_that_of_another_program(rt: HostRuntime) -> Result<(), Fail> {
     for (txn_bytes, value) in cases {
         let next = linked::<Brand>(Blank::new(1), &first, txn_bytes);
         assert_eq!(rt; hex::encode(alloc, next)?.as_str(), value);
+    }
+    Ok(())
+}
+
+/// The values at the ends of three tiles, where granules 0 and 9 have a creation each.
+fn tiles_of_two<L: Ledger>(blank: Blank, alloc: Global) -> Result<Vec<[u8; 32]>, AllocError>
+    requires { IsBlankOf L.name L.parts blank }
+{
+    let mut steps = Steps::<L>::new(blank);
+    let mut first = Payloads::new(alloc);
+    first.push(Blob::from_vec(Vec::from_slice(alloc, &CREATE)?))?;
+    let mut second = Payloads::new(alloc);
+    second.push(Blob::from_vec(Vec::from_slice(alloc, &CREATE)?))?;
+    let mut granules = Granules::new(alloc);
+    granules.push(0, first)?;
+    granules.push(9, second)?;
+    links_at_tiles(alloc, &header(3), &granules, 3, &mut steps)
+}
+
+#[test]
+fn links_at_tiles_are_those_of_another_program(rt: HostRuntime) -> Result<(), Fail> {
+    let alloc = rt.alloc();
+    let wanted = [
+        "57397a1f916ee3760c24b0eafe15ed750382ea2e9ca841430b03cf4c8ba99bc3",
+        "b4773582645b7eea13c46c59fa71902f57e9576a9e012ba4a28cc3c68e05a582",
+        "b4773582645b7eea13c46c59fa71902f57e9576a9e012ba4a28cc3c68e05a582",
+    ];
+    let links = tiles_of_two::<Brand>(Blank::new(1), alloc)?;
+    assert_eq!(rt; links.len(), wanted.len());
+    for (link, value) in links.iter().zip(wanted) {
+        assert_eq!(rt; hex::encode(alloc, link)?.as_str(), value);
     }
     Ok(())
 }

@@ -1,21 +1,21 @@
 -- Equal granule digests.
-use Rattle.std.proofs.Common.{◌≡◌, ℕ, ◌^◌, ◌<◌, ◌⊎◌, inl, inr, List, [], ◌∷◌, ◌++◌, length, map, refl, sym, ap, ◌∙◌, append_assoc, arith}
+use Rattle.std.proofs.Common.{◌≡◌, ℕ, ◌^◌, ◌<◌, ◌⊎◌, inl, inr, List, [], ◌∷◌, ◌++◌, length, map, refl, sym, ap, ◌∙◌, append_assoc}
 use Rattle.std.specs.List.{All, Contains, flat_map}
 use Rattle.std.specs.Int.{w32, to_be_bytes, from_be_bytes}
 use Rattle.std.proofs.lemmas.Nat.{from_be_bytes-to_be_bytes_4}
 use Rattle.std.proofs.lemmas.List.Elements.{All-head, All-tail, All-weaker, All-map}
 use Rattle.sha2.proofs.Facts256.{length-sha256}
 use Rattle.tuple_bytes.specs.declared.item.Txn.{Txn}
-use Rattle.tuple_bytes.specs.Spelling.{spell_txn}
+use Rattle.tuple_bytes.specs.Spelling.{spell_txn, FitsTxn}
 use Rattle.history_model.specs.History.{History, rows}
-use Rattle.history_model.specs.StoredHistory.{IsHistory}
 use Rattle.digest_model.specs.Digests.{behind_length, granule_input, granule_digest}
 use Rattle.digest_model.specs.Inputs.{Clash, hashed}
-use Rattle.digest_model.specs.Laws.{GranulesTellApart}
+use Rattle.digest_model.specs.Laws.{GranulesTellApart, HasSpelling}
 use Rattle.digest_model.proofs.Members.{here}
 use Rattle.digest_model.proofs.Parts.{same_front, same_back}
 use Rattle.digest_model.proofs.Clashes.{same_or_clash}
-use Rattle.digest_model.proofs.Spelled.{IsStorableTxn, same_txns, rows_storable}
+use Rattle.digest_model.proofs.Spelled.{same_txns, rows_fit}
+use Rattle.digest_model.proofs.Lengths.{txn_is_short}
 
 abbrev IsShort : List ℕ → Type 0
 IsShort x = length x < 2 ^ 32
@@ -40,21 +40,21 @@ same_texts (x ∷ xs) (y ∷ ys) hx hy e =
     let tail = same_texts xs ys (All-tail IsShort x xs hx) (All-tail IsShort y ys hy) (same_back x y (flat_map behind_length xs) (flat_map behind_length ys) long back) in
     cc
 
-short_spelled : (ts : List Txn) → All IsStorableTxn ts → All IsShort (map spell_txn ts)
-short_spelled ts h = All-map IsShort spell_txn ts (All-weaker IsStorableTxn (λ t. length (spell_txn t) < 2 ^ 32) (λ t s. (let short = s.short in omega arith)) ts h)
+short_spelled : (ts : List Txn) → All FitsTxn ts → All IsShort (map spell_txn ts)
+short_spelled ts h = All-map IsShort spell_txn ts (All-weaker FitsTxn (λ t. length (spell_txn t) < 2 ^ 32) txn_is_short ts h)
 
 -- equal inputs of a granule
-pub same_rows : (h s : History) (g : ℕ) → IsHistory h → IsHistory s
+pub same_rows : (h s : History) (g : ℕ) → HasSpelling h → HasSpelling s
     → granule_input g (map spell_txn (rows h g)) ≡ granule_input g (map spell_txn (rows s g)) → rows h g ≡ rows s g
 same_rows h s g is_h is_s e =
     let left = map spell_txn (rows h g) in
     let right = map spell_txn (rows s g) in
     let joined : to_be_bytes w32 g ++ flat_map behind_length left ≡ to_be_bytes w32 g ++ flat_map behind_length right = cc in
     let texts = same_back (to_be_bytes w32 g) (to_be_bytes w32 g) (flat_map behind_length left) (flat_map behind_length right) refl joined in
-    same_txns (rows h g) (rows s g) (rows_storable h g is_h) (rows_storable s g is_s)
-    (same_texts left right (short_spelled (rows h g) (rows_storable h g is_h)) (short_spelled (rows s g) (rows_storable s g is_s)) texts)
+    same_txns (rows h g) (rows s g) (rows_fit h g is_h) (rows_fit s g is_s)
+    (same_texts left right (short_spelled (rows h g) (rows_fit h g is_h)) (short_spelled (rows s g) (rows_fit s g is_s)) texts)
 
-pub granule_or_clash : (h s : History) (g : ℕ) (xs ys : List (List ℕ)) → IsHistory h → IsHistory s
+pub granule_or_clash : (h s : History) (g : ℕ) (xs ys : List (List ℕ)) → HasSpelling h → HasSpelling s
     → Contains xs (hashed h g) → Contains ys (hashed s g)
     → granule_digest h g ≡ granule_digest s g → (rows h g ≡ rows s g) ⊎ Clash xs ys
 unfolding granule_digest hashed

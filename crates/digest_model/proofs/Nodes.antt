@@ -8,7 +8,8 @@ use Rattle.history_model.specs.History.{History}
 use Rattle.std.specs.Int.{w32, to_be_bytes}
 use Rattle.digest_model.specs.Digests.{node_input, node_digest}
 use Rattle.digest_model.specs.Inputs.{node_inputs}
-use Rattle.digest_model.specs.Laws.{IsUnder, NodesTellApart}
+use Rattle.digest_model.specs.Laws.{NodesTellApart}
+use Rattle.digest_model.specs.Roots.{IsUnder}
 use Rattle.digest_model.proofs.Members.{here, there}
 use Rattle.digest_model.proofs.Parts.{same_front, same_back}
 use Rattle.digest_model.proofs.Clashes.{same_or_clash, wider}
@@ -28,6 +29,9 @@ halves p q index g e low high = elim (cases_lt g ((2 * index + 1) * p)) [
   | inl left ↦ inl ((let low' : index * (2 * p) ≤ g = rw e at low in omega arith), left)
   | inr right ↦ inr (right, (let high' : g < (index + 1) * (2 * p) = rw e at high in omega arith))
 ]
+
+pub halves_fit : (p q index limit : ℕ) → q ≡ 2 * p → (index + 1) * q ≤ limit → ((2 * index + 1) * p ≤ limit) × ((2 * index + 1 + 1) * p ≤ limit)
+halves_fit p q index limit e h = (let h' : (index + 1) * (2 * p) ≤ limit = rw e at h in (omega (arith, h'), omega (arith, h')))
 
 -- a granule under a node is under its left child or its right one
 pub under_child : (level index g : ℕ) → IsUnder (suc level) index g → IsUnder level (2 * index) g ⊎ IsUnder level (2 * index + 1) g

@@ -12,7 +12,7 @@ use Rattle.digest_model.specs.Layout.{Layout, layout, end_granule}
 use Rattle.digest_model.specs.Digests.{cum}
 use Rattle.digest_model.specs.Inputs.{cum_inputs}
 use Rattle.digest_model.specs.Laws.{CumsTellApart}
-use Rattle.digest_model.proofs.Spelled.{same_header, same_txns, canon_storable}
+use Rattle.digest_model.proofs.Spelled.{same_header, same_txns, canon_fit}
 use Rattle.digest_model.proofs.Links.{links_apart}
 
 has_key : {X : Type 0} → (X → ℕ) → ℕ → X → Bool
@@ -71,7 +71,7 @@ cums_apart h s tile is_h is_s places e =
     elim (links_apart h.header s.header (map spell_txn (canon h m)) (map spell_txn (canon s n)) e) [
       | inl r ↦
           (let one : h.header ≡ s.header = same_header h.header s.header is_h.header is_s.header r.0 in
-          let same : canon h m ≡ canon s n = same_txns (canon h m) (canon s n) (canon_storable h m is_h) (canon_storable s n is_s) r.1 in
+          let same : canon h m ≡ canon s n = same_txns (canon h m) (canon s n) (canon_fit h m is_h) (canon_fit s n is_s) r.1 in
           let size : m ≡ n = ap (λ (x : Layout). end_granule x tile) places in
           inl (record {
             header = one;

@@ -3,17 +3,16 @@ use Rattle.std.proofs.Common.{◌≡◌, ℕ, List, [], ◌∷◌, map, sym, ap,
 use Rattle.std.specs.List.{Contains, concat}
 use Rattle.std.proofs.lemmas.List.Elements.{All-nil, All-cons}
 use Rattle.history_model.specs.History.{History, rows}
-use Rattle.history_model.specs.StoredHistory.{IsHistory}
 use Rattle.digest_model.specs.Layout.{Layout, layout, part_granules}
 use Rattle.digest_model.specs.Digests.{granule_digest, part_input, part_digests, tile_digest}
 use Rattle.digest_model.specs.Inputs.{Clash, hashed, tile_inputs}
-use Rattle.digest_model.specs.Laws.{TilesTellApart, SameIn}
+use Rattle.digest_model.specs.Laws.{HasSpelling, TilesTellApart, SameIn}
 use Rattle.digest_model.proofs.Members.{here, there, Contains-map}
 use Rattle.digest_model.proofs.Parts.{same_front, same_back}
 use Rattle.digest_model.proofs.Clashes.{same_or_clash}
 use Rattle.digest_model.proofs.Granules.{granule_or_clash, granule_length}
 
-module _ (h s : History) (xs ys : List (List ℕ)) (is_h : IsHistory h) (is_s : IsHistory s) where
+module _ (h s : History) (xs ys : List (List ℕ)) (is_h : HasSpelling h) (is_s : HasSpelling s) where
   each : (gs : List ℕ)
       → ((g : ℕ) → Contains gs g → Contains xs (hashed h g)) → ((g : ℕ) → Contains gs g → Contains ys (hashed s g))
       → concat (map (granule_digest h) gs) ≡ concat (map (granule_digest s) gs)

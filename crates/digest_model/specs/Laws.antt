@@ -1,13 +1,23 @@
 -- What equal digests say, unless two inputs clash; and that digests go by the transactions.
-use Rattle.std.specs.Prelude.{◌≡◌, ◌⊎◌, ℕ, ◌+◌, ◌*◌, ◌^◌, ◌≤◌, ◌<◌, List, [], ◌∷◌}
+use Rattle.std.specs.Prelude.{◌≡◌, ◌⊎◌, ℕ, ◌<◌, List, [], ◌∷◌}
 use Rattle.std.specs.List.{All}
 use Rattle.tuple_bytes.specs.declared.header.Header.{Header}
-use Rattle.tuple_bytes.specs.Spelling.{spell_fields, FitsHeader}
+use Rattle.tuple_bytes.specs.Spelling.{spell_fields, FitsHeader, FitsItem}
 use Rattle.history_model.specs.History.{History, txns, rows}
 use Rattle.history_model.specs.StoredHistory.{IsHistory}
 use Rattle.digest_model.specs.Layout.{layout, end_granule, part_granules}
+use Rattle.digest_model.specs.Roots.{IsUnder}
 use Rattle.digest_model.specs.Digests.{link_of_spelled, link_of, header_digest, header_input, granule_digest, tile_digest, node_digest, cum}
 use Rattle.digest_model.specs.Inputs.{Clash, link_inputs_of_spelled, link_inputs, cum_inputs, hashed, tile_inputs, node_inputs}
+
+-- a history whose header and items have spellings
+pub record HasSpelling (h : History) : Type 0 where
+  pub header : FitsHeader h.header
+  pub items : All FitsItem h.items
+
+-- such is each history that a file can hold
+abbrev pub HistoriesHaveSpellings : Type 0
+HistoriesHaveSpellings = (h : History) → IsHistory h → HasSpelling h
 
 -- equal header digests are of one header
 abbrev pub HeadersTellApart : Type 0
@@ -31,7 +41,7 @@ LinkClash h s = Clash (link_inputs h.header (txns h.items)) (link_inputs s.heade
 
 -- equal links over all transactions are of the same history
 abbrev pub StoresTellApart : Type 0
-StoresTellApart = (h s : History) → IsHistory h → IsHistory s
+StoresTellApart = (h s : History) → HasSpelling h → HasSpelling s
     → link_of h.header (txns h.items) ≡ link_of s.header (txns s.items)
     → IsSameHistory h s ⊎ LinkClash h s
 
@@ -42,13 +52,13 @@ pub record SameBelow (h s : History) (m : ℕ) : Type 0 where
 
 -- equal links at the end of a tile are of the same transactions up to there
 abbrev pub CumsTellApart : Type 0
-CumsTellApart = (h s : History) (tile : ℕ) → IsHistory h → IsHistory s → layout h ≡ layout s
+CumsTellApart = (h s : History) (tile : ℕ) → HasSpelling h → HasSpelling s → layout h ≡ layout s
     → cum h tile ≡ cum s tile
     → SameBelow h s (end_granule (layout h) tile) ⊎ Clash (cum_inputs h tile) (cum_inputs s tile)
 
 -- equal digests of a granule are of the same transactions
 abbrev pub GranulesTellApart : Type 0
-GranulesTellApart = (h s : History) (g : ℕ) → IsHistory h → IsHistory s
+GranulesTellApart = (h s : History) (g : ℕ) → HasSpelling h → HasSpelling s
     → granule_digest h g ≡ granule_digest s g
     → (rows h g ≡ rows s g) ⊎ Clash (hashed h g ∷ []) (hashed s g ∷ [])
 
@@ -58,13 +68,9 @@ SameIn h s granules = All (λ g. rows h g ≡ rows s g) granules
 
 -- equal digests of a part of a tile are of the same transactions in each of its granules
 abbrev pub TilesTellApart : Type 0
-TilesTellApart = (h s : History) (tile part : ℕ) → IsHistory h → IsHistory s → layout h ≡ layout s
+TilesTellApart = (h s : History) (tile part : ℕ) → HasSpelling h → HasSpelling s → layout h ≡ layout s
     → tile_digest h tile part ≡ tile_digest s tile part
     → SameIn h s (part_granules (layout h) tile part) ⊎ Clash (tile_inputs h tile part) (tile_inputs s tile part)
-
--- the granules below a node
-abbrev pub IsUnder : ℕ → ℕ → ℕ → Type 0
-IsUnder level index g = (index * 2 ^ level ≤ g) × (g < (index + 1) * 2 ^ level)
 
 -- two histories have the same transactions in each granule below a node
 abbrev pub SameUnder : History → History → ℕ → ℕ → Type 0
@@ -72,7 +78,7 @@ SameUnder h s level index = (g : ℕ) → IsUnder level index g → rows h g ≡
 
 -- equal digests of a node are of the same transactions in each granule below it
 abbrev pub NodesTellApart : Type 0
-NodesTellApart = (h s : History) (level index : ℕ) → IsHistory h → IsHistory s
+NodesTellApart = (h s : History) (level index : ℕ) → HasSpelling h → HasSpelling s
     → node_digest h level index ≡ node_digest s level index
     → SameUnder h s level index ⊎ Clash (node_inputs h level index) (node_inputs s level index)
 

@@ -25,6 +25,10 @@ tile_size l tile = 2 ^ exponent l tile
 abbrev pub first_granule : Layout → ℕ → ℕ
 first_granule l tile = tile * 2 ^ l.k
 
+-- no granule from this one on is sealed
+abbrev pub max_granules : ℕ
+max_granules = 1048576
+
 -- one more than the last granule of a tile
 abbrev pub end_granule : Layout → ℕ → ℕ
 end_granule l tile = first_granule l tile + tile_size l tile

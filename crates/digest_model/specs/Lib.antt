@@ -2,4 +2,5 @@ pub mod Layout
 pub mod Digests
 pub mod Inputs
 pub mod Laws
+pub mod Roots
 pub mod Plain

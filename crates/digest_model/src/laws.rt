@@ -1,6 +1,12 @@
 //! What equal digests say, each law the contract of a function that does nothing.
 
-ghost use Rattle.digest_model.specs.Laws.{HeadersTellApart, LinksTellApart, StoresTellApart, CumsTellApart, GranulesTellApart, TilesTellApart, NodesTellApart, SameDigests};
+ghost use Rattle.digest_model.specs.Roots.{RootsCover, WorkedRoots};
+ghost use Rattle.digest_model.specs.Laws.{HistoriesHaveSpellings, HeadersTellApart, LinksTellApart, StoresTellApart, CumsTellApart, GranulesTellApart, TilesTellApart, NodesTellApart, SameDigests};
+
+/// The header and the items of a history that a file can hold have spellings.
+pub fn histories_have_spellings()
+    ensures { HistoriesHaveSpellings }
+{}
 
 /// Equal header digests are of one header, unless the two inputs clash.
 pub fn headers_tell_apart()
@@ -40,4 +46,14 @@ pub fn nodes_tell_apart()
 /// The same transactions have the same digests.
 pub fn same_digests()
     ensures { SameDigests }
+{}
+
+/// Each granule lies below one root, and nothing else does.
+pub fn roots_cover()
+    ensures { RootsCover }
+{}
+
+/// The roots over twelve and over 168 granules.
+pub fn worked_roots()
+    ensures { WorkedRoots }
 {}

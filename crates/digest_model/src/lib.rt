@@ -9,12 +9,30 @@
 //! | `seed header` | `SHA-256(00 | header fields)` |
 //! | `next_link p t` | `SHA-256(01 | p | t)`, for the spelling t of a transaction |
 //! | `link_of header txns` | the seed, and then the next link for each transaction |
+//! | `cum h tile` | the link over the transactions up to the end of a tile, granule by granule |
+//! | `granule_over g spelled` | `SHA-256(02 | g (4) | for each transaction: length (4), spelling)` |
+//! | `part_over tile part digests` | `SHA-256(03 | tile (4) | part (1) | granule digests)`: part 255 is the whole tile, part b has the granules whose number within the tile has bit b equal to 0 |
+//! | `node_over level index left right` | `SHA-256(04 | level (1) | index (4) | left child | right child)`; a node of level 0 is a granule |
 //!
-//! What the layers above may rely on, each the contract of a function that does nothing:
+//! `granule_digest`, `tile_digest` and `node_digest` are these digests of a history. Node (l, i) has
+//! the children (l - 1, 2i) and (l - 1, 2i + 1). The roots of `roots_of` are one complete tree for
+//! each binary digit 1 of the number of granules, the largest first, side by side from granule 0.
+//! Where tiles lie is told by a `Layout`.
+//!
+//! A list of what is hashed stands beside each digest (`link_inputs`, `cum_inputs`, `tile_inputs`,
+//! `node_inputs`). Two such lists clash where an input of each differ and have one digest.
+//!
+//! What the layers above may rely on, each the contract of a function that does nothing. It holds of
+//! every history whose header and items have spellings, as those of files do
+//! (`histories_have_spellings`):
 //!
 //! | Law | Clause |
 //! |---|---|
-//! | equal header digests, links or links over a whole store are of one header and the same transactions, or two different hashed inputs share a digest | `headers_tell_apart`, `links_tell_apart`, `stores_tell_apart` |
+//! | equal digests of headers are of one header, or a clash | `headers_tell_apart` |
+//! | equal links are of one header and one list of transactions, or a clash | `links_tell_apart`, `stores_tell_apart` |
+//! | equal links at a tile's end, digests of a granule, of a part or of a node are of the same transactions in each granule that they cover, or a clash | `cums_tell_apart`, `granules_tell_apart`, `tiles_tell_apart`, `nodes_tell_apart` |
+//! | the same transactions have the same digests | `same_digests` |
+//! | each granule lies below one root, and nothing else does | `roots_cover`, `worked_roots` |
 //!
 //! Trusted is the statement of SHA-256 in the kit's `sha2`. Tests hold the definitions against
 //! values that another program computed.
@@ -28,8 +46,9 @@ mod laws;
 pub mod plain;
 
 pub use laws::{
-    cums_tell_apart, granules_tell_apart, headers_tell_apart, links_tell_apart, nodes_tell_apart,
-    same_digests, stores_tell_apart, tiles_tell_apart,
+    cums_tell_apart, granules_tell_apart, headers_tell_apart, histories_have_spellings,
+    links_tell_apart, nodes_tell_apart, roots_cover, same_digests, stores_tell_apart,
+    tiles_tell_apart, worked_roots,
 };
 
 #[cfg(test)]

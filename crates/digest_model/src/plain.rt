@@ -2,6 +2,13 @@
 //!
 //! No command runs them. Tests compare the faster bodies of the crates above with them.
 
+mod granules;
 mod links;
+mod nodes;
+mod spelled;
+mod tiles;
 
-pub use links::{link, seed};
+pub use granules::granule_digest;
+pub use links::{cum, link, seed};
+pub use nodes::node_digest;
+pub use tiles::tile_digest;

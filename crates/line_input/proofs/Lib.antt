@@ -2,3 +2,4 @@ pub mod Lines
 pub mod Splits
 mod Cuts
 mod Going
+pub mod Giving

@@ -1,7 +1,6 @@
 -- The lines of bytes, with and without a feed.
 use Rattle.std.proofs.Common.{◌≡◌, ◌<◌, ℕ, Bool, true, false, List, [], ◌∷◌, ◌++◌, length, refl, sym, ◌∙◌, arith}
 use Rattle.std.specs.Prelude.{◌==◌, ◌||◌}
-use Rattle.std.specs.List.{list_any}
 use Rattle.std.proofs.lemmas.List.Folds.{list_any-append}
 use Rattle.line_input.specs.Lines.{feed, has_feed, IsFeedless, complete_lines, unended, lines_of}
 

@@ -1,10 +1,10 @@
 -- Bytes are split into lines in one way.
-use Rattle.std.proofs.Common.{◌≡◌, ℕ, Bool, true, false, List, [], ◌∷◌, ◌++◌, refl, sym, ap, ◌∙◌, subst}
-use Rattle.std.specs.Prelude.{◌==◌, ◌||◌}
+use Rattle.std.proofs.Common.{◌≡◌, ℕ, Bool, true, false, List, [], ◌∷◌, refl, sym, ap, ◌∙◌, subst}
+use Rattle.std.specs.Prelude.{◌==◌}
 use Rattle.std.specs.List.{All}
 use Rattle.std.proofs.lemmas.Bool.{eqb-true}
 use Rattle.std.proofs.lemmas.List.Elements.{All-nil, All-cons, All-head, All-tail}
-use Rattle.line_input.specs.Lines.{feed, has_feed, IsFeedless, joined, IsSplit, complete_lines, unended}
+use Rattle.line_input.specs.Lines.{feed, IsFeedless, joined, IsSplit, complete_lines, unended}
 use Rattle.line_input.proofs.Lines.{complete_none, unended_none, complete_first, unended_first}
 
 -- lines and a rest that the bytes are
@@ -54,7 +54,7 @@ split [] = record { lines = []; rest = []; is = record { whole = refl; lines_fee
 split (b ∷ bytes) = with_front b bytes (b == feed) refl (split bytes)
 
 -- the lines that bytes are made of
-complete_joined : (lines : List (List ℕ)) (rest : List ℕ) → All IsFeedless lines → IsFeedless rest → complete_lines (joined lines rest) ≡ lines
+pub complete_joined : (lines : List (List ℕ)) (rest : List ℕ) → All IsFeedless lines → IsFeedless rest → complete_lines (joined lines rest) ≡ lines
 complete_joined [] rest each f = complete_none rest f
 complete_joined (line ∷ lines) rest each f =
     complete_first line (joined lines rest) (All-head IsFeedless line lines each) ∙ ap (λ (x : List (List ℕ)). line ∷ x) (complete_joined lines rest (All-tail IsFeedless line lines each) f)

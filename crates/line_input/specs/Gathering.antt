@@ -30,9 +30,9 @@ pub record Moves (result : Result Bool InputFail) (old new : Gathering) (from to
   pub at_once : IsAtOnce result (reading_of false old) (reading_of (is_found result) new)
   pub more : GivesMore result (reading_of false old) (reading_of (is_found result) new)
 
--- all that was taken was looked at, and no line ends in it
-abbrev pub IsCut : Gathering → Type 0
-IsCut g = IsFeedless (reading_of false g).pending
+-- no line ends in what was taken and not given out
+abbrev pub HasNoEnd : Gathering → Type 0
+HasNoEnd g = IsFeedless (reading_of false g).pending
 
 -- all the bytes that were taken and not given out
 abbrev pub held_by : Gathering → List ℕ

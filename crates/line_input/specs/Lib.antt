@@ -1,5 +1,6 @@
 pub mod Fail
 pub mod Gathering
+pub mod Giving
 pub mod Limits
 pub mod Lines
 pub mod Piece

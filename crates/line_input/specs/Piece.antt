@@ -1,5 +1,5 @@
 -- What is left of a piece of input.
-use Rattle.std.specs.Prelude.{◌≡◌, ◌<◌, ◌≤◌, ℕ, List, [], ◌++◌, length, slice_range}
+use Rattle.std.specs.Prelude.{◌≡◌, ◌≤◌, ℕ, List, [], ◌++◌, length, slice_range}
 use Rattle.outside_words.specs.Told.{WhereTold}
 use Rattle.outside_io.specs.Source.{State}
 use Rattle.line_input.specs.declared.piece.Piece.{Piece}

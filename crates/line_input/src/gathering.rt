@@ -27,7 +27,7 @@ impl Gathering {
     ghost use Rattle.outside_io.specs.Source.{GoesOn};
     ghost use Rattle.line_input.specs.declared.fail.InputFail.TheVariants.{ReadFault, InputLimit};
     ghost use Rattle.line_input.specs.Reader.{IsAtLimit};
-    ghost use Rattle.line_input.specs.Gathering.{reading_of, Moves, IsCut, Gathers, IsUntouched, TakesPiece, TakesNothing};
+    ghost use Rattle.line_input.specs.Gathering.{reading_of, Moves, HasNoEnd, Gathers, IsUntouched, TakesPiece, TakesNothing};
     ghost use Rattle.line_input.specs.Piece.{rest_of};
 
     /// Nothing was taken yet.
@@ -46,7 +46,7 @@ impl Gathering {
         ensures moves { Moves result self.old self.new (I.state input.old) (I.state input.new) }
         ensures end { IfOk result (λ found. IsFalse found → self.new.taken < input_limit) }
         ensures input_limit { IsErrOf result InputLimit → IsAtLimit (reading_of false self.new) }
-        ensures read_fault { IsErrOf result ReadFault → IsCut self.new }
+        ensures read_fault { IsErrOf result ReadFault → HasNoEnd self.new }
         ensures frame { GoesOn (I.state input.old) (I.state input.new) }
         ensures cause { HasCause ReadFault (I.state input.old).faults (I.state input.new).faults result }
     {

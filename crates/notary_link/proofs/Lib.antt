@@ -1,3 +1,11 @@
+mod Counted
+mod Entered
+mod FiledEach
+mod FirstDigests
+pub mod Found
 pub mod Frame
 pub mod InAll
+pub mod Names
+pub mod Runs
+mod Standing
 pub mod Sums

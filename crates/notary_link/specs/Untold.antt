@@ -1,5 +1,5 @@
 -- A notary that tells nothing of itself but its limits, its questions and its faults.
-use Rattle.std.specs.Prelude.{◌≡◌, ℕ, None}
+use Rattle.std.specs.Prelude.{ℕ, None}
 use Rattle.notary_link.specs.declared.notary.NotaryLimits.{NotaryLimits}
 use Rattle.notary_link.specs.declared.untold.Untold.{Untold}
 use Rattle.notary_link.specs.Notary.{State}

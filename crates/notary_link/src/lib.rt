@@ -1,17 +1,68 @@
-//! An outside notary: what is filed with it, and what it answers.
+//! An outside notary: sealed digests are filed with it, and it answers later whether a digest is
+//! the one that was filed. Everything above that compares a store with what was filed stands on the
+//! trait [`Notary`] alone.
+//!
+//! Under each id a notary keeps batches of seals and a list of marks. A [`Seal`] is a digest under
+//! a [`Name`]; the first one that was filed under a name counts. A [`Mark`] says what a validation found.
+//!
+//! | A call | What it promises | Clause |
+//! |---|---|---|
+//! | `count`, `ask`, `moment_of`, `mark_at` | the answer by the lists, where they are told | `value` |
+//! | | Ok, `Failed` or `NoMemory`, and nothing else | `only` |
+//! | | nothing has changed | `same` |
+//! | | only `ask` raises the number of questions, by at most one | `asked` |
+//! | `file`, `mark` | after Ok one batch or mark more; OutOfTurn exactly where the index is not the count; then Full exactly where there is no room; after `Failed` or `NoMemory` it is there or isn't; nothing else changes | `change` |
+//! | all of them | lists only grow; their telling ends only where faults rose, and for good; the changing calls are added to the trace as planned; the limits stay | `frame` |
+//! | | `Failed` comes only where the notary counted a fault in that call | `cause` |
+//!
+//! A list of numbers is given to [`MemNotary`] to say which calls are to fail; the frame then says
+//! that they do, and no others.
+//!
+//! | A notary | Is |
+//! |---|---|
+//! | [`MemNotary`] | lists in memory, which tells all, and fails where it is told to |
+//! | [`Untold`] | any notary, which keeps to itself what that one tells |
+//!
+//! A look-up in [`MemNotary`] takes the logarithm of the ids and of the names of one id. Of
+//! filing, each seal takes that too. The record of calls holds each batch once.
+//!
+//! | A call above | After it | Clause |
+//! |---|---|---|
+//! | [`file_each`] | all batches are filed, or those up to one that was not | `told` |
+//! | | these calls were made in order, and none after one that was not done | `trace` |
+//!
+//! `proofs/Runs` joins such runs of calls, and says which of them failed, where one is planned to;
+//! `proofs/Found` says what is found under a name after one more batch.
+//!
+//! Tested, and not proved: that calls succeed where there is memory.
+//!
+//! ```text
+//! let mut notary = MemNotary::new(alloc, NotaryLimits { seals: 1000, marks: 10 });
+//! notary.file(id, 0, moment, &[seal])?;
+//! let answer = notary.ask(id, seal.name, &digest)?;
+//! ```
 #![tactic(auto)]
 
 mod answer;
+mod calls;
 mod fail;
+mod filing;
+mod firsts;
 mod mark;
+mod memory;
 mod name;
 mod notary;
 mod seal;
+mod shelf;
+#[cfg(test)]
+mod tests;
 mod untold;
 
 pub use answer::Answer;
 pub use fail::{AskFail, NotaryFail};
+pub use filing::file_each;
 pub use mark::{Mark, Outcome};
+pub use memory::MemNotary;
 pub use name::Name;
 pub use notary::{Notary, NotaryLimits};
 pub use seal::{Seal, Seals};

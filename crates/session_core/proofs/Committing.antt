@@ -1,6 +1,5 @@
 -- A commit does to the world what the definition says.
-use Rattle.std.proofs.Common.{◌≡◌, ◌⊎◌, inl, inr, ℕ, ◌+◌, List, [], ◌∷◌, ◌++◌, length, Bool, true, false, Option, Some, None, Result, Ok, Err, OnOk, OnErr, IfOk, IsSome, IsErrOf, refl, sym, ap, subst, ◌∙◌}
-use Rattle.outside_words.specs.Faults.{Rose, HasCause}
+use Rattle.std.proofs.Common.{◌≡◌, ℕ, ◌+◌, List, [], ◌∷◌, ◌++◌, length, Bool, true, false, Option, Some, None, Result, Ok, Err, IfOk, IsSome, refl, sym, ap, subst, ◌∙◌}
 use Rattle.outside_words.specs.Told.{WhereTold}
 use Rattle.outside_words.proofs.Told.{told_map}
 use Rattle.disk_words.specs.Disk.{State, turn, Unchanged}
@@ -13,7 +12,7 @@ use Rattle.tuple_bytes.specs.declared.item.Item.TheVariants as items
 use Rattle.tuple_bytes.specs.Spelling.{spell_txn}
 use Rattle.store_engine.specs.declared.fail.StoreFail.{StoreFail}
 use Rattle.store_engine.specs.declared.fail.StoreFail.TheVariants as fails
-use Rattle.store_engine.specs.Opened.{Opened, Stores, StoresOldOrNew}
+use Rattle.store_engine.specs.Opened.{Opened, StoresOldOrNew}
 use Rattle.store_engine.specs.Refusals.{Tail, tail_of, next_txn, commit_fault, IsRefusedBy}
 use Rattle.store_engine.specs.Commits as commits
 use Rattle.store_engine.specs.Commits.{StandsAfter, Adds}
@@ -24,51 +23,10 @@ use Rattle.session_core.specs.declared.sessions.StepFail.TheVariants as steps
 use Rattle.session_core.specs.World.{World, IsIn, StoresEither, tail_of_world, with_txn}
 use Rattle.session_core.specs.Refusing.{refused_by_store, answered}
 use Rattle.session_core.specs.Steps.{Step, says, committed, commit}
-use Rattle.session_core.specs.Stepping.{StepsIn, DoesAs, IsLeft}
+use Rattle.session_core.specs.Stepping.{StepsIn, DoesAs}
 use Rattle.session_core.proofs.Untouched.{untouched}
 
--- ---- the store
-
-pub stays_open : (result : Result ℕ StoreFail) (old with_item new : Opened) → with_item.at.is_closed ≡ false → StandsAfter result old with_item new → old.at.is_closed ≡ false → OnOk (answered result) (new.at.is_closed ≡ false)
-stays_open (Ok n) old with_item new done e open = ap (λ (s : Opened). s.at.is_closed) e ∙ done
-stays_open (Err fails.DiskFault) old with_item new done e open = tt
-stays_open (Err fails.NoMemory) old with_item new done e open = tt
-stays_open (Err fails.NotAStore) old with_item new done e open = absurd e
-stays_open (Err (fails.ClockBack last)) old with_item new done e open = ap (λ (s : Opened). s.at.is_closed) e ∙ open
-stays_open (Err fails.TooLate) old with_item new done e open = ap (λ (s : Opened). s.at.is_closed) e ∙ open
-stays_open (Err fails.TooManyOps) old with_item new done e open = ap (λ (s : Opened). s.at.is_closed) e ∙ open
-stays_open (Err fails.TooLong) old with_item new done e open = ap (λ (s : Opened). s.at.is_closed) e ∙ open
-stays_open (Err fails.StoreFull) old with_item new done e open = ap (λ (s : Opened). s.at.is_closed) e ∙ open
-stays_open (Err fails.Closed) old with_item new done e open = ap (λ (s : Opened). s.at.is_closed) e ∙ open
-
-pub is_left : (result : Result ℕ StoreFail) (old with_item new : Opened) → StandsAfter result old with_item new → OnErr (answered result) (IsLeft old new)
-is_left (Ok n) old with_item new e = tt
-is_left (Err fails.DiskFault) old with_item new e = inl (ap (λ (s : Opened). s.at.is_closed) e)
-is_left (Err fails.NoMemory) old with_item new (inl e) = inl (ap (λ (s : Opened). s.at.is_closed) e)
-is_left (Err fails.NoMemory) old with_item new (inr cut) = inl (ap (λ (s : Opened). s.at.is_closed) cut.1)
-is_left (Err fails.NotAStore) old with_item new e = tt
-is_left (Err (fails.ClockBack last)) old with_item new e = tt
-is_left (Err fails.TooLate) old with_item new e = tt
-is_left (Err fails.TooManyOps) old with_item new e = tt
-is_left (Err fails.TooLong) old with_item new e = tt
-is_left (Err fails.StoreFull) old with_item new e = tt
-is_left (Err fails.Closed) old with_item new e = tt
-
-pub has_cause : (result : Result ℕ StoreFail) (before now : ℕ) → HasCause fails.DiskFault before now result → HasCause steps.DiskFault before now (answered result)
-has_cause (Ok n) before now cause = λ e. absurd cc
-has_cause (Err fails.DiskFault) before now cause = λ e. cause refl
-has_cause (Err fails.NoMemory) before now cause = λ e. absurd cc
-has_cause (Err fails.NotAStore) before now cause = λ e. absurd cc
-has_cause (Err (fails.ClockBack last)) before now cause = λ e. absurd cc
-has_cause (Err fails.TooLate) before now cause = λ e. absurd cc
-has_cause (Err fails.TooManyOps) before now cause = λ e. absurd cc
-has_cause (Err fails.TooLong) before now cause = λ e. absurd cc
-has_cause (Err fails.StoreFull) before now cause = λ e. absurd cc
-has_cause (Err fails.Closed) before now cause = λ e. absurd cc
-
--- ---- the world
-
-module _ (stand new_stand : Opened) (ops : List Op) (now : ℕ) (open : stand.at.is_closed ≡ false) where
+module _ (stand new_stand : Opened) (ops : List Op) (now : ℕ) (is_open : stand.at.is_closed ≡ false) where
   abbrev txn : Txn
   txn = next_txn (tail_of stand) ops now
 
@@ -86,7 +44,7 @@ module _ (stand new_stand : Opened) (ops : List Op) (now : ℕ) (open : stand.at
   pub does : (w : World) (bytes : List ℕ) → IsIn w stand bytes → committed fault w txn ≡ commit w ops now
   does w bytes i =
       ap (λ (t : Tail). committed (commit_fault t stand.at.is_closed ops now) w (next_txn t ops now)) (tail_is w bytes i)
-      ∙ ap (λ (closed : Bool). committed (commit_fault (tail_of_world w) closed ops now) w (next_txn (tail_of_world w) ops now)) open
+      ∙ ap (λ (closed : Bool). committed (commit_fault (tail_of_world w) closed ops now) w (next_txn (tail_of_world w) ops now)) is_open
 
   module _ (old new : State) (only_now : (c : List ℕ) → old.was_image (turn old) c → old.is_image c) where
     -- something stands against it, and nothing is done

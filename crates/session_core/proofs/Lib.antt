@@ -1,5 +1,7 @@
 pub mod Staying
-pub mod Reads
+pub mod ReadFrom
 pub mod Untouched
 pub mod Committing
+pub mod Preparing
 pub mod Promising
+pub mod Refusals

@@ -24,3 +24,8 @@ read_from s (stmts.Get table key moment) = found (row_at (shown_at s moment) tab
 read_from s (stmts.Scan table filter moment) = scanned (scan_of (shown_at s moment) table filter)
 read_from s (stmts.History table key) = told (history_in key (table_in s.tables table))
 read_from s stmt = replies.Done
+
+-- a history asks for all versions of a key
+abbrev pub IsHistory : Stmt → Type 0
+IsHistory (stmts.History table key) = Unit {0}
+IsHistory stmt = ⊥

@@ -1,11 +1,11 @@
 //! Statements that only read.
 
-ghost use Rattle.std.specs.Prelude.{◌≡◌, IfOk};
+ghost use Rattle.std.specs.Prelude.{◌≡◌, ◌≤◌, IfOk};
 ghost use Rattle.std.specs.Option.{unwrap_or, option_copied};
 ghost use Rattle.history_model.specs.Answers.{row_at};
-ghost use Rattle.tt_table.specs.Versions.{table_in};
+ghost use Rattle.tt_table.specs.Versions.{AreTables, table_in};
 ghost use Rattle.asof_query.specs.Filters.{scan_of, history_in};
-ghost use Rattle.session_core.specs.Reading.{shown_at, read_from};
+ghost use Rattle.session_core.specs.Reading.{shown_at, read_from, IsHistory};
 ghost use Rattle.session_core.specs.Steps.{found, scanned, told};
 
 use crate::refusing::refused_by_tables;
@@ -51,30 +51,38 @@ fn scan(
 ) -> Result<Reply, AllocError>
     ensures value { IfOk result (λ reply. reply ≡ scanned (scan_of (shown_at store.now moment) table.now (option_copied filter.entry))) }
 {
-    match scan_at(alloc, store.tables(), table, filter, moment_of(store, moment)) {
+    match scan_at(
+        alloc,
+        store.tables(),
+        table,
+        filter,
+        moment_of(store, moment),
+    ) {
         Ok(rows) => Ok(Reply::Scanned { rows }),
         Err(fail) => refused_by_tables(fail),
     }
 }
 
-fn history(
-    alloc: Global,
-    store: &Store,
-    table: &Word,
-    key: &Value,
-) -> Result<Reply, AllocError>
+fn history(alloc: Global, store: &Store, table: &Word, key: &Value) -> Result<Reply, AllocError>
     ensures value { IfOk result (λ reply. reply ≡ told (history_in key.now (table_in store.now.tables table.now))) }
+    ensures in_order { AreTables store.now.tables }
 {
-    match history_of(alloc, store.tables(), table, key) {
+    let tables = store.tables();
+    // What it answers is no matter here: that it may be asked says that the tables are in their order.
+    let _created = tables.created(table);
+    match history_of(alloc, tables, table, key) {
         Ok(versions) => Ok(Reply::Told { versions }),
         Err(fail) => refused_by_tables(fail),
     }
 }
 
-/// What a statement that only reads is replied.
+/// What a statement that only reads is replied: of the state at its moment, or of that of now.
 pub(crate) fn read(alloc: Global, store: &Store, stmt: &Stmt) -> Result<Reply, AllocError>
     ensures value { IfOk result (λ reply. reply ≡ read_from store.now stmt.now) }
+    ensures last { store.now.tables.last ≤ store.now.last }
+    ensures in_order { IsHistory stmt.now → AreTables store.now.tables }
 {
+    let _tables = store.tables();
     match stmt {
         Stmt::Get { table, key, moment } => get(alloc, store, table, key, *moment),
         Stmt::Scan {

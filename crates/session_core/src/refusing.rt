@@ -1,6 +1,7 @@
 //! Refusals of the layers below, as replies.
 
-ghost use Rattle.std.specs.Prelude.{◌≡◌, IfOk};
+ghost use Rattle.std.specs.Prelude.{◌≡◌, ◌≢◌, IfOk, OnOk};
+ghost use Rattle.history_model.specs.declared.change.TableFail.TheVariants.{NoMemory};
 ghost use Rattle.session_core.specs.declared.reply.Reply.TheVariants as replies;
 ghost use Rattle.session_core.specs.Refusing.{refused_by_tables, answered};
 
@@ -19,6 +20,7 @@ fn refused(refusal: Refusal) -> Reply
 /// What the tables refuse. Want of memory is no refusal.
 pub(crate) fn refused_by_tables(fail: TableFail) -> Result<Reply, AllocError>
     ensures value { IfOk result (λ reply. reply ≡ refused_by_tables fail) }
+    ensures refused { OnOk result (fail ≢ NoMemory) }
 {
     match fail {
         TableFail::NoTable => Ok(refused(Refusal::NoTable)),

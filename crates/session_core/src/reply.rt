@@ -138,12 +138,7 @@ fn put_versions(alloc: Global, out: &mut Vec<u8>, versions: &[Version]) -> Resul
 }
 
 /// Words and a number, on a line of their own.
-fn put_count(
-    alloc: Global,
-    out: &mut Vec<u8>,
-    words: &[u8],
-    number: u64,
-) -> Result<(), AllocError>
+fn put_count(alloc: Global, out: &mut Vec<u8>, words: &[u8], number: u64) -> Result<(), AllocError>
     ensures ok { OnOk result (out.new.items ≡ out.old.items ++ (numbered words.now number ++ 10 ∷ [])) }
 {
     put_numbered(alloc, out, words, number)?;

@@ -44,6 +44,7 @@ impl Sessions {
 
     /// Carries out a line at these clock seconds. After a failure the store is closed, or want of memory
     /// came first and it is as it was.
+    #[tactic(auto, unfolding(crate::specs::Steps::step))]
     pub fn step<D: Disk>(
         &mut self,
         alloc: Global,

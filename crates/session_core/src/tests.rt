@@ -139,6 +139,9 @@ fn a_transaction_is_no_longer_than_a_record(rt: HostRuntime) -> Result<(), Fail>
             longer.as_slice(),
         ],
     )?;
-    assert_eq!(rt; told.as_slice(), b"ok 1\nok 2\nrefused TooLong\n".as_slice());
+    assert_eq!(rt;
+        told.as_slice(),
+        b"ok 1\nok 2\nrefused TooLong\n".as_slice()
+    );
     Ok(())
 }

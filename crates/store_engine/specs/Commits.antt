@@ -6,7 +6,6 @@ use Rattle.disk_model.specs.Moments.{EveryImage, MakesCalls}
 use Rattle.tuple_bytes.specs.declared.item.Item.{Item}
 use Rattle.tuple_bytes.specs.declared.item.Item.TheVariants as items
 use Rattle.tuple_bytes.specs.declared.item.Txn.{Txn}
-use Rattle.tuple_bytes.specs.declared.op.Op.{Op}
 use Rattle.tuple_bytes.specs.Spelling.{spell_txn, spell_frontier, spell_item}
 use Rattle.tt_table.specs.Versions.{TablesVersions, applied}
 use Rattle.txn_journal.specs.Held.{behind, closed}
@@ -14,7 +13,6 @@ use Rattle.txn_journal.specs.Append.{append_calls}
 use Rattle.store_engine.specs.declared.fail.StoreFail.{StoreFail}
 use Rattle.store_engine.specs.declared.fail.StoreFail.TheVariants as fails
 use Rattle.store_engine.specs.Opened.{Opened, IsOpenOn, StoresOldOrNew}
-use Rattle.store_engine.specs.Refusals.{tail_of, next_txn}
 
 -- ---- the store
 

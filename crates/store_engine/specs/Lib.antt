@@ -1,3 +1,6 @@
 pub mod Opened
 pub mod Refusals
 pub mod Commits
+pub mod Contents
+pub mod Replay
+pub mod Fail

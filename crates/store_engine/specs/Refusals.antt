@@ -1,5 +1,5 @@
 -- Why an item is not stored: the first cause in order.
-use Rattle.std.specs.Prelude.{◌≡◌, ◌≤◌, ℕ, ◌+◌, ◌-◌, nat_lt, nat_le, Bool, if◌then◌else◌, List, length, Option, Some, None, Result, Ok, Err}
+use Rattle.std.specs.Prelude.{◌≡◌, ◌≤◌, ℕ, ◌+◌, ◌-◌, nat_lt, nat_le, Bool, false, if◌then◌else◌, List, length, Option, Some, None, Result, Ok, Err}
 use Rattle.tuple_bytes.specs.declared.header.Header.{Header}
 use Rattle.tuple_bytes.specs.declared.item.Item.{Item}
 use Rattle.tuple_bytes.specs.declared.item.Item.TheVariants as items
@@ -52,18 +52,11 @@ next_txn t ops now = record { number = t.count + 1; moment = moment_at t.header 
 abbrev pub where_true : Bool → StoreFail → Option StoreFail → Option StoreFail
 where_true cause fail others = if cause then Some fail else others
 
--- why nothing is committed at these clock seconds, and what else stands against it
-abbrev pub moment_fault : Tail → ℕ → Option StoreFail → Option StoreFail
-moment_fault t now others = where_true (is_back t now) (fails.ClockBack t.last) (where_true (is_late t now) fails.TooLate others)
-
--- a moment at which something may be stored, or why none may
+-- the moment of these clock seconds, which is not before the last one
 pub record IsNextMoment (t : Tail) (now moment : ℕ) : Type 0 where
   pub is : moment ≡ moment_at t.header now
+  pub not_back : is_back t now ≡ false
   pub follows : t.last ≤ moment
-  pub free : (others : Option StoreFail) → moment_fault t now others ≡ others
-
-abbrev pub IsRefusedMoment : Tail → ℕ → StoreFail → Type 0
-IsRefusedMoment t now fail = (others : Option StoreFail) → moment_fault t now others ≡ Some fail
 
 -- why an item is not stored
 abbrev pub item_fault : Tail → Bool → Item → Option StoreFail
@@ -75,9 +68,10 @@ item_fault t is_closed item =
 -- why operations are not committed at these clock seconds
 abbrev pub commit_fault : Tail → Bool → List Op → ℕ → Option StoreFail
 commit_fault t is_closed ops now =
-    moment_fault t now
+    where_true (is_back t now) (fails.ClockBack t.last)
+    (where_true (is_late t now) fails.TooLate
     (where_true (nat_lt max_ops (length ops)) fails.TooManyOps
-    (item_fault t is_closed (items.Txn (next_txn t ops now))))
+    (item_fault t is_closed (items.Txn (next_txn t ops now)))))
 
 -- why no Frontier is stored; where the last moment is not before it, none is asked for
 abbrev pub frontier_fault : Tail → Bool → ℕ → Option StoreFail

@@ -1,8 +1,57 @@
 //! An open store: its tables in memory, and its file behind them, which is written first.
+//!
+//! A store is opened from its bytes alone, whatever they are: all items are gone over once, and what is
+//! kept of them is how many transactions there are, the greatest moment, the tables with every version
+//! of their rows, and where the next record goes (`Opened`). That this is what the bytes say is
+//! `IsOpenOn`. Then items are added, each behind all others: it is written, and only once it is durable
+//! do the tables know of it.
+//!
+//! Tables take transactions in the order of their moments, and those of one moment in file order. In a
+//! file that was written here the two orders are one, so each transaction is applied as it is read. In
+//! any other file moments may fall: then the transactions are sorted first, in a stable way.
+//!
+//! A transaction is refused for the first of these that holds (`commit_fault`):
+//!
+//! | Refusal | Where |
+//! |---|---|
+//! | `ClockBack` | the clock is before the last moment, or before the store's first second |
+//! | `TooLate` | the moment's granule is 1,048,576 or more |
+//! | `TooManyOps`, `TooLong` | more than 256 operations, more than 32,768 bytes |
+//! | `Closed` | an earlier call failed |
+//! | `StoreFull` | the next gate would reach place 67,108,864 |
+//!
+//! A Frontier is refused for the last two alone. Where the last moment is not before it, it is not
+//! needed, and nothing is done.
+//!
+//! | The layer above may rely on | Clause |
+//! |---|---|
+//! | what is opened stands for the bytes, and bytes are refused exactly where they have no header of the id | `value`, `id` of `open_store` |
+//! | a refusal comes exactly where it has a cause, by the first cause; want of memory may come before | `refused` |
+//! | the number is that of the transactions before and one more | `number` of `commit` |
+//! | after Ok the store has the item, after a refusal it is as it was, after a fault or want of memory it is closed; the tables have nothing that is not durable | `stands` |
+//! | after Ok the file holds the item, and is durable: it is in every image | `added`, `durable` of `told` |
+//! | on a settled disk a crash at any moment leaves the old items, with the new one or without | `images` of `told` |
+//! | the changing calls are those of one append, in order, and none after one that failed; a refusal makes none | `trace` of `told` |
+//! | a fault of the disk has its cause | `cause` |
+//!
+//! Readers take no memory. `frontier_calls` tells how many changing calls a Frontier would make.
+//!
+//! Only tested: that a call with memory at hand doesn't answer want of memory.
+//!
+//! ```rust
+//! let mut store = Store::open_store(alloc, disk, id)?;
+//! let number = store.commit(alloc, disk, &ops, clock_seconds)?;
+//! store.frontier(alloc, disk, end_of_tile)?;
+//! ```
 #![tactic(auto)]
 
+mod contents;
 mod fail;
+mod replay;
 mod store;
 
 pub use fail::StoreFail;
 pub use store::Store;
+
+#[cfg(test)]
+mod tests;

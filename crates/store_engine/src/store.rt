@@ -1,42 +1,48 @@
 //! A store that is open.
 
-ghost use Rattle.std.specs.Prelude.{◌≡◌, ◌+◌, ◌<◌, ◌≤◌, ℕ, List, [], false, length, IfOk, IsOk, IfErr, IfSome, IsSome, MatchResult, if◌then◌else◌};
+ghost use Rattle.std.specs.Prelude.{◌≡◌, ◌+◌, ◌<◌, ◌≤◌, ℕ, List, [], true, false, length, IfOk, IsOk, IfErr, IfSome, IsSome, MatchOption, MatchResult, if◌then◌else◌};
 ghost use Rattle.std.specs.List.{All};
 ghost use Rattle.outside_words.specs.Faults.{HasCause};
 ghost use Rattle.outside_words.specs.Told.{WhereTold};
 ghost use Rattle.disk_words.specs.Disk.{Unchanged, GoesOn};
 ghost use Rattle.tuple_bytes.specs.declared.item.Item.TheVariants as items;
-ghost use Rattle.tuple_bytes.specs.Writing.{IsCountedOp};
-ghost use Rattle.tuple_bytes.specs.Spelling.{FitsHeader, spell_frontier};
-ghost use Rattle.history_model.specs.Stored.{stored};
+ghost use Rattle.tuple_bytes.specs.Writing.{IsCounted, IsCountedOp, op_count_of};
+ghost use Rattle.tuple_bytes.specs.Limits.{max_ops, max_payload};
+ghost use Rattle.tuple_bytes.specs.Spelling.{FitsHeader, Spells, spell_frontier};
+ghost use Rattle.history_model.specs.Stored.{stored, max_file};
+ghost use Rattle.history_model.specs.History.{moment_in};
 ghost use Rattle.txn_journal.specs.Append.{append_calls};
 ghost use Rattle.store_engine.specs.declared.fail.StoreFail.TheVariants.{DiskFault};
 ghost use Rattle.store_engine.specs.Opened.{IsOpenOn};
-ghost use Rattle.store_engine.specs.Refusals.{tail_of, next_txn, commit_fault, frontier_fault, IsRefusedBy, IsOfOpening, IsNoStore};
-ghost use Rattle.store_engine.specs.Commits.{with_txn, frontier_at, StandsAfter, Adds};
+ghost use Rattle.store_engine.specs.Refusals.{tail_of, next_txn, commit_fault, frontier_fault, item_fault, is_back, IsNextMoment, IsRefusedBy, IsOfOpening, IsNoStore};
+ghost use Rattle.store_engine.specs.Commits.{with_txn, with_item, frontier_at, StandsAfter, Adds};
 
 use crate::StoreFail;
+use crate::contents::Contents;
+use crate::replay::read_contents;
 use disk_model::Disk;
 use std::alloc::Global;
 use std::marker::Model;
 use tt_table::Tables;
-use tuple_bytes::{Header, Ops};
-use txn_journal::{Journal, StoreShape};
+use tuple_bytes::{Header, Item, MAX_OPS, Ops, Txn, decode_header, encode_item, granule};
+use txn_journal::{Journal, StoreShape, open_journal};
+
+/// No granule has this number or a greater one.
+const MAX_GRANULES: u64 = 1_048_576;
 
 /// A store that is open: what its file holds, as tables, and where the next record goes. Each call on
 /// it is lent the disk, whose bytes have to be as the last call left them.
 #[derive(Drop)]
 pub struct Store {
     header: Header,
-    count: u32,
-    last: u64,
-    tables: Tables,
+    contents: Contents,
     journal: Journal<StoreShape>,
     is_closed: bool,
     ghost header_fits: { FitsHeader header },
-    ghost few: { count < journal.end },
-    ghost within: { journal.end < 67108864 },
-    ghost tables_end: { tables.last ≤ last },
+    ghost few: { contents.count < journal.end },
+    ghost within: { journal.end < max_file },
+    ghost in_time: { contents.tables.last ≤ contents.last },
+    ghost closed_too: { journal.is_closed ≡ true → is_closed ≡ true },
 }
 
 impl Model for Store {
@@ -46,9 +52,9 @@ impl Model for Store {
 
     ghost view = { λ s. record {
       header = s.header;
-      count = s.count;
-      last = s.last;
-      tables = s.tables;
+      count = s.contents.count;
+      last = s.contents.last;
+      tables = s.contents.tables;
       at = record { end = s.journal.end; gate_is_open = s.journal.gate_is_open; is_closed = s.is_closed };
     } };
 }
@@ -66,7 +72,23 @@ impl Store {
         ensures frame { GoesOn (D.state disk.old) (D.state disk.new) }
         ensures cause { HasCause DiskFault (D.state disk.old).faults (D.state disk.new).faults result }
     {
-        Err(StoreFail::NoMemory)
+        let opened = match open_journal::<D, StoreShape>(alloc, disk) {
+            Ok(opened) => opened,
+            Err(fail) => return Err(StoreFail::from(fail)),
+        };
+        let Some(header) = decode_header(&opened.head) else {
+            return Err(StoreFail::NotAStore);
+        };
+        if header.id != id {
+            return Err(StoreFail::NotAStore);
+        }
+        let contents = read_contents(alloc, opened.payloads.as_slice())?;
+        Ok(Store {
+            header,
+            contents,
+            journal: opened.journal,
+            is_closed: false,
+        })
     }
 
     /// Stores these operations as one transaction of these clock seconds, and answers its number.
@@ -82,16 +104,42 @@ impl Store {
         requires some { 0 < length ops.now }
         requires counted { All IsCountedOp ops.now }
         ensures number { IfOk result (λ n. n ≡ self.old.count + 1) }
-        ensures refused { IsRefusedBy (commit_fault (tail_of self.old) self.old.at.is_closed ops.now now) result }
-        ensures stands { StandsAfter result self.old (with_txn self.old (next_txn (tail_of self.old) ops.now now)) self.new }
-        ensures same { IsSome (commit_fault (tail_of self.old) self.old.at.is_closed ops.now now) → Unchanged (D.state disk.old) (D.state disk.new) }
+        ensures refused { IsRefusedBy
+            (commit_fault (tail_of self.old) self.old.at.is_closed ops.now now) result }
+        ensures stands { StandsAfter result self.old
+            (with_txn self.old (next_txn (tail_of self.old) ops.now now)) self.new }
+        ensures same { IsSome (commit_fault (tail_of self.old) self.old.at.is_closed ops.now now)
+            → Unchanged (D.state disk.old) (D.state disk.new) }
         ensures told { WhereTold (D.state disk.old).reads (D.state disk.new).reads
-            (Adds (items.Txn (next_txn (tail_of self.old) ops.now now)) result self.old self.new (D.state disk.old) (D.state disk.new)) }
+            (Adds (items.Txn (next_txn (tail_of self.old) ops.now now)) result
+            self.old self.new (D.state disk.old) (D.state disk.new)) }
         ensures frame { GoesOn (D.state disk.old) (D.state disk.new) }
         ensures cause { HasCause DiskFault (D.state disk.old).faults (D.state disk.new).faults result }
     {
-        self.is_closed = true;
-        Err(StoreFail::NoMemory)
+        let Some(moment) = self.moment_at(now) else {
+            let last = self.contents.last;
+            return Err(StoreFail::ClockBack { last });
+        };
+        if granule(moment, self.header.width) >= MAX_GRANULES {
+            return Err(StoreFail::TooLate);
+        }
+        if ops.as_slice().len() > usize::from(MAX_OPS) {
+            return Err(StoreFail::TooManyOps);
+        }
+        let number = self.contents.count + 1;
+        let Ok(ops) = ops.copy(alloc) else {
+            self.is_closed = true;
+            return Err(StoreFail::NoMemory);
+        };
+        let txn = Txn {
+            number,
+            moment,
+            ops,
+        };
+        match self.store_item(alloc, disk, &Item::Txn(txn)) {
+            Ok(()) => Ok(number),
+            Err(fail) => Err(fail),
+        }
     }
 
     /// Stores a Frontier of this moment, where the last moment is before it: from then on nothing is
@@ -102,22 +150,105 @@ impl Store {
         disk: &mut D,
         moment: u64,
     ) -> Result<(), StoreFail>
-        ensures refused { IsRefusedBy (frontier_fault (tail_of self.old) self.old.at.is_closed moment) result }
+        ensures refused { IsRefusedBy
+            (frontier_fault (tail_of self.old) self.old.at.is_closed moment) result }
         ensures stands { StandsAfter result self.old (frontier_at self.old moment) self.new }
         ensures done { moment ≤ self.old.last → IsOk result }
         ensures same { moment ≤ self.old.last → Unchanged (D.state disk.old) (D.state disk.new) }
         ensures told { self.old.last < moment → WhereTold (D.state disk.old).reads (D.state disk.new).reads
-            (Adds (items.Frontier moment) result self.old self.new (D.state disk.old) (D.state disk.new)) }
+            (Adds (items.Frontier moment) result self.old self.new
+            (D.state disk.old) (D.state disk.new)) }
         ensures frame { GoesOn (D.state disk.old) (D.state disk.new) }
         ensures cause { HasCause DiskFault (D.state disk.old).faults (D.state disk.new).faults result }
     {
-        if moment <= self.last {
+        if moment <= self.contents.last {
             return Ok(());
         }
-        self.is_closed = true;
-        Err(StoreFail::NoMemory)
+        self.store_item(alloc, disk, &Item::Frontier { moment })
     }
 
+    /// The moment of these clock seconds, where that isn't before the last one.
+    fn moment_at(&self, now: u64) -> Option<u64>
+        ensures value { MatchOption result (is_back (tail_of self.now) now ≡ true)
+            (IsNextMoment (tail_of self.now) now) }
+    {
+        let moment = now.checked_sub(self.header.epoch)?;
+        if moment < self.contents.last {
+            return None;
+        }
+        Some(moment)
+    }
+
+    /// Stores an item that isn't before the last one.
+    fn store_item<D: Disk>(
+        &mut self,
+        alloc: Global,
+        disk: &mut D,
+        item: &Item,
+    ) -> Result<(), StoreFail>
+        requires counted { IsCounted item.now }
+        requires few_ops { op_count_of item.now ≤ max_ops }
+        requires follows { self.old.last ≤ moment_in item.now }
+        ensures refused { IsRefusedBy
+            (item_fault (tail_of self.old) self.old.at.is_closed item.now) result }
+        ensures stands { StandsAfter result self.old (with_item self.old item.now) self.new }
+        ensures same { IsSome (item_fault (tail_of self.old) self.old.at.is_closed item.now)
+            → Unchanged (D.state disk.old) (D.state disk.new) }
+        ensures told { WhereTold (D.state disk.old).reads (D.state disk.new).reads
+            (Adds item.now result self.old self.new (D.state disk.old) (D.state disk.new)) }
+        ensures frame { GoesOn (D.state disk.old) (D.state disk.new) }
+        ensures cause { HasCause DiskFault (D.state disk.old).faults (D.state disk.new).faults result }
+    {
+        match encode_item(alloc, item) {
+            Ok(payload) => self.store_payload(alloc, disk, item, payload.as_slice()),
+            Err(fail) => {
+                let fail = StoreFail::from(fail);
+                self.is_closed |= fail.closes();
+                Err(fail)
+            }
+        }
+    }
+
+    /// Adds an item to the file by its payload, and then to what is known of the file.
+    fn store_payload<D: Disk>(
+        &mut self,
+        alloc: Global,
+        disk: &mut D,
+        item: &Item,
+        payload: &[u8],
+    ) -> Result<(), StoreFail>
+        requires spelled { Spells item.now payload.now }
+        requires short { length payload.now ≤ max_payload }
+        requires follows { self.old.last ≤ moment_in item.now }
+        ensures refused { IsRefusedBy
+            (item_fault (tail_of self.old) self.old.at.is_closed item.now) result }
+        ensures stands { StandsAfter result self.old (with_item self.old item.now) self.new }
+        ensures same { IsSome (item_fault (tail_of self.old) self.old.at.is_closed item.now)
+            → Unchanged (D.state disk.old) (D.state disk.new) }
+        ensures told { WhereTold (D.state disk.old).reads (D.state disk.new).reads
+            (Adds item.now result self.old self.new (D.state disk.old) (D.state disk.new)) }
+        ensures frame { GoesOn (D.state disk.old) (D.state disk.new) }
+        ensures cause { HasCause DiskFault (D.state disk.old).faults (D.state disk.new).faults result }
+    {
+        if self.is_closed {
+            return Err(StoreFail::Closed);
+        }
+        if let Err(fail) = self.journal.append(alloc, disk, payload) {
+            let fail = StoreFail::from(fail);
+            self.is_closed = fail.closes();
+            return Err(fail);
+        }
+        match self.contents.add(alloc, item) {
+            Ok(()) => Ok(()),
+            Err(_) => {
+                self.is_closed = true;
+                Err(StoreFail::NoMemory)
+            }
+        }
+    }
+}
+
+impl Store {
     /// The header.
     pub fn header(&self) -> &Header
         ensures value { result.now ≡ self.now.header }
@@ -131,21 +262,21 @@ impl Store {
         ensures value { result.now ≡ self.now.tables }
         ensures last { self.now.tables.last ≤ self.now.last }
     {
-        &self.tables
+        &self.contents.tables
     }
 
     /// How many transactions are stored.
     pub fn txn_count(&self) -> u32
         ensures value { result ≡ self.now.count }
     {
-        self.count
+        self.contents.count
     }
 
     /// The greatest moment of an item, or 0.
     pub fn last_moment(&self) -> u64
         ensures value { result ≡ self.now.last }
     {
-        self.last
+        self.contents.last
     }
 
     /// Whether a call has failed since the store was opened.
@@ -158,7 +289,8 @@ impl Store {
     /// How many changing calls the append of a Frontier makes that is carried out.
     pub fn frontier_calls(&self) -> u8
         ensures value { result ≡ (if self.now.at.gate_is_open then 6 else 4) }
-        ensures spelled { (moment : ℕ) → result ≡ length (append_calls self.now.at (spell_frontier moment)) }
+        ensures spelled { (moment : ℕ)
+            → result ≡ length (append_calls self.now.at (spell_frontier moment)) }
     {
         self.journal.calls()
     }

@@ -42,6 +42,9 @@
 //! `open_journal` gives the journal of a file with its head and payloads, or `NotAStore` exactly where
 //! the bytes have no head of the shape (`value`).
 //!
+//! Also over a disk that tells nothing, the place behind the payloads is within the limit and greater
+//! than their number (`within`, `few`).
+//!
 //! A journal knows of its file only the place of the next gate and whether that is open, so each call
 //! on it is lent the disk. That a disk's bytes are as the journal left them is `StandsIn`. After a
 //! failure of the disk, and after nothing else, it is closed until the file is opened anew.

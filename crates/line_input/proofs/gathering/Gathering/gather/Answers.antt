@@ -1,5 +1,4 @@
-use Rattle.std.proofs.Common.{◌≡◌, ◌++◌, ◌+◌, take, arith}
-use Rattle.line_input.specs.Lines.{IsFeedless}
+use Rattle.std.proofs.Common.{◌+◌, take, arith}
 use Rattle.line_input.proofs.Cuts.{feedless_before, feedless_all, feedless_joined, cut_ahead, length_range}
 use Rattle.line_input.proofs.gathering.Gathering.gather.Goals as goal
 

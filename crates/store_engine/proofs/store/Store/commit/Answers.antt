@@ -1,9 +1,14 @@
-use Rattle.std.proofs.Common.{refl}
 use Rattle.disk_words.proofs.Frame.{goes_on_same}
 use Rattle.store_engine.proofs.store.Store.commit.Goals as goal
 
-pub returns-clause-frame : goal.returns-clause-frame
-returns-clause-frame g c = goes_on_same _
+pub returns-in_default-clause-frame : goal.returns-in_default-clause-frame
+returns-in_default-clause-frame g c = goes_on_same _
 
-pub returns-clause-same : goal.returns-clause-same
-returns-clause-same g c = λ refused. record { reads = refl; trace = refl; images = λ c. (λ now. now, λ now. now); since = λ t c. (λ was. was, λ was. was) }
+pub returns-then-granule-ge-MAX_GRANULES-clause-frame : goal.returns-then-granule-ge-MAX_GRANULES-clause-frame
+returns-then-granule-ge-MAX_GRANULES-clause-frame g c = goes_on_same _
+
+pub returns-then-as_slice-from-clause-frame : goal.returns-then-as_slice-from-clause-frame
+returns-then-as_slice-from-clause-frame g c = goes_on_same _
+
+pub returns-in_default-copy-clause-frame : goal.returns-in_default-copy-clause-frame
+returns-in_default-copy-clause-frame g c = goes_on_same _

@@ -16,7 +16,7 @@ use Rattle.stmt_text.specs.declared.stmt.Stmt.{Stmt}
 use Rattle.stmt_text.specs.declared.stmt.Stmt.TheVariants as stmts
 use Rattle.session_core.specs.World.{World, tables_now, tables_at}
 use Rattle.session_core.specs.Steps.{found, scanned, told, read}
-use Rattle.session_core.specs.Reading.{shown_at, read_from}
+use Rattle.session_core.specs.Reading.{shown_at, read_from, IsHistory}
 use Rattle.session_core.proofs.Staying.{state_stays, changes_stay}
 
 module _ (s : Opened) (w : World) (k : Knows s w.items) where
@@ -37,18 +37,18 @@ module _ (s : Opened) (w : World) (k : Knows s w.items) where
         ap (λ (st : State). histories.told key (versions_from (changes_of name key (txns w.items) s.tables.last)) (table_of name st)) (sym (state_stays (txns w.items) s.tables.last k.tables.none_later (last_moment w.items) late))
         ∙ ap (λ (cs : List (ℕ × Option (List Value))). histories.told key (versions_from cs) (table_of name (state (txns w.items) (last_moment w.items)))) (sym (changes_stay name key (txns w.items) s.tables.last k.tables.none_later (last_moment w.items) late))
 
-    pub reads : AreTables s.tables → (stmt : Stmt) → read_from s stmt ≡ read w stmt
-    reads are (stmts.Get table key moment) = ap (λ (st : State). found (row_at st table key)) (shown moment)
-    reads are (stmts.Scan table filter moment) = ap (λ (st : State). scanned (scan_of st table filter)) (shown moment)
-    reads are (stmts.History table key) = ap told ((answers_stand s.tables (txns w.items) are k.tables).histories table key ∙ told_later table key)
-    reads are (stmts.Create table columns) = refl
-    reads are (stmts.Insert table row) = refl
-    reads are (stmts.Update table row) = refl
-    reads are (stmts.Delete table key) = refl
-    reads are stmts.Begin = refl
-    reads are stmts.Commit = refl
-    reads are stmts.Abort = refl
-    reads are stmts.Notarize = refl
-    reads are stmts.Validate = refl
-    reads are (stmts.Analyse algorithm) = refl
-    reads are (stmts.Now moment) = refl
+    pub reads : (stmt : Stmt) → (IsHistory stmt → AreTables s.tables) → read_from s stmt ≡ read w stmt
+    reads (stmts.Get table key moment) are = ap (λ (st : State). found (row_at st table key)) (shown moment)
+    reads (stmts.Scan table filter moment) are = ap (λ (st : State). scanned (scan_of st table filter)) (shown moment)
+    reads (stmts.History table key) are = ap told ((answers_stand s.tables (txns w.items) (are tt) k.tables).histories table key ∙ told_later table key)
+    reads (stmts.Create table columns) are = refl
+    reads (stmts.Insert table row) are = refl
+    reads (stmts.Update table row) are = refl
+    reads (stmts.Delete table key) are = refl
+    reads stmts.Begin are = refl
+    reads stmts.Commit are = refl
+    reads stmts.Abort are = refl
+    reads stmts.Notarize are = refl
+    reads stmts.Validate are = refl
+    reads (stmts.Analyse algorithm) are = refl
+    reads (stmts.Now moment) are = refl

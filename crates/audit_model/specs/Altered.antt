@@ -1,0 +1,44 @@
+-- Which granules of a file differ from the notarized ones.
+use Rattle.std.specs.Prelude.{◌≢◌, ℕ, ◌<◌, nat_eq, if◌then◌else◌, Bool, ⊤, List, [], Option, Some, None}
+use Rattle.std.specs.Cmp.Lexicographic.{pointwise}
+use Rattle.std.specs.Option.{option_map}
+use Rattle.tuple_bytes.specs.declared.header.Header.{Header}
+use Rattle.tuple_bytes.specs.declared.item.Txn.{Txn}
+use Rattle.tuple_bytes.specs.Spelling.{spell_fields}
+use Rattle.history_model.specs.declared.stored.Stored.{Stored}
+use Rattle.history_model.specs.History.{History, history, rows}
+use Rattle.digest_model.specs.Layout.{layout, first_granule}
+use Rattle.digest_model.specs.Inputs.{Clash}
+use Rattle.audit_model.specs.Names.{inputs}
+
+-- the history that is stored, where there is a header
+abbrev pub history_in : Stored → Option History
+history_in s = option_map (λ header. history header s.items) s.header
+
+-- two headers have the same fields
+abbrev pub has_fields_of : Header → Header → Bool
+has_fields_of a b = pointwise nat_eq (spell_fields a) (spell_fields b)
+
+-- what a file holds in a granule of h: nothing comparable, where it has no header or another one
+abbrev pub view : History → Option History → ℕ → Option (List Txn)
+view h None g = None
+view h (Some s) g = if has_fields_of h.header s.header then Some (rows s g) else None
+
+-- a file without the header of h
+abbrev pub HasOtherHeader : History → Option History → Type 0
+HasOtherHeader h None = ⊤
+HasOtherHeader h (Some s) = spell_fields h.header ≢ spell_fields s.header
+
+-- a sealed granule that the file shows otherwise
+pub record IsAltered (h : History) (s : Option History) (n g : ℕ) : Type 0 where
+  pub is_sealed : g < first_granule (layout h) n
+  pub differs : view h s g ≢ Some (rows h g)
+
+-- what is hashed for what a file holds
+abbrev pub stored_inputs : Option History → ℕ → List (List ℕ)
+stored_inputs None n = []
+stored_inputs (Some s) n = inputs s n
+
+-- two inputs, one for h and one for the file, differ and have equal digests
+abbrev pub HashClash : History → Option History → ℕ → Type 0
+HashClash h s n = Clash (inputs h n) (stored_inputs s n)

@@ -1,0 +1,189 @@
+-- What the answers show.
+use Rattle.std.specs.Prelude.{◌≡◌, ◌↔◌, ◌⊎◌, ℕ, ◌+◌, ◌*◌, ◌^◌, ◌<◌, ◌≤◌, true, List, Contains, length, Option, Some, None}
+use Rattle.std.specs.List.Sorted.{IsStrictlyIncreasing}
+use Rattle.notary_link.specs.declared.name.Name.{Name}
+use Rattle.notary_link.specs.declared.name.Name.TheVariants.{Header, Cum, Tile, Node}
+use Rattle.notary_link.specs.declared.answer.Answer.{Answer}
+use Rattle.notary_link.specs.declared.answer.Answer.TheVariants.{Same, Differs, Absent}
+use Rattle.notary_link.specs.Batches.{Batch, compared}
+use Rattle.history_model.specs.History.{History}
+use Rattle.history_model.specs.Stored.{stored}
+use Rattle.digest_model.specs.Layout.{layout, exponent, first_granule, end_granule, tile_size, whole, has_tile_chains, has_tree}
+use Rattle.digest_model.specs.Roots.{roots_of}
+use Rattle.digest_model.specs.Laws.{HasSpelling, SameBelow}
+use Rattle.audit_model.specs.Names.{planned, digest}
+use Rattle.audit_model.specs.Notary.{NotaryOf, answers}
+use Rattle.audit_model.specs.Altered.{history_in, HasOtherHeader, IsAltered, HashClash}
+use Rattle.audit_model.specs.Sound.{HoldsNotarized}
+use Rattle.audit_model.specs.Mono.{BeginsRegion, IsFirstBad, IsStep}
+use Rattle.audit_model.specs.Tree.{IsFound, IsConsistent, found, checks, digit_count}
+use Rattle.audit_model.specs.Tiled.{IsCandidate, IsCandidateAmong, IsTarget, candidates_of, exactly_of}
+
+-- The candidates are the numbers that have every bit of the target.
+abbrev pub CandidatesAreExact : Type 0
+CandidatesAreExact = (k target g : ℕ) (parts : ℕ → Answer) → IsTarget k parts target
+    → Contains (candidates_of target k) g ↔ IsCandidate k parts g
+
+abbrev pub CandidatesAmongAreExact : Type 0
+CandidatesAmongAreExact = (kappa k target g : ℕ) (parts : ℕ → Answer) → IsTarget k parts target
+    → Contains (exactly_of target k kappa) g ↔ IsCandidateAmong kappa k parts g
+
+-- The list of leaves has those that are reached and differ.
+abbrev pub FoundAreExact : Type 0
+FoundAreExact = (granules g : ℕ) (nodes : ℕ → ℕ → Answer) → granules < 2 ^ 32
+    → Contains (found granules nodes) g ↔ IsFound granules nodes g
+
+-- A descent asks few nodes for each leaf that it finds.
+abbrev pub ChecksAreFew : Type 0
+ChecksAreFew = (granules : ℕ) (nodes : ℕ → ℕ → Answer) → granules < 2 ^ 32 → IsConsistent granules nodes
+    → checks granules nodes ≤ length (roots_of granules) + 2 * (digit_count granules * length (found granules nodes))
+
+-- ---- the answers for the digests of s, where the notary holds h's
+
+-- a notarized history, and the history of a file under its header, with the tiles in the same places
+pub record IsAudit (batches : List Batch) (id : ℕ) (h s : History) (n : ℕ) : Type 0 where
+  pub filed : NotaryOf batches id h n
+  pub ours : HasSpelling h
+  pub theirs : HasSpelling s
+  pub header : h.header ≡ s.header
+  pub places : layout h ≡ layout s
+
+-- for a planned name the two digests are compared
+abbrev pub AnswersCompare : Type 0
+AnswersCompare = (batches : List Batch) (id : ℕ) (h s : History) (n : ℕ) (name : Name) → NotaryOf batches id h n
+    → Contains (planned (layout h) n) name
+    → answers batches s name ≡ compared (digest s name) (digest h name)
+
+-- other names are absent
+abbrev pub OthersAreAbsent : Type 0
+OthersAreAbsent = (batches : List Batch) (id : ℕ) (h s : History) (n : ℕ) (name : Name) → NotaryOf batches id h n
+    → (Contains (planned (layout h) n) name → ⊥)
+    → answers batches s name ≡ Absent
+
+-- There is a batch for the header, and one for each sealed tile.
+abbrev pub BatchesAreCounted : Type 0
+BatchesAreCounted = (batches : List Batch) (id : ℕ) (h : History) (n : ℕ) → NotaryOf batches id h n
+    → length batches ≡ n + 1
+
+-- Under another header, or none, every sealed granule is altered.
+abbrev pub OtherHeaderIsAltered : Type 0
+OtherHeaderIsAltered = (h : History) (s : Option History) (n g : ℕ) → HasOtherHeader h s → g < first_granule (layout h) n
+    → IsAltered h s n g
+
+-- Where the chain is the same at the end of a tile, nothing is altered up to there.
+abbrev pub SameChainIsClean : Type 0
+SameChainIsClean = (batches : List Batch) (id : ℕ) (h s : History) (n tile : ℕ) → IsAudit batches id h s n → tile < n
+    → answers batches s (Cum tile) ≡ Same
+    → SameBelow h s (end_granule (layout h) tile) ⊎ HashClash h (Some s) n
+
+-- of a region that begins somewhere; there is none
+abbrev pub IfSomeOrNever : Option ℕ → (ℕ → Type 0) → Type 0
+IfSomeOrNever None P = ⊥
+IfSomeOrNever (Some tile) P = P tile
+
+-- The region of the Monochromatic analysis has every altered granule.
+abbrev pub RegionHasAltered : Type 0
+RegionHasAltered = (batches : List Batch) (id : ℕ) (h s : History) (n : ℕ) (region : Option ℕ) (g : ℕ) → IsAudit batches id h s n
+    → BeginsRegion (λ tile. answers batches s (Cum tile)) n region
+    → IsAltered h (Some s) n g
+    → IfSomeOrNever region (λ tile. first_granule (layout h) tile ≤ g) ⊎ HashClash h (Some s) n
+
+-- An altered granule is a candidate of its tile.
+abbrev pub CandidatesHaveAltered : Type 0
+CandidatesHaveAltered = (batches : List Batch) (id : ℕ) (h s : History) (n tile number : ℕ) → IsAudit batches id h s n
+    → has_tile_chains (layout h) tile ≡ true → tile < n → number < tile_size (layout h) tile
+    → IsAltered h (Some s) n (first_granule (layout h) tile + number)
+    → IsCandidate (exponent (layout h) tile) (λ part. answers batches s (Tile tile part)) number ⊎ HashClash h (Some s) n
+
+-- each sealed tile has the tree
+abbrev pub HasTree : History → ℕ → Type 0
+HasTree h n = (tile : ℕ) → tile < n → has_tree (layout h) tile ≡ true
+
+-- An altered granule is a leaf that is reached and differs.
+abbrev pub DescentHasAltered : Type 0
+DescentHasAltered = (batches : List Batch) (id : ℕ) (h s : History) (n g : ℕ) → IsAudit batches id h s n → HasTree h n
+    → IsAltered h (Some s) n g
+    → IsFound (first_granule (layout h) n) (λ level index. answers batches s (Node level index)) g ⊎ HashClash h (Some s) n
+
+-- A leaf that is reached and differs is an altered granule.
+abbrev pub DescentIsAltered : Type 0
+DescentIsAltered = (batches : List Batch) (id : ℕ) (h s : History) (n g : ℕ) → IsAudit batches id h s n → HasTree h n
+    → IsFound (first_granule (layout h) n) (λ level index. answers batches s (Node level index)) g
+    → IsAltered h (Some s) n g
+
+-- The header's answer shows whether the file has the notarized header.
+abbrev pub HeaderIsShown : Type 0
+HeaderIsShown = (batches : List Batch) (id : ℕ) (h s : History) (n : ℕ) → NotaryOf batches id h n → HasSpelling h → HasSpelling s
+    → answers batches s Header ≡ Same
+    → (h.header ≡ s.header) ⊎ HashClash h (Some s) n
+
+-- the granule of this number within a tile is altered
+abbrev pub IsAlteredIn : History → History → ℕ → ℕ → ℕ → Type 0
+IsAlteredIn h s n tile number =
+    (number < tile_size (layout h) tile) × IsAltered h (Some s) n (first_granule (layout h) tile + number)
+
+-- some granule of a tile is altered
+abbrev pub HasAltered : History → History → ℕ → ℕ → Type 0
+HasAltered h s n tile = (number : ℕ) × IsAlteredIn h s n tile number
+
+-- Where the chain differs at the end of a tile, some granule up to there is altered, without exception.
+abbrev pub ChangedChainHasAltered : Type 0
+ChangedChainHasAltered = (batches : List Batch) (id : ℕ) (h s : History) (n tile : ℕ) → IsAudit batches id h s n → tile < n
+    → answers batches s (Cum tile) ≡ Differs
+    → (g : ℕ) × (g < end_granule (layout h) tile) × IsAltered h (Some s) n g
+
+-- The region begins at a tile with an altered granule.
+abbrev pub RegionBeginsAltered : Type 0
+RegionBeginsAltered = (batches : List Batch) (id : ℕ) (h s : History) (n tile : ℕ) → IsAudit batches id h s n
+    → IsFirstBad (λ j. answers batches s (Cum j)) n tile
+    → HasAltered h s n tile ⊎ HashClash h (Some s) n
+
+-- A tile that differs has an altered granule, without exception.
+abbrev pub FailingTileIsAltered : Type 0
+FailingTileIsAltered = (batches : List Batch) (id : ℕ) (h s : History) (n tile : ℕ) → IsAudit batches id h s n
+    → has_tile_chains (layout h) tile ≡ true → tile < n
+    → answers batches s (Tile tile whole) ≡ Differs
+    → HasAltered h s n tile
+
+-- Below a node that differs a child differs, without exception.
+abbrev pub TreeIsConsistent : Type 0
+TreeIsConsistent = (batches : List Batch) (id : ℕ) (h s : History) (n : ℕ) → IsAudit batches id h s n → HasTree h n
+    → IsConsistent (first_granule (layout h) n) (λ level index. answers batches s (Node level index))
+
+-- Where the answers are the same up to a tile and differ from there on, the region begins there and nowhere else.
+abbrev pub StepIsRegion : Type 0
+StepIsRegion = (cums : ℕ → Answer) (n p : ℕ) (region : Option ℕ) → IsStep cums n p
+    → BeginsRegion cums n region ↔ (region ≡ Some p)
+
+-- the numbers of the altered granules of a tile, ascending
+pub record IsAlteredSet (h s : History) (n tile : ℕ) (numbers : List ℕ) : Type 0 where
+  pub set : IsStrictlyIncreasing numbers
+  pub members : (number : ℕ) → Contains numbers number ↔ IsAlteredIn h s n tile number
+
+-- Where kappa granules of a tile are altered, they are candidates among sets of kappa members.
+abbrev pub CandidatesAmongHaveAltered : Type 0
+CandidatesAmongHaveAltered = (batches : List Batch) (id : ℕ) (h s : History) (n tile number : ℕ) (numbers : List ℕ) → IsAudit batches id h s n
+    → has_tile_chains (layout h) tile ≡ true → tile < n → IsAlteredSet h s n tile numbers → Contains numbers number
+    → IsCandidateAmong (length numbers) (exponent (layout h) tile) (λ part. answers batches s (Tile tile part)) number ⊎ HashClash h (Some s) n
+
+-- The leaves that are found ascend.
+abbrev pub FoundAscend : Type 0
+FoundAscend = (granules : ℕ) (nodes : ℕ → ℕ → Answer) → IsStrictlyIncreasing (found granules nodes)
+
+-- A notarized history is answered the same for each planned name.
+abbrev pub NotarizedIsSame : Type 0
+NotarizedIsSame = (batches : List Batch) (id : ℕ) (s : History) (n : ℕ) (name : Name) → NotaryOf batches id s n
+    → Contains (planned (layout s) n) name
+    → answers batches s name ≡ Same
+
+-- bytes hold a history under the id, for which each planned name is answered Same
+pub record IsAnsweredSame (batches : List Batch) (id n : ℕ) (bytes : List ℕ) : Type 0 where
+  pub history : History
+  pub is_stored : history_in (stored bytes) ≡ Some history
+  pub header : history.header.id ≡ id
+  pub same : (name : Name) → Contains (planned (layout history) n) name → answers batches history name ≡ Same
+
+-- Bytes that hold what is filed, as each image of a sound store, are answered the same for each planned name.
+abbrev pub HeldIsSame : Type 0
+HeldIsSame = (batches : List Batch) (id n : ℕ) (bytes : List ℕ) → HoldsNotarized batches id n (history_in (stored bytes))
+    → IsAnsweredSame batches id n bytes

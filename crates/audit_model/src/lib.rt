@@ -1,0 +1,62 @@
+//! What is filed for a history, what a notary answers of another, and which granules that names.
+//!
+//! This is what a reader of the audits has to believe: definitions, and laws about them. Here is no
+//! code that runs. All digests are those of `digest_model`; what a notary is stands in `notary_link`.
+//!
+//! # Names and batches
+//!
+//! | Batch | Seals, in this order |
+//! |---|---|
+//! | 0 | Header |
+//! | j + 1 | Cum j; with tile chains, the whole tile j (part 255) and its bit chains 0 to k - 1; with the tree, every node whose last granule lies in tile j, by last granule and then by level from 0 upwards |
+//!
+//! # Definitions
+//!
+//! | Definition | In words |
+//! |---|---|
+//! | `planned l n`, `digest h name`, `batch h i` | the names of batches 0 to n, the digest of a name, the seals of a batch |
+//! | `inputs h n`, `HashClash h s n` | all that is hashed for the planned names; an input for h and one for s differ and have equal digests |
+//! | `NotaryOf batches id h n` | the batches under the id are those of h with n sealed tiles |
+//! | `answers batches s name` | what is answered for the digest of s: Same, Differs, or Absent |
+//! | `IsAltered h s n g` | granule g is sealed, and s does not show h's transactions in it: others, another header or none |
+//! | `BeginsRegion cums n region` | where the Monochromatic region begins: at a tile that differs and is 0 or follows one that is the same |
+//! | `Explains k parts granules` | a set of granules that, were exactly these altered, gives these answers for the parts of a tile |
+//! | `IsCandidate`, `IsCandidateAmong kappa` | a member of some set that explains; of one with kappa members |
+//! | `Reached`, `IsFound` | a root, or a child of a reached node that differs; a reached leaf that differs |
+//! | `checks granules nodes` | the roots, and two nodes for each reached one of level 1 or more that differs |
+//! | `changed_from`, `first_changed_until` | the span in which a tile was changed, by the moments of its batch and of the marks |
+//! | `IsSound is_image batches id` | nothing is filed, or each image of the disk holds the history that is filed |
+//!
+//! # What the layers above may rely on
+//!
+//! Each is the contract of a function that does nothing. h is the notarized history, s another one
+//! under its header, both with spellings, as all that files hold; "or a clash" is `HashClash`.
+//!
+//! | Law | Clause |
+//! |---|---|
+//! | a planned name is answered by comparing the two digests, every other name is absent, h itself is the same throughout; there are n + 1 batches; so each image of a sound store is answered the same | `answers_compare`, `others_are_absent`, `notarized_is_same`, `batches_are_counted`, `held_is_same` |
+//! | the header's answer is Same: the headers are equal, or a clash; under another header every sealed granule is altered | `header_is_shown`, `other_header_is_altered` |
+//! | the chain is the same at a tile's end: nothing is altered up to there, or a clash; it differs: some granule up to there is altered | `same_chain_is_clean`, `changed_chain_has_altered` |
+//! | the region has every altered granule and begins at an altered tile, or a clash; where the answers change once, it begins there | `region_has_altered`, `region_begins_altered`, `step_is_region` |
+//! | the candidates are the numbers that have every bit of the target; among sets of kappa members the target alone, all of them, or none | `candidates_are_exact`, `candidates_among_are_exact` |
+//! | an altered granule is a candidate, and among sets of as many members as are altered, or a clash; a tile that differs has an altered granule | `candidates_have_altered`, `candidates_among_have_altered`, `failing_tile_is_altered` |
+//! | an altered granule is found, or a clash; a found one is altered; below a node that differs a child differs | `descent_has_altered`, `descent_is_altered`, `tree_is_consistent` |
+//! | the list of leaves has exactly those found, ascends, and few nodes are asked for it | `found_are_exact`, `found_ascend`, `checks_are_few` |
+//! | examples worked by hand | `worked_examples` |
+//!
+//! Words on tiles go by a layout and never by a header, so that tiles may one day change their size.
+//!
+//! Trusted is the statement of SHA-256 in the kit's `sha2`; that no two inputs share a digest is
+//! assumed nowhere.
+#![tactic(auto)]
+
+mod laws;
+
+pub use laws::{
+    answers_compare, batches_are_counted, candidates_among_are_exact,
+    candidates_among_have_altered, candidates_are_exact, candidates_have_altered,
+    changed_chain_has_altered, checks_are_few, descent_has_altered, descent_is_altered,
+    failing_tile_is_altered, found_are_exact, found_ascend, header_is_shown, held_is_same,
+    notarized_is_same, other_header_is_altered, others_are_absent, region_begins_altered,
+    region_has_altered, same_chain_is_clean, step_is_region, tree_is_consistent, worked_examples,
+};

@@ -1,0 +1,52 @@
+use Rattle.std.proofs.Common.{◌≡◌, Err, refl, ◌∙◌, arith, rules}
+use Rattle.notary_link.proofs.Frame.{goes_on_same, goes_on_then}
+use Rattle.notary_link.proofs.FiledEach.{none_yet, all_taken, filed_more, calls_on, filing_stopped, calls_stopped}
+use Rattle.notary_link.proofs.Runs.{made_none}
+use Rattle.notary_link.proofs.filing.file_each.Goals as goal
+
+pub loop-batch-init : goal.loop-batch-init
+loop-batch-init g c = record {
+  index = omega arith;
+  told = none_yet c.args.id (g.N.Notary.state c.args.notary.now).lists;
+  trace = made_none (g.N.Notary.state c.args.notary.now);
+  asked = refl;
+  frame = goes_on_same _;
+}
+
+pub loop-batch-preserved : goal.loop-batch-preserved
+loop-batch-preserved g c =
+    let S = g.N.Notary.state in
+    let change = rw (c.as_slice.ensures.value, c.loop-batch.invariant.index) at c.in_ok-file.ensures.change in record {
+      index = omega (arith, c.loop-batch.invariant.index);
+      told = filed_more c.args.id c.args.from c.args.moment c.args.batches.now c.loop-batch.batch-index c.batch-item.result c.loop-batch-test.true c.batch-item.is (S c.args.notary.now) (S c.loop-batch.notary) (S c.file.new.self) c.loop-batch.invariant.frame c.in_ok-file.ensures.frame c.loop-batch.invariant.told change;
+      trace = calls_on c.args.id c.args.from c.args.moment c.args.batches.now c.loop-batch.batch-index c.batch-item.result c.loop-batch-test.true c.batch-item.is (S c.args.notary.now) (S c.loop-batch.notary) (S c.file.new.self) c.loop-batch.invariant.frame c.in_ok-file.ensures.frame c.loop-batch.invariant.trace change;
+      asked = c.in_ok-file.ensures.change.asked ∙ c.loop-batch.invariant.asked;
+      frame = goes_on_then _ _ _ c.loop-batch.invariant.frame c.in_ok-file.ensures.frame;
+    }
+
+-- all were filed
+
+pub returns-clause-told : goal.returns-clause-told
+returns-clause-told g c = rw (all_taken c.args.id c.args.from c.args.moment c.args.batches.now c.loop-batch.batch-index c.loop-batch-test.false) at c.loop-batch.invariant.told
+
+pub returns-clause-trace : goal.returns-clause-trace
+returns-clause-trace g c = rw (all_taken c.args.id c.args.from c.args.moment c.args.batches.now c.loop-batch.batch-index c.loop-batch-test.false) at c.loop-batch.invariant.trace
+
+-- one was not
+
+pub returns-in_err-file-clause-told : goal.returns-in_err-file-clause-told
+returns-in_err-file-clause-told g c =
+    let S = g.N.Notary.state in
+    let change = rw (c.as_slice.ensures.value, c.loop-batch.invariant.index) at c.in_err-file.ensures.change in
+    let same : c.from_residual.result ≡ Err c.in_err-file.field-0.0 = search rules in
+    rw same (filing_stopped c.args.id c.args.from c.args.moment c.args.batches.now c.loop-batch.batch-index c.batch-item.result c.loop-batch-test.true c.batch-item.is (S c.args.notary.now) (S c.loop-batch.notary) (S c.file.new.self) c.loop-batch.invariant.frame c.in_err-file.ensures.frame c.in_err-file.field-0.0 change c.loop-batch.invariant.told)
+
+pub returns-in_err-file-clause-trace : goal.returns-in_err-file-clause-trace
+returns-in_err-file-clause-trace g c =
+    let S = g.N.Notary.state in
+    let change = rw (c.as_slice.ensures.value, c.loop-batch.invariant.index) at c.in_err-file.ensures.change in
+    let same : c.from_residual.result ≡ Err c.in_err-file.field-0.0 = search rules in
+    rw same (calls_stopped c.args.id c.args.from c.args.moment c.args.batches.now c.loop-batch.batch-index c.batch-item.result c.loop-batch-test.true c.batch-item.is (S c.args.notary.now) (S c.loop-batch.notary) (S c.file.new.self) c.loop-batch.invariant.frame c.in_err-file.ensures.frame c.in_err-file.field-0.0 change c.loop-batch.invariant.trace)
+
+pub returns-in_err-file-clause-frame : goal.returns-in_err-file-clause-frame
+returns-in_err-file-clause-frame g c = goes_on_then _ _ _ c.loop-batch.invariant.frame c.in_err-file.ensures.frame

@@ -1,0 +1,9 @@
+pub mod Ranges
+pub mod Rows
+pub mod Cums
+pub mod Naming
+pub mod Finding
+pub mod Levels
+pub mod Parts
+pub mod Chosen
+pub mod Sealing

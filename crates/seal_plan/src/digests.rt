@@ -1,0 +1,45 @@
+//! Lists of digests.
+
+ghost use Rattle.std.specs.Prelude.{◌≡◌, [], ◌∷◌, ◌++◌, OnOk, OnErr};
+ghost use Rattle.std.specs.List.{slice_get};
+
+use std::alloc::{AllocError, Global};
+use std::marker::Model;
+
+/// Digests by their place.
+#[derive(Drop)]
+pub(crate) struct Digests {
+    digests: Vec<[u8; 32]>,
+}
+
+impl Model for Digests {
+    ghost use Rattle.std.specs.Prelude.{ℕ, List};
+
+    ghost Value = { List (List ℕ) };
+
+    ghost view = { λ d. d.digests.items };
+}
+
+impl Digests {
+    /// None, and no memory.
+    pub(crate) fn new(alloc: Global) -> Digests
+        ensures value { result ≡ [] }
+    {
+        Digests {
+            digests: Vec::new(alloc),
+        }
+    }
+
+    pub(crate) fn push(&mut self, digest: [u8; 32]) -> Result<(), AllocError>
+        ensures ok { OnOk result (self.new ≡ self.old ++ digest ∷ []) }
+    {
+        self.digests.push(digest)?;
+        Ok(())
+    }
+
+    pub(crate) fn as_slice(&self) -> &[[u8; 32]]
+        ensures value { result.now ≡ self.now }
+    {
+        &self.digests
+    }
+}

@@ -1,0 +1,42 @@
+//! All digests of the sealed tiles of a history, and the batches that a notary is given.
+//!
+//! A plan is made once from a header, the items of a file and a number of tiles. It holds the digest of
+//! each planned name: the header's, the chain's value at each tile's end, where the header has tile
+//! chains each tile's whole and bit chains, and where it has the tree each node. The moments of the
+//! items may fall: a granule has its transactions in file order, and the granules go one after another.
+//!
+//! | Batch | Seals, in order |
+//! |---|---|
+//! | 0 | the header |
+//! | j + 1 | `cum j`; with tile chains: tile j whole, its bit chains from 0 up; with the tree: each node whose last granule lies in tile j, by the last granule and then by the level |
+//!
+//! What a layer above may rely on:
+//!
+//! | Sentence | Clause |
+//! |---|---|
+//! | in contracts a plan is a history and a number of tiles, those that it was made of | `new`: `value` |
+//! | it answers exactly the digest of a planned name, and none for another | `digest`: `value`, `planned` |
+//! | the batches are the planned seals in their order | `batch`: `value` |
+//! | each transaction is hashed at most twice, once for its link and once for its granule | `new`: `steps` |
+//! | `digest` and the readers take no memory | they answer no want of it |
+//!
+//! Each digest is computed once; an empty granule costs one hash, since its number is hashed. Only
+//! tested: that a call with memory at hand doesn't answer want of memory.
+//!
+//! ```rust
+//! let plan = Plan::new(alloc, &header, &items, tiles, &mut steps)?;
+//! let seals = plan.batch(alloc, 1)?;
+//! ```
+#![tactic(auto)]
+
+mod chains;
+mod digests;
+mod grouping;
+mod lookup;
+mod plan;
+mod trees;
+
+pub use plan::Plan;
+
+#[cfg(test)]
+mod tests;

@@ -1,0 +1,170 @@
+//! The plan: made once, then only read.
+
+ghost use Rattle.std.specs.Prelude.{◌≡◌, ◌≤◌, ◌+◌, ◌*◌, ◌↔◌, ◌≢◌, ℕ, IfOk, IfSome, IsSome, length, map};
+ghost use Rattle.std.specs.List.{Contains, range_with_len};
+ghost use Rattle.history_model.specs.History.{History, history, txns};
+ghost use Rattle.history_model.specs.StoredHistory.{IsHistory};
+ghost use Rattle.digest_model.specs.Layout.{layout, first_granule, max_granules};
+ghost use Rattle.digest_model.specs.Digests.{cum};
+ghost use Rattle.audit_model.specs.Names.{planned, digest};
+ghost use Rattle.cumulative_chain.specs.Tiles.{layout_of};
+ghost use Rattle.tuple_bytes.specs.Spelling.{FitsHeader};
+ghost use Rattle.seal_plan.specs.Plan.{planned_of};
+ghost use Rattle.seal_plan.specs.Places.{leaves_of, planned_parts, planned_levels};
+
+mod batch;
+
+use crate::chains::{leaves, part_digests};
+use crate::digests::Digests;
+use crate::grouping::group;
+use crate::lookup::{digest_at, has_tile_chains, has_tree, node_in, part_in};
+use crate::trees::levels_over;
+use cumulative_chain::{header_digest, links_at_tiles};
+use notary_link::Name;
+use std::alloc::{AllocError, Global};
+use std::marker::Model;
+use std::snapshot::Snapshot;
+use step_count::{Ledger, Steps};
+use tuple_bytes::{Header, Items};
+
+/// The digests of all planned names.
+#[derive(Drop)]
+pub struct Plan {
+    header: Header,
+    tiles: u32,
+    items: Snapshot<Items>,
+    header_digest: [u8; 32],
+    links: Vec<[u8; 32]>,
+    parts: Digests,
+    levels: Vec<Digests>,
+}
+
+impl Model for Plan {
+    ghost use Rattle.history_model.specs.History.{history};
+    ghost use Rattle.seal_plan.specs.Plan.{Planned, planned_of, Keeps};
+
+    ghost Value = { Planned };
+
+    ghost view = { λ p. planned_of (history p.header p.items.value) p.tiles };
+
+    ghost invariant = { λ p. Keeps (history p.header p.items.value) p.tiles p.header_digest p.links.items p.parts p.levels.items };
+}
+
+/// The chain's values and the granules' digests, over each transaction spelled once.
+fn hash_txns<L: Ledger>(
+    alloc: Global,
+    header: &Header,
+    items: &Items,
+    tiles: u32,
+    steps: &mut Steps<L>,
+) -> Result<(Vec<[u8; 32]>, Digests), AllocError>
+    requires history { IsHistory (history header.now items.now) }
+    requires within { first_granule (layout_of header.now) tiles ≤ max_granules }
+    ensures links { IfOk result (λ r. r.0.items ≡ map (cum (history header.now items.now)) (range_with_len 0 tiles)) }
+    ensures leaves { IfOk result (λ r. header.now.algs ≢ 0 → r.1 ≡ leaves_of (history header.now items.now) (first_granule (layout_of header.now) tiles)) }
+    ensures short { IfOk result (λ r. length r.1 ≤ max_granules) }
+    ensures steps { steps.new ≤ steps.old + 2 * length (txns items.now) }
+{
+    let granules = group(alloc, header, items.as_slice(), tiles << header.k)?;
+    let links = links_at_tiles(alloc, header, &granules, tiles, steps)?;
+    let digests = leaves(alloc, header, &granules, steps)?;
+    Ok((links, digests))
+}
+
+/// The parts of all tiles, where the header has tile chains.
+fn planned_parts(
+    alloc: Global,
+    header: &Header,
+    tiles: u32,
+    granules: &Digests,
+) -> Result<Digests, AllocError>
+    requires fits { FitsHeader header.now }
+    requires within { first_granule (layout_of header.now) tiles ≤ max_granules }
+    requires granules { header.now.algs ≢ 0 → length granules.now ≡ first_granule (layout_of header.now) tiles }
+    ensures value { (h : History) → h.header ≡ header.now → (header.now.algs ≢ 0 → granules.now ≡ leaves_of h (first_granule (layout h) tiles)) → IfOk result (λ digests. digests ≡ planned_parts h tiles) }
+{
+    if has_tile_chains(header) {
+        part_digests(alloc, header.k, tiles, granules.as_slice())
+    } else {
+        Ok(Digests::new(alloc))
+    }
+}
+
+/// The nodes of all levels, where the header has the tree.
+fn planned_levels(
+    alloc: Global,
+    header: &Header,
+    granules: Digests,
+) -> Result<Vec<Digests>, AllocError>
+    requires short { length granules ≤ max_granules }
+    ensures value { (h : History) (tiles : ℕ) → h.header ≡ header.now → (header.now.algs ≢ 0 → granules ≡ leaves_of h (first_granule (layout h) tiles)) → IfOk result (λ levels. levels.items ≡ planned_levels h tiles) }
+{
+    if has_tree(header) {
+        levels_over(alloc, granules)
+    } else {
+        Ok(Vec::new(alloc))
+    }
+}
+
+impl Plan {
+    /// All digests of the first tiles, which lie below granule 1,048,576.
+    pub fn new<L: Ledger>(
+        alloc: Global,
+        header: &Header,
+        items: &Items,
+        tiles: u32,
+        steps: &mut Steps<L>,
+    ) -> Result<Plan, AllocError>
+        requires history { IsHistory (history header.now items.now) }
+        requires within { first_granule (layout (history header.now items.now)) tiles ≤ max_granules }
+        ensures value { IfOk result (λ plan. plan ≡ planned_of (history header.now items.now) tiles) }
+        ensures steps { steps.new ≤ steps.old + 2 * length (txns items.now) }
+    {
+        let (links, digests) = hash_txns(alloc, header, items, tiles, steps)?;
+        let parts = planned_parts(alloc, header, tiles, &digests)?;
+        let levels = planned_levels(alloc, header, digests)?;
+        Ok(Plan {
+            header: *header,
+            tiles,
+            items: Snapshot::of(items),
+            header_digest: header_digest(header),
+            links,
+            parts,
+            levels,
+        })
+    }
+
+    /// The header that the plan was made for.
+    pub fn header(&self) -> &Header
+        ensures value { result.now ≡ self.now.history.header }
+    {
+        &self.header
+    }
+
+    /// How many tiles are planned.
+    pub fn tiles(&self) -> u32
+        ensures value { result ≡ self.now.tiles }
+    {
+        self.tiles
+    }
+
+    /// The value of the chain at the end of each tile.
+    pub fn links(&self) -> &[[u8; 32]]
+        ensures value { result.now ≡ map (cum self.now.history) (range_with_len 0 self.now.tiles) }
+    {
+        &self.links
+    }
+
+    /// The digest of a name; none exactly where the name isn't planned.
+    pub fn digest(&self, name: Name) -> Option<[u8; 32]>
+        ensures value { IfSome result (λ d. d ≡ digest self.now.history name) }
+        ensures planned { IsSome result ↔ Contains (planned (layout self.now.history) self.now.tiles) name }
+    {
+        match name {
+            Name::Header => Some(self.header_digest),
+            Name::Cum { tile } => digest_at(&self.links, tile as usize),
+            Name::Tile { tile, part } => part_in(self.parts.as_slice(), self.header.k, tile, part),
+            Name::Node { level, index } => node_in(&self.levels, level, index),
+        }
+    }
+}

@@ -1,0 +1,4 @@
+pub mod StoredFiles
+pub mod Adding
+pub mod Reordering
+pub mod Telling

@@ -1,0 +1,138 @@
+-- What items say, from item to item.
+use Rattle.std.proofs.Common.{◌≡◌, ℕ, zero, suc, ◌+◌, ◌<◌, ◌≤◌, max, List, [], ◌∷◌, ◌++◌, length, get_or, take, fold, length-append, Option, Some, None, refl, sym, ap, subst, ◌∙◌, arith}
+use Rattle.std.specs.List.{AllByRecursion, filter_map, cons_option}
+use Rattle.std.specs.List.Sorted.{IsNonDecreasingBy}
+use Rattle.std.proofs.lemmas.List.{append-nil, take_more}
+use Rattle.std.proofs.lemmas.List.Elements.{filter_map-append}
+use Rattle.std.proofs.lemmas.List.Sums.{fold-append}
+use Rattle.tuple_bytes.specs.declared.item.Item.{Item}
+use Rattle.tuple_bytes.specs.declared.item.Item.TheVariants as kinds
+use Rattle.tuple_bytes.specs.declared.item.Txn.{Txn}
+use Rattle.tuple_bytes.specs.Items.{item_of}
+use Rattle.history_model.specs.Stored.{items_of}
+use Rattle.history_model.specs.History.{txn_in, txns, moment_in, last_moment}
+use Rattle.tt_table.specs.Stands.{StandsFor}
+use Rattle.tt_table.specs.Versions.{TablesVersions}
+use Rattle.store_engine.specs.declared.contents.Contents.{Contents}
+use Rattle.store_engine.specs.Contents.{Tells, IsInTime}
+use Rattle.store_engine.specs.declared.replay.Gathered.{Gathered}
+use Rattle.store_engine.specs.Replay.{IsRead, IsGathered}
+use Rattle.store_engine.proofs.StoredFiles.{item_more, no_item_more}
+
+-- the greatest moment behind one item more
+pub last_more : (items : List Item) (item : Item) → last_moment (items ++ item ∷ []) ≡ max (last_moment items) (moment_in item)
+last_more items item = fold-append (λ m i. max m (moment_in i)) 0 items (item ∷ [])
+
+pub txns_more : (items : List Item) (t : Txn) → txns (items ++ kinds.Txn t ∷ []) ≡ txns items ++ t ∷ []
+txns_more items t = filter_map-append txn_in items (kinds.Txn t ∷ [])
+
+pub txns_no_more : (items : List Item) (moment : ℕ) → txns (items ++ kinds.Frontier moment ∷ []) ≡ txns items
+txns_no_more items moment = filter_map-append txn_in items (kinds.Frontier moment ∷ []) ∙ append-nil (txns items)
+
+cons_short : {B : Type 0} (o : Option B) (ys : List B) (n : ℕ) → length ys ≤ n → length (cons_option o ys) ≤ suc n
+cons_short (Some y) ys n h = omega (arith, h)
+cons_short None ys n h = omega (arith, h)
+
+pub filter_map_short : {A B : Type 0} (f : A → Option B) (xs : List A) → length (filter_map f xs) ≤ length xs
+filter_map_short f [] = omega arith
+filter_map_short f (x ∷ xs) = cons_short (f x) (filter_map f xs) (length xs) (filter_map_short f xs)
+
+-- a transaction more
+pub tells_txn : (c : Contents) (t : Txn) (tables : TablesVersions) (last : ℕ) → last ≡ max c.last t.moment → ((ts : List Txn) → StandsFor c.tables ts → StandsFor tables (ts ++ t ∷ []))
+    → (items : List Item) → Tells c items → Tells (record { count = c.count + 1; last = last; tables = tables }) (items ++ kinds.Txn t ∷ [])
+tells_txn c t tables last is stands items tells = record {
+  count = omega (arith, ap (λ (ts : List Txn). length ts) (txns_more items t), length-append (txns items) (t ∷ []), tells.count);
+  last = is ∙ ap (λ (l : ℕ). max l t.moment) tells.last ∙ sym (last_more items (kinds.Txn t));
+  tables = subst (StandsFor tables) (sym (txns_more items t)) (stands (txns items) tells.tables);
+}
+
+-- a Frontier more
+pub tells_frontier : (c : Contents) (moment last : ℕ) → last ≡ max c.last moment
+    → (items : List Item) → Tells c items → Tells (record { count = c.count; last = last; tables = c.tables }) (items ++ kinds.Frontier moment ∷ [])
+tells_frontier c moment last is items tells = record {
+  count = tells.count ∙ ap (λ (ts : List Txn). length ts) (sym (txns_no_more items moment));
+  last = is ∙ ap (λ (l : ℕ). max l moment) tells.last ∙ sym (last_more items (kinds.Frontier moment));
+  tables = subst (StandsFor c.tables) (sym (txns_no_more items moment)) tells.tables;
+}
+
+-- ---- going over a list
+
+-- one element more of it
+pub next_taken : {A : Type 0} (xs : List A) (i : ℕ) (x y : A) → i < length xs → x ≡ get_or xs i x → y ≡ x → take (i + 1) xs ≡ take i xs ++ y ∷ []
+next_taken xs i x y lt is same = take_more xs i x lt ∙ ap (λ z. take i xs ++ z ∷ []) (sym is ∙ sym same)
+
+pub take_all : {A : Type 0} (i : ℕ) (xs : List A) → length xs ≤ i → take i xs ≡ xs
+take_all zero [] h = refl
+take_all zero (x ∷ xs) h = absurd (omega arith)
+take_all (suc i) [] h = refl
+take_all (suc i) (x ∷ xs) h = ap (λ l. x ∷ l) (take_all i xs (omega arith))
+
+all_below : (P : Txn → Type 0) (d : Txn) (xs : List Txn) (i : ℕ) → ((k : ℕ) → k < i → k < length xs → P (get_or xs k d)) → AllByRecursion P (take i xs)
+all_below P d xs zero h = tt
+all_below P d [] (suc i) h = tt
+all_below P d (x ∷ xs) (suc i) h = (h 0 (omega arith) (omega arith), all_below P d xs i (λ k lt in_xs. h (suc k) (omega arith) (omega arith)))
+
+-- where moments do not fall, none before is later
+pub none_later_before : (xs : List Txn) (i : ℕ) (t : Txn) → IsNonDecreasingBy (λ (u : Txn). u.moment) xs → i < length xs → t ≡ get_or xs i t → AllByRecursion (λ (u : Txn). u.moment ≤ t.moment) (take i xs)
+none_later_before xs i t rise lt is =
+    let same : (get_or xs i t).moment ≡ t.moment = ap (λ (u : Txn). u.moment) (sym is) in
+    all_below (λ (u : Txn). u.moment ≤ t.moment) t xs i (λ k low in_xs. let le = rise k i t (omega arith) lt in omega arith)
+
+-- ---- the last moment is the greatest
+
+abbrev later : ℕ → Item → ℕ
+later m i = max m (moment_in i)
+
+no_less : (items : List Item) (a : ℕ) → a ≤ fold later a items
+no_less [] a = omega arith
+no_less (i ∷ items) a = omega (arith, no_less items (max a (moment_in i)))
+
+pub none_above : (items : List Item) (a : ℕ) → AllByRecursion (λ (t : Txn). t.moment ≤ fold later a items) (txns items)
+none_above [] a = tt
+none_above (kinds.Txn t ∷ items) a = (omega (arith, no_less items (max a t.moment)), none_above items (max a t.moment))
+none_above (kinds.Frontier m ∷ items) a = none_above items (max a m)
+
+-- ---- payload by payload
+
+-- no more transactions than payloads
+pub few_txns : (payloads : List (List ℕ)) → length (txns (items_of payloads)) ≤ length payloads
+few_txns payloads =
+    let a = filter_map_short txn_in (items_of payloads) in
+    let b = filter_map_short item_of payloads in
+    omega (arith, a, b)
+
+-- a payload that spells an item, and one that spells none
+pub read_more : (payloads : List (List ℕ)) (payload : List ℕ) (item : Item) (c d : Contents) → item_of payload ≡ Some item → ((items : List Item) → Tells c items → Tells d (items ++ item ∷ [])) → (IsInTime c → IsInTime d)
+    → IsRead payloads c → IsRead (payloads ++ payload ∷ []) d
+read_more payloads payload item c d spelled tells in_time read = record {
+  tells = subst (Tells d) (sym (item_more payloads payload item spelled)) (tells (items_of payloads) read.tells);
+  in_time = in_time read.in_time;
+}
+
+pub read_no_more : (payloads : List (List ℕ)) (payload : List ℕ) (c : Contents) → item_of payload ≡ None → IsRead payloads c → IsRead (payloads ++ payload ∷ []) c
+read_no_more payloads payload c spelled read = record {
+  tells = subst (Tells c) (sym (no_item_more payloads payload spelled)) read.tells;
+  in_time = read.in_time;
+}
+
+-- the same of what is gathered
+pub gathered_txn : (payloads : List (List ℕ)) (payload : List ℕ) (t : Txn) (g d : Gathered) → item_of payload ≡ Some (kinds.Txn t) → d.txns.items ≡ g.txns.items ++ t ∷ [] → d.last ≡ max g.last t.moment
+    → IsGathered g (items_of payloads) → IsGathered d (items_of (payloads ++ payload ∷ []))
+gathered_txn payloads payload t g d spelled pushed last so_far =
+    let items = items_of payloads in
+    subst (IsGathered d) (sym (item_more payloads payload (kinds.Txn t) spelled)) (record {
+      txns_are = pushed ∙ ap (λ (ts : List Txn). ts ++ t ∷ []) so_far.txns_are ∙ sym (txns_more items t);
+      last_is = last ∙ ap (λ (l : ℕ). max l t.moment) so_far.last_is ∙ sym (last_more items (kinds.Txn t));
+    })
+
+pub gathered_frontier : (payloads : List (List ℕ)) (payload : List ℕ) (moment : ℕ) (g d : Gathered) → item_of payload ≡ Some (kinds.Frontier moment) → d.txns.items ≡ g.txns.items → d.last ≡ max g.last moment
+    → IsGathered g (items_of payloads) → IsGathered d (items_of (payloads ++ payload ∷ []))
+gathered_frontier payloads payload moment g d spelled pushed last so_far =
+    let items = items_of payloads in
+    subst (IsGathered d) (sym (item_more payloads payload (kinds.Frontier moment) spelled)) (record {
+      txns_are = pushed ∙ so_far.txns_are ∙ sym (txns_no_more items moment);
+      last_is = last ∙ ap (λ (l : ℕ). max l moment) so_far.last_is ∙ sym (last_more items (kinds.Frontier moment));
+    })
+
+pub gathered_none : (payloads : List (List ℕ)) (payload : List ℕ) (g : Gathered) → item_of payload ≡ None → IsGathered g (items_of payloads) → IsGathered g (items_of (payloads ++ payload ∷ []))
+gathered_none payloads payload g spelled so_far = subst (IsGathered g) (sym (no_item_more payloads payload spelled)) so_far

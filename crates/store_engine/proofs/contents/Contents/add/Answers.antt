@@ -1,0 +1,18 @@
+use Rattle.std.proofs.Common.{OnErr, Result, Ok, Err, refl}
+use Rattle.std.proofs.lemmas.Result.{on_ok_weaker}
+use Rattle.store_engine.proofs.Telling.{tells_txn, tells_frontier}
+use Rattle.store_engine.proofs.contents.Contents.add.Goals as goal
+
+any_err : {T E P : Type 0} (r : Result T E) → P → OnErr r P
+any_err (Ok t) p = tt
+any_err (Err e) p = p
+
+pub returns-in-Txn-clause-err : goal.returns-in-Txn-clause-err
+returns-in-Txn-clause-err c = any_err c.apply.result (c.apply.new.self, rw (c.in-Txn.is, c.max-self.ensures) refl)
+
+pub returns-in-Txn-clause-tells : goal.returns-in-Txn-clause-tells
+returns-in-Txn-clause-tells c =
+    on_ok_weaker c.apply.result (λ stands. rw c.in-Txn.is (tells_txn c.args.self.now c.in-Txn.txn c.apply.new.self c.max-self.result c.max-self.ensures stands)) c.apply.ensures.stands
+
+pub returns-in-Frontier-clause-tells : goal.returns-in-Frontier-clause-tells
+returns-in-Frontier-clause-tells c = rw c.in-Frontier.is (tells_frontier c.args.self.now c.in-Frontier.moment c.max-self-in-Frontier.result c.max-self-in-Frontier.ensures)

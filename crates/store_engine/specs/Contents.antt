@@ -1,0 +1,32 @@
+-- What the items of a store say, kept from item to item.
+use Rattle.std.specs.Prelude.{◌≡◌, ◌+◌, ◌≤◌, max, List, length}
+use Rattle.tuple_bytes.specs.declared.item.Item.{Item}
+use Rattle.tuple_bytes.specs.declared.item.Item.TheVariants as items
+use Rattle.history_model.specs.History.{txns, last_moment}
+use Rattle.tt_table.specs.Stands.{StandsFor}
+use Rattle.tt_table.specs.Versions.{TablesVersions, applied}
+use Rattle.store_engine.specs.declared.contents.Contents.{Contents}
+
+-- the count, the last moment and the tables are those of these items
+pub record Tells (c : Contents) (items : List Item) : Type 0 where
+  pub count : c.count ≡ length (txns items)
+  pub last : c.last ≡ last_moment items
+  pub tables : StandsFor c.tables (txns items)
+
+-- the tables are of no later moment
+abbrev pub IsInTime : Contents → Type 0
+IsInTime c = c.tables.last ≤ c.last
+
+-- the item may come next: a transaction is not before the last one
+abbrev pub MayFollow : Contents → Item → Type 0
+MayFollow c (items.Txn t) = c.tables.last ≤ t.moment
+MayFollow c (items.Frontier moment) = Unit {0}
+
+-- with one item more
+abbrev pub after_item : Contents → Item → Contents
+after_item c (items.Txn t) = record { count = c.count + 1; last = max c.last t.moment; tables = applied t.moment t.ops c.tables }
+after_item c (items.Frontier moment) = record { count = c.count; last = max c.last moment; tables = c.tables }
+
+-- with other tables
+abbrev pub with_tables : TablesVersions → Contents → Contents
+with_tables tables c = record { count = c.count; last = c.last; tables = tables }

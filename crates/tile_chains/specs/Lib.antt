@@ -1,0 +1,3 @@
+pub mod Short
+pub mod Hashed
+pub mod Part
