@@ -98,7 +98,7 @@ read_on : (done : List Timed) (reader later : Reading) (input left rest : source
     → Tells (Ok true) reader later left rest → IsFeedless later.line → readers.Takes reader later left rest → WhereTold input.rest rest.rest (IsRead (lines_in done ++ later.line ∷ []) later)
 read_on done reader later input left rest alike read tells clear takes =
     told_then input.rest left.rest rest.rest _ _ _ alike read (told_both left.rest rest.rest _ _ tells takes.as_lost)
-      (λ all others left so_far next. read_more (lines_in done) reader later all others left so_far next.0 clear next.1 takes.within)
+    (λ all others left so_far next. read_more (lines_in done) reader later all others left so_far next.0 clear next.1 takes.within)
 
 -- one line
 pub goes_on : (first runner later : Runner) (old mid new : disks.State) (clock tick tock : clocks.State) (input left rest : sources.State) (reader next : Reading) (text : List ℕ) (Written After : List ℕ → Type 0)
@@ -202,12 +202,13 @@ pub ended : (first runner : Runner) (old now : disks.State) (clock ahead : clock
     → IsGoing first runner old now clock ahead input left reader (λ text. sinks.IsOut text out later)
     → Tells (Ok false) reader next left rest → readers.Takes reader next left rest → sources.GoesOn left rest → next.taken < input_limit
     → Carries (Ok tt) first runner old now clock ahead input rest out later
+unfolding goes_no_further
 ended first runner old now clock ahead input left rest reader next out later g tells takes input_on below =
     between_with first runner old now clock ahead input rest next out later (λ text. sinks.IsOut text out later) (Ok tt)
-      (goes_no_further first runner old now clock ahead input left rest reader next (λ text. sinks.IsOut text out later) g (told_map left.rest rest.rest _ _ tells (λ before after h. at_end (reader.pending ++ before) (next.pending ++ after) h)) takes input_on)
-      (told_then input.rest left.rest rest.rest _ _ _ g.input_frame.told g.read (told_both left.rest rest.rest _ _ tells takes.as_lost) (λ all others behind so_far n.
-        ends_all next behind (lines_in g.done) all (read_same (lines_in g.done) reader next all others behind so_far (at_end (reader.pending ++ others) (next.pending ++ behind) n.0) n.1 takes.within) n.0.end below))
-      (λ text is. is)
+    (goes_no_further first runner old now clock ahead input left rest reader next (λ text. sinks.IsOut text out later) g (told_map left.rest rest.rest _ _ tells (λ before after h. at_end (reader.pending ++ before) (next.pending ++ after) h)) takes input_on)
+    (told_then input.rest left.rest rest.rest _ _ _ g.input_frame.told g.read (told_both left.rest rest.rest _ _ tells takes.as_lost) (λ all others behind so_far n.
+    ends_all next behind (lines_in g.done) all (read_same (lines_in g.done) reader next all others behind so_far (at_end (reader.pending ++ others) (next.pending ++ behind) n.0) n.1 takes.within) n.0.end below))
+    (λ text is. is)
 
 -- the input failed
 pub ends_failed : (fail : InputFail) (reader : Reading) (done : List (List ℕ)) (all others : List ℕ) → (IsErrOf {T = Bool} (Err fail) inputs.InputLimit → IsAtLimit reader) → (IsErrOf {T = Bool} (Err fail) inputs.ReadFault → IsFeedless reader.pending)

@@ -101,25 +101,25 @@ module _ (first last : Runner) (old new : disks.State) (clock ahead : clocks.Sta
   ran_disk : (result : Status) → Through fails.DiskFault → Rose old.faults new.faults → Said (refused statuses.DiskFault) result mid later → From result
   ran_disk result c rose said = ⊎_elim
       (λ (h : (result ≡ statuses.DiskFault) × IsOut (fault_line statuses.DiskFault) mid later). subst From (sym h.0)
-        (ran statuses.DiskFault (Err fails.DiskFault) first last old new clock ahead input left out mid later c (λ done all others f e. e) (λ e. e) (λ x bytes at is. out_then x.text (fault_line statuses.DiskFault) out mid later is h.1)))
+      (ran statuses.DiskFault (Err fails.DiskFault) first last old new clock ahead input left out mid later c (λ done all others f e. e) (λ e. e) (λ x bytes at is. out_then x.text (fault_line statuses.DiskFault) out mid later is h.1)))
       (λ (h : ((result ≡ statuses.WriteFault) ⊎ (result ≡ statuses.NoMemory)) × FrontIsOut (fault_line statuses.DiskFault) mid later).
-        cut_short fails.DiskFault statuses.DiskFault result c (λ text is. is) (λ never. never rose) h.0 h.1)
+      cut_short fails.DiskFault statuses.DiskFault result c (λ text is. is) (λ never. never rose) h.0 h.1)
       (said_parts statuses.DiskFault result mid later said)
 
   ran_read : (result : Status) → Through fails.ReadFault → Said (refused statuses.ReadFault) result mid later → From result
   ran_read result c said = ⊎_elim
       (λ (h : (result ≡ statuses.ReadFault) × IsOut (fault_line statuses.ReadFault) mid later). subst From (sym h.0)
-        (ran statuses.ReadFault (Err fails.ReadFault) first last old new clock ahead input left out mid later c (λ done all others f e. e) (λ e. tt) (λ x bytes at is. out_then x.text (fault_line statuses.ReadFault) out mid later is h.1)))
+      (ran statuses.ReadFault (Err fails.ReadFault) first last old new clock ahead input left out mid later c (λ done all others f e. e) (λ e. tt) (λ x bytes at is. out_then x.text (fault_line statuses.ReadFault) out mid later is h.1)))
       (λ (h : ((result ≡ statuses.WriteFault) ⊎ (result ≡ statuses.NoMemory)) × FrontIsOut (fault_line statuses.ReadFault) mid later).
-        cut_short fails.ReadFault statuses.ReadFault result c (λ text is. is) (λ never. tt) h.0 h.1)
+      cut_short fails.ReadFault statuses.ReadFault result c (λ text is. is) (λ never. tt) h.0 h.1)
       (said_parts statuses.ReadFault result mid later said)
 
   ran_limit : (result : Status) → Through fails.InputLimit → Said (refused statuses.InputLimit) result mid later → From result
   ran_limit result c said = ⊎_elim
       (λ (h : (result ≡ statuses.InputLimit) × IsOut (fault_line statuses.InputLimit) mid later). subst From (sym h.0)
-        (ran statuses.InputLimit (Err fails.InputLimit) first last old new clock ahead input left out mid later c (λ done all others f e. e) (λ e. tt) (λ x bytes at is. out_then x.text (fault_line statuses.InputLimit) out mid later is h.1)))
+      (ran statuses.InputLimit (Err fails.InputLimit) first last old new clock ahead input left out mid later c (λ done all others f e. e) (λ e. tt) (λ x bytes at is. out_then x.text (fault_line statuses.InputLimit) out mid later is h.1)))
       (λ (h : ((result ≡ statuses.WriteFault) ⊎ (result ≡ statuses.NoMemory)) × FrontIsOut (fault_line statuses.InputLimit) mid later).
-        cut_short fails.InputLimit statuses.InputLimit result c (λ text is. is) (λ never. tt) h.0 h.1)
+      cut_short fails.InputLimit statuses.InputLimit result c (λ text is. is) (λ never. tt) h.0 h.1)
       (said_parts statuses.InputLimit result mid later said)
 
   -- a failure

@@ -76,9 +76,9 @@ read_same done reader later all others left so_far same lost within = record {
   whole = ⊎_elim
       (λ (w : all ≡ joined done (reader.pending ++ others)). inl (w ∙ ap (joined done) (sym same)))
       (λ (n : (reader.pending ++ others ≡ []) × (reader.taken < input_limit)).
-        let none : left ≡ [] = nil_front later.pending left (same ∙ n.0) in
-        let was : others ≡ [] = nil_front reader.pending others n.0 in
-        inr (same ∙ n.0, omega (arith, n.1, lost, ap length none, ap length was)))
+      let none : left ≡ [] = nil_front later.pending left (same ∙ n.0) in
+      let was : others ≡ [] = nil_front reader.pending others n.0 in
+      inr (same ∙ n.0, omega (arith, n.1, lost, ap length none, ap length was)))
       so_far.whole;
   feedless = so_far.feedless;
   count = omega (arith, so_far.count, lost);
@@ -113,8 +113,8 @@ takes_front done reader all others so_far = record {
   front = ⊎_elim
       (λ (w : all ≡ joined done (reader.pending ++ others)). front_taken (joined done reader.pending) all others (w ∙ joined_ahead done reader.pending others))
       (λ (n : (reader.pending ++ others ≡ []) × (reader.taken < input_limit)).
-        let none : others ≡ [] = nil_front reader.pending others n.0 in
-        front_taken all all others (sym (ap (λ (x : List ℕ). all ++ x) none ∙ append-nil all)))
+      let none : others ≡ [] = nil_front reader.pending others n.0 in
+      front_taken all all others (sym (ap (λ (x : List ℕ). all ++ x) none ∙ append-nil all)))
       so_far.whole;
 }
 
@@ -129,6 +129,7 @@ complete_of done reader all others so_far clear w =
     let n : length all - length others ≡ length (joined done reader.pending) = omega (arith, ap length e, length-append (joined done reader.pending) others) in
     let seen : taken_of all others ≡ joined done reader.pending = ap (λ (k : ℕ). take k all) n ∙ ap (take (length (joined done reader.pending))) e ∙ take_first (joined done reader.pending) others in
     lines_only (taken_of all others) reader.pending done (record { whole = sym seen; lines_feedless = so_far.feedless; rest_feedless = clear })
+
 -- where a read failed
 pub ended_at : (done : List (List ℕ)) (reader : Reading) (all others : List ℕ) → IsRead done reader all others → IsFeedless reader.pending → AreEnded done all others
 ended_at done reader all others so_far clear = ⊎_elim
@@ -138,9 +139,10 @@ ended_at done reader all others so_far clear = ⊎_elim
 
 -- at the limit
 pub complete_at : (done : List (List ℕ)) (reader : Reading) (all others : List ℕ) → IsRead done reader all others → IsFeedless reader.pending → reader.taken ≡ input_limit → AreComplete done all others × (length all ≡ length others + input_limit)
-complete_at done reader all others so_far clear full =
-    (⊎_elim
+complete_at done reader all others so_far clear full = (
+  ⊎_elim
       (λ (w : all ≡ joined done (reader.pending ++ others)). complete_of done reader all others so_far clear w)
       (λ (n : (reader.pending ++ others ≡ []) × (reader.taken < input_limit)). absurd (omega (arith, n.1, full)))
       so_far.whole,
-    omega (arith, so_far.count, full))
+  omega (arith, so_far.count, full),
+)

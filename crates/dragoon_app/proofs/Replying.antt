@@ -132,7 +132,7 @@ pub steps_by : (line : Line) (now : ℕ) (result : Result (List ℕ) StepFail) (
 steps_by line now result runner later old new clock ahead is gives told =
     goes_by line kinds.OnTables now result runner later old new clock ahead is (takes_for kinds.OnTables runner.is_scripted runner now clock ahead (λ e. cc) gives)
     (told_map old.reads new.reads _ _ told (λ before after goes r at.
-        subst (λ (n : ℕ). Goes r (stepped r (step r.world line n)) result later old new before after) (sym (seconds_are runner.is_scripted r runner before now clock ahead at gives)) (goes r at)))
+    subst (λ (n : ℕ). Goes r (stepped r (step r.world line n)) result later old new before after) (sym (seconds_are runner.is_scripted r runner before now clock ahead at gives)) (goes r at)))
 
 -- a statement on tables outside sessions
 pub table_line : (line : Line) → kind_of line ≡ kinds.OnTables → IsTableLine line

@@ -70,7 +70,7 @@ images_more : (scripted : Bool) (w : World) (done : List Timed) (t : Timed) (old
     → EveryImage mid new (StoresEither (carried scripted (start w) done).world (carry scripted (carried scripted (start w) done) t).world) → EveryImage old new (StoresFront scripted w (done ++ t ∷ []))
 images_more scripted w done t old mid new first next =
     joined old mid new (StoresFront scripted w (done ++ t ∷ [])) (StoresEither (carried scripted (start w) done).world (carry scripted (carried scripted (start w) done) t).world)
-      (weaker first (front_of_more scripted w done (t ∷ []))) next within
+    (weaker first (front_of_more scripted w done (t ∷ []))) next within
   where
     all : (c : List ℕ) → StoresWorld (carry scripted (carried scripted (start w) done) t).world c → StoresFront scripted w (done ++ t ∷ []) c
     all c stores =

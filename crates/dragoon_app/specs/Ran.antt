@@ -151,4 +151,4 @@ abbrev pub RunsOn : Bool → ℕ → Status → disks.State → disks.State → 
 RunsOn scripted id result old new clock ahead input left out later =
     EndsEarly statuses.DiskFault result old new clock ahead input left out later
     ⊎ WhereTold old.reads new.reads (λ before after.
-        RunsUnder scripted id (stored before).header result old new before after clock ahead input left out later)
+    RunsUnder scripted id (stored before).header result old new before after clock ahead input left out later)

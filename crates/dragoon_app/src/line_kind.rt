@@ -11,9 +11,7 @@ pub enum LineKind {
     Blank,
     /// A statement on tables, outside sessions.
     OnTables,
-    SetsMoment {
-        moment: u64,
-    },
+    SetsMoment { moment: u64 },
     /// What no layer carries out yet.
     Unbuilt,
 }

@@ -56,14 +56,7 @@ fn outcome(
     let mut out = MemSink::new(alloc, failing_writes.to_vec(alloc)?);
     let mut clock = MemClock::new(Vec::new(alloc));
     let mut input = MemSource::new(Vec::new(alloc), 1, Vec::new(alloc));
-    let status = dragoon(
-        alloc,
-        &words,
-        &mut store,
-        &mut clock,
-        &mut input,
-        &mut out,
-    );
+    let status = dragoon(alloc, &words, &mut store, &mut clock, &mut input, &mut out);
     Ok((status.code(), out.bytes().to_vec(alloc)?))
 }
 
@@ -210,14 +203,7 @@ fn made(
     let mut clock = MemClock::new(vec![in alloc; now]?);
     let mut input = MemSource::new(Vec::new(alloc), 1, Vec::new(alloc));
     let mut out = MemSink::new(alloc, Vec::new(alloc));
-    let status = dragoon(
-        alloc,
-        &words,
-        &mut store,
-        &mut clock,
-        &mut input,
-        &mut out,
-    );
+    let status = dragoon(alloc, &words, &mut store, &mut clock, &mut input, &mut out);
     Ok((
         status.code(),
         out.bytes().to_vec(alloc)?,
@@ -275,14 +261,7 @@ fn a_store_in_a_file_is_made_once_and_read(rt: HostRuntime) -> Result<(), Fail> 
         let mut clock = MemClock::new(Vec::new(alloc));
         let mut input = MemSource::new(Vec::new(alloc), 1, Vec::new(alloc));
         let mut out = MemSink::new(alloc, Vec::new(alloc));
-        let _ = dragoon(
-        alloc,
-        &words,
-        &mut store,
-        &mut clock,
-        &mut input,
-        &mut out,
-    );
+        let _ = dragoon(alloc, &words, &mut store, &mut clock, &mut input, &mut out);
         assert_eq!(rt; out.bytes(), wanted);
     }
     std::fs::remove_file(&rt, path)?;
@@ -333,20 +312,14 @@ fn numbers_are_plain_and_in_their_ranges(rt: HostRuntime) -> Result<(), Fail> {
 }
 
 /// How a call over a new store of id 7 ends that has this input, and what it writes.
-fn carried_out(
-    alloc: Global,
-    texts: &[&str],
-    input: &[u8],
-) -> Result<(u8, Vec<u8>), AllocError> {
+fn carried_out(alloc: Global, texts: &[&str], input: &[u8]) -> Result<(u8, Vec<u8>), AllocError> {
     let (_, _, bytes) = made(alloc, &["init", "7", "60", "3", "m"], b"", 5)?;
     let words = words(alloc, texts)?;
     let mut store = MemDisk::holding(alloc, bytes);
     let mut clock = MemClock::new(vec![in alloc; 9]?);
     let mut input = MemSource::new(input.to_vec(alloc)?, 3, Vec::new(alloc));
     let mut out = MemSink::new(alloc, Vec::new(alloc));
-    let status = dragoon(
-        alloc, &words, &mut store, &mut clock, &mut input, &mut out,
-    );
+    let status = dragoon(alloc, &words, &mut store, &mut clock, &mut input, &mut out);
     Ok((status.code(), out.bytes().to_vec(alloc)?))
 }
 

@@ -7,4 +7,4 @@ use Rattle.dragoon_app.proofs.runner.Runner.step.Goals as goal
 pub returns-clause-told : goal.returns-clause-told
 returns-clause-told g c =
     steps_on c.args.line.now c.args.now c.in_ok-reply.reply c.in_ok-print_reply.field-0 c.args.self.now _ (g.D.Disk.state c.args.disk.now) (g.D.Disk.state c.step.new.disk)
-      c.in_ok-reply.ensures.told c.in_ok-print_reply.ensures.value refl (ap (λ (b : Bool). c.args.self.now.is_refused || b) c.is_refusal.ensures.value)
+    c.in_ok-reply.ensures.told c.in_ok-print_reply.ensures.value refl (ap (λ (b : Bool). c.args.self.now.is_refused || b) c.is_refusal.ensures.value)
