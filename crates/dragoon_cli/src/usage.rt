@@ -10,8 +10,8 @@ usage: dragoon [store=FILE] COMMAND
 
   init ID W K ALGS
                makes a new store that begins now, of this id, with granules of W seconds (1 to
-               86400), tiles of 2^K granules (K to 10), and the algorithms ALGS (`m`); prints
-               `ready ID`
+               86400), tiles of 2^K granules (K to 10), and the algorithms ALGS (`m`,
+               `t`, `a` or `ta`); prints `ready ID`
 
   run ID [scripted]
                carries out the lines of standard input, one statement each, over the store of this

@@ -7,9 +7,19 @@ use std::test::Fail;
 
 /// A store with a table, on which this changing call of the next run fails. The run that inserts a
 /// row, the crash with this choice, and what the run after that reads of the row.
-fn insert_and_crash(alloc: Global, failing: u64, choice: u64) -> Result<(Vec<u8>, Vec<u8>), AllocError> {
+fn insert_and_crash(
+    alloc: Global,
+    failing: u64,
+    choice: u64,
+) -> Result<(Vec<u8>, Vec<u8>), AllocError> {
     let mut store = made(alloc, "init 7 60 3 m")?;
-    let _created = call(alloc, &mut store, "run 7 scripted", b"create t k int\n", &[])?;
+    let _created = call(
+        alloc,
+        &mut store,
+        "run 7 scripted",
+        b"create t k int\n",
+        &[],
+    )?;
     store.failing(Vec::new(alloc), vec![in alloc; failing]?);
     let (_, inserted) = call(alloc, &mut store, "run 7 scripted", b"insert t 1\n", &[])?;
     store.crash(choice)?;
@@ -25,7 +35,8 @@ fn an_acknowledged_row_stands_after_every_failure_and_crash(rt: HostRuntime) -> 
             let (inserted, read) = insert_and_crash(alloc, failing, choice)?;
             if failing < 5 {
                 assert_eq!(rt; inserted.as_slice(), b"fault DiskFault\n".as_slice());
-                let is_old_or_new = read.as_slice() == b"none\n".as_slice() || read.as_slice() == b"row 1\n".as_slice();
+                let is_old_or_new = read.as_slice() == b"none\n".as_slice()
+                    || read.as_slice() == b"row 1\n".as_slice();
                 assert!(rt; is_old_or_new);
             } else {
                 assert_eq!(rt; inserted.as_slice(), b"ok 2\n".as_slice());

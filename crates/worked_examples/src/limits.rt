@@ -13,7 +13,10 @@ fn the_last_granule_is_before_1048576(rt: HostRuntime) -> Result<(), Fail> {
     let mut store = made(alloc, "init 7 1 0 m")?;
     let script = b"create t k int\nnow 1048575\ninsert t 1\nnow 1048576\ninsert t 2\n";
     let (status, text) = call(alloc, &mut store, "run 7 scripted", script, &[])?;
-    assert_eq!(rt; text.as_slice(), b"ok 1\nok\nok 2\nok\nrefused TooLate\n".as_slice());
+    assert_eq!(rt;
+        text.as_slice(),
+        b"ok 1\nok\nok 2\nok\nrefused TooLate\n".as_slice()
+    );
     assert_eq!(rt; status, 3);
     Ok(())
 }
@@ -37,7 +40,10 @@ fn the_largest_text_has_32737_letters(rt: HostRuntime) -> Result<(), Fail> {
     script.extend_from_slice(&insert(alloc, b'1', 32_737)?)?;
     script.extend_from_slice(&insert(alloc, b'2', 32_738)?)?;
     let (_, text) = call(alloc, &mut store, "run 7 scripted", &script, &[])?;
-    assert_eq!(rt; text.as_slice(), b"ok 1\nok 2\nrefused TooLong\n".as_slice());
+    assert_eq!(rt;
+        text.as_slice(),
+        b"ok 1\nok 2\nrefused TooLong\n".as_slice()
+    );
     Ok(())
 }
 
@@ -82,7 +88,10 @@ fn an_input_without_an_end_is_refused(rt: HostRuntime) -> Result<(), Fail> {
         blank.push(b'\n')?;
     }
     let (status, text) = failing(alloc, blank, 4096, &[], &[])?;
-    assert_eq!(rt; (status, text.as_slice()), (17, b"fault InputLimit\n".as_slice()));
+    assert_eq!(rt;
+        (status, text.as_slice()),
+        (17, b"fault InputLimit\n".as_slice())
+    );
     Ok(())
 }
 
@@ -90,8 +99,17 @@ fn an_input_without_an_end_is_refused(rt: HostRuntime) -> Result<(), Fail> {
 fn without_a_store_there_is_nothing_to_run(rt: HostRuntime) -> Result<(), Fail> {
     let alloc = rt.alloc();
     for text in ["run 7", "run 7 scripted"] {
-        let (status, text) = call(alloc, &mut MemDisk::new(alloc), text, b"create t k int\n", &[])?;
-        assert_eq!(rt; (status, text.as_slice()), (4, b"fault NotAStore\n".as_slice()));
+        let (status, text) = call(
+            alloc,
+            &mut MemDisk::new(alloc),
+            text,
+            b"create t k int\n",
+            &[],
+        )?;
+        assert_eq!(rt;
+            (status, text.as_slice()),
+            (4, b"fault NotAStore\n".as_slice())
+        );
     }
     Ok(())
 }

@@ -74,6 +74,9 @@ fn a_later_run_goes_on_where_the_store_ends(rt: HostRuntime) -> Result<(), Fail>
         assert_eq!(rt; text.as_slice(), replies);
     }
     let (status, text) = call(alloc, &mut store, "run 8 scripted", b"", &[])?;
-    assert_eq!(rt; (status, text.as_slice()), (4, b"fault NotAStore\n".as_slice()));
+    assert_eq!(rt;
+        (status, text.as_slice()),
+        (4, b"fault NotAStore\n".as_slice())
+    );
     Ok(())
 }
