@@ -11,13 +11,13 @@ use Rattle.outside_io.specs.declared.sink.StreamFail.{StreamFail}
 use Rattle.outside_io.specs.declared.sink.StreamFail.TheVariants as streams
 use Rattle.outside_io.specs.Sink as sinks
 use Rattle.outside_io.proofs.Frame as sink_frames
-use Rattle.outside_io.proofs.Out.{nothing_out, out_then, out_then_front, front_of_all}
+use Rattle.outside_io.proofs.Out.{nothing_out}
 use Rattle.outside_io.specs.Source as sources
 use Rattle.outside_io.specs.Clock as clocks
 use Rattle.line_input.specs.declared.fail.InputFail.{InputFail}
 use Rattle.line_input.specs.declared.fail.InputFail.TheVariants as inputs
 use Rattle.line_input.specs.Lines.{IsFeedless, lines_of}
-use Rattle.line_input.specs.Limits.{input_limit}
+use Rattle.line_input.specs.Limits.{input_limit, piece_limit}
 use Rattle.line_input.specs.Reader as readers
 use Rattle.line_input.specs.Reader.{Reading, Gives, IsAtEnd, IsAtLimit, Tells}
 use Rattle.session_core.specs.declared.sessions.StepFail.{StepFail}
@@ -29,10 +29,11 @@ use Rattle.dragoon_app.specs.declared.run_fail.RunFail.{RunFail}
 use Rattle.dragoon_app.specs.declared.run_fail.RunFail.TheVariants as fails
 use Rattle.dragoon_app.specs.declared.runner.Runner.{Runner}
 use Rattle.dragoon_app.specs.Running.{Running, Timed, start, carry, carried}
-use Rattle.dragoon_app.specs.Ran.{AreFirst, Ends, IsUnderWay, TakesFront, lines_in, StoresFront, StoresWorld, Takes}
-use Rattle.dragoon_app.specs.Carrying.{IsAt, Goes, Replies, Carries, CarriesOver, IsWritten, IsBetween, ending, of_step, of_input, of_output}
+use Rattle.dragoon_app.specs.Ran.{AreFirst, Ends, Reads, TakesLittle, IsOutBut, lines_in, text_before, StoresFront, StoresWorld, Takes}
+use Rattle.dragoon_app.specs.Carrying.{IsAt, Goes, IsLineOf, Replies, Carries, CarriesOver, IsWritten, IsBetween, ending, of_step, of_input, of_output}
 use Rattle.dragoon_app.proofs.Seconds.{takes_none, takes_then, takes_blank}
-use Rattle.dragoon_app.proofs.Reading.{take_front, take_first, IsRead, read_none, read_more, read_same, first_of, takes_front, all_read, ended_at, complete_at}
+use Rattle.dragoon_app.proofs.Reading.{take_front, take_first, IsRead, read_none, read_more, read_same, first_of, takes_front, takes_little, all_read, ended_at, complete_at}
+use Rattle.dragoon_app.proofs.Written.{before_shorter, before_more, out_but_none}
 use Rattle.dragoon_app.proofs.Standing.{Stands, stands_first, stands_more, images_on, kept_on, front_of_more, stores_in, carried_more}
 
 -- ---- frames
@@ -56,27 +57,27 @@ told_both None n P Q p q = tt
 
 -- ---- between two lines
 
--- what a turn of the loop keeps; Written is what is said of the text of all replies
-pub record IsGoing (first runner : Runner) (old now : disks.State) (clock ahead : clocks.State) (input left : sources.State) (reader : Reading) (Written : List ℕ → Type 0) : Type 0 where
+-- what a turn of the loop keeps; Written is what is said of the text before the last reply, and of all
+pub record IsGoing (first runner : Runner) (old now : disks.State) (clock ahead : clocks.State) (input left : sources.State) (reader : Reading) (Written : List ℕ → List ℕ → Type 0) : Type 0 where
   pub done : List Timed
   pub within : reader.taken ≤ input_limit
   pub read : WhereTold input.rest left.rest (IsRead (lines_in done) reader)
   pub takes : Takes first.is_scripted done clock ahead
   pub scripted : runner.is_scripted ≡ first.is_scripted
   pub stays_open : runner.store.at.is_closed ≡ false
-  pub told : WhereTold old.reads now.reads (λ before after. (w : World) → IsAt (start w) first before → Stands first.is_scripted w done runner old now before after × Written (carried first.is_scripted (start w) done).text)
+  pub told : WhereTold old.reads now.reads (λ before after. (w : World) → IsAt (start w) first before → Stands first.is_scripted w done runner old now before after × Written (text_before first.is_scripted w done) (carried first.is_scripted (start w) done).text)
   pub disk_frame : disks.GoesOn old now
   pub clock_frame : clocks.GoesOn clock ahead
   pub input_frame : sources.GoesOn input left
 
 -- the same, with what every call of the output keeps
 pub record IsCarrying (first runner : Runner) (old now : disks.State) (clock ahead : clocks.State) (input left : sources.State) (reader : Reading) (out later : sinks.State) : Type 0 where
-  pub going : IsGoing first runner old now clock ahead input left reader (λ text. sinks.IsOut text out later)
+  pub going : IsGoing first runner old now clock ahead input left reader (λ before text. sinks.IsOut text out later)
   pub out_frame : sinks.GoesOn out later
 
 pub begins : (runner : Runner) (s : disks.State) (clock : clocks.State) (input : sources.State) (reader : Reading) (out : sinks.State)
     → ((c : List ℕ) → s.was_image (disks.turn s) c → s.is_image c) → reader ≡ record { line = []; pending = []; taken = 0 } → runner.store.at.is_closed ≡ false
-    → IsGoing runner runner s s clock clock input input reader (λ text. sinks.IsOut text out out)
+    → IsGoing runner runner s s clock clock input input reader (λ before text. sinks.IsOut text out out)
 begins runner s clock input reader out only_now fresh is_open = record {
   done = [];
   within = omega (arith, ap (λ (r : Reading). r.taken) fresh);
@@ -101,11 +102,11 @@ read_on done reader later input left rest alike read tells clear takes =
     (λ all others left so_far next. read_more (lines_in done) reader later all others left so_far next.0 clear next.1 takes.within)
 
 -- one line
-pub goes_on : (first runner later : Runner) (old mid new : disks.State) (clock tick tock : clocks.State) (input left rest : sources.State) (reader next : Reading) (text : List ℕ) (Written After : List ℕ → Type 0)
+pub goes_on : (first runner later : Runner) (old mid new : disks.State) (clock tick tock : clocks.State) (input left rest : sources.State) (reader next : Reading) (text : List ℕ) (Written After : List ℕ → List ℕ → Type 0)
     → IsGoing first runner old mid clock tick input left reader Written
     → Tells (Ok true) reader next left rest → IsFeedless next.line → readers.Takes reader next left rest → sources.GoesOn left rest
     → Replies next.line (Ok text) runner later mid new tick tock → later.store.at.is_closed ≡ false → later.is_scripted ≡ runner.is_scripted → disks.GoesOn mid new → clocks.GoesOn tick tock
-    → ((xs : List ℕ) → Written xs → After (xs ++ text))
+    → ((before xs : List ℕ) → Written before xs → After xs (xs ++ text))
     → IsGoing first later old new clock tock input rest next After
 goes_on first runner later old mid new clock tick tock input left rest reader next text Written After g tells clear takes input_on replies is_open scripted disk_on clock_on writes = record {
   done = g.done ++ replies.timed ∷ [];
@@ -119,14 +120,14 @@ goes_on first runner later old mid new clock tick tock input left rest reader ne
       let r : Running = carried first.is_scripted (start w) g.done in
       let step : Goes r (carry first.is_scripted r replies.timed) (Ok text) later mid new here after = subst (λ (b : Bool). Goes r (carry b r replies.timed) (Ok text) later mid new here after) g.scripted (goes r s.0.at) in
       let said : (carried first.is_scripted (start w) (g.done ++ replies.timed ∷ [])).text ≡ r.text ++ text = ap (λ (x : Running). x.text) (carried_more first.is_scripted w g.done replies.timed) ∙ step.reply in
-      (stands_more first.is_scripted w g.done replies.timed text runner later old mid new before here after s.0 step, subst After (sym said) (writes r.text s.1)));
+      (stands_more first.is_scripted w g.done replies.timed text runner later old mid new before here after s.0 step, subst (λ (b : List ℕ). After b (carried first.is_scripted (start w) (g.done ++ replies.timed ∷ [])).text) (sym (before_more first.is_scripted w g.done replies.timed)) (subst (After r.text) (sym said) (writes (text_before first.is_scripted w g.done) r.text s.1))));
   disk_frame = disk_frames.goes_on_then old mid new g.disk_frame disk_on;
   clock_frame = clock_then clock tick tock g.clock_frame clock_on;
   input_frame = source_then input left rest g.input_frame input_on;
 }
 
 -- no line
-pub goes_no_further : (first runner : Runner) (old now : disks.State) (clock ahead : clocks.State) (input left rest : sources.State) (reader next : Reading) (Written : List ℕ → Type 0)
+pub goes_no_further : (first runner : Runner) (old now : disks.State) (clock ahead : clocks.State) (input left rest : sources.State) (reader next : Reading) (Written : List ℕ → List ℕ → Type 0)
     → IsGoing first runner old now clock ahead input left reader Written
     → WhereTold left.rest rest.rest (λ before after. next.pending ++ after ≡ reader.pending ++ before) → readers.Takes reader next left rest → sources.GoesOn left rest
     → IsGoing first runner old now clock ahead input rest next Written
@@ -155,7 +156,7 @@ blank_nothing = refl
 
 -- the store between two lines
 over_between : (scripted : Bool) (w : World) (done : List Timed) (result : Result (Unit {0}) RunFail) (runner : Runner) (old now : disks.State) (before after : List ℕ) (out later : sinks.State)
-    → Stands scripted w done runner old now before after → IsWritten (carried scripted (start w) done).text result out later → CarriesOver scripted w done nothing result runner old now before after out later
+    → Stands scripted w done runner old now before after → IsWritten (text_before scripted w done) (carried scripted (start w) done).text result out later → CarriesOver scripted w done nothing result runner old now before after out later
 over_between scripted w done result runner old now before after out later s written = record {
   images = λ only. weaker (s.images only) (front_of_more scripted w done (nothing ∷ []));
   kept = λ only c is. inl (subst (StoresWorld (carried scripted (start w) done).world) (sym (s.settled only c is)) (stores_in (carried scripted (start w) done) runner after s.at));
@@ -164,106 +165,126 @@ over_between scripted w done result runner old now before after out later s writ
   written = written;
 }
 
-between_with : (first runner : Runner) (old now : disks.State) (clock ahead : clocks.State) (input left : sources.State) (reader : Reading) (out later : sinks.State) (Written : List ℕ → Type 0) (result : Result (Unit {0}) RunFail)
+between_with : (first runner : Runner) (old now : disks.State) (clock ahead : clocks.State) (input left : sources.State) (reader : Reading) (out later : sinks.State) (Written : List ℕ → List ℕ → Type 0) (result : Result (Unit {0}) RunFail)
     → (g : IsGoing first runner old now clock ahead input left reader Written)
-    → WhereTold input.rest left.rest (Ends (lines_in g.done) (ending result))
-    → ((text : List ℕ) → Written text → IsWritten text result out later)
+    → WhereTold input.rest left.rest (Reads (ending result) g.done nothing)
+    → ((before text : List ℕ) → length before ≤ length text → Written before text → IsWritten before text result out later)
     → Carries result first runner old now clock ahead input left out later
-between_with first runner old now clock ahead input left reader out later Written result g lines writes = record {
+between_with first runner old now clock ahead input left reader out later Written result g read writes = record {
   done = g.done;
   next = nothing;
   first = told_map input.rest left.rest _ _ g.read (λ all others r. first_of (lines_in g.done) reader all others r);
-  lines = lines;
-  next_is = told_map input.rest left.rest _ _ g.read (λ all others r. inl refl);
-  taken = told_map input.rest left.rest _ _ g.read (λ all others r. takes_front (lines_in g.done) reader all others r);
+  read = read;
+  none = λ b. refl;
   seconds = takes_then first.is_scripted g.done (nothing ∷ []) clock ahead ahead g.clock_frame.told g.takes (takes_blank first.is_scripted nothing ahead ahead blank_nothing refl);
   told = told_map old.reads now.reads _ _ g.told (λ before after so_far w at. let s = so_far w at in
-      over_between first.is_scripted w g.done result runner old now before after out later s.0 (writes (carried first.is_scripted (start w) g.done).text s.1));
+      over_between first.is_scripted w g.done result runner old now before after out later s.0 (writes (text_before first.is_scripted w g.done) (carried first.is_scripted (start w) g.done).text (before_shorter first.is_scripted w g.done) s.1));
 }
 
-pub between : (first runner : Runner) (old now : disks.State) (clock ahead : clocks.State) (input left : sources.State) (reader : Reading) (out later : sinks.State) (Written : List ℕ → Type 0) (result : Result (Unit {0}) RunFail)
+pub between : (first runner : Runner) (old now : disks.State) (clock ahead : clocks.State) (input left : sources.State) (reader : Reading) (out later : sinks.State) (Written : List ℕ → List ℕ → Type 0) (result : Result (Unit {0}) RunFail)
     → IsGoing first runner old now clock ahead input left reader Written
-    → ((done : List (List ℕ)) (all others : List ℕ) → IsRead done reader all others → Ends done (ending result) all others)
-    → ((text : List ℕ) → Written text → IsWritten text result out later)
+    → ((done : List Timed) (all others : List ℕ) → IsRead (lines_in done) reader all others → Reads (ending result) done nothing all others)
+    → ((before text : List ℕ) → length before ≤ length text → Written before text → IsWritten before text result out later)
     → Carries result first runner old now clock ahead input left out later
-between first runner old now clock ahead input left reader out later Written result g ends writes =
-    between_with first runner old now clock ahead input left reader out later Written result g (told_map input.rest left.rest _ _ g.read (λ all others r. ends (lines_in g.done) all others r)) writes
+between first runner old now clock ahead input left reader out later Written result g reads writes =
+    between_with first runner old now clock ahead input left reader out later Written result g (told_map input.rest left.rest _ _ g.read (λ all others r. reads g.done all others r)) writes
 
 -- the input ended
 pub at_end : {reader : Reading} (before after : List ℕ) → IsAtEnd reader before after → after ≡ before
 at_end before after h = h.end ∙ sym h.none
 
-pub ends_all : (reader : Reading) (left : List ℕ) (done : List (List ℕ)) (all : List ℕ) → IsRead done reader all left → reader.pending ++ left ≡ [] → reader.taken < input_limit → Ends done statuses.Ok all left
-ends_all reader left done all r none below =
-    let h = all_read done reader all left r none in
-    (h.0, h.1, omega (arith, r.count, ap length h.1, below))
+reads_all : (reader : Reading) (left : List ℕ) (done : List Timed) (all : List ℕ) → IsRead (lines_in done) reader all left → reader.pending ++ left ≡ [] → reader.taken < input_limit → Reads statuses.Ok done nothing all left
+reads_all reader left done all r none below =
+    let h = all_read (lines_in done) reader all left r none in
+    record { lines = (h.0, h.1, omega (arith, r.count, ap length h.1, below)); under_way = inl refl; little = tt; front = takes_front (lines_in done) reader all left r }
 
 pub ended : (first runner : Runner) (old now : disks.State) (clock ahead : clocks.State) (input left rest : sources.State) (reader next : Reading) (out later : sinks.State)
-    → IsGoing first runner old now clock ahead input left reader (λ text. sinks.IsOut text out later)
+    → IsGoing first runner old now clock ahead input left reader (λ before text. sinks.IsOut text out later)
     → Tells (Ok false) reader next left rest → readers.Takes reader next left rest → sources.GoesOn left rest → next.taken < input_limit
     → Carries (Ok tt) first runner old now clock ahead input rest out later
 unfolding goes_no_further
 ended first runner old now clock ahead input left rest reader next out later g tells takes input_on below =
-    between_with first runner old now clock ahead input rest next out later (λ text. sinks.IsOut text out later) (Ok tt)
-    (goes_no_further first runner old now clock ahead input left rest reader next (λ text. sinks.IsOut text out later) g (told_map left.rest rest.rest _ _ tells (λ before after h. at_end (reader.pending ++ before) (next.pending ++ after) h)) takes input_on)
+    between_with first runner old now clock ahead input rest next out later (λ before text. sinks.IsOut text out later) (Ok tt)
+    (goes_no_further first runner old now clock ahead input left rest reader next (λ before text. sinks.IsOut text out later) g (told_map left.rest rest.rest _ _ tells (λ before after h. at_end (reader.pending ++ before) (next.pending ++ after) h)) takes input_on)
     (told_then input.rest left.rest rest.rest _ _ _ g.input_frame.told g.read (told_both left.rest rest.rest _ _ tells takes.as_lost) (λ all others behind so_far n.
-    ends_all next behind (lines_in g.done) all (read_same (lines_in g.done) reader next all others behind so_far (at_end (reader.pending ++ others) (next.pending ++ behind) n.0) n.1 takes.within) n.0.end below))
-    (λ text is. is)
+    reads_all next behind g.done all (read_same (lines_in g.done) reader next all others behind so_far (at_end (reader.pending ++ others) (next.pending ++ behind) n.0) n.1 takes.within) n.0.end below))
+    (λ before text shorter is. is)
 
 -- the input failed
-pub ends_failed : (fail : InputFail) (reader : Reading) (done : List (List ℕ)) (all others : List ℕ) → (IsErrOf {T = Bool} (Err fail) inputs.InputLimit → IsAtLimit reader) → (IsErrOf {T = Bool} (Err fail) inputs.ReadFault → IsFeedless reader.pending)
-    → IsRead done reader all others → Ends done (ending (Err (of_input fail))) all others
-ends_failed inputs.ReadFault reader done all others limit fault r = ended_at done reader all others r (fault refl)
-ends_failed inputs.InputLimit reader done all others limit fault r = let h = limit refl in complete_at done reader all others r h.feedless h.full
-ends_failed inputs.NoMemory reader done all others limit fault r = first_of done reader all others r
+pub reads_failed : (fail : InputFail) (reader : Reading) (done : List Timed) (all others : List ℕ) → (IsErrOf {T = Bool} (Err fail) inputs.InputLimit → IsAtLimit reader) → (IsErrOf {T = Bool} (Err fail) inputs.ReadFault → IsFeedless reader.pending)
+    → IsRead (lines_in done) reader all others → Reads (ending (Err (of_input fail))) done nothing all others
+reads_failed inputs.ReadFault reader done all others limit fault r =
+    record { lines = ended_at (lines_in done) reader all others r (fault refl); under_way = inl refl; little = tt; front = takes_front (lines_in done) reader all others r }
+reads_failed inputs.InputLimit reader done all others limit fault r =
+    let h = limit refl in
+    record { lines = complete_at (lines_in done) reader all others r h.feedless h.full; under_way = inl refl; little = tt; front = takes_front (lines_in done) reader all others r }
+reads_failed inputs.NoMemory reader done all others limit fault r =
+    record { lines = first_of (lines_in done) reader all others r; under_way = inl refl; little = tt; front = takes_front (lines_in done) reader all others r }
 
-pub written_failed : (fail : InputFail) (text : List ℕ) (out later : sinks.State) → sinks.IsOut text out later → IsWritten text (Err (of_input fail)) out later
-written_failed inputs.ReadFault text out later is = is
-written_failed inputs.InputLimit text out later is = is
-written_failed inputs.NoMemory text out later is = front_of_all text out later is
+pub written_failed : (fail : InputFail) (before text : List ℕ) (out later : sinks.State) → length before ≤ length text → sinks.IsOut text out later → IsWritten before text (Err (of_input fail)) out later
+written_failed inputs.ReadFault before text out later shorter is = is
+written_failed inputs.InputLimit before text out later shorter is = is
+written_failed inputs.NoMemory before text out later shorter is = out_but_none before text out later shorter is
 
 -- the output failed
-pub ends_unwritten : (fail : StreamFail) (reader : Reading) (done : List (List ℕ)) (all others : List ℕ) → IsRead done reader all others → Ends done (ending (Err (of_output fail))) all others
-ends_unwritten streams.Failed reader done all others r = first_of done reader all others r
-ends_unwritten streams.NoMemory reader done all others r = first_of done reader all others r
+pub reads_unwritten : (fail : StreamFail) (reader : Reading) (done : List Timed) (all others : List ℕ) → length reader.pending < piece_limit → IsRead (lines_in done) reader all others → Reads (ending (Err (of_output fail))) done nothing all others
+reads_unwritten streams.Failed reader done all others less r =
+    record { lines = first_of (lines_in done) reader all others r; under_way = inl refl; little = inl (takes_little (lines_in done) reader all others r less); front = takes_front (lines_in done) reader all others r }
+reads_unwritten streams.NoMemory reader done all others less r =
+    record { lines = first_of (lines_in done) reader all others r; under_way = inl refl; little = tt; front = takes_front (lines_in done) reader all others r }
 
-pub written_front : (fail : StreamFail) (text : List ℕ) (out later : sinks.State) → sinks.FrontIsOut text out later → IsWritten text (Err (of_output fail)) out later
-written_front streams.Failed text out later is = is
-written_front streams.NoMemory text out later is = is
+pub written_front : (fail : StreamFail) (before text : List ℕ) (out later : sinks.State) → IsOutBut before text out later → IsWritten before text (Err (of_output fail)) out later
+written_front streams.Failed before text out later is = is
+written_front streams.NoMemory before text out later is = is
 
 -- the step failed
 not_between : (fail : StepFail) → IsBetween (Err (of_step fail)) → ⊥
 not_between steps.DiskFault h = h
 not_between steps.NoMemory h = h
 
-ends_under_way : (fail : StepFail) (done : List (List ℕ)) (all others : List ℕ) → AreFirst done all → Ends done (ending (Err (of_step fail))) all others
-ends_under_way steps.DiskFault done all others h = h
-ends_under_way steps.NoMemory done all others h = h
-
-written_under_way : (fail : StepFail) (text : List ℕ) (out later : sinks.State) → sinks.IsOut text out later → IsWritten text (Err (of_step fail)) out later
-written_under_way steps.DiskFault text out later is = is
-written_under_way steps.NoMemory text out later is = front_of_all text out later is
+written_under_way : (fail : StepFail) (before text : List ℕ) (out later : sinks.State) → length before ≤ length text → sinks.IsOut text out later → IsWritten before text (Err (of_step fail)) out later
+written_under_way steps.DiskFault before text out later shorter is = is
+written_under_way steps.NoMemory before text out later shorter is = out_but_none before text out later shorter is
 
 first_before : (done : List (List ℕ)) (line : List ℕ) (all : List ℕ) → AreFirst (done ++ line ∷ []) all → AreFirst done all
 first_before done line all h =
     let e : take (length done) (take (length (done ++ line ∷ [])) (lines_of all)) ≡ take (length done) (lines_of all) = take_front (length done) (length (done ++ line ∷ [])) (lines_of all) (omega (arith, length-append done (line ∷ []))) in
     sym (sym e ∙ ap (take (length done)) (sym h) ∙ take_first done (line ∷ []))
 
+reads_under_way : (fail : StepFail) (done : List Timed) (t : Timed) (line : List ℕ) (reader : Reading) (all others : List ℕ) → IsLineOf {A = List ℕ} line (Err fail) t.line → length reader.pending < piece_limit
+    → IsRead (lines_in done ++ line ∷ []) reader all others → Reads (ending (Err (of_step fail))) done t all others
+reads_under_way steps.DiskFault done t line reader all others is less r =
+    let first = first_of (lines_in done ++ line ∷ []) reader all others r in
+    let same = lines_more done t line is in
+    record {
+      lines = first_before (lines_in done) line all first;
+      under_way = subst (λ (ls : List (List ℕ)). AreFirst ls all) (sym same) first;
+      little = subst (λ (ls : List (List ℕ)). TakesLittle ls all others) (sym same) (takes_little (lines_in done ++ line ∷ []) reader all others r less);
+      front = takes_front (lines_in done ++ line ∷ []) reader all others r;
+    }
+reads_under_way steps.NoMemory done t line reader all others is less r =
+    let first = first_of (lines_in done ++ line ∷ []) reader all others r in
+    record {
+      lines = first_before (lines_in done) line all first;
+      under_way = ⊎_elim (λ (e : t.line ≡ []). inl e) (λ (e : t.line ≡ line). inr (subst (λ (ls : List (List ℕ)). AreFirst ls all) (sym (lines_more done t line e)) first)) is;
+      little = tt;
+      front = takes_front (lines_in done ++ line ∷ []) reader all others r;
+    }
+
 pub under_way : (first runner later : Runner) (old mid new : disks.State) (clock tick tock : clocks.State) (input left rest : sources.State) (reader next : Reading) (fail : StepFail) (out now : sinks.State)
-    → IsGoing first runner old mid clock tick input left reader (λ text. sinks.IsOut text out now)
+    → IsGoing first runner old mid clock tick input left reader (λ before text. sinks.IsOut text out now)
     → ((n : ℕ) (c : List ℕ) → n ≤ disks.turn new → new.is_image c → new.was_image n c)
-    → Tells (Ok true) reader next left rest → IsFeedless next.line → readers.Takes reader next left rest
+    → Tells (Ok true) reader next left rest → IsFeedless next.line → readers.Takes reader next left rest → length next.pending < piece_limit
     → Replies next.line (Err fail) runner later mid new tick tock
     → Carries (Err (of_step fail)) first later old new clock tock input rest out now
-under_way first runner later old mid new clock tick tock input left rest reader next fail out now g counts tells clear takes replies =
+under_way first runner later old mid new clock tick tock input left rest reader next fail out now g counts tells clear takes less replies =
     let read = read_on g.done reader next input left rest g.input_frame.told g.read tells clear takes in
     record {
       done = g.done;
       next = replies.timed;
       first = told_map input.rest rest.rest _ _ read (λ all others r. first_before (lines_in g.done) next.line all (first_of (lines_in g.done ++ next.line ∷ []) next all others r));
-      lines = told_map input.rest rest.rest _ _ read (λ all others r. ends_under_way fail (lines_in g.done) all others (first_before (lines_in g.done) next.line all (first_of (lines_in g.done ++ next.line ∷ []) next all others r)));
-      next_is = told_map input.rest rest.rest _ _ read (λ all others r. ⊎_elim (λ (e : replies.timed.line ≡ []). inl e) (λ (e : replies.timed.line ≡ next.line). inr (subst (λ (ls : List (List ℕ)). AreFirst ls all) (sym (lines_more g.done replies.timed next.line e)) (first_of (lines_in g.done ++ next.line ∷ []) next all others r))) replies.line_is);
-      taken = told_map input.rest rest.rest _ _ read (λ all others r. takes_front (lines_in g.done ++ next.line ∷ []) next all others r);
+      read = told_map input.rest rest.rest _ _ read (λ all others r. reads_under_way fail g.done replies.timed next.line next all others replies.line_is less r);
+      none = λ between. absurd (not_between fail between);
       seconds = takes_then first.is_scripted g.done (replies.timed ∷ []) clock tick tock g.clock_frame.told g.takes (subst (λ (s : Bool). Takes s (replies.timed ∷ []) tick tock) g.scripted replies.seconds);
       told = told_then old.reads mid.reads new.reads _ _ _ g.disk_frame.told g.told replies.told (λ before here after so_far goes w at.
           let s = so_far w at in
@@ -274,6 +295,6 @@ under_way first runner later old mid new clock tick tock input left rest reader 
             kept = λ only c is. kept_on first.is_scripted w g.done replies.timed fail runner later old mid new before here after counts s.0 step only c is;
             settled = λ between only. absurd (not_between fail between);
             stands = λ between. absurd (not_between fail between);
-            written = written_under_way fail r.text out now s.1;
+            written = written_under_way fail (text_before first.is_scripted w g.done) r.text out now (before_shorter first.is_scripted w g.done) s.1;
           });
     }

@@ -8,6 +8,7 @@ pub mod Making
 pub mod Defined
 pub mod Seconds
 pub mod Reading
+pub mod Written
 pub mod Standing
 pub mod CarriedLines
 pub mod Replying

@@ -6,11 +6,11 @@ use Rattle.std.proofs.lemmas.List.{append-nil, take_all, take-append-le}
 use Rattle.std.proofs.lemmas.List.Elements.{All-nil, All-cons, All-append}
 use Rattle.std.proofs.Math.Seq.{drop-append_seam}
 use Rattle.line_input.specs.Lines.{feed, IsFeedless, IsSplit, joined, lines_of, complete_lines}
-use Rattle.line_input.specs.Limits.{input_limit}
+use Rattle.line_input.specs.Limits.{input_limit, piece_limit}
 use Rattle.line_input.specs.Reader.{Reading, Gives, IsLastLine, IsAtEnd}
 use Rattle.line_input.proofs.Lines.{lines_none}
 use Rattle.line_input.proofs.Splits.{lines_only}
-use Rattle.dragoon_app.specs.Ran.{taken_of, AreComplete, AreEnded, AreFirst, TakesFront}
+use Rattle.dragoon_app.specs.Ran.{taken_of, AreComplete, AreEnded, AreFirst, TakesLittle, TakesFront}
 
 -- these lines were given out of the input, and those of what is unread come behind them
 pub record IsRead (done : List (List ℕ)) (reader : Reading) (all others : List ℕ) : Type 0 where
@@ -123,12 +123,29 @@ pub all_read : (done : List (List ℕ)) (reader : Reading) (all others : List �
 all_read done reader all others so_far none =
     (sym (so_far.lines ∙ ap (λ (x : List ℕ). done ++ lines_of x) none ∙ ap (λ (x : List (List ℕ)). done ++ x) lines_none ∙ append-nil done), nil_front reader.pending others none)
 
-complete_of : (done : List (List ℕ)) (reader : Reading) (all others : List ℕ) → IsRead done reader all others → IsFeedless reader.pending → all ≡ joined done (reader.pending ++ others) → AreComplete done all others
-complete_of done reader all others so_far clear w =
+-- what was taken
+taken_is : (done : List (List ℕ)) (reader : Reading) (all others : List ℕ) → all ≡ joined done (reader.pending ++ others) → taken_of all others ≡ joined done reader.pending
+taken_is done reader all others w =
     let e : all ≡ joined done reader.pending ++ others = w ∙ joined_ahead done reader.pending others in
     let n : length all - length others ≡ length (joined done reader.pending) = omega (arith, ap length e, length-append (joined done reader.pending) others) in
-    let seen : taken_of all others ≡ joined done reader.pending = ap (λ (k : ℕ). take k all) n ∙ ap (take (length (joined done reader.pending))) e ∙ take_first (joined done reader.pending) others in
-    lines_only (taken_of all others) reader.pending done (record { whole = sym seen; lines_feedless = so_far.feedless; rest_feedless = clear })
+    ap (λ (k : ℕ). take k all) n ∙ ap (take (length (joined done reader.pending))) e ∙ take_first (joined done reader.pending) others
+
+complete_of : (done : List (List ℕ)) (reader : Reading) (all others : List ℕ) → IsRead done reader all others → IsFeedless reader.pending → all ≡ joined done (reader.pending ++ others) → AreComplete done all others
+complete_of done reader all others so_far clear w =
+    lines_only (taken_of all others) reader.pending done (record { whole = sym (taken_is done reader all others w); lines_feedless = so_far.feedless; rest_feedless = clear })
+
+-- less than a piece beyond the lines
+pub takes_little : (done : List (List ℕ)) (reader : Reading) (all others : List ℕ) → IsRead done reader all others → length reader.pending < piece_limit → TakesLittle done all others
+takes_little done reader all others so_far less = ⊎_elim
+    (λ (w : all ≡ joined done (reader.pending ++ others)). inr (little w))
+    (λ (n : (reader.pending ++ others ≡ []) × (reader.taken < input_limit)). inl (inr (all_read done reader all others so_far n.0)))
+    so_far.whole
+  where
+    little : all ≡ joined done (reader.pending ++ others) → length (taken_of all others) < length (joined done []) + piece_limit
+    little w =
+        let taken : length (taken_of all others) ≡ length (joined done reader.pending) = ap length (taken_is done reader all others w) in
+        let parts : length (joined done reader.pending) ≡ length (joined done [] ++ reader.pending) = ap length (joined_ahead done [] reader.pending) in
+        omega (arith, taken, parts, length-append (joined done []) reader.pending, less)
 
 -- where a read failed
 pub ended_at : (done : List (List ℕ)) (reader : Reading) (all others : List ℕ) → IsRead done reader all others → IsFeedless reader.pending → AreEnded done all others

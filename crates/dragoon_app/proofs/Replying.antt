@@ -24,6 +24,7 @@ use Rattle.session_core.specs.Stepping.{StepsTo}
 use Rattle.session_core.specs.World.{IsIn}
 use Rattle.store_engine.specs.Opened.{Opened}
 use Rattle.dragoon_app.specs.declared.runner.Runner.{Runner}
+use Rattle.session_core.specs.declared.sessions.StepFail.TheVariants as step_fails
 use Rattle.dragoon_app.specs.declared.line_kind.LineKind.{LineKind}
 use Rattle.dragoon_app.specs.declared.line_kind.LineKind.TheVariants as kinds
 use Rattle.dragoon_app.specs.Numbers.{max_u64}
@@ -193,7 +194,8 @@ carry_is scripted r t x e = ap (answered scripted (seconds_of scripted r t.secon
 
 line_of : (bytes : List ℕ) (result : Result (List ℕ) StepFail) → IsLineOf bytes result bytes
 line_of bytes (Ok text) = refl
-line_of bytes (Err fail) = inr refl
+line_of bytes (Err step_fails.DiskFault) = refl
+line_of bytes (Err step_fails.NoMemory) = inr refl
 
 -- a line of the grammar
 pub replies_by : (bytes : List ℕ) (l : Line) (result : Result (List ℕ) StepFail) (runner later : Runner) (old new : State) (clock ahead : clocks.State) → answer bytes ≡ Ok l → SaysLine bytes l → GoesBy l result runner later old new clock ahead → Replies bytes result runner later old new clock ahead
@@ -232,12 +234,12 @@ unfolding without_return
 blank_nothing = refl
 
 -- none was begun
-pub replies_none : (bytes : List ℕ) (fail : StepFail) (runner later : Runner) (s : State) (clock : clocks.State) → IsStill s → Replies bytes (Err fail) runner later s s clock clock
-replies_none bytes fail runner later s clock still =
+pub replies_none : (bytes : List ℕ) (runner later : Runner) (s : State) (clock : clocks.State) → IsStill s → Replies bytes (Err step_fails.NoMemory) runner later s s clock clock
+replies_none bytes runner later s clock still =
     let t : Timed = record { line = []; second = 0 } in
     record {
       timed = t;
       line_is = inl refl;
       seconds = takes_blank runner.is_scripted t clock clock blank_nothing refl;
-      told = fails_goes (λ r. carry runner.is_scripted r t) fail runner later s still;
+      told = fails_goes (λ r. carry runner.is_scripted r t) step_fails.NoMemory runner later s still;
     }

@@ -25,7 +25,7 @@ use Rattle.dragoon_app.specs.declared.line_kind.LineKind.TheVariants as kinds
 use Rattle.dragoon_app.specs.Numbers.{max_u64}
 use Rattle.dragoon_app.specs.Outcome.{Said, refused}
 use Rattle.dragoon_app.specs.Running.{Running, Timed, start, carry, carried, world_of, seconds_of, said_by, kind_of, refused_text}
-use Rattle.dragoon_app.specs.Ran.{Runs, AreFirst, Ends, IsUnderWay, TakesFront, lines_in, StoresFront, StoresWorld, Takes}
+use Rattle.dragoon_app.specs.Ran.{Runs, Reads, AreFirst, IsOutBut, lines_in, text_before, StoresFront, StoresWorld, Takes}
 
 -- ---- failures
 
@@ -122,10 +122,11 @@ pub record GoesBy (line : Line) (result : Result (List ℕ) StepFail) (runner la
   pub seconds : TakesFor (kind_of line) runner.is_scripted second clock ahead
   pub told : WhereTold old.reads new.reads (GoesTo (λ r. said_by (kind_of line) runner.is_scripted (seconds_of runner.is_scripted r second) r line) result runner later old new)
 
--- a line was carried out, and after a failure it may not have been begun, which an empty one stands for
+-- a line was carried out, or begun; where memory was wanting it may not have been, which an empty one stands for
 abbrev pub IsLineOf : {A : Type 0} → List ℕ → Result A StepFail → List ℕ → Type 0
 IsLineOf line (Ok text) taken = taken ≡ line
-IsLineOf line (Err fail) taken = (taken ≡ []) ⊎ (taken ≡ line)
+IsLineOf line (Err steps.DiskFault) taken = taken ≡ line
+IsLineOf line (Err steps.NoMemory) taken = (taken ≡ []) ⊎ (taken ≡ line)
 
 -- a line was read, its second taken, and it was carried out
 pub record Replies (line : List ℕ) (result : Result (List ℕ) StepFail) (runner later : Runner) (old new : disks.State) (clock ahead : clocks.State) : Type 0 where
@@ -141,11 +142,11 @@ abbrev pub ending : Result (Unit {0}) RunFail → Status
 ending (Ok _) = statuses.Ok
 ending (Err fail) = status_of fail
 
--- what was written before the fault line: all replies, or a front of them where the output failed or memory was wanting
-abbrev pub IsWritten : List ℕ → Result (Unit {0}) RunFail → sinks.State → sinks.State → Type 0
-IsWritten text (Err fails.WriteFault) out later = sinks.FrontIsOut text out later
-IsWritten text (Err fails.NoMemory) out later = sinks.FrontIsOut text out later
-IsWritten text result out later = sinks.IsOut text out later
+-- What was written before the fault line: all replies. The last is cut short where the output failed or memory was wanting.
+abbrev pub IsWritten : List ℕ → List ℕ → Result (Unit {0}) RunFail → sinks.State → sinks.State → Type 0
+IsWritten before text (Err fails.WriteFault) out later = IsOutBut before text out later
+IsWritten before text (Err fails.NoMemory) out later = IsOutBut before text out later
+IsWritten before text result out later = sinks.IsOut text out later
 
 -- no line was under way
 abbrev pub IsBetween : Result (Unit {0}) RunFail → Type 0
@@ -159,16 +160,15 @@ pub record CarriesOver (scripted : Bool) (w : World) (done : List Timed) (next :
   pub kept : disks.Only before old → (c : List ℕ) → new.is_image c → StoresWorld (carried scripted (start w) done).world c ⊎ StoresWorld (carried scripted (start w) (done ++ next ∷ [])).world c
   pub settled : IsBetween result → disks.Only before old → disks.Only after new
   pub stands : IsBetween result → IsAt (carried scripted (start w) done) runner after
-  pub written : IsWritten (carried scripted (start w) done).text result out later
+  pub written : IsWritten (text_before scripted w done) (carried scripted (start w) done).text result out later
 
 -- the lines of an input were carried out, up to its end or a failure
 pub record Carries (result : Result (Unit {0}) RunFail) (runner last : Runner) (old new : disks.State) (clock ahead : clocks.State) (input left : sources.State) (out later : sinks.State) : Type 0 where
   pub done : List Timed
   pub next : Timed
   pub first : WhereTold input.rest left.rest (λ all others. AreFirst (lines_in done) all)
-  pub lines : WhereTold input.rest left.rest (Ends (lines_in done) (ending result))
-  pub next_is : WhereTold input.rest left.rest (λ all others. IsUnderWay done next all)
-  pub taken : WhereTold input.rest left.rest TakesFront
+  pub read : WhereTold input.rest left.rest (Reads (ending result) done next)
+  pub none : IsBetween result → next.line ≡ []
   pub seconds : Takes runner.is_scripted (done ++ next ∷ []) clock ahead
   pub told : WhereTold old.reads new.reads (λ before after. (w : World) → IsAt (start w) runner before → CarriesOver runner.is_scripted w done next result last old new before after out later)
 

@@ -16,7 +16,7 @@ returns-else-runner-clause-told g c =
 pub returns-in-Err-clause-told : goal.returns-in-Err-clause-told
 returns-in-Err-clause-told g c =
     ran_failed c.args.runner.now c.carry_lines.new.runner (g.D.Disk.state c.args.disk.now) (g.D.Disk.state c.carry_lines.new.disk) (g.C.Clock.state c.args.clock.now) (g.C.Clock.state c.carry_lines.new.clock) (g.I.Source.state c.args.input.now) (g.I.Source.state c.carry_lines.new.input) (g.O.Sink.state c.args.out.now) (g.O.Sink.state c.carry_lines.new.out) (g.O.Sink.state c.end.new.out)
-    c.in-Err.fail c.end.result c.in-Err.ensures.told c.in-Err.ensures.disk_cause c.end.ensures.value
+    c.in-Err.fail c.end.result c.in-Err.ensures.told c.in-Err.ensures.disk_cause c.in-Err.ensures.read_cause c.end.ensures.value
 
 pub returns-in-Err-clause-write_cause : goal.returns-in-Err-clause-write_cause
 returns-in-Err-clause-write_cause g c =

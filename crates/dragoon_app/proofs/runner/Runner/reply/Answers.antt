@@ -27,7 +27,7 @@ returns-in-Ok-clause-told g c =
     c.in-Ok.ensures.value c.in-Ok.ensures.spelled c.carry.ensures.told
 
 pub returns-in-Err-NoMemory-clause-told : goal.returns-in-Err-NoMemory-clause-told
-returns-in-Err-NoMemory-clause-told g c = replies_none c.args.line.now steps.NoMemory c.args.self.now c.args.self.now (g.D.Disk.state c.args.disk.now) (g.C.Clock.state c.args.clock.now) (g.met.D.Disk.only_now c.args.disk.now)
+returns-in-Err-NoMemory-clause-told g c = replies_none c.args.line.now c.args.self.now c.args.self.now (g.D.Disk.state c.args.disk.now) (g.C.Clock.state c.args.clock.now) (g.met.D.Disk.only_now c.args.disk.now)
 
 pub returns-in_ok-refuse-in-Err-Syntax-clause-told : goal.returns-in_ok-refuse-in-Err-Syntax-clause-told
 returns-in_ok-refuse-in-Err-Syntax-clause-told g c =
