@@ -1,7 +1,7 @@
 -- The lines of an input are carried out.
-use Rattle.std.proofs.Common.{◌≡◌, ◌∙◌, ◌+◌, ◌≤◌, ◌<◌, ℕ, Bool, true, false, Option, Some, None, List, [], ◌∷◌, ◌++◌, length, take, refl, sym, ap, subst, arith, append_assoc, length-append, inl, inr, ⊎_elim, Result, Ok, Err}
-use Rattle.std.specs.Prelude.{◌⊎◌, OnOk, IfOk, IsErrOf, map}
-use Rattle.std.proofs.lemmas.List.{append-nil, map-append}
+use Rattle.std.proofs.Common.{◌≡◌, ◌∙◌, ◌≤◌, ◌<◌, ℕ, Bool, true, false, Option, Some, None, List, [], ◌∷◌, ◌++◌, length, take, refl, sym, ap, subst, arith, length-append, inl, inr, ⊎_elim, Result, Ok, Err}
+use Rattle.std.specs.Prelude.{IsErrOf}
+use Rattle.std.proofs.lemmas.List.{map-append}
 use Rattle.outside_words.specs.Told.{WhereTold, TellsAlike}
 use Rattle.outside_words.proofs.Told.{told_map, told_then, told_same}
 use Rattle.disk_words.specs.Disk as disks
@@ -10,8 +10,7 @@ use Rattle.disk_model.proofs.Moments.{weaker}
 use Rattle.outside_io.specs.declared.sink.StreamFail.{StreamFail}
 use Rattle.outside_io.specs.declared.sink.StreamFail.TheVariants as streams
 use Rattle.outside_io.specs.Sink as sinks
-use Rattle.outside_io.proofs.Frame as sink_frames
-use Rattle.outside_io.proofs.Out.{nothing_out, out_then, out_then_front, front_of_all}
+use Rattle.outside_io.proofs.Out.{nothing_out, front_of_all}
 use Rattle.outside_io.specs.Source as sources
 use Rattle.outside_io.specs.Clock as clocks
 use Rattle.line_input.specs.declared.fail.InputFail.{InputFail}
@@ -26,10 +25,9 @@ use Rattle.session_core.specs.World.{World}
 use Rattle.stmt_text.specs.Lines.{is_blank, without_return}
 use Rattle.dragoon_app.specs.declared.status.Status.TheVariants as statuses
 use Rattle.dragoon_app.specs.declared.run_fail.RunFail.{RunFail}
-use Rattle.dragoon_app.specs.declared.run_fail.RunFail.TheVariants as fails
 use Rattle.dragoon_app.specs.declared.runner.Runner.{Runner}
 use Rattle.dragoon_app.specs.Running.{Running, Timed, start, carry, carried}
-use Rattle.dragoon_app.specs.Ran.{AreFirst, Ends, IsUnderWay, TakesFront, lines_in, StoresFront, StoresWorld, Takes}
+use Rattle.dragoon_app.specs.Ran.{AreFirst, Ends, lines_in, StoresWorld, Takes}
 use Rattle.dragoon_app.specs.Carrying.{IsAt, Goes, Replies, Carries, CarriesOver, IsWritten, IsBetween, ending, of_step, of_input, of_output}
 use Rattle.dragoon_app.proofs.Seconds.{takes_none, takes_then, takes_blank}
 use Rattle.dragoon_app.proofs.Reading.{take_front, take_first, IsRead, read_none, read_more, read_same, first_of, takes_front, all_read, ended_at, complete_at}

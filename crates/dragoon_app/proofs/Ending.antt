@@ -1,13 +1,13 @@
 -- How a run ends, and what it leaves then.
-use Rattle.std.proofs.Common.{◌≡◌, ◌≢◌, ◌≤◌, ◌∙◌, ◌+◌, ℕ, Bool, true, false, Option, Some, None, List, [], ◌∷◌, ◌++◌, length, refl, sym, ap, subst, arith, inl, inr, ⊎_elim, Result, Ok, Err}
-use Rattle.std.specs.Prelude.{◌⊎◌, IsErrOf, IfSome, min}
+use Rattle.std.proofs.Common.{◌≡◌, ◌≢◌, ◌≤◌, ◌∙◌, ℕ, Bool, true, false, Option, Some, None, List, ◌++◌, length, refl, sym, ap, subst, arith, inl, inr, ⊎_elim, Result, Ok, Err}
+use Rattle.std.specs.Prelude.{◌⊎◌, IsErrOf, IfSome}
 use Rattle.outside_words.specs.Faults.{Rose}
 use Rattle.outside_words.specs.Told.{WhereTold}
 use Rattle.outside_words.proofs.Told.{told_map}
 use Rattle.disk_words.specs.Disk as disks
 use Rattle.disk_model.specs.Moments.{EveryImage}
 use Rattle.outside_io.specs.Sink.{State, IsOut, FrontIsOut}
-use Rattle.outside_io.proofs.Out.{out_then, out_then_front, front_of_first, front_of_none}
+use Rattle.outside_io.proofs.Out.{out_then, out_then_front, front_of_first}
 use Rattle.outside_io.specs.Source as sources
 use Rattle.outside_io.specs.Clock as clocks
 use Rattle.tuple_bytes.specs.declared.header.Header.{Header}
@@ -22,9 +22,9 @@ use Rattle.dragoon_app.specs.declared.run_fail.RunFail.TheVariants as fails
 use Rattle.dragoon_app.specs.declared.runner.Runner.{Runner}
 use Rattle.dragoon_app.specs.Texts.{fault_line}
 use Rattle.dragoon_app.specs.Outcome.{Said, WriteCause, refused}
-use Rattle.dragoon_app.specs.Running.{Running, Timed, start, carried, world_of}
-use Rattle.dragoon_app.specs.Ran.{AreFirst, Ends, Writes, IsCutShort, IsSettled, Runs, RunsOver, RunsUnder, RunsOn, EndsEarly, lines_in}
-use Rattle.dragoon_app.specs.Carrying.{IsAt, IsReady, Carries, IsWritten, IsBetween, ending, status_of, EndsWith, RunsFrom}
+use Rattle.dragoon_app.specs.Running.{Running, start, carried, world_of}
+use Rattle.dragoon_app.specs.Ran.{AreFirst, Ends, Writes, IsSettled, Runs, RunsUnder, RunsOn, EndsEarly, lines_in}
+use Rattle.dragoon_app.specs.Carrying.{IsAt, IsReady, Carries, IsWritten, IsBetween, ending, EndsWith, RunsFrom}
 use Rattle.dragoon_app.proofs.CarriedLines.{told_both}
 use Rattle.dragoon_app.proofs.Standing.{stores_in}
 

@@ -1,11 +1,10 @@
-use Rattle.std.proofs.Common.{◌≡◌, ◌∙◌, ◌++◌, List, ℕ, true, sym, ap, subst, refl, rules, arith, Ok, Err}
+use Rattle.std.proofs.Common.{◌≡◌, List, ℕ, subst, refl, rules, arith, Ok, Err}
 use Rattle.disk_words.proofs.Frame as disk_frames
 use Rattle.outside_io.specs.Sink as sinks
 use Rattle.outside_io.proofs.Frame as sink_frames
 use Rattle.outside_io.proofs.Out.{out_then, out_then_front}
-use Rattle.dragoon_app.specs.declared.run_fail.RunFail.TheVariants as fails
 use Rattle.dragoon_app.specs.Carrying.{Replies, of_input, of_output, of_step}
-use Rattle.dragoon_app.proofs.CarriedLines.{begins, goes_on, goes_no_further, between, under_way, ended, ends_failed, ends_unwritten, written_failed, written_front, source_then, clock_then}
+use Rattle.dragoon_app.proofs.CarriedLines.{begins, goes_on, goes_no_further, between, under_way, ended, ends_failed, ends_unwritten, written_failed, written_front}
 use Rattle.dragoon_app.proofs.run.carry_lines.Goals as goal
 
 pub lines-init : goal.lines-init
