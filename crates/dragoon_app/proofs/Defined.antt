@@ -12,7 +12,7 @@ use Rattle.dragoon_app.specs.declared.status.Status.{Status}
 use Rattle.dragoon_app.specs.declared.status.Status.TheVariants as statuses
 use Rattle.dragoon_app.specs.Outcome.{Outcome, AnswersFor, Said, refused}
 use Rattle.dragoon_app.specs.Linked.{link_outcome}
-use Rattle.dragoon_app.specs.Init.{init_outcome, Inits}
+use Rattle.dragoon_app.specs.Init.{Inits}
 use Rattle.dragoon_app.specs.Top.{AnswersAt, AnswersBy}
 use Rattle.dragoon_app.proofs.Answering.{said_answers}
 

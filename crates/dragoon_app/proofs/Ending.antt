@@ -1,6 +1,6 @@
 -- How a run ends, and what it leaves then.
-use Rattle.std.proofs.Common.{◌≡◌, ◌≢◌, ◌≤◌, ◌∙◌, ◌+◌, ℕ, Bool, true, false, Option, Some, None, List, [], ◌∷◌, ◌++◌, length, refl, sym, ap, subst, arith, inl, inr, ⊎_elim, Result, Ok, Err}
-use Rattle.std.specs.Prelude.{◌⊎◌, IsErrOf, IfSome, min}
+use Rattle.std.proofs.Common.{◌≡◌, ◌≢◌, ◌≤◌, ◌∙◌, ℕ, Bool, true, false, Option, Some, None, List, ◌++◌, length, refl, sym, ap, subst, arith, inl, inr, ⊎_elim, Result, Ok, Err}
+use Rattle.std.specs.Prelude.{◌⊎◌, IsErrOf, IfSome}
 use Rattle.outside_words.specs.Faults.{Rose}
 use Rattle.outside_words.specs.Told.{WhereTold}
 use Rattle.outside_words.proofs.Told.{told_map}

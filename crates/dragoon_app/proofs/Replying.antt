@@ -1,6 +1,6 @@
 -- A line is carried out and replied to.
 use Rattle.std.proofs.Common.{◌≡◌, ◌∙◌, ◌+◌, ℕ, Bool, true, false, List, [], ◌∷◌, ◌++◌, refl, sym, ap, subst, inl, inr, Result, Ok, Err}
-use Rattle.std.specs.Prelude.{◌||◌, OnOk, IfOk, min, codes}
+use Rattle.std.specs.Prelude.{◌||◌, min, codes}
 use Rattle.std.proofs.lemmas.List.{append-nil}
 use Rattle.outside_words.specs.Told.{WhereTold}
 use Rattle.outside_words.proofs.Told.{told_map, told_same}
@@ -8,13 +8,11 @@ use Rattle.disk_words.specs.Disk.{State, turn}
 use Rattle.outside_io.specs.Clock as clocks
 use Rattle.tuple_bytes.specs.declared.header.Header.{Header}
 use Rattle.stmt_text.specs.declared.error.ParseFail.{ParseFail}
-use Rattle.stmt_text.specs.declared.error.ParseFail.TheVariants as parses
 use Rattle.stmt_text.specs.declared.line.Line.{Line}
 use Rattle.stmt_text.specs.declared.line.Line.TheVariants as lines
 use Rattle.stmt_text.specs.declared.stmt.Stmt.{Stmt}
 use Rattle.stmt_text.specs.declared.stmt.Stmt.TheVariants as stmts
-use Rattle.stmt_text.specs.Numbers.{in_range}
-use Rattle.stmt_text.specs.Lines.{answer, answer_by, line_by, content_line, is_blank, without_return}
+use Rattle.stmt_text.specs.Lines.{answer, content_line, is_blank, without_return}
 use Rattle.stmt_text.specs.Grammar.{SaysLine}
 use Rattle.session_core.specs.declared.reply.Reply.{Reply}
 use Rattle.session_core.specs.declared.sessions.StepFail.{StepFail}
@@ -30,7 +28,7 @@ use Rattle.dragoon_app.specs.declared.line_kind.LineKind.TheVariants as kinds
 use Rattle.dragoon_app.specs.Numbers.{max_u64}
 use Rattle.dragoon_app.specs.Running.{Running, Timed, carry, answered, said_by, stmt_kind, kind_of, seconds_of, stepped, set_moment, refused_line, refused_text}
 use Rattle.dragoon_app.specs.Ran.{Takes}
-use Rattle.dragoon_app.specs.Carrying.{IsAt, Goes, GoesTo, GoesBy, Replies, IsLineOf, TakesFor, GivesSeconds, refusing, moved, SetsMoment}
+use Rattle.dragoon_app.specs.Carrying.{IsAt, Goes, GoesTo, GoesBy, Replies, IsLineOf, TakesFor, GivesSeconds, refusing, SetsMoment}
 use Rattle.dragoon_app.proofs.Seconds.{takes_blank, takes_second}
 use Rattle.dragoon_app.proofs.Standing.{goes_still}
 

@@ -1,11 +1,11 @@
 -- The seconds that lines take from a clock.
 use Rattle.std.proofs.Common.{◌≡◌, ◌<◌, ◌+◌, ◌-◌, ◌∙◌, ℕ, zero, suc, ◌≤◌, Bool, true, false, List, [], ◌∷◌, ◌++◌, length, refl, sym, ap, arith, length-append, inl, inr, ⊎_elim}
-use Rattle.std.specs.Prelude.{filter, map, not, slice_index, ◌⊎◌}
+use Rattle.std.specs.Prelude.{filter, map, slice_index, ◌⊎◌}
 use Rattle.std.proofs.lemmas.List.{map-append, get_or-append-add, get_or_append_left}
 use Rattle.std.proofs.lemmas.List.Elements.{filter-append}
-use Rattle.outside_words.specs.Told.{WhereTold, TellsAlike}
+use Rattle.outside_words.specs.Told.{TellsAlike}
 use Rattle.outside_words.proofs.Told.{told_map, told_then, told_same}
-use Rattle.outside_io.specs.Clock.{State, Tells, GoesOn}
+use Rattle.outside_io.specs.Clock.{State, Tells}
 use Rattle.stmt_text.specs.Lines.{is_blank, without_return}
 use Rattle.dragoon_app.specs.Running.{Timed, is_said, seconds_taken}
 use Rattle.dragoon_app.specs.Ran.{Gave, Takes}

@@ -1,7 +1,7 @@
 -- Where a run stands after some lines, and what a line more does.
-use Rattle.std.proofs.Common.{◌≡◌, ◌∙◌, ◌+◌, ◌≤◌, ℕ, Bool, true, false, List, [], ◌∷◌, ◌++◌, length, take, refl, sym, ap, subst, arith, append_assoc, inl, inr, ⊎_elim, Result, Ok, Err}
-use Rattle.std.specs.Prelude.{◌⊎◌, OnOk, IfOk, min, codes}
-use Rattle.std.proofs.lemmas.List.{append-nil, take_all, take_min, take-append-le}
+use Rattle.std.proofs.Common.{◌≡◌, ◌∙◌, ◌≤◌, ℕ, Bool, List, [], ◌∷◌, ◌++◌, length, take, sym, subst, arith, inl, ⊎_elim, Result, Ok, Err}
+use Rattle.std.specs.Prelude.{◌⊎◌, OnOk, IfOk, min}
+use Rattle.std.proofs.lemmas.List.{take_all, take_min, take-append-le}
 use Rattle.std.proofs.lemmas.List.Sums.{fold-append}
 use Rattle.disk_words.specs.Disk.{State, turn, Only}
 use Rattle.disk_model.specs.Moments.{EveryImage}
@@ -9,7 +9,7 @@ use Rattle.disk_model.proofs.Moments.{started, weaker, joined}
 use Rattle.tuple_bytes.specs.declared.header.Header.{Header}
 use Rattle.store_engine.specs.Opened.{Stores}
 use Rattle.session_core.specs.declared.sessions.StepFail.{StepFail}
-use Rattle.session_core.specs.World.{World, IsIn, StoresEither}
+use Rattle.session_core.specs.World.{World, StoresEither}
 use Rattle.dragoon_app.specs.declared.runner.Runner.{Runner}
 use Rattle.dragoon_app.specs.Running.{Running, Timed, start, carry, carried}
 use Rattle.dragoon_app.specs.Ran.{StoresWorld, StoresFront}

@@ -1,4 +1,4 @@
-use Rattle.std.proofs.Common.{◌≡◌, ◌∙◌, ◌++◌, List, ℕ, true, sym, ap, subst, refl, rules, arith, Ok, Err}
+use Rattle.std.proofs.Common.{◌≡◌, List, ℕ, subst, refl, rules, arith, Ok, Err}
 use Rattle.disk_words.proofs.Frame as disk_frames
 use Rattle.outside_io.specs.Sink as sinks
 use Rattle.outside_io.proofs.Frame as sink_frames

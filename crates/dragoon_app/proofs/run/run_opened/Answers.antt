@@ -1,4 +1,3 @@
-use Rattle.std.proofs.Common.{Ok, Err}
 use Rattle.dragoon_app.specs.declared.status.Status.TheVariants as statuses
 use Rattle.dragoon_app.proofs.Ending.{ran_ok, ran_refused, ran_failed, written_cause}
 use Rattle.dragoon_app.proofs.run.run_opened.Goals as goal

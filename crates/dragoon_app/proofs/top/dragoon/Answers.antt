@@ -1,7 +1,6 @@
-use Rattle.std.proofs.Common.{◌≡◌, Option, Some, None, sym, ap, ◌∙◌}
+use Rattle.std.proofs.Common.{Some, sym, ap, ◌∙◌}
 use Rattle.disk_words.proofs.Frame.{goes_on_same}
 use Rattle.dragoon_app.specs.declared.command.Command.{Command}
-use Rattle.dragoon_app.proofs.CarriedLines.{source_same, clock_same}
 use Rattle.dragoon_app.proofs.Defined.{none_at, link_at, inits_at, run_at}
 use Rattle.dragoon_app.proofs.top.dragoon.Goals as goal
 

@@ -2,7 +2,7 @@ use Rattle.std.proofs.Common.{◌≡◌, ◌∙◌, sym, refl, Ok, Err, codes, r
 use Rattle.disk_words.proofs.Frame.{goes_on_same}
 use Rattle.session_core.specs.declared.sessions.StepFail.TheVariants as steps
 use Rattle.dragoon_app.specs.declared.line_kind.LineKind.TheVariants as kinds
-use Rattle.dragoon_app.specs.Running.{set_moment, refused_line, said_by, seconds_of}
+use Rattle.dragoon_app.specs.Running.{set_moment, refused_line}
 use Rattle.dragoon_app.proofs.Replying.{goes_by, blank_goes, refuses_goes, sets_goes, fails_goes, takes_for}
 use Rattle.dragoon_app.proofs.runner.Runner.carry.Goals as goal
 

@@ -1,4 +1,4 @@
-use Rattle.std.proofs.Common.{◌≡◌, ◌∙◌, sym, refl, Ok, Err, codes, rules}
+use Rattle.std.proofs.Common.{◌≡◌, refl, Ok, Err, codes, rules}
 use Rattle.disk_words.proofs.Frame.{goes_on_same}
 use Rattle.session_core.specs.declared.sessions.StepFail.TheVariants as steps
 use Rattle.stmt_text.specs.declared.error.ParseFail.TheVariants as parses

@@ -1,7 +1,6 @@
-use Rattle.std.proofs.Common.{◌≡◌, Bool, Err, rules, refl, ap}
+use Rattle.std.proofs.Common.{Bool, refl, ap}
 use Rattle.std.specs.Prelude.{◌||◌}
-use Rattle.session_core.specs.declared.sessions.StepFail.TheVariants as steps
-use Rattle.dragoon_app.proofs.Replying.{steps_on, steps_off}
+use Rattle.dragoon_app.proofs.Replying.{steps_on}
 use Rattle.dragoon_app.proofs.runner.Runner.step.Goals as goal
 
 pub returns-clause-told : goal.returns-clause-told
