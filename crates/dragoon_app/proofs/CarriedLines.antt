@@ -10,7 +10,6 @@ use Rattle.disk_model.proofs.Moments.{weaker}
 use Rattle.outside_io.specs.declared.sink.StreamFail.{StreamFail}
 use Rattle.outside_io.specs.declared.sink.StreamFail.TheVariants as streams
 use Rattle.outside_io.specs.Sink as sinks
-use Rattle.outside_io.proofs.Frame as sink_frames
 use Rattle.outside_io.proofs.Out.{nothing_out}
 use Rattle.outside_io.specs.Source as sources
 use Rattle.outside_io.specs.Clock as clocks
@@ -28,7 +27,7 @@ use Rattle.dragoon_app.specs.declared.status.Status.TheVariants as statuses
 use Rattle.dragoon_app.specs.declared.run_fail.RunFail.{RunFail}
 use Rattle.dragoon_app.specs.declared.runner.Runner.{Runner}
 use Rattle.dragoon_app.specs.Running.{Running, Timed, start, carry, carried}
-use Rattle.dragoon_app.specs.Ran.{AreFirst, Ends, Reads, TakesLittle, IsOutBut, lines_in, text_before, StoresFront, StoresWorld, Takes}
+use Rattle.dragoon_app.specs.Ran.{AreFirst, Reads, TakesLittle, IsOutBut, lines_in, text_before, StoresWorld, Takes}
 use Rattle.dragoon_app.specs.Carrying.{IsAt, Goes, IsLineOf, Replies, Carries, CarriesOver, IsWritten, IsBetween, ending, of_step, of_input, of_output}
 use Rattle.dragoon_app.proofs.Seconds.{takes_none, takes_then, takes_blank}
 use Rattle.dragoon_app.proofs.Reading.{take_front, take_first, IsRead, read_none, read_more, read_same, first_of, takes_front, takes_little, all_read, ended_at, complete_at}

@@ -1,12 +1,12 @@
 -- How a run ends, and what it leaves then.
-use Rattle.std.proofs.Common.{◌≡◌, ◌≢◌, ◌≤◌, ◌∙◌, ℕ, Bool, true, false, Option, Some, None, List, ◌++◌, length, refl, sym, ap, subst, arith, inl, inr, ⊎_elim, Result, Ok, Err}
+use Rattle.std.proofs.Common.{◌≡◌, ◌≢◌, ◌≤◌, ◌∙◌, ℕ, Bool, true, false, Option, Some, None, List, [], ◌++◌, length, refl, sym, ap, subst, arith, inl, inr, ⊎_elim, Result, Ok, Err}
 use Rattle.std.specs.Prelude.{◌⊎◌, IsErrOf, IfSome}
 use Rattle.outside_words.specs.Faults.{Rose}
 use Rattle.outside_words.specs.Told.{WhereTold}
 use Rattle.outside_words.proofs.Told.{told_map}
 use Rattle.disk_words.specs.Disk as disks
 use Rattle.disk_model.specs.Moments.{EveryImage}
-use Rattle.outside_io.specs.Sink.{State, IsOut, FrontIsOut, Unchanged}
+use Rattle.outside_io.specs.Sink.{State, IsOut, FrontIsOut}
 use Rattle.outside_io.proofs.Out.{out_then}
 use Rattle.outside_io.specs.Source as sources
 use Rattle.outside_io.specs.Clock as clocks
@@ -23,8 +23,8 @@ use Rattle.dragoon_app.specs.declared.runner.Runner.{Runner}
 use Rattle.dragoon_app.specs.Texts.{fault_line}
 use Rattle.dragoon_app.specs.Outcome.{Said, WriteCause, refused}
 use Rattle.dragoon_app.specs.Running.{Running, Timed, start, carried, world_of}
-use Rattle.dragoon_app.specs.Ran.{AreFirst, IsNext, TakesNoMore, Reads, IsOutBut, CauseOf, IsToTell, IsCutShort, Writes, IsSettled, Runs, RunsOver, RunsUnder, RunsOn, EndsEarly, EndsUnopened, lines_in, text_before}
-use Rattle.dragoon_app.specs.Carrying.{IsAt, IsReady, Carries, IsWritten, IsBetween, ending, status_of, EndsWith, RunsFrom}
+use Rattle.dragoon_app.specs.Ran.{AreFirst, IsNext, TakesNoMore, Reads, IsOutBut, CauseOf, IsToTell, IsCutShort, Writes, IsSettled, Runs, RunsUnder, RunsOn, EndsEarly, lines_in, text_before}
+use Rattle.dragoon_app.specs.Carrying.{IsAt, IsReady, Carries, IsWritten, IsBetween, ending, EndsWith, RunsFrom}
 use Rattle.dragoon_app.proofs.CarriedLines.{told_both}
 use Rattle.dragoon_app.proofs.Written.{out_but_end}
 use Rattle.dragoon_app.proofs.Standing.{stores_in}

@@ -5,9 +5,9 @@ use Rattle.std.specs.List.{All}
 use Rattle.std.proofs.lemmas.List.{append-nil, take_all, take-append-le}
 use Rattle.std.proofs.lemmas.List.Elements.{All-nil, All-cons, All-append}
 use Rattle.std.proofs.Math.Seq.{drop-append_seam}
-use Rattle.line_input.specs.Lines.{feed, IsFeedless, IsSplit, joined, lines_of, complete_lines}
+use Rattle.line_input.specs.Lines.{feed, IsFeedless, joined, lines_of}
 use Rattle.line_input.specs.Limits.{input_limit, piece_limit}
-use Rattle.line_input.specs.Reader.{Reading, Gives, IsLastLine, IsAtEnd}
+use Rattle.line_input.specs.Reader.{Reading, Gives, IsLastLine}
 use Rattle.line_input.proofs.Lines.{lines_none}
 use Rattle.line_input.proofs.Splits.{lines_only}
 use Rattle.dragoon_app.specs.Ran.{taken_of, AreComplete, AreEnded, AreFirst, TakesLittle, TakesFront}
