@@ -92,14 +92,14 @@ pub record IsOutBut (before text : List ℕ) (old new : sinks.State) : Type 0 wh
 abbrev pub text_before : Bool → World → List Timed → List ℕ
 text_before scripted w done = (carried scripted (start w) (take (length done - 1) done)).text
 
--- what a fault line tells: the disk's faults rose, or the source's, or as much was taken as a run takes
+-- why a fault line is told: the disk's faults rose, or the source's; that the limit was met is said by what was read
 abbrev pub CauseOf : Status → disks.State → disks.State → sources.State → sources.State → Type 0
 CauseOf statuses.DiskFault old new input left = Rose old.faults new.faults
 CauseOf statuses.ReadFault old new input left = Rose input.faults left.faults
 CauseOf statuses.InputLimit old new input left = Unit {0}
 CauseOf s old new input left = ⊥
 
--- a fault line may stand behind the replies
+-- this fault line may stand behind the replies
 pub record IsToTell (done : List Timed) (next : Timed) (old new : disks.State) (input left : sources.State) (s : Status) : Type 0 where
   pub cause : CauseOf s old new input left
   pub read : WhereTold input.rest left.rest (Reads s done next)

@@ -21,9 +21,11 @@
 //!
 //! | The layer above may rely on | Field of `Runs` |
 //! |---|---|
-//! | `NotAStore` comes exactly where the bytes have no header of this id | `RunsOn` |
-//! | after `Ok` and `Refused` all lines of the input were carried out, and exactly their replies are out | `lines`, `written` |
-//! | a scripted run asks no clock, and others take one second for each line that isn't blank | `seconds` |
+//! | `NotAStore` comes exactly where the bytes have no header of this id; a fault of the disk while the store is opened, and want of memory, end a run before its first line | `RunsOn` |
+//! | after `Ok` and `Refused` all lines of the input were carried out, and exactly their replies are out | `lines` of `read`, `written` |
+//! | where the output fails or memory is wanting at most the last reply is cut short; or all are out, and a front of a fault line that has its cause | `written` |
+//! | at a fault of the disk the line under way is the next of the input; at one of the disk or the output less than a piece was taken beyond the lines that were begun | `under_way`, `little` of `read` |
+//! | a scripted run asks no clock, and others take one second for each line that isn't blank, the one under way too; none is under way unless the disk failed or memory was wanting | `seconds`, `none` |
 //! | on a settled store a crash at any moment leaves what stood there after some first lines | `images` of `store` |
 //! | each reply that is out stands for good: every image has what the lines say that were carried out | `kept` there |
 //!
