@@ -1,10 +1,11 @@
 -- A step over an open store: it does to the world that the store stands for what the definition says.
-use Rattle.std.specs.Prelude.{◌≡◌, ◌⊎◌, true, ℕ, List, Result, OnOk, IfOk}
-use Rattle.disk_words.specs.Disk.{State, Only}
+use Rattle.std.specs.Prelude.{◌≡◌, ◌⊎◌, true, ℕ, List, Result, Ok, Err, OnOk, IfOk}
+use Rattle.disk_words.specs.Disk.{State, Only, Unchanged}
 use Rattle.disk_model.specs.Moments.{EveryImage}
 use Rattle.store_engine.specs.Opened.{Opened}
 use Rattle.stmt_text.specs.declared.line.Line.{Line}
 use Rattle.session_core.specs.declared.reply.Reply.{Reply}
+use Rattle.session_core.specs.declared.reply.Reply.TheVariants as replies
 use Rattle.session_core.specs.declared.sessions.StepFail.{StepFail}
 use Rattle.session_core.specs.World.{World, IsIn, StoresEither}
 use Rattle.session_core.specs.Steps.{Step, step}
@@ -30,3 +31,18 @@ StepsTo line now = DoesAs (λ w. step w line now)
 -- the store is closed, or is as it was
 abbrev pub IsLeft : Opened → Opened → Type 0
 IsLeft old new = (new.at.is_closed ≡ true) ⊎ (new ≡ old)
+
+-- the store and its disk are as they were
+abbrev pub AreBothLeft : Opened → Opened → State → State → Type 0
+AreBothLeft old new disk later = (new ≡ old) × Unchanged disk later
+
+-- a reply that stores nothing leaves the store and its disk as they were, and so does a failure that leaves the store open
+abbrev pub LeavesBoth : Result Reply StepFail → Opened → Opened → State → State → Type 0
+LeavesBoth (Ok (replies.Committed number)) old new disk later = Unit {0}
+LeavesBoth (Ok replies.Done) old new disk later = AreBothLeft old new disk later
+LeavesBoth (Ok (replies.Found row)) old new disk later = AreBothLeft old new disk later
+LeavesBoth (Ok replies.Missing) old new disk later = AreBothLeft old new disk later
+LeavesBoth (Ok (replies.Scanned rows)) old new disk later = AreBothLeft old new disk later
+LeavesBoth (Ok (replies.Told versions)) old new disk later = AreBothLeft old new disk later
+LeavesBoth (Ok (replies.Refused refusal)) old new disk later = AreBothLeft old new disk later
+LeavesBoth (Err fail) old new disk later = (new.at.is_closed ≡ true) ⊎ AreBothLeft old new disk later

@@ -9,6 +9,7 @@ use Rattle.session_core.specs.Refusing.{refused_by_tables}
 use Rattle.session_core.specs.Steps.{Step, says, commit, write}
 use Rattle.session_core.specs.Stepping.{StepsIn, DoesAs}
 use Rattle.session_core.proofs.Untouched.{unchanged_same, untouched}
+use Rattle.session_core.proofs.Leaving.{leaves_same}
 use Rattle.session_core.proofs.Preparing.{answered_by, op_is, one_counted, refuses, becomes}
 use Rattle.session_core.proofs.writing.write.Goals as goal
 
@@ -50,3 +51,12 @@ returns-clause-told g c =
     (DoesAs (λ w. write w c.args.change c.args.now) c.commit.result store c.commit.new.store (S c.args.disk.now) (S c.commit.new.disk))
     c.commit.ensures.told
     (λ b a does w i. subst (λ (next : Step). StepsIn w next c.commit.result store c.commit.new.store (S c.args.disk.now) (S c.commit.new.disk) b a) (ap (λ (ops : List Op). commit w ops c.args.now) one ∙ becomes store c.tables.ensures.last c.args.change c.args.now op is w b i) (does w i))
+
+pub returns-in_err-refused_by_tables-in-Err-clause-same : goal.returns-in_err-refused_by_tables-in-Err-clause-same
+returns-in_err-refused_by_tables-in-Err-clause-same g c = leaves_same c.from_residual.result c.args.store.now (g.D.Disk.state c.args.disk.now)
+
+pub returns-in-Err-clause-same : goal.returns-in-Err-clause-same
+returns-in-Err-clause-same g c = leaves_same (Ok c.in_ok-refused_by_tables-in-Err.field-0) c.args.store.now (g.D.Disk.state c.args.disk.now)
+
+pub returns-in_err-push-clause-same : goal.returns-in_err-push-clause-same
+returns-in_err-push-clause-same g c = leaves_same c.from_residual-in_err-push.result c.args.store.now (g.D.Disk.state c.args.disk.now)
