@@ -1,5 +1,5 @@
 -- A commit does to the world what the definition says.
-use Rattle.std.proofs.Common.{◌≡◌, ℕ, ◌+◌, List, [], ◌∷◌, ◌++◌, length, Bool, true, false, Option, Some, None, Result, Ok, Err, IfOk, IsSome, refl, sym, ap, subst, ◌∙◌}
+use Rattle.std.proofs.Common.{◌≡◌, ℕ, ◌+◌, List, length, Bool, false, Option, Some, None, Result, Ok, Err, IfOk, IsSome, refl, sym, ap, subst, ◌∙◌}
 use Rattle.outside_words.specs.Told.{WhereTold}
 use Rattle.outside_words.proofs.Told.{told_map}
 use Rattle.disk_words.specs.Disk.{State, turn, Unchanged}
@@ -7,7 +7,6 @@ use Rattle.disk_model.proofs.Moments.{weaker}
 use Rattle.tuple_bytes.specs.declared.header.Header.{Header}
 use Rattle.tuple_bytes.specs.declared.op.Op.{Op}
 use Rattle.tuple_bytes.specs.declared.item.Txn.{Txn}
-use Rattle.tuple_bytes.specs.declared.item.Item.{Item}
 use Rattle.tuple_bytes.specs.declared.item.Item.TheVariants as items
 use Rattle.tuple_bytes.specs.Spelling.{spell_txn}
 use Rattle.store_engine.specs.declared.fail.StoreFail.{StoreFail}
@@ -16,11 +15,9 @@ use Rattle.store_engine.specs.Opened.{Opened, StoresOldOrNew}
 use Rattle.store_engine.specs.Refusals.{Tail, tail_of, next_txn, commit_fault, IsRefusedBy}
 use Rattle.store_engine.specs.Commits as commits
 use Rattle.store_engine.specs.Commits.{StandsAfter, Adds}
-use Rattle.session_core.specs.declared.reply.Reply.{Reply}
 use Rattle.session_core.specs.declared.reply.Reply.TheVariants as replies
-use Rattle.session_core.specs.declared.sessions.StepFail.{StepFail}
 use Rattle.session_core.specs.declared.sessions.StepFail.TheVariants as steps
-use Rattle.session_core.specs.World.{World, IsIn, StoresEither, tail_of_world, with_txn}
+use Rattle.session_core.specs.World.{World, IsIn, StoresEither, tail_of_world}
 use Rattle.session_core.specs.Refusing.{refused_by_store, answered}
 use Rattle.session_core.specs.Steps.{Step, says, committed, commit}
 use Rattle.session_core.specs.Stepping.{StepsIn, DoesAs}

@@ -1,7 +1,6 @@
 -- What stores nothing leaves the store and its disk as they were.
-use Rattle.std.proofs.Common.{◌≡◌, ℕ, List, true, Option, Some, None, Result, Ok, Err, IsSome, inl, inr, refl, sym, ap, subst}
+use Rattle.std.proofs.Common.{◌≡◌, ℕ, true, Option, Some, Result, Ok, Err, IsSome, inl, inr, refl, sym, ap, subst}
 use Rattle.disk_words.specs.Disk.{State, Unchanged}
-use Rattle.tt_table.specs.Versions.{TablesVersions}
 use Rattle.store_engine.specs.declared.fail.StoreFail.{StoreFail}
 use Rattle.store_engine.specs.declared.fail.StoreFail.TheVariants as fails
 use Rattle.store_engine.specs.Opened.{Opened}

@@ -18,11 +18,10 @@ use Rattle.store_engine.specs.declared.fail.StoreFail.TheVariants as stores
 use Rattle.store_engine.specs.Refusals.{next_txn, commit_fault}
 use Rattle.stmt_text.specs.declared.stmt.Stmt.{Stmt}
 use Rattle.stmt_text.specs.declared.stmt.Stmt.TheVariants as stmts
-use Rattle.stmt_text.specs.declared.line.Line.{Line}
 use Rattle.stmt_text.specs.declared.line.Line.TheVariants as lines
 use Rattle.session_core.specs.World.{World, tail_of_world, tables_now, tables_at}
 use Rattle.session_core.specs.Refusing.{refused_by_tables, refused_by_store}
-use Rattle.session_core.specs.Steps.{found, scanned, told, committed, commit, commit_prepared, write, read, write_in, write_or_read, says, step}
+use Rattle.session_core.specs.Steps.{found, scanned, told, committed, commit_prepared, read, write_in, write_or_read, step}
 use Rattle.session_core.specs.Promises.{IsPromised, KeepsPromise, StepsKeepPromises}
 
 txns_more : (xs : List Item) (t : Txn) → txns (xs ++ items.Txn t ∷ []) ≡ txns xs ++ t ∷ []

@@ -1,5 +1,5 @@
 -- A step at which the disk is left as it is.
-use Rattle.std.proofs.Common.{◌≡◌, ℕ, List, Option, Result, Ok, Err, OnOk, IfOk, inl, refl, sym, ap, subst}
+use Rattle.std.proofs.Common.{◌≡◌, ℕ, List, Result, Ok, Err, OnOk, IfOk, inl, refl, sym, ap, subst}
 use Rattle.outside_words.specs.Told.{WhereTold}
 use Rattle.outside_words.proofs.Told.{told_same}
 use Rattle.disk_words.specs.Disk.{State, turn, Only, Unchanged}

@@ -1,11 +1,9 @@
-use Rattle.std.proofs.Common.{◌≡◌, List, ℕ, [], ◌∷◌, ◌++◌, Ok, Err, refl, sym, ap, subst, ◌∙◌, rules}
+use Rattle.std.proofs.Common.{◌≡◌, List, [], ◌∷◌, ◌++◌, Ok, Err, refl, ap, subst, ◌∙◌}
 use Rattle.outside_words.proofs.Told.{told_map}
 use Rattle.disk_words.proofs.Frame.{goes_on_same}
 use Rattle.tuple_bytes.specs.declared.op.Op.{Op}
-use Rattle.history_model.specs.Answers.{op_of, prepared}
+use Rattle.history_model.specs.Answers.{prepared}
 use Rattle.tt_table.specs.Versions.{state_now}
-use Rattle.session_core.specs.World.{World}
-use Rattle.session_core.specs.Refusing.{refused_by_tables}
 use Rattle.session_core.specs.Steps.{Step, says, commit, write}
 use Rattle.session_core.specs.Stepping.{StepsIn, DoesAs}
 use Rattle.session_core.proofs.Untouched.{unchanged_same, untouched}
