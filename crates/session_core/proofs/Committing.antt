@@ -1,5 +1,5 @@
 -- A commit does to the world what the definition says.
-use Rattle.std.proofs.Common.{◌≡◌, ℕ, ◌+◌, List, length, Bool, false, Option, Some, None, Result, Ok, Err, IfOk, IsSome, refl, sym, ap, subst, ◌∙◌}
+use Rattle.std.proofs.Common.{◌≡◌, ℕ, ◌+◌, List, length, Bool, false, Option, Some, None, Result, Ok, Err, IfOk, IsSome, inl, refl, sym, ap, subst, ◌∙◌}
 use Rattle.outside_words.specs.Told.{WhereTold}
 use Rattle.outside_words.proofs.Told.{told_map}
 use Rattle.disk_words.specs.Disk.{State, turn, Unchanged}
@@ -21,6 +21,7 @@ use Rattle.session_core.specs.World.{World, IsIn, StoresEither, tail_of_world}
 use Rattle.session_core.specs.Refusing.{refused_by_store, answered}
 use Rattle.session_core.specs.Steps.{Step, says, committed, commit}
 use Rattle.session_core.specs.Stepping.{StepsIn, DoesAs}
+use Rattle.session_core.proofs.Promising.{of_ops}
 use Rattle.session_core.proofs.Untouched.{untouched}
 
 module _ (stand new_stand : Opened) (ops : List Op) (now : ℕ) (is_open : stand.at.is_closed ≡ false) where
@@ -53,14 +54,14 @@ module _ (stand new_stand : Opened) (ops : List Op) (now : ℕ) (is_open : stand
           → WhereTold old.reads new.reads (DoesAs (λ w. commit w ops now) (answered result) stand new_stand old new)
       refused (Ok n) by stands = let none : fault ≡ None = by in absurd cc
       refused (Err fails.DiskFault) by stands = let none : fault ≡ None = by in absurd cc
-      refused (Err fails.NoMemory) by stands = untouched stand new_stand old new same only_now (λ w. commit w ops now) (Err steps.NoMemory) (λ w bytes i. tt) tt
+      refused (Err fails.NoMemory) by stands = untouched stand new_stand old new same only_now (λ w. commit w ops now) (Err steps.NoMemory) (λ w bytes i. tt) tt (λ w. of_ops w ops now) tt
       refused (Err fails.NotAStore) by stands = absurd by
-      refused (Err (fails.ClockBack last)) by stands = untouched stand new_stand old new same only_now (λ w. commit w ops now) (answered (Err (fails.ClockBack last))) (other (fails.ClockBack last) by) stands
-      refused (Err fails.TooLate) by stands = untouched stand new_stand old new same only_now (λ w. commit w ops now) (answered (Err fails.TooLate)) (other fails.TooLate by) stands
-      refused (Err fails.TooManyOps) by stands = untouched stand new_stand old new same only_now (λ w. commit w ops now) (answered (Err fails.TooManyOps)) (other fails.TooManyOps by) stands
-      refused (Err fails.TooLong) by stands = untouched stand new_stand old new same only_now (λ w. commit w ops now) (answered (Err fails.TooLong)) (other fails.TooLong by) stands
-      refused (Err fails.StoreFull) by stands = untouched stand new_stand old new same only_now (λ w. commit w ops now) (answered (Err fails.StoreFull)) (other fails.StoreFull by) stands
-      refused (Err fails.Closed) by stands = untouched stand new_stand old new same only_now (λ w. commit w ops now) (answered (Err fails.Closed)) (other fails.Closed by) stands
+      refused (Err (fails.ClockBack last)) by stands = untouched stand new_stand old new same only_now (λ w. commit w ops now) (answered (Err (fails.ClockBack last))) (other (fails.ClockBack last) by) stands (λ w. of_ops w ops now) tt
+      refused (Err fails.TooLate) by stands = untouched stand new_stand old new same only_now (λ w. commit w ops now) (answered (Err fails.TooLate)) (other fails.TooLate by) stands (λ w. of_ops w ops now) tt
+      refused (Err fails.TooManyOps) by stands = untouched stand new_stand old new same only_now (λ w. commit w ops now) (answered (Err fails.TooManyOps)) (other fails.TooManyOps by) stands (λ w. of_ops w ops now) tt
+      refused (Err fails.TooLong) by stands = untouched stand new_stand old new same only_now (λ w. commit w ops now) (answered (Err fails.TooLong)) (other fails.TooLong by) stands (λ w. of_ops w ops now) tt
+      refused (Err fails.StoreFull) by stands = untouched stand new_stand old new same only_now (λ w. commit w ops now) (answered (Err fails.StoreFull)) (other fails.StoreFull by) stands (λ w. of_ops w ops now) tt
+      refused (Err fails.Closed) by stands = untouched stand new_stand old new same only_now (λ w. commit w ops now) (answered (Err fails.Closed)) (other fails.Closed by) stands (λ w. of_ops w ops now) tt
 
     -- nothing stands against it
     module _ (free : fault ≡ None) where
@@ -83,6 +84,7 @@ module _ (stand new_stand : Opened) (ops : List Op) (now : ℕ) (is_open : stand
           settled = λ only. adds.durable;
           images = λ only. weaker (adds.images w.items i.open_on only) into;
           kept = λ only. into a (adds.kept w.items i.open_on only);
+          trace = record { txn = txn; stores = refl; makes = adds.trace };
         }
         steps_in (Err fails.DiskFault) number by stands adds = record {
           reply = tt;
@@ -90,6 +92,7 @@ module _ (stand new_stand : Opened) (ops : List Op) (now : ℕ) (is_open : stand
           settled = λ only. tt;
           images = λ only. weaker (adds.images w.items i.open_on only) into;
           kept = λ only. into a (adds.kept w.items i.open_on only);
+          trace = record { txn = txn; stores = refl; makes = adds.trace };
         }
         steps_in (Err fails.NoMemory) number by stands adds = record {
           reply = tt;
@@ -97,6 +100,7 @@ module _ (stand new_stand : Opened) (ops : List Op) (now : ℕ) (is_open : stand
           settled = λ only. tt;
           images = λ only. weaker (adds.images w.items i.open_on only) into;
           kept = λ only. into a (adds.kept w.items i.open_on only);
+          trace = inl (record { txn = txn; stores = refl; makes = adds.trace });
         }
         steps_in (Err fails.NotAStore) number by stands adds = absurd by
         steps_in (Err (fails.ClockBack last)) number by stands adds = let some : fault ≡ Some (fails.ClockBack last) = by in absurd cc

@@ -4,8 +4,10 @@ use Rattle.disk_words.proofs.Frame.{goes_on_same}
 use Rattle.tuple_bytes.specs.declared.op.Op.{Op}
 use Rattle.history_model.specs.Answers.{prepared}
 use Rattle.tt_table.specs.Versions.{state_now}
+use Rattle.session_core.specs.World.{tables_now}
 use Rattle.session_core.specs.Steps.{Step, says, commit, write}
 use Rattle.session_core.specs.Stepping.{StepsIn, DoesAs}
+use Rattle.session_core.proofs.Promising.{of_prepared}
 use Rattle.session_core.proofs.Untouched.{unchanged_same, untouched}
 use Rattle.session_core.proofs.Leaving.{leaves_same}
 use Rattle.session_core.proofs.Preparing.{answered_by, op_is, one_counted, refuses, becomes}
@@ -27,7 +29,7 @@ returns-in-Err-clause-told g c =
     let fail = c.in-Err.fail in
     let is : prepared (state_now store.tables) c.args.change ≡ Err fail = answered_by c.args.change (Err fail) _ _ store.tables c.in-Err.ensures.value c.new-pending.ensures.value c.tables.ensures.value in
     untouched store store (S c.args.disk.now) (S c.args.disk.now) (unchanged_same _) (g.met.D.Disk.only_now c.args.disk.now) (λ w. write w c.args.change c.args.now) (Ok c.in_ok-refused_by_tables-in-Err.field-0)
-    (λ w bytes i. ap (says w) c.in_ok-refused_by_tables-in-Err.ensures.value ∙ refuses store c.tables.ensures.last c.args.change c.args.now fail is w bytes i) refl
+    (λ w bytes i. ap (says w) c.in_ok-refused_by_tables-in-Err.ensures.value ∙ refuses store c.tables.ensures.last c.args.change c.args.now fail is w bytes i) refl (λ w. of_prepared w (prepared (tables_now w) c.args.change) c.args.now) tt
 
 pub commit-requires-clause-counted : goal.commit-requires-clause-counted
 commit-requires-clause-counted g c =
