@@ -1,6 +1,6 @@
 -- A line is carried out and replied to.
 use Rattle.std.proofs.Common.{◌≡◌, ◌∙◌, ◌+◌, ℕ, Bool, true, false, List, [], ◌∷◌, ◌++◌, refl, sym, ap, subst, inl, inr, Result, Ok, Err}
-use Rattle.std.specs.Prelude.{◌||◌, min, codes}
+use Rattle.std.specs.Prelude.{◌||◌, min, codes, IsErr}
 use Rattle.std.proofs.lemmas.List.{append-nil}
 use Rattle.outside_words.specs.Told.{WhereTold}
 use Rattle.outside_words.proofs.Told.{told_map, told_same}
@@ -99,6 +99,12 @@ pub steps_off : (line : Line) (now : ℕ) (result : Result Reply StepFail) (fail
     → WhereTold old.reads new.reads (GoesTo (λ r. stepped r (step r.world line now)) (Err fail) runner later old new)
 steps_off line now result fail runner later old new told = told_map old.reads new.reads _ _ told (λ before after steps r at.
     record { reply = tt; stands = tt; settled = λ only. tt; images = (steps r.world at.stands).images })
+
+-- the reply was not told in words
+pub steps_cut : (line : Line) (now : ℕ) (result : Result Reply StepFail) (cut : Result (List ℕ) StepFail) (runner later : Runner) (old new : State) → IsErr cut → WhereTold old.reads new.reads (StepsTo line now result runner.store later.store old new)
+    → WhereTold old.reads new.reads (GoesTo (λ r. stepped r (step r.world line now)) cut runner later old new)
+steps_cut line now result (Ok text) runner later old new is told = absurd cc
+steps_cut line now result (Err fail) runner later old new is told = steps_off line now result fail runner later old new told
 
 -- ---- by what the line asks for
 
