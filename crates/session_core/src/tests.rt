@@ -7,7 +7,6 @@ use std::test::Fail;
 use stmt_text::{Line, Stmt, parse_line};
 use store_engine::Store;
 use tuple_bytes::{Header, encode_header};
-use txn_journal::{StoreShape, create};
 
 /// The lines that are replied to a script; `now M` sets the clock to moment M.
 fn replies(alloc: Global, width: u32, script: &[&[u8]]) -> Result<Vec<u8>, AllocError> {
@@ -18,10 +17,9 @@ fn replies(alloc: Global, width: u32, script: &[&[u8]]) -> Result<Vec<u8>, Alloc
         k: 3,
         algs: 3,
     };
-    let mut disk = MemDisk::new(alloc);
-    let Ok(()) = create::<MemDisk, StoreShape>(&mut disk, &encode_header(&header)) else {
-        return Err(AllocError);
-    };
+    let mut bytes = encode_header(&header).to_vec(alloc)?;
+    bytes.push(0)?;
+    let mut disk = MemDisk::holding(alloc, bytes);
     let Ok(mut store) = Store::open_store(alloc, &mut disk, 7) else {
         return Err(AllocError);
     };
