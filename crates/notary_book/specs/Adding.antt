@@ -36,7 +36,7 @@ pub record Starts (at : Option Standing) (result : Result Standing JournalFail) 
   pub images : (calls : List Call) → IsFileOf calls at before → Only before old → EveryImage old new (Tells calls)
 
 -- a payload is added, and at each moment its call is there so or isn't
-pub record Adds (at : Option Standing) (payload : List ℕ) (result : Result Standing JournalFail) (old new : State) (before after : List ℕ) : Type 0 where
+pub record Adds {E : Type 0} (at : Option Standing) (payload : List ℕ) (result : Result Standing E) (old new : State) (before after : List ℕ) : Type 0 where
   pub added : IfOk result (λ now. (calls : List Call) → IsFileOf calls at before → all_next [] (calls ++ calls_in (payload ∷ [])) ≡ true → Stores (calls ++ calls_in (payload ∷ [])) now after)
   pub durable : IfOk result (λ now. Only before old → Only after new)
   pub images : (calls : List Call) → IsFileOf calls at before → Only before old → all_next [] (calls ++ calls_in (payload ∷ [])) ≡ true → EveryImage old new (TellsEither calls (calls ++ calls_in (payload ∷ [])))

@@ -1,9 +1,10 @@
 //! Reading payloads into memory.
 
-ghost use Rattle.std.specs.Prelude.{◌≡◌, IfOk};
+ghost use Rattle.std.specs.Prelude.{◌≡◌, IfOk, IfSome};
 ghost use Rattle.byte_grammar.specs.Reading.{Gives, many};
 ghost use Rattle.notary_book.specs.Calls.{seal_at, seals_at, call_by, call_at, call_of};
 ghost use Rattle.notary_book.specs.Entries.{call_in};
+ghost use Rattle.notary_book.specs.Spelling.{FitsCall};
 
 use crate::entry::Entry;
 use crate::limits::MAX_SEALS_OF_BATCH;
@@ -102,13 +103,20 @@ fn entry_of(alloc: Global, bytes: &[u8]) -> Result<Option<(Entry, &[u8])>, Alloc
     }
 }
 
-/// What a payload says, all of it, or nothing where it spells no call.
 #[tactic(auto, unfolding(crate::specs::Calls::call_of, byte_grammar::specs::Reading::whole))]
-pub(crate) fn decode(alloc: Global, bytes: &[u8]) -> Result<Option<Entry>, AllocError>
-    ensures value { IfOk result (λ found. Gives call_in found (call_of bytes.now)) }
+fn whole_entry(alloc: Global, bytes: &[u8]) -> Result<Option<Entry>, AllocError>
+    ensures { IfOk result (λ found. Gives call_in found (call_of bytes.now)) }
 {
     match entry_of(alloc, bytes)? {
         Some((entry, rest)) if rest.is_empty() => Ok(Some(entry)),
         _ => Ok(None),
     }
+}
+
+/// What a payload says, all of it, or nothing where it spells no call.
+pub(crate) fn decode(alloc: Global, bytes: &[u8]) -> Result<Option<Entry>, AllocError>
+    ensures value { IfOk result (λ found. Gives call_in found (call_of bytes.now)) }
+    ensures fits { IfOk result (λ found. IfSome found (λ entry. FitsCall (call_in entry))) }
+{
+    whole_entry(alloc, bytes)
 }

@@ -1,13 +1,8 @@
 //! What stands in a book, ready to be asked.
 
-ghost use Rattle.std.specs.Prelude.{◌≡◌, ◌≤◌, ◌<◌, ◌+◌, ◌++◌, ◌∷◌, [], ℕ, List, length, nat_le, nat_lt, slice_get, IfOk, OnOk};
-ghost use Rattle.std.specs.Option.{option_copied};
-ghost use Rattle.notary_link.specs.Notary.{Call, file, note, batch_of};
-ghost use Rattle.notary_link.specs.Shelves.{moments_on, marks_on, digest_on, shelf_of};
-ghost use Rattle.notary_book.specs.Spelling.{FitsCall};
-ghost use Rattle.notary_book.specs.Entries.{call_in};
+ghost use Rattle.std.specs.Prelude.{◌≤◌, ℕ, length};
+ghost use Rattle.notary_link.specs.Shelves.{moments_on, shelf_of};
 ghost use Rattle.notary_book.specs.Books.{max_seals, max_marks};
-ghost use Rattle.notary_book.specs.Kept.{StandsFor, IsRead, ReadsOn};
 
 use crate::entry::Entry;
 use crate::limits::{MAX_MARKS, MAX_SEALS};
@@ -30,6 +25,14 @@ pub(crate) struct Pages {
 }
 
 impl Pages {
+    ghost use Rattle.std.specs.Prelude.{◌≡◌, ◌<◌, ◌+◌, ◌++◌, ◌∷◌, [], List, nat_le, nat_lt, slice_get, IfOk, OnOk};
+    ghost use Rattle.std.specs.Option.{option_copied};
+    ghost use Rattle.notary_link.specs.Notary.{Call, file, note, batch_of};
+    ghost use Rattle.notary_link.specs.Shelves.{marks_on, digest_on};
+    ghost use Rattle.notary_book.specs.Spelling.{FitsCall};
+    ghost use Rattle.notary_book.specs.Entries.{call_in};
+    ghost use Rattle.notary_book.specs.Kept.{StandsFor, IsRead, ReadsOn};
+
     /// Those of a book in which nothing stands. They take no memory.
     pub fn new(alloc: Global) -> Pages
         ensures empty { IsRead [] result }
@@ -141,7 +144,10 @@ impl Pages {
         ensures value { IfOk result (λ next. (calls : List Call) → IsRead calls self.old
             → ReadsOn calls (file id index (batch_of moment seals.now) ∷ []) next self.new) }
     {
-        if index != self.count(id) || !self.has_room(seals.len()) {
+        if index != self.count(id) {
+            return Ok(false);
+        }
+        if !self.has_room(seals.len()) {
             return Ok(false);
         }
         self.add_batch(alloc, id, moment, seals)?;
