@@ -43,6 +43,17 @@ head_held : (o : Option (List ℕ)) (f : _) (held : Held) → held_under o f ≡
 head_held None f held e = absurd cc
 head_held (Some head) f held e = ap (λ (h : Held). Some h.head) (same_Some _ held e)
 
+-- a free device has none
+pub free_unheld : (bytes : List ℕ) → is_free bytes ≡ true → held_by is_book_head book_shape bytes ≡ None
+free_unheld bytes free = by (held_by is_book_head book_shape bytes) refl
+  where
+    by : (o : Option Held) → held_by is_book_head book_shape bytes ≡ o → held_by is_book_head book_shape bytes ≡ None
+    by None none = none
+    by (Some held) some =
+        let taken = not_free bytes held.head (head_held (head_of is_book_head bytes) (left book_shape 64 bytes) held some) in
+        let wrong : true ≡ false = sym free ∙ taken in
+        absurd cc
+
 -- ---- a book
 
 told_as_book : (bytes : List ℕ) → is_free bytes ≡ false → told_by bytes ≡ book_of bytes

@@ -1,8 +1,10 @@
 pub mod Bytes
 pub mod CallLaws
 pub mod Entries
+pub mod Keeping
 pub mod Lists
 pub mod Payloads
+pub mod Sizes
 pub mod Skips
 pub mod Storing
 pub mod Telling

@@ -16,11 +16,11 @@ calls_more payloads i item payload lt is same =
 
 module _ (payloads : List (List ℕ)) (i : ℕ) (item payload : List ℕ) (lt : i < length payloads) (is : item ≡ get_or payloads i item) (same : payload ≡ item) (old new : Pages) (follows : Bool) where
   pub read_more : follows ≡ true → ((calls : List Call) → IsRead calls old → ReadsOn calls (calls_in (payload ∷ [])) follows new) → IsRead (calls_in (take i payloads)) old → IsRead (calls_in (take (i + 1) payloads)) new
-  read_more yes reads read = subst (λ (cs : List Call). IsRead cs new) (sym (calls_more payloads i item payload lt is same)) (subst (λ (b : Bool). ReadsOn (calls_in (take i payloads)) (calls_in (payload ∷ [])) b new) yes (reads (calls_in (take i payloads)) read))
+  read_more is_true reads read = subst (λ (cs : List Call). IsRead cs new) (sym (calls_more payloads i item payload lt is same)) (subst (λ (b : Bool). ReadsOn (calls_in (take i payloads)) (calls_in (payload ∷ [])) b new) is_true (reads (calls_in (take i payloads)) read))
 
   pub read_no_more : follows ≡ false → ((calls : List Call) → IsRead calls old → ReadsOn calls (calls_in (payload ∷ [])) follows new) → IsRead (calls_in (take i payloads)) old → all_next [] (calls_in payloads) ≡ false
-  read_no_more no reads read =
-      let front = subst (λ (b : Bool). ReadsOn (calls_in (take i payloads)) (calls_in (payload ∷ [])) b new) no (reads (calls_in (take i payloads)) read) in
+  read_no_more is_false reads read =
+      let front = subst (λ (b : Bool). ReadsOn (calls_in (take i payloads)) (calls_in (payload ∷ [])) b new) is_false (reads (calls_in (take i payloads)) read) in
       let here : all_next [] (calls_in (take (i + 1) payloads)) ≡ false = ap (all_next []) (calls_more payloads i item payload lt is same) ∙ front in
       let all : calls_in payloads ≡ calls_in (take (i + 1) payloads) ++ calls_in (drop (i + 1) payloads) = ap calls_in (sym (take-append-drop (i + 1) payloads)) ∙ filter_map-append call_of (take (i + 1) payloads) (drop (i + 1) payloads) in
       ap (all_next []) all ∙ stays_false (calls_in (take (i + 1) payloads)) (calls_in (drop (i + 1) payloads)) here

@@ -182,8 +182,8 @@ module _ (at : Option Standing) (payload : List ℕ) where
     pub not_appended : (fail other : JournalFail) → WhereTold mid.reads new.reads (Appends is_book_head book_shape now payload (Err fail) mid new) → WhereTold old.reads new.reads (Adds at payload (Err other) old new)
     not_appended fail other told = told_then old.reads mid.reads new.reads _ _ (Adds at payload (Err other) old new) on.told starts told (λ b x a s appends. record { added = tt; durable = tt; images = of_append s appends })
 
-    pub appended : (later : Standing) → later ≡ behind now payload → WhereTold mid.reads new.reads (Appends is_book_head book_shape now payload (Ok tt) mid new) → WhereTold old.reads new.reads (Adds at payload (Ok later) old new)
-    appended later is told = told_then old.reads mid.reads new.reads _ _ (Adds at payload (Ok later) old new) on.told starts told (λ b x a s appends. record {
+    pub appended : (later : Standing) → later ≡ behind now payload → WhereTold mid.reads new.reads (Appends is_book_head book_shape now payload (Ok tt) mid new) → WhereTold old.reads new.reads (Adds {E = JournalFail} at payload (Ok later) old new)
+    appended later is told = told_then old.reads mid.reads new.reads _ _ (Adds {E = JournalFail} at payload (Ok later) old new) on.told starts told (λ b x a s appends. record {
       added = λ calls file next.
           let stores = s.made calls file in
           record {

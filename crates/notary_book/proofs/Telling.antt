@@ -1,7 +1,8 @@
 -- What a book tells, before and after a call.
-use Rattle.std.proofs.Common.{◌≡◌, ◌≢◌, ◌⊎◌, inl, inr, ◌≤◌, ◌+◌, ℕ, Bool, true, false, List, [], ◌∷◌, ◌++◌, length, Option, None, Some, Result, Ok, Err, IfOk, IfSome, refl, sym, ap, ◌∙◌, subst, arith}
+use Rattle.std.proofs.Common.{◌≡◌, ◌≢◌, leb, ltb, ◌⊎◌, inl, inr, ◌≤◌, ◌+◌, ℕ, Bool, true, false, List, [], ◌∷◌, ◌++◌, length, Option, None, Some, Result, Ok, Err, IfOk, IfSome, refl, sym, ap, ◌∙◌, subst, arith}
 use Rattle.std.specs.List.{slice_get}
 use Rattle.std.specs.Option.{is_some, option_map}
+use Rattle.std.proofs.lemmas.Bool.{leb-true, leb-false, ltb-true, ltb-false}
 use Rattle.std.proofs.lemmas.Option.{same_Some}
 use Rattle.outside_words.specs.Faults.{Rose}
 use Rattle.outside_words.specs.Told.{WhereTold, TellsAlike}
@@ -10,30 +11,39 @@ use Rattle.disk_words.specs.Disk.{State as DiskState, turn, Only, GoesOn as Disk
 use Rattle.disk_model.specs.Moments.{EveryImage}
 use Rattle.notary_link.specs.declared.fail.NotaryFail.{NotaryFail}
 use Rattle.notary_link.specs.declared.fail.NotaryFail.TheVariants.{Failed, OutOfTurn, Full, NoMemory}
-use Rattle.notary_link.specs.Notary.{Call, Lists, Adds as AddsCall, Keeps, Grows, Changes, IsInTurn, HasRoom, IsRefusal, TellsOn, GoesOn, Unchanged, Answers}
+use Rattle.notary_link.specs.declared.mark.Mark.{Mark}
+use Rattle.notary_link.specs.Batches.{Batch}
+use Rattle.notary_link.specs.Shelves.{moments_on, shelf_of}
+use Rattle.notary_link.specs.Notary.{Call, file, note, IsAsked, Lists, Adds as AddsCall, Keeps, Grows, Changes, IsInTurn, HasRoom, IsRefusal, TellsOn, GoesOn, Unchanged, Answers}
 use Rattle.notary_link.proofs.Frame.{grows_same}
 use Rattle.txn_journal.specs.Held.{Standing}
 use Rattle.notary_book.specs.declared.kept.Kept.{Kept}
 use Rattle.notary_book.specs.Adding.{Tells, TellsEither, Adds}
-use Rattle.notary_book.specs.Books.{lists_of, book_limits, all_next, calls_in, told_by, lists_told}
-use Rattle.notary_book.specs.Kept.{Stores, IsFileOf, Holds, IsSettled}
+use Rattle.notary_book.specs.Books.{lists_of, max_seals, max_marks, book_limits, all_next, calls_in, told_by, lists_told}
+use Rattle.notary_book.specs.Kept.{Stores, IsFileOf, Knows, IsSettled}
 use Rattle.notary_book.specs.State.{book_state}
 use Rattle.notary_book.proofs.Bytes.{told_file}
-use Rattle.notary_book.proofs.Lists.{adds, grows, keeps}
+use Rattle.notary_book.proofs.Lists.{adds, grows, keeps, next_is, count_is, file_next, note_is}
+
+-- ---- where something is told
+
+pub if_map : {A : Type 0} (o : Option A) {P Q : A → Type 0} → IfSome o P → ((x : A) → P x → Q x) → IfSome o Q
+if_map None p f = tt
+if_map (Some x) p f = f x p
+
+pub if_both : {A : Type 0} (o : Option A) {P Q R : A → Type 0} → IfSome o P → IfSome o Q → ((x : A) → P x → Q x → R x) → IfSome o R
+if_both None p q f = tt
+if_both (Some x) p q f = f x p q
 
 -- ---- what is kept
 
-pub told_of : (reads : Option (List ℕ)) (kept : Kept) (h : Holds reads kept) (P : Lists → Type 0) → P (lists_of h.calls) → IfSome (lists_told reads) P
+pub told_of : (reads : Option (List ℕ)) (kept : Kept) (h : Knows reads kept) (P : Lists → Type 0) → P (lists_of h.calls) → IfSome (lists_told reads) P
 told_of None kept h P p = tt
 told_of (Some bytes) kept h P p = subst (λ (o : Option Lists). IfSome o P) (sym (told_file h.calls kept.journal bytes h.in_file)) p
 
-pub told_calls : (reads : Option (List ℕ)) (kept : Kept) (h : Holds reads kept) → IfSome reads (Tells h.calls)
+pub told_calls : (reads : Option (List ℕ)) (kept : Kept) (h : Knows reads kept) → IfSome reads (Tells h.calls)
 told_calls None kept h = tt
 told_calls (Some bytes) kept h = told_file h.calls kept.journal bytes h.in_file
-
--- what is kept of reads that are the same
-pub holds_same : (reads reads' : Option (List ℕ)) (kept : Kept) → reads' ≡ reads → Holds reads kept → Holds reads' kept
-holds_same reads reads' kept same h = subst (λ (o : Option (List ℕ)). Holds o kept) (sym same) h
 
 -- ---- a call that changes nothing
 
@@ -69,12 +79,12 @@ answers_behind call result s m s' a u u' a' u'' same answers = record {
 
 -- ---- a call that is refused
 
-pub refused : (call : Call) (e : NotaryFail) (s : DiskState) (a u : ℕ) (calls : List Call) → IfSome s.reads (Tells calls) → Changes call book_limits (Err e) (lists_of calls) (lists_of calls) → Answers call (Err e) (book_state s a u) (book_state s a u)
-refused call e s a u calls tells changes = record { lists = by s.reads tells; trace = tt; asked = refl }
+pub refused : (call : Call) (e : NotaryFail) (s : DiskState) (a u : ℕ) (calls : List Call) → IfSome s.reads (Tells calls) → IfSome s.reads (λ b. Changes call book_limits (Err e) (lists_of calls) (lists_of calls)) → Answers call (Err e) (book_state s a u) (book_state s a u)
+refused call e s a u calls tells changes = record { lists = by s.reads tells changes; trace = tt; asked = refl }
   where
-    by : (o : Option (List ℕ)) → IfSome o (Tells calls) → WhereTold (lists_told o) (lists_told o) (Changes call book_limits (Err e))
-    by None t = tt
-    by (Some b) t = subst (λ (l : Option Lists). WhereTold l l (Changes call book_limits (Err e))) (sym t) changes
+    by : (o : Option (List ℕ)) → IfSome o (Tells calls) → IfSome o (λ b. Changes call book_limits (Err e) (lists_of calls) (lists_of calls)) → WhereTold (lists_told o) (lists_told o) (Changes call book_limits (Err e))
+    by None t changes = tt
+    by (Some b) t changes = subst (λ (l : Option Lists). WhereTold l l (Changes call book_limits (Err e))) (sym t) changes
 
 -- ---- a call that adds
 
@@ -92,7 +102,7 @@ module _ (calls : List Call) (call : Call) where
   lists_step (Some b) (Some a) P t (inl e) p q = subst (λ (o : Option Lists). WhereTold o (told_by a) P) (sym t) (subst (λ (o : Option Lists). WhereTold (Some (lists_of calls)) o P) (sym e) p)
   lists_step (Some b) (Some a) P t (inr e) p q = subst (λ (o : Option Lists). WhereTold o (told_by a) P) (sym t) (subst (λ (o : Option Lists). WhereTold (Some (lists_of calls)) o P) (sym e) q)
 
-  lists_done : (reads reads' : Option (List ℕ)) (P : Lists → Lists → Type 0) → IfSome reads (Tells calls) → IfSome reads' (Tells more) → P (lists_of calls) (lists_of more) → WhereTold (lists_told reads) (lists_told reads') P
+  lists_done : (reads reads' : Option (List ℕ)) (P : Lists → Lists → Type 0) → IfSome reads (Tells calls) → IfSome reads' (Tells more) → IfSome reads (λ b. P (lists_of calls) (lists_of more)) → WhereTold (lists_told reads) (lists_told reads') P
   lists_done None reads' P t e q = tt
   lists_done (Some b) None P t e q = subst (λ (o : Option Lists). WhereTold o None P) (sym t) tt
   lists_done (Some b) (Some a) P t e q = subst (λ (o : Option Lists). WhereTold o (told_by a) P) (sym t) (subst (λ (o : Option Lists). WhereTold (Some (lists_of calls)) o P) (sym e) q)
@@ -139,42 +149,39 @@ module _ (calls : List Call) (call : Call) where
     adds_stopped e (inl is) = subst (λ (x : NotaryFail). Answers call (Err x) (book_state s a u) (book_state s' a u')) (sym is) adds_failed
     adds_stopped e (inr is) = subst (λ (x : NotaryFail). Answers call (Err x) (book_state s a u) (book_state s' a u')) (sym is) adds_unknown
 
-  pub adds_done : (s s' : DiskState) (a u u' : ℕ) → IfSome s.reads (Tells calls) → IfSome s'.reads (Tells more) → IsInTurn call (lists_of calls) → HasRoom call book_limits (lists_of calls) → Answers call (Ok tt) (book_state s a u) (book_state s' a u')
-  adds_done s s' a u u' before after turn room = record { lists = lists_done s.reads s'.reads (Changes call book_limits (Ok tt)) before after (turn, room, adds calls call); trace = tt; asked = refl }
+  pub adds_done : (s s' : DiskState) (a u u' : ℕ) → IfSome s.reads (Tells calls) → IfSome s'.reads (Tells more) → IfSome s.reads (λ b. IsInTurn call (lists_of calls) × HasRoom call book_limits (lists_of calls)) → Answers call (Ok tt) (book_state s a u) (book_state s' a u')
+  adds_done s s' a u u' before after right = record { lists = lists_done s.reads s'.reads (Changes call book_limits (Ok tt)) before after (if_map s.reads right (λ b r. (r.0, r.1, adds calls call))); trace = tt; asked = refl }
 
   -- ---- over the disk
 
-  module _ {E : Type 0} (at : Option Standing) (payload : List ℕ) (result : Result Standing E) (s s' : DiskState) (on : DiskGoesOn s s') (spelled : calls_in (payload ∷ []) ≡ call ∷ []) (next : all_next [] more ≡ true) (in_file : IfSome s.reads (IsFileOf calls at)) (settled : IsSettled s) (told : WhereTold s.reads s'.reads (Adds at payload result s s')) where
+  module _ {E : Type 0} (at : Option Standing) (payload : List ℕ) (result : Result Standing E) (s s' : DiskState) (on : DiskGoesOn s s') (spelled : calls_in (payload ∷ []) ≡ call ∷ []) (next : IfSome s.reads (λ b. all_next [] more ≡ true)) (in_file : IfSome s.reads (IsFileOf calls at)) (settled : IsSettled s) (told : WhereTold s.reads s'.reads (Adds at payload result s s')) where
     together : calls ++ calls_in (payload ∷ []) ≡ more
     together = ap (λ (cs : List Call). calls ++ cs) spelled
 
-    next_too : all_next [] (calls ++ calls_in (payload ∷ [])) ≡ true
-    next_too = ap (all_next []) together ∙ next
-
-    every : {b x : List ℕ} → IsFileOf calls at b → Only b s → Adds at payload result s s' b x → EveryImage s s' (TellsEither calls more)
-    every f only adds = subst (λ (cs : List Call). EveryImage s s' (TellsEither calls cs)) together (adds.images calls f only next_too)
+    every : {b x : List ℕ} → IsFileOf calls at b → Only b s → all_next [] more ≡ true → Adds at payload result s s' b x → EveryImage s s' (TellsEither calls more)
+    every f only is_next adds = subst (λ (cs : List Call). EveryImage s s' (TellsEither calls cs)) together (adds.images calls f only (ap (all_next []) together ∙ is_next))
 
     pub either : IfSome s'.reads s'.is_image → ((t : ℕ) (c : List ℕ) → t ≤ turn s' → s'.is_image c → s'.was_image t c) → IfSome s'.reads (TellsEither calls more)
-    either image counts = by s.reads s'.reads on.told in_file settled told image
+    either image counts = by s.reads s'.reads on.told in_file settled next told image
       where
-        by : (o n : Option (List ℕ)) → TellsAlike o n → IfSome o (IsFileOf calls at) → IfSome o (λ b. Only b s) → WhereTold o n (Adds at payload result s s') → IfSome n s'.is_image → IfSome n (TellsEither calls more)
-        by None None alike f only t i = tt
-        by None (Some x) alike f only t i = absurd cc
-        by (Some b) None alike f only t i = tt
-        by (Some b) (Some x) alike f only t i = after_is s s' (TellsEither calls more) counts (every f only t) x i
+        by : (o n : Option (List ℕ)) → TellsAlike o n → IfSome o (IsFileOf calls at) → IfSome o (λ b. Only b s) → IfSome o (λ b. all_next [] more ≡ true) → WhereTold o n (Adds at payload result s s') → IfSome n s'.is_image → IfSome n (TellsEither calls more)
+        by None None alike f only k t i = tt
+        by None (Some x) alike f only k t i = absurd cc
+        by (Some b) None alike f only k t i = tt
+        by (Some b) (Some x) alike f only k t i = after_is s s' (TellsEither calls more) counts (every f only k t) x i
 
-  module _ {E : Type 0} (at : Option Standing) (payload : List ℕ) (now : Standing) (s s' : DiskState) (on : DiskGoesOn s s') (spelled : calls_in (payload ∷ []) ≡ call ∷ []) (next : all_next [] more ≡ true) (in_file : IfSome s.reads (IsFileOf calls at)) (settled : IsSettled s) (told : WhereTold s.reads s'.reads (Adds {E = E} at payload (Ok now) s s')) where
+  module _ (E : Type 0) (at : Option Standing) (payload : List ℕ) (now : Standing) (s s' : DiskState) (on : DiskGoesOn s s') (spelled : calls_in (payload ∷ []) ≡ call ∷ []) (next : IfSome s.reads (λ b. all_next [] more ≡ true)) (in_file : IfSome s.reads (IsFileOf calls at)) (settled : IsSettled s) (told : WhereTold s.reads s'.reads (Adds {E = E} at payload (Ok now) s s')) where
     pub stored : IfSome s'.reads (IsFileOf more (Some now))
-    stored = by s.reads s'.reads on.told in_file told
+    stored = by s.reads s'.reads on.told in_file next told
       where
         both : calls ++ calls_in (payload ∷ []) ≡ more
         both = ap (λ (cs : List Call). calls ++ cs) spelled
 
-        by : (o n : Option (List ℕ)) → TellsAlike o n → IfSome o (IsFileOf calls at) → WhereTold o n (Adds {E = E} at payload (Ok now) s s') → IfSome n (IsFileOf more (Some now))
-        by None None alike f t = tt
-        by None (Some x) alike f t = absurd cc
-        by (Some b) None alike f t = tt
-        by (Some b) (Some x) alike f t = subst (λ (cs : List Call). Stores cs now x) both (t.added calls f (ap (all_next []) both ∙ next))
+        by : (o n : Option (List ℕ)) → TellsAlike o n → IfSome o (IsFileOf calls at) → IfSome o (λ b. all_next [] more ≡ true) → WhereTold o n (Adds {E = E} at payload (Ok now) s s') → IfSome n (IsFileOf more (Some now))
+        by None None alike f k t = tt
+        by None (Some x) alike f k t = absurd cc
+        by (Some b) None alike f k t = tt
+        by (Some b) (Some x) alike f k t = subst (λ (cs : List Call). Stores cs now x) both (t.added calls f (ap (all_next []) both ∙ k))
 
     pub stays_settled : IsSettled s'
     stays_settled = by s.reads s'.reads on.told settled told
@@ -184,3 +191,50 @@ module _ (calls : List Call) (call : Call) where
         by None (Some x) alike only t = absurd cc
         by (Some b) None alike only t = tt
         by (Some b) (Some x) alike only t = t.durable only
+
+-- ---- a call behind what is kept
+
+file_is_next : (calls : List Call) (at : Option Standing) (b : List ℕ) → IsFileOf calls at b → all_next [] calls ≡ true
+file_is_next calls None b f = ap (all_next []) f.0
+file_is_next calls (Some at) b f = f.next
+
+pub asked_is : (e : NotaryFail) → IsAsked {T = Standing} (Err e) → (e ≡ Failed) ⊎ (e ≡ NoMemory)
+asked_is Failed h = inl refl
+asked_is (OutOfTurn count) h = absurd h
+asked_is Full h = absurd h
+asked_is NoMemory h = inr refl
+
+pub if_alike : (P : Type 0) (o n : Option (List ℕ)) → TellsAlike o n → IfSome o (λ b. P) → IfSome n (λ b. P)
+if_alike P None None alike p = tt
+if_alike P None (Some x) alike p = absurd cc
+if_alike P (Some b) None alike p = tt
+if_alike P (Some b) (Some x) alike p = p
+
+module _ (reads : Option (List ℕ)) (kept : Kept) (k : Knows reads kept) where
+  module _ (id index : ℕ) (batch : Batch) where
+    pub out_of_turn : (count : ℕ) → count ≡ length (moments_on (shelf_of kept.pages.shelves id)) → index ≢ count → IfSome reads (λ b. Changes (file id index batch) book_limits (Err (OutOfTurn count)) (lists_of k.calls) (lists_of k.calls))
+    out_of_turn count is isnt = if_map reads k.stands (λ b stands. (((λ e. isnt (e ∙ sym (count_is k.calls kept.pages stands id) ∙ sym is)), is ∙ count_is k.calls kept.pages stands id), keeps k.calls))
+
+    module _ (turn : index ≡ length (moments_on (shelf_of kept.pages.shelves id))) where
+      pub full : leb (kept.pages.seals + length batch.seals) max_seals ≡ false → IfSome reads (λ b. Changes (file id index batch) book_limits (Err Full) (lists_of k.calls) (lists_of k.calls))
+      full no_room = if_map reads k.stands (λ b stands. ((turn ∙ count_is k.calls kept.pages stands id, λ room. omega (arith, room, leb-false _ _ no_room, stands.seals_are)), keeps k.calls))
+
+      pub batch_right : leb (kept.pages.seals + length batch.seals) max_seals ≡ true → IfSome reads (λ b. IsInTurn (file id index batch) (lists_of k.calls) × HasRoom (file id index batch) book_limits (lists_of k.calls))
+      batch_right room = if_map reads k.stands (λ b stands. (turn ∙ count_is k.calls kept.pages stands id, omega (arith, leb-true _ _ room, stands.seals_are)))
+
+      pub batch_next : leb (kept.pages.seals + length batch.seals) max_seals ≡ true → IfSome reads (λ b. all_next [] (k.calls ++ file id index batch ∷ []) ≡ true)
+      batch_next room = if_both reads k.stands k.in_file (λ b stands f. next_is k.calls (file id index batch) (file_is_next k.calls kept.journal b f) ∙ file_next k.calls kept.pages stands id index batch turn room)
+
+  module _ (id : ℕ) (mark : Mark) where
+    pub marks_full : ltb kept.pages.marks max_marks ≡ false → IfSome reads (λ b. Changes (note id mark) book_limits (Err Full) (lists_of k.calls) (lists_of k.calls))
+    marks_full no_room = if_map reads k.stands (λ b stands. ((tt, λ room. omega (arith, room, ltb-false _ _ no_room, stands.marks_are)), keeps k.calls))
+
+    pub mark_right : ltb kept.pages.marks max_marks ≡ true → IfSome reads (λ b. IsInTurn (note id mark) (lists_of k.calls) × HasRoom (note id mark) book_limits (lists_of k.calls))
+    mark_right room = if_map reads k.stands (λ b stands. (tt, omega (arith, ltb-true _ _ room, stands.marks_are)))
+
+    pub mark_next : ltb kept.pages.marks max_marks ≡ true → IfSome reads (λ b. all_next [] (k.calls ++ note id mark ∷ []) ≡ true)
+    mark_next room = if_both reads k.stands k.in_file (λ b stands f. next_is k.calls (note id mark) (file_is_next k.calls kept.journal b f) ∙ note_is k.calls kept.pages stands id mark true room)
+
+  -- no memory before anything was done
+  pub nothing_done : (call : Call) → IfSome reads (λ b. Changes call book_limits (Err NoMemory) (lists_of k.calls) (lists_of k.calls))
+  nothing_done call = if_map reads k.stands (λ b stands. inr (keeps k.calls))

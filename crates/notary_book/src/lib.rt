@@ -2,6 +2,7 @@
 #![tactic(auto)]
 
 mod adding;
+mod book;
 mod decoding;
 mod entry;
 mod kept;
@@ -15,5 +16,6 @@ mod skipping;
 mod steady;
 mod writing;
 
+pub use book::Book;
 pub use shape::BookShape;
 pub use steady::SteadyDisk;
