@@ -20,7 +20,7 @@ use Rattle.txn_journal.specs.Held.{Standing}
 use Rattle.notary_book.specs.declared.kept.Kept.{Kept}
 use Rattle.notary_book.specs.Adding.{Tells, TellsEither, Adds}
 use Rattle.notary_book.specs.Books.{lists_of, max_seals, max_marks, book_limits, all_next, calls_in, told_by, lists_told}
-use Rattle.notary_book.specs.Kept.{Stores, IsFileOf, Knows, IsSettled}
+use Rattle.notary_book.specs.Kept.{StandsFor, Stores, IsFileOf, Knows, IsSettled}
 use Rattle.notary_book.specs.State.{book_state}
 use Rattle.notary_book.proofs.Bytes.{told_file}
 use Rattle.notary_book.proofs.Lists.{adds, grows, keeps, next_is, count_is, file_next, note_is}
@@ -238,3 +238,11 @@ module _ (reads : Option (List ℕ)) (kept : Kept) (k : Knows reads kept) where
   -- no memory before anything was done
   pub nothing_done : (call : Call) → IfSome reads (λ b. Changes call book_limits (Err NoMemory) (lists_of k.calls) (lists_of k.calls))
   nothing_done call = if_map reads k.stands (λ b stands. inr (keeps k.calls))
+
+-- what is told of what is kept
+pub gives : (reads reads' : Option (List ℕ)) (kept : Kept) (k : Knows reads' kept) (P : Lists → Type 0) → reads' ≡ reads → (StandsFor k.calls kept.pages → P (lists_of k.calls)) → IfSome (lists_told reads) P
+gives reads reads' kept k P same f = subst (λ (o : Option (List ℕ)). IfSome (lists_told o) P) same (by reads' k.stands k.in_file)
+  where
+    by : (o : Option (List ℕ)) → IfSome o (λ b. StandsFor k.calls kept.pages) → IfSome o (IsFileOf k.calls kept.journal) → IfSome (lists_told o) P
+    by None stands f' = tt
+    by (Some b) stands f' = subst (λ (o : Option Lists). IfSome o P) (sym (told_file k.calls kept.journal b f')) (f stands)

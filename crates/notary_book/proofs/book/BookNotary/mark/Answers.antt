@@ -1,0 +1,34 @@
+use Rattle.std.proofs.Common.{◌≡◌, ◌∙◌, ℕ, List, length, Some, sym, ap, subst}
+use Rattle.std.specs.List.{slice_get}
+use Rattle.notary_link.specs.declared.answer.Answer.TheVariants.{Absent}
+use Rattle.notary_link.specs.declared.mark.Mark.{Mark}
+use Rattle.notary_link.specs.Batches.{answer, moment_at}
+use Rattle.notary_link.specs.Notary.{Lists, file, note, batch_of, Answers}
+use Rattle.notary_link.proofs.Standing.{answer_found, answer_absent, moment_found}
+use Rattle.notary_book.specs.State.{book_state}
+use Rattle.notary_book.proofs.Keeping.{knows_of}
+use Rattle.notary_book.proofs.Lists.{count_is}
+use Rattle.notary_book.proofs.Telling.{gives, answers_behind}
+use Rattle.notary_book.proofs.book.BookNotary.mark.Goals as goal
+
+pub note_behind-requires-clause-keeps : goal.note_behind-requires-clause-keeps
+note_behind-requires-clause-keeps g c =
+    let v = c.in-Some.ensures.value in
+    let is : c.read.new.self.kept ≡ Some c.in-Some.kept = cc in
+    λ k bytes e told. c.read.new.self.keeps k bytes (is ∙ e) told
+
+pub note_behind-requires-clause-settled : goal.note_behind-requires-clause-settled
+note_behind-requires-clause-settled g c =
+    let v = c.in-Some.ensures.value in
+    let is : c.read.new.self.kept ≡ Some c.in-Some.kept = cc in
+    λ k bytes e told. c.read.new.self.settled k bytes (is ∙ e) told
+
+pub returns-in-Some-clause-change : goal.returns-in-Some-clause-change
+returns-in-Some-clause-change g c =
+    let S = g.D.Disk.state in
+    let old = c.args.self.now in
+    let mid = c.read.new.self in
+    let new = c.note_behind.new.self in
+    let call = note c.args.id c.args.mark in
+    let behind = subst (λ (n : ℕ). Answers call c.note_behind.result (book_state (S mid.disk) n mid.unreadable) (book_state (S new.disk) new.asked new.unreadable)) c.in_ok-read.ensures.asked c.note_behind.ensures.change in
+    answers_behind call c.note_behind.result (S old.disk) (S mid.disk) (S new.disk) old.asked old.unreadable mid.unreadable new.asked new.unreadable c.in_ok-read.ensures.reads behind
