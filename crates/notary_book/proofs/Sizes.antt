@@ -43,15 +43,34 @@ short (file id index batch) bytes s =
     let body = spell_seals seals in
     let fits = s.0.1.1.1 in
     let is : length bytes ≡ length (spell_batch id index batch) = rw s.1 refl in
-    omega (arith, is, fits.0.1, seals_length seals fits.1, wide64.len id, wide32.len index, wide64.len batch.moment, wide16.len (length seals),
-    length-append (to_be_bytes w16 (length seals)) (flat_map spell_seal seals), length-append (to_be_bytes w64 batch.moment) body,
-    length-append (to_be_bytes w32 index) (to_be_bytes w64 batch.moment ++ body), length-append (to_be_bytes w64 id) (to_be_bytes w32 index ++ (to_be_bytes w64 batch.moment ++ body)))
+    omega (
+      arith,
+      is,
+      fits.0.1,
+      seals_length seals fits.1,
+      wide64.len id,
+      wide32.len index,
+      wide64.len batch.moment,
+      wide16.len (length seals),
+      length-append (to_be_bytes w16 (length seals)) (flat_map spell_seal seals),
+      length-append (to_be_bytes w64 batch.moment) body,
+      length-append (to_be_bytes w32 index) (to_be_bytes w64 batch.moment ++ body),
+      length-append (to_be_bytes w64 id) (to_be_bytes w32 index ++ (to_be_bytes w64 batch.moment ++ body)),
+    )
 short (note id mark) bytes s =
     let last = spell_outcome mark.outcome in
     let is : length bytes ≡ length (spell_mark id mark) = rw s.1 refl in
-    omega (arith, is, outcome_length mark.outcome, wide64.len id, wide64.len mark.moment, wide32.len mark.tiles,
-    length-append (to_be_bytes w32 mark.tiles) last, length-append (to_be_bytes w64 mark.moment) (to_be_bytes w32 mark.tiles ++ last),
-    length-append (to_be_bytes w64 id) (to_be_bytes w64 mark.moment ++ (to_be_bytes w32 mark.tiles ++ last)))
+    omega (
+      arith,
+      is,
+      outcome_length mark.outcome,
+      wide64.len id,
+      wide64.len mark.moment,
+      wide32.len mark.tiles,
+      length-append (to_be_bytes w32 mark.tiles) last,
+      length-append (to_be_bytes w64 mark.moment) (to_be_bytes w32 mark.tiles ++ last),
+      length-append (to_be_bytes w64 id) (to_be_bytes w64 mark.moment ++ (to_be_bytes w32 mark.tiles ++ last)),
+    )
 
 pub fits_record : (call : Call) (bytes : List ℕ) → Spells call bytes → FitsRecord book_shape bytes
 fits_record call bytes s = record { accepted = spelled_some bytes call s; short = short call bytes s }

@@ -1,4 +1,4 @@
-//! A book that is made, read again, damaged at each byte, and cut short by crashes.
+//! A book that is made, read again, damaged, and cut short by crashes.
 
 use crate::Book;
 use disk_model::MemDisk;
@@ -180,14 +180,26 @@ fn what_was_filed_is_answered(rt: HostRuntime) -> Result<(), Fail> {
     let all = seals(alloc)?;
     let mut book = Book::new(alloc, MemDisk::holding(alloc, worked(alloc)?));
     assert_eq!(rt; (book.count(ID), book.count(8)), (Ok(2), Ok(0)));
-    assert_eq!(rt; (book.moment_of(ID, 1), book.moment_of(ID, 2)), (Ok(Some(480)), Ok(None)));
+    assert_eq!(rt;
+        (book.moment_of(ID, 1), book.moment_of(ID, 2)),
+        (Ok(Some(480)), Ok(None))
+    );
     for seal in all.as_slice() {
         assert_eq!(rt; book.ask(ID, seal.name, &seal.digest), Ok(Answer::Same));
         assert_eq!(rt; book.ask(ID, seal.name, &[0; 32]), Ok(Answer::Differs));
     }
-    assert_eq!(rt; book.ask(ID, Name::Cum { tile: 1 }, &[0; 32]), Ok(Answer::Absent));
-    assert_eq!(rt; book.file(ID, 1, 481, &all), Err(NotaryFail::OutOfTurn { count: 2 }));
-    assert_eq!(rt; (book.mark(ID, MARK), book.mark_at(ID, 0)), (Ok(()), Ok(Some(MARK))));
+    assert_eq!(rt;
+        book.ask(ID, Name::Cum { tile: 1 }, &[0; 32]),
+        Ok(Answer::Absent)
+    );
+    assert_eq!(rt;
+        book.file(ID, 1, 481, &all),
+        Err(NotaryFail::OutOfTurn { count: 2 })
+    );
+    assert_eq!(rt;
+        (book.mark(ID, MARK), book.mark_at(ID, 0)),
+        (Ok(()), Ok(Some(MARK)))
+    );
     assert_eq!(rt; book.into_disk().bytes().len(), 944);
     Ok(())
 }
@@ -197,7 +209,10 @@ fn a_refused_call_makes_no_file(rt: HostRuntime) -> Result<(), Fail> {
     let alloc = rt.alloc();
     let all = seals(alloc)?;
     let mut book = Book::new(alloc, MemDisk::new(alloc));
-    assert_eq!(rt; book.file(ID, 1, 480, &all), Err(NotaryFail::OutOfTurn { count: 0 }));
+    assert_eq!(rt;
+        book.file(ID, 1, 480, &all),
+        Err(NotaryFail::OutOfTurn { count: 0 })
+    );
     assert_eq!(rt; book.into_disk().bytes().len(), 0);
     Ok(())
 }
@@ -217,13 +232,14 @@ fn left(alloc: Global, bytes: Vec<u8>) -> Result<(u8, u8), Fail> {
     Ok((count.min(254) as u8, same))
 }
 
+// At both ends of each stretch: every byte of one has the same kind of place.
 #[test]
-fn a_book_is_damaged_at_each_byte(rt: HostRuntime) -> Result<(), Fail> {
+fn a_book_is_damaged(rt: HostRuntime) -> Result<(), Fail> {
     let alloc = rt.alloc();
     let bytes = worked(alloc)?;
     let mut from = 0;
     for (to, count, same) in DAMAGE {
-        for place in from..to {
+        for place in [from, to.saturating_sub(1)] {
             let mut damaged = bytes.clone()?;
             if let Some(byte) = damaged.get_mut(place) {
                 *byte ^= 0xff;
