@@ -39,7 +39,7 @@ impl<D: SteadyDisk> Book<D> {
     ghost use Rattle.notary_link.specs.Notary.{file, note, batch_of, IsAsked, IsNotOutOfTurn, Answers, GoesOn};
     ghost use Rattle.notary_book.specs.Adding.{Adds};
     ghost use Rattle.notary_book.specs.Books.{book_shape};
-    ghost use Rattle.notary_book.specs.Kept.{IsOpen};
+    ghost use Rattle.notary_book.specs.Kept.{IsOpen, IsSettled};
     ghost use Rattle.notary_book.specs.Moments.{LeavesNone, LeavesOf, IsDurable};
     ghost use Rattle.notary_book.specs.State.{book_state};
 
@@ -147,6 +147,7 @@ impl<D: SteadyDisk> Book<D> {
             (book_state (D.state self.new.disk) self.new.asked self.new.unreadable) }
         ensures cause { HasCause Failed ((D.state self.old.disk).faults + self.old.unreadable)
             ((D.state self.new.disk).faults + self.new.unreadable) result }
+        ensures durable { OnOk result (IsSettled (D.state self.new.disk)) }
     {
         let count = kept.pages.count(id);
         if index != count {
@@ -183,6 +184,7 @@ impl<D: SteadyDisk> Book<D> {
             (book_state (D.state self.new.disk) self.new.asked self.new.unreadable) }
         ensures cause { HasCause Failed ((D.state self.old.disk).faults + self.old.unreadable)
             ((D.state self.new.disk).faults + self.new.unreadable) result }
+        ensures durable { OnOk result (IsSettled (D.state self.new.disk)) }
     {
         if !kept.pages.has_room_for_mark() {
             self.kept = Some(kept);
@@ -202,6 +204,12 @@ impl<D: SteadyDisk> Book<D> {
 
 impl<D: SteadyDisk> Notary for Book<D> {
     ghost use Rattle.std.proofs.Common.{lit≤};
+    ghost use Rattle.std.specs.Prelude.{◌+◌, OnOk};
+    ghost use Rattle.outside_words.specs.Faults.{HasCause};
+    ghost use Rattle.notary_link.specs.declared.fail.NotaryFail.TheVariants.{Failed};
+    ghost use Rattle.notary_link.specs.Batches.{IsBatch};
+    ghost use Rattle.notary_link.specs.Notary.{file, note, batch_of, IsNotOutOfTurn, Answers, GoesOn};
+    ghost use Rattle.notary_book.specs.Kept.{IsSettled};
     ghost use Rattle.notary_book.specs.State.{book_state};
 
     ghost state = { λ b. book_state (D.state b.disk) b.asked b.unreadable };
@@ -216,7 +224,19 @@ impl<D: SteadyDisk> Notary for Book<D> {
         }
     }
 
-    fn file(&mut self, id: u64, index: u32, moment: u64, seals: &[Seal]) -> Result<(), NotaryFail> {
+    fn file(&mut self, id: u64, index: u32, moment: u64, seals: &[Seal]) -> Result<(), NotaryFail>
+        requires { IsBatch seals.now }
+        ensures change { Answers (file id index (batch_of moment seals.now)) result
+            (book_state (D.state self.old.disk) self.old.asked self.old.unreadable)
+            (book_state (D.state self.new.disk) self.new.asked self.new.unreadable) }
+        ensures frame { GoesOn
+            (book_state (D.state self.old.disk) self.old.asked self.old.unreadable)
+            (book_state (D.state self.new.disk) self.new.asked self.new.unreadable) }
+        ensures cause { HasCause Failed ((D.state self.old.disk).faults + self.old.unreadable)
+            ((D.state self.new.disk).faults + self.new.unreadable) result }
+
+        ensures durable { OnOk result (IsSettled (D.state self.new.disk)) }
+    {
         self.read()?;
         match self.kept.take() {
             Some(kept) => self.file_behind(kept, id, index, moment, seals),
@@ -244,7 +264,19 @@ impl<D: SteadyDisk> Notary for Book<D> {
         }
     }
 
-    fn mark(&mut self, id: u64, mark: Mark) -> Result<(), NotaryFail> {
+    fn mark(&mut self, id: u64, mark: Mark) -> Result<(), NotaryFail>
+        ensures change { Answers (note id mark) result
+            (book_state (D.state self.old.disk) self.old.asked self.old.unreadable)
+            (book_state (D.state self.new.disk) self.new.asked self.new.unreadable) }
+        ensures only { IsNotOutOfTurn result }
+        ensures frame { GoesOn
+            (book_state (D.state self.old.disk) self.old.asked self.old.unreadable)
+            (book_state (D.state self.new.disk) self.new.asked self.new.unreadable) }
+        ensures cause { HasCause Failed ((D.state self.old.disk).faults + self.old.unreadable)
+            ((D.state self.new.disk).faults + self.new.unreadable) result }
+
+        ensures durable { OnOk result (IsSettled (D.state self.new.disk)) }
+    {
         self.read()?;
         match self.kept.take() {
             Some(kept) => self.note_behind(kept, id, mark),

@@ -159,6 +159,25 @@ invariant_of-self-2 g c =
     let stands = if_alike _ s.reads s'.reads c.in_ok-journal.ensures.frame.told (if_map s.reads k.stands (λ b stands. c.in_ok-add_mark.ensures.stands k.calls stands)) in
     record { keeps = keeps_some (k.calls ++ call ∷ []) s'.reads _ stands in_file; settled = settled_some s' _ still; opens = opens_some _ c.in_ok-journal.ensures.open }
 
+pub returns-clause-durable : goal.returns-clause-durable
+returns-clause-durable g c =
+    let S = g.D.Disk.state in
+    let self = c.args.self.now in
+    let s = S self.disk in
+    let kept = c.args.kept in
+    let k = knows_of s.reads kept c.requires.keeps in
+    let call : Call = note c.args.id c.args.mark in
+    let before = told_calls s.reads kept k in
+    let h = c.if-not-has_room_for_mark.false in
+    let room : c.has_room_for_mark.result ≡ true = grind (arith, h) in
+    let n = c.add.new.self in
+    let s' = S n.disk in
+    let spelled = spelled_in call c.in_ok-payload.payload.items c.in_ok-payload.ensures in
+    let settled = settled_of s kept c.requires.settled in
+    let next = mark_next s.reads kept k c.args.id c.args.mark (sym c.has_room_for_mark.ensures.value ∙ room) in
+    let told = rw c.deref.ensures.value at c.in_ok-journal.ensures.told in
+    stays_settled k.calls call NotaryFail kept.journal c.in_ok-payload.payload.items c.in_ok-journal.journal s s' c.in_ok-journal.ensures.frame spelled next k.in_file settled told
+
 pub returns-clause-change : goal.returns-clause-change
 returns-clause-change g c =
     let S = g.D.Disk.state in
