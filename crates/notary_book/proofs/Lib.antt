@@ -2,6 +2,7 @@ pub mod Bytes
 pub mod CallLaws
 pub mod Entries
 pub mod Keeping
+pub mod Leaving
 pub mod Lists
 pub mod Payloads
 pub mod Sizes

@@ -158,7 +158,7 @@ module _ (calls : List Call) (call : Call) where
     together : calls ++ calls_in (payload ∷ []) ≡ more
     together = ap (λ (cs : List Call). calls ++ cs) spelled
 
-    every : {b x : List ℕ} → IsFileOf calls at b → Only b s → all_next [] more ≡ true → Adds at payload result s s' b x → EveryImage s s' (TellsEither calls more)
+    pub every : {b x : List ℕ} → IsFileOf calls at b → Only b s → all_next [] more ≡ true → Adds at payload result s s' b x → EveryImage s s' (TellsEither calls more)
     every f only is_next adds = subst (λ (cs : List Call). EveryImage s s' (TellsEither calls cs)) together (adds.images calls f only (ap (all_next []) together ∙ is_next))
 
     pub either : IfSome s'.reads s'.is_image → ((t : ℕ) (c : List ℕ) → t ≤ turn s' → s'.is_image c → s'.was_image t c) → IfSome s'.reads (TellsEither calls more)

@@ -40,7 +40,7 @@ impl<D: SteadyDisk> Book<D> {
     ghost use Rattle.notary_book.specs.Adding.{Adds};
     ghost use Rattle.notary_book.specs.Books.{book_shape};
     ghost use Rattle.notary_book.specs.Kept.{IsOpen, IsSettled};
-    ghost use Rattle.notary_book.specs.Moments.{LeavesNone, LeavesOf, IsDurable};
+    ghost use Rattle.notary_book.specs.Moments.{LeavesNone, LeavesOf};
     ghost use Rattle.notary_book.specs.State.{book_state};
 
     /// A book over a disk. It takes no memory, and calls no device.
@@ -148,6 +148,8 @@ impl<D: SteadyDisk> Book<D> {
         ensures cause { HasCause Failed ((D.state self.old.disk).faults + self.old.unreadable)
             ((D.state self.new.disk).faults + self.new.unreadable) result }
         ensures durable { OnOk result (IsSettled (D.state self.new.disk)) }
+        ensures images { WhereTold (D.state self.old.disk).reads (D.state self.new.disk).reads
+            (LeavesOf (file id index (batch_of moment seals.now)) (D.state self.old.disk) (D.state self.new.disk)) }
     {
         let count = kept.pages.count(id);
         if index != count {
@@ -185,6 +187,8 @@ impl<D: SteadyDisk> Book<D> {
         ensures cause { HasCause Failed ((D.state self.old.disk).faults + self.old.unreadable)
             ((D.state self.new.disk).faults + self.new.unreadable) result }
         ensures durable { OnOk result (IsSettled (D.state self.new.disk)) }
+        ensures images { WhereTold (D.state self.old.disk).reads (D.state self.new.disk).reads
+            (LeavesOf (note id mark) (D.state self.old.disk) (D.state self.new.disk)) }
     {
         if !kept.pages.has_room_for_mark() {
             self.kept = Some(kept);
@@ -209,7 +213,9 @@ impl<D: SteadyDisk> Notary for Book<D> {
     ghost use Rattle.notary_link.specs.declared.fail.NotaryFail.TheVariants.{Failed};
     ghost use Rattle.notary_link.specs.Batches.{IsBatch};
     ghost use Rattle.notary_link.specs.Notary.{file, note, batch_of, IsNotOutOfTurn, Answers, GoesOn};
+    ghost use Rattle.outside_words.specs.Told.{WhereTold};
     ghost use Rattle.notary_book.specs.Kept.{IsSettled};
+    ghost use Rattle.notary_book.specs.Moments.{LeavesOf};
     ghost use Rattle.notary_book.specs.State.{book_state};
 
     ghost state = { λ b. book_state (D.state b.disk) b.asked b.unreadable };
@@ -236,6 +242,8 @@ impl<D: SteadyDisk> Notary for Book<D> {
             ((D.state self.new.disk).faults + self.new.unreadable) result }
 
         ensures durable { OnOk result (IsSettled (D.state self.new.disk)) }
+        ensures images { WhereTold (D.state self.old.disk).reads (D.state self.new.disk).reads
+            (LeavesOf (file id index (batch_of moment seals.now)) (D.state self.old.disk) (D.state self.new.disk)) }
     {
         self.read()?;
         match self.kept.take() {
@@ -276,6 +284,8 @@ impl<D: SteadyDisk> Notary for Book<D> {
             ((D.state self.new.disk).faults + self.new.unreadable) result }
 
         ensures durable { OnOk result (IsSettled (D.state self.new.disk)) }
+        ensures images { WhereTold (D.state self.old.disk).reads (D.state self.new.disk).reads
+            (LeavesOf (note id mark) (D.state self.old.disk) (D.state self.new.disk)) }
     {
         self.read()?;
         match self.kept.take() {

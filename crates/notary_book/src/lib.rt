@@ -21,6 +21,8 @@
 //! | The layer above may rely on | Clause |
 //! |---|---|
 //! | a book is a notary, with these lists where its disk tells its bytes | the clauses of `Notary` |
+//! | after Ok what reads give is the only image | `durable` of `file` and `mark` |
+//! | at each moment of a call a crash leaves an image of before, or the old lists with the batch or mark in flight or without | `images` of `file` and `mark` |
 //! | a payload is read as what it spells, and what is spelled is read | `proofs/CallLaws` |
 //! | a book has no trace and no plan, and its faults are those of its disk and the readings that found no book | `fresh` of `new` |
 //!

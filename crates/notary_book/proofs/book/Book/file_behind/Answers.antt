@@ -6,6 +6,7 @@ use Rattle.txn_journal.specs.Held.{Standing}
 use Rattle.notary_book.specs.Adding.{Tells, TellsEither}
 use Rattle.notary_book.specs.Kept.{StandsFor, IsFileOf, IsSettled}
 use Rattle.notary_book.proofs.Bytes.{told_file}
+use Rattle.notary_book.proofs.Leaving.{leaves_same, leaves_added}
 use Rattle.notary_book.proofs.Keeping.{knows_of, settled_of, open_of, keeps_some, settled_some, opens_some}
 use Rattle.notary_book.proofs.Sizes.{fits_record, spelled_in}
 use Rattle.notary_book.proofs.Telling.{if_map, if_alike, told_calls, quiet, refused, nothing_done, adds_on, adds_stopped, adds_unknown, adds_done, either, stored, stays_settled, asked_is, out_of_turn, full, batch_right, batch_next, marks_full, mark_right, mark_next}
@@ -240,3 +241,94 @@ returns-clause-frame g c =
     let told = rw c.deref.ensures.value at c.in_ok-journal.ensures.told in
     let after = either k.calls call kept.journal c.in_ok-payload.payload.items (Ok c.in_ok-journal.journal) s s' c.in_ok-journal.ensures.frame spelled next k.in_file settled told (g.met.D.Disk.reads_image n.disk) (g.met.D.Disk.counts_now n.disk) in
     rw c.in_ok-journal.ensures.asked (adds_on k.calls call s s' self.asked self.unreadable n.unreadable c.in_ok-journal.ensures.frame c.in_ok-journal.ensures.unreadable before after)
+
+pub returns-then-index-count-clause-images : goal.returns-then-index-count-clause-images
+returns-then-index-count-clause-images g c =
+    let S = g.D.Disk.state in
+    let self = c.args.self.now in
+    let s = S self.disk in
+    let kept = c.args.kept in
+    let k = knows_of s.reads kept c.requires.keeps in
+    let call : Call = file c.args.id c.args.index (batch_of c.args.moment c.args.seals.now) in
+    let before = told_calls s.reads kept k in
+    leaves_same call s (g.met.D.Disk.only_now self.disk)
+
+pub returns-then-not-has_room-clause-images : goal.returns-then-not-has_room-clause-images
+returns-then-not-has_room-clause-images g c =
+    let S = g.D.Disk.state in
+    let self = c.args.self.now in
+    let s = S self.disk in
+    let kept = c.args.kept in
+    let k = knows_of s.reads kept c.requires.keeps in
+    let call : Call = file c.args.id c.args.index (batch_of c.args.moment c.args.seals.now) in
+    let before = told_calls s.reads kept k in
+    leaves_same call s (g.met.D.Disk.only_now self.disk)
+
+pub returns-in_err-payload-clause-images : goal.returns-in_err-payload-clause-images
+returns-in_err-payload-clause-images g c =
+    let S = g.D.Disk.state in
+    let self = c.args.self.now in
+    let s = S self.disk in
+    let kept = c.args.kept in
+    let k = knows_of s.reads kept c.requires.keeps in
+    let call : Call = file c.args.id c.args.index (batch_of c.args.moment c.args.seals.now) in
+    let before = told_calls s.reads kept k in
+    leaves_same call s (g.met.D.Disk.only_now self.disk)
+
+pub returns-in_err-journal-clause-images : goal.returns-in_err-journal-clause-images
+returns-in_err-journal-clause-images g c =
+    let S = g.D.Disk.state in
+    let self = c.args.self.now in
+    let s = S self.disk in
+    let kept = c.args.kept in
+    let k = knows_of s.reads kept c.requires.keeps in
+    let call : Call = file c.args.id c.args.index (batch_of c.args.moment c.args.seals.now) in
+    let before = told_calls s.reads kept k in
+    let h = c.if-not-has_room.false in
+    let room : c.has_room.result ≡ true = grind (arith, h) in
+    let n = c.add.new.self in
+    let s' = S n.disk in
+    let spelled = spelled_in call c.in_ok-payload.payload.items c.in_ok-payload.ensures in
+    let settled = settled_of s kept c.requires.settled in
+    let next = batch_next s.reads kept k c.args.id c.args.index (batch_of c.args.moment c.args.seals.now) (let t = c.if-index-count.false in let turn : c.args.index ≡ c.count-count.result = grind (arith, t) in turn ∙ c.count-count.ensures.value) (sym c.has_room.ensures.value ∙ room) in
+    let e = c.in_err-journal.field-0.0 in
+    let told = rw c.deref.ensures.value at c.in_err-journal.ensures.told in
+    leaves_added k.calls call kept.journal c.in_ok-payload.payload.items (Err e) s s' c.in_err-journal.ensures.frame spelled next k.in_file settled before told
+
+pub returns-in_err-add_batch-clause-images : goal.returns-in_err-add_batch-clause-images
+returns-in_err-add_batch-clause-images g c =
+    let S = g.D.Disk.state in
+    let self = c.args.self.now in
+    let s = S self.disk in
+    let kept = c.args.kept in
+    let k = knows_of s.reads kept c.requires.keeps in
+    let call : Call = file c.args.id c.args.index (batch_of c.args.moment c.args.seals.now) in
+    let before = told_calls s.reads kept k in
+    let h = c.if-not-has_room.false in
+    let room : c.has_room.result ≡ true = grind (arith, h) in
+    let n = c.add.new.self in
+    let s' = S n.disk in
+    let spelled = spelled_in call c.in_ok-payload.payload.items c.in_ok-payload.ensures in
+    let settled = settled_of s kept c.requires.settled in
+    let next = batch_next s.reads kept k c.args.id c.args.index (batch_of c.args.moment c.args.seals.now) (let t = c.if-index-count.false in let turn : c.args.index ≡ c.count-count.result = grind (arith, t) in turn ∙ c.count-count.ensures.value) (sym c.has_room.ensures.value ∙ room) in
+    let told = rw c.deref.ensures.value at c.in_ok-journal.ensures.told in
+    leaves_added k.calls call kept.journal c.in_ok-payload.payload.items (Ok c.in_ok-journal.journal) s s' c.in_ok-journal.ensures.frame spelled next k.in_file settled before told
+
+pub returns-clause-images : goal.returns-clause-images
+returns-clause-images g c =
+    let S = g.D.Disk.state in
+    let self = c.args.self.now in
+    let s = S self.disk in
+    let kept = c.args.kept in
+    let k = knows_of s.reads kept c.requires.keeps in
+    let call : Call = file c.args.id c.args.index (batch_of c.args.moment c.args.seals.now) in
+    let before = told_calls s.reads kept k in
+    let h = c.if-not-has_room.false in
+    let room : c.has_room.result ≡ true = grind (arith, h) in
+    let n = c.add.new.self in
+    let s' = S n.disk in
+    let spelled = spelled_in call c.in_ok-payload.payload.items c.in_ok-payload.ensures in
+    let settled = settled_of s kept c.requires.settled in
+    let next = batch_next s.reads kept k c.args.id c.args.index (batch_of c.args.moment c.args.seals.now) (let t = c.if-index-count.false in let turn : c.args.index ≡ c.count-count.result = grind (arith, t) in turn ∙ c.count-count.ensures.value) (sym c.has_room.ensures.value ∙ room) in
+    let told = rw c.deref.ensures.value at c.in_ok-journal.ensures.told in
+    leaves_added k.calls call kept.journal c.in_ok-payload.payload.items (Ok c.in_ok-journal.journal) s s' c.in_ok-journal.ensures.frame spelled next k.in_file settled before told
