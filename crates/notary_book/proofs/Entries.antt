@@ -1,5 +1,5 @@
 -- What is read into memory fits.
-use Rattle.std.proofs.Common.{◌≡◌, ℕ, List, Option, None, Some, Result, Ok, Err, IfOk, IfSome}
+use Rattle.std.proofs.Common.{ℕ, List, Option, None, Some, Result, Ok, Err, IfOk, IfSome}
 use Rattle.byte_grammar.specs.Reading.{IsBytes, Gives}
 use Rattle.notary_book.specs.declared.entry.Entry.{Entry}
 use Rattle.notary_book.specs.Calls.{call_of}

@@ -1,12 +1,12 @@
 -- What is kept, said of the bytes alone, and back.
-use Rattle.std.proofs.Common.{◌≡◌, ℕ, Bool, true, false, List, [], Option, None, Some, IfSome, refl, sym, ap, ◌∙◌, subst}
+use Rattle.std.proofs.Common.{◌≡◌, ℕ, true, false, List, [], Option, None, Some, IfSome, refl, sym, ap, ◌∙◌, subst}
 use Rattle.std.specs.Option.{is_some}
 use Rattle.std.proofs.lemmas.Option.{same_Some}
 use Rattle.disk_words.specs.Disk.{State, Only}
 use Rattle.notary_link.specs.Notary.{Call}
 use Rattle.txn_journal.specs.Held.{Held, Standing, held_by}
 use Rattle.notary_book.specs.declared.kept.Kept.{Kept}
-use Rattle.notary_book.specs.Books.{all_next, calls_in, is_book_head, book_shape, is_free}
+use Rattle.notary_book.specs.Books.{all_next, is_book_head, book_shape, is_free}
 use Rattle.notary_book.specs.Kept.{StandsFor, Stores, IsFileOf, IsOpen, Holds, IsSettled, calls_held, calls_told, end_held, StandsAt, IsKeptOf, KeepsOf, SettledOf, OpenOf, Knows}
 use Rattle.notary_book.proofs.Bytes.{free_unheld}
 

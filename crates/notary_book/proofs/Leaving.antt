@@ -1,5 +1,5 @@
 -- What is on the disk at each moment of a call that adds.
-use Rattle.std.proofs.Common.{◌≡◌, ◌⊎◌, inl, inr, ◌≤◌, ℕ, true, List, [], ◌∷◌, ◌++◌, length, Option, None, Some, Result, IfSome, sym, subst}
+use Rattle.std.proofs.Common.{◌≡◌, ◌⊎◌, inl, inr, ◌≤◌, ℕ, true, List, [], ◌∷◌, ◌++◌, Option, None, Some, Result, IfSome, sym, subst}
 use Rattle.std.proofs.lemmas.Option.{same_Some}
 use Rattle.outside_words.specs.Told.{WhereTold}
 use Rattle.disk_words.specs.Disk.{State, turn, Only, GoesOn}

@@ -1,16 +1,14 @@
 -- What one more call leaves.
-use Rattle.std.proofs.Common.{◌≡◌, ◌≢◌, ◌⊎◌, inl, inr, ◌<◌, ◌≤◌, ◌+◌, ◌^◌, ◌==◌, ◌&&◌, ltb, leb, ℕ, Bool, true, false, List, [], ◌∷◌, ◌++◌, length, Ok, refl, sym, ap, ◌∙◌, subst, arith, append_assoc, if◌then◌else◌}
-use Rattle.std.proofs.lemmas.Bool.{and_from, and_left, and_right, lt-ltb, le-ltb, le-leb, lt-leb}
+use Rattle.std.proofs.Common.{◌≡◌, ◌≢◌, ◌<◌, ◌+◌, ◌^◌, ◌==◌, ◌&&◌, ltb, leb, ℕ, Bool, true, false, List, [], ◌∷◌, ◌++◌, length, Ok, refl, sym, ap, ◌∙◌, subst, arith, append_assoc, if◌then◌else◌}
+use Rattle.std.proofs.lemmas.Bool.{and_from, and_left, and_right}
 use Rattle.std.proofs.lemmas.Bool.Decides.{nat_tests}
 use Rattle.std.proofs.lemmas.List.{flat_map_more, append-nil}
-use Rattle.std.specs.BTreeMap.{BTreeMap}
 use Rattle.notary_link.specs.declared.mark.Mark.{Mark}
 use Rattle.notary_link.specs.declared.seal.Seal.{Seal}
-use Rattle.notary_link.specs.declared.shelf.Shelf.{Shelf}
 use Rattle.notary_link.specs.Batches.{Batch}
 use Rattle.notary_link.specs.Calls.{batches_by, marks_by}
-use Rattle.notary_link.specs.Notary.{Call, file, note, batch_of, Lists, Files, Notes, Keeps, Grows, Adds, seals_in_all, marks_in_all}
-use Rattle.notary_link.specs.Shelves.{StandForLists, TakesBatch, TakesMark, ChangesShelf, moments_on, shelf_of}
+use Rattle.notary_link.specs.Notary.{Call, file, note, batch_of, Lists, Files, Notes, Keeps, Grows, Adds}
+use Rattle.notary_link.specs.Shelves.{TakesBatch, TakesMark, ChangesShelf, moments_on, shelf_of}
 use Rattle.notary_link.proofs.InAll.{filed_seals, filed_marks, noted_seals, noted_marks}
 use Rattle.notary_link.proofs.Sums.{none_below}
 use Rattle.notary_link.proofs.Standing.{none_stand, count_stands, filed_stands, noted_stands}

@@ -1,22 +1,18 @@
 -- How long a payload is.
-use Rattle.std.proofs.Common.{◌≡◌, ◌≤◌, ◌+◌, ◌*◌, ℕ, true, List, [], ◌∷◌, ◌++◌, length, refl, arith}
-use Rattle.std.specs.Prelude.{is_some}
+use Rattle.std.proofs.Common.{◌≡◌, ◌≤◌, ◌*◌, ℕ, List, [], ◌∷◌, ◌++◌, length, refl, arith}
 use Rattle.std.specs.List.{flat_map, AllByRecursion}
 use Rattle.std.specs.Int.{w16, w32, w64, to_be_bytes}
 use Rattle.std.proofs.lemmas.List.{length-append}
 use Rattle.byte_grammar.proofs.Fields.{wide16, wide32, wide64}
 use Rattle.byte_grammar.specs.Gated.{FitsRecord}
-use Rattle.notary_link.specs.declared.mark.Mark.{Mark}
 use Rattle.notary_link.specs.declared.mark.Outcome.{Outcome}
 use Rattle.notary_link.specs.declared.mark.Outcome.TheVariants.{Clean, Altered, HeaderAltered}
 use Rattle.notary_link.specs.declared.name.Name.{Name}
 use Rattle.notary_link.specs.declared.name.Name.TheVariants.{Header, Cum, Tile, Node}
 use Rattle.notary_link.specs.declared.seal.Seal.{Seal}
-use Rattle.notary_link.specs.Batches.{Batch}
 use Rattle.notary_link.specs.Notary.{Call, file, note}
 use Rattle.notary_book.specs.Books.{book_shape, calls_in}
-use Rattle.notary_book.specs.Calls.{call_of}
-use Rattle.notary_book.specs.Spelling.{spell_name, spell_seal, spell_seals, spell_outcome, spell_batch, spell_mark, spell_call, FitsSeal, Spells}
+use Rattle.notary_book.specs.Spelling.{spell_name, spell_seal, spell_seals, spell_outcome, spell_batch, spell_mark, FitsSeal, Spells}
 use Rattle.notary_book.proofs.CallLaws.{whole_again, spelled_some}
 
 name_length : (n : Name) → length (spell_name n) ≤ 6

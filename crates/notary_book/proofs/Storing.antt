@@ -1,5 +1,5 @@
 -- Calls on the file of a book: what they leave at each moment, and what the file says behind them.
-use Rattle.std.proofs.Common.{◌≡◌, inl, inr, ◌≤◌, ℕ, Bool, true, false, List, [], ◌∷◌, ◌++◌, length, take, Option, None, Some, Result, Ok, Err, IfOk, IfSome, refl, sym, ap, ◌∙◌, subst, arith}
+use Rattle.std.proofs.Common.{◌≡◌, inl, inr, ℕ, Bool, true, false, List, [], ◌∷◌, ◌++◌, length, Option, None, Some, Result, Ok, Err, IfSome, refl, sym, ap, ◌∙◌, subst, arith}
 use Rattle.std.proofs.lemmas.List.Elements.{filter_map-append}
 use Rattle.std.proofs.lemmas.Option.{same_Some}
 use Rattle.outside_words.specs.Told.{WhereTold, TellsAlike}
@@ -11,7 +11,7 @@ use Rattle.disk_model.specs.Moments.{EveryImage}
 use Rattle.disk_model.proofs.Moments.{started, one_more, stays, weaker, joined, torn}
 use Rattle.notary_link.specs.Notary.{Call}
 use Rattle.txn_journal.specs.declared.fail.JournalFail.{JournalFail}
-use Rattle.txn_journal.specs.Append.{closed_gate, Appends}
+use Rattle.txn_journal.specs.Append.{Appends}
 use Rattle.txn_journal.specs.Create.{IsFree, IsHalfMade, Creates}
 use Rattle.txn_journal.specs.Held.{Held, Standing, StandsIn, held_by, new_file, with_payload, HoldsOldOrNew, behind}
 use Rattle.txn_journal.specs.Opening.{held_of}

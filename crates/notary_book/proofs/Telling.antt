@@ -1,12 +1,9 @@
 -- What a book tells, before and after a call.
-use Rattle.std.proofs.Common.{◌≡◌, ◌≢◌, leb, ltb, ◌⊎◌, inl, inr, ◌≤◌, ◌+◌, ℕ, Bool, true, false, List, [], ◌∷◌, ◌++◌, length, Option, None, Some, Result, Ok, Err, IfOk, IfSome, refl, sym, ap, ◌∙◌, subst, arith}
-use Rattle.std.specs.List.{slice_get}
-use Rattle.std.specs.Option.{is_some, option_map}
+use Rattle.std.proofs.Common.{◌≡◌, ◌≢◌, leb, ltb, ◌⊎◌, inl, inr, ◌≤◌, ◌+◌, ℕ, Bool, true, false, List, [], ◌∷◌, ◌++◌, length, Option, None, Some, Result, Ok, Err, IfSome, refl, sym, ap, ◌∙◌, subst, arith}
+use Rattle.std.specs.Option.{is_some}
 use Rattle.std.proofs.lemmas.Bool.{leb-true, leb-false, ltb-true, ltb-false}
-use Rattle.std.proofs.lemmas.Option.{same_Some}
-use Rattle.outside_words.specs.Faults.{Rose}
 use Rattle.outside_words.specs.Told.{WhereTold, TellsAlike}
-use Rattle.outside_words.proofs.Told.{told_same, told_map}
+use Rattle.outside_words.proofs.Told.{told_same}
 use Rattle.disk_words.specs.Disk.{State as DiskState, turn, Only, GoesOn as DiskGoesOn}
 use Rattle.disk_model.specs.Moments.{EveryImage}
 use Rattle.notary_link.specs.declared.fail.NotaryFail.{NotaryFail}
@@ -14,7 +11,7 @@ use Rattle.notary_link.specs.declared.fail.NotaryFail.TheVariants.{Failed, OutOf
 use Rattle.notary_link.specs.declared.mark.Mark.{Mark}
 use Rattle.notary_link.specs.Batches.{Batch}
 use Rattle.notary_link.specs.Shelves.{moments_on, shelf_of}
-use Rattle.notary_link.specs.Notary.{Call, file, note, IsAsked, Lists, Adds as AddsCall, Keeps, Grows, Changes, IsInTurn, HasRoom, IsRefusal, TellsOn, GoesOn, Unchanged, Answers}
+use Rattle.notary_link.specs.Notary.{Call, file, note, IsAsked, Lists, Keeps, Grows, Changes, IsInTurn, HasRoom, GoesOn, Unchanged, Answers}
 use Rattle.notary_link.proofs.Frame.{grows_same}
 use Rattle.txn_journal.specs.Held.{Standing}
 use Rattle.notary_book.specs.declared.kept.Kept.{Kept}

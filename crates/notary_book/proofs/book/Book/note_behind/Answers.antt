@@ -1,15 +1,12 @@
-use Rattle.std.proofs.Common.{◌≡◌, ◌≢◌, ◌<◌, ◌≤◌, ◌++◌, ◌∷◌, [], List, ℕ, true, false, Ok, Err, Some, IfSome, refl, sym, ap, ◌∙◌, subst, arith, rules}
-use Rattle.notary_link.specs.declared.fail.NotaryFail.TheVariants.{Failed, OutOfTurn, Full, NoMemory}
+use Rattle.std.proofs.Common.{◌≡◌, ◌++◌, ◌∷◌, [], true, false, Ok, Err, Some, refl, sym, ◌∙◌, arith, rules}
+use Rattle.notary_link.specs.declared.fail.NotaryFail.TheVariants.{Full, NoMemory}
 use Rattle.notary_link.specs.declared.fail.NotaryFail.{NotaryFail}
-use Rattle.notary_link.specs.Notary.{Call, file, note, batch_of}
-use Rattle.txn_journal.specs.Held.{Standing}
-use Rattle.notary_book.specs.Adding.{Tells, TellsEither}
-use Rattle.notary_book.specs.Kept.{StandsFor, IsFileOf, IsSettled}
+use Rattle.notary_link.specs.Notary.{Call, note}
 use Rattle.notary_book.proofs.Bytes.{told_file}
 use Rattle.notary_book.proofs.Leaving.{leaves_same, leaves_added}
 use Rattle.notary_book.proofs.Keeping.{knows_of, settled_of, open_of, keeps_some, settled_some, opens_some}
 use Rattle.notary_book.proofs.Sizes.{fits_record, spelled_in}
-use Rattle.notary_book.proofs.Telling.{if_map, if_alike, told_calls, quiet, refused, nothing_done, adds_on, adds_stopped, adds_unknown, adds_done, either, stored, stays_settled, asked_is, out_of_turn, full, batch_right, batch_next, marks_full, mark_right, mark_next}
+use Rattle.notary_book.proofs.Telling.{if_map, if_alike, told_calls, quiet, refused, adds_on, adds_stopped, adds_unknown, adds_done, either, stored, stays_settled, asked_is, marks_full, mark_right, mark_next}
 use Rattle.notary_book.proofs.book.Book.note_behind.Goals as goal
 
 pub returns-then-not-has_room_for_mark-clause-change : goal.returns-then-not-has_room_for_mark-clause-change

@@ -1,14 +1,10 @@
-use Rattle.std.proofs.Common.{◌≡◌, ◌∙◌, ℕ, List, length, Some, sym, ap, subst}
-use Rattle.std.specs.List.{slice_get}
+use Rattle.std.proofs.Common.{◌≡◌, ◌∙◌, Some, sym}
 use Rattle.notary_link.specs.declared.answer.Answer.TheVariants.{Absent}
-use Rattle.notary_link.specs.declared.mark.Mark.{Mark}
-use Rattle.notary_link.specs.Batches.{answer, moment_at}
-use Rattle.notary_link.specs.Notary.{Lists, file, note, batch_of, Answers}
-use Rattle.notary_link.proofs.Standing.{answer_found, answer_absent, moment_found}
-use Rattle.notary_book.specs.State.{book_state}
+use Rattle.notary_link.specs.Batches.{answer}
+use Rattle.notary_link.specs.Notary.{Lists}
+use Rattle.notary_link.proofs.Standing.{answer_found, answer_absent}
 use Rattle.notary_book.proofs.Keeping.{knows_of}
-use Rattle.notary_book.proofs.Lists.{count_is}
-use Rattle.notary_book.proofs.Telling.{gives, answers_behind}
+use Rattle.notary_book.proofs.Telling.{gives}
 use Rattle.notary_book.proofs.book.BookNotary.ask.Goals as goal
 
 pub returns-in-Some-digest-clause-value : goal.returns-in-Some-digest-clause-value
