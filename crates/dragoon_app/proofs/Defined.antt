@@ -1,5 +1,5 @@
 -- What was answered is what the words define.
-use Rattle.std.proofs.Common.{◌≡◌, ℕ, ◌+◌, List, Option, Some, None, refl, subst}
+use Rattle.std.proofs.Common.{◌≡◌, ℕ, ◌+◌, Bool, List, Option, Some, None, refl, subst}
 use Rattle.std.specs.Prelude.{IfSome}
 use Rattle.outside_words.specs.Told.{WhereTold, TellsAlike}
 use Rattle.disk_words.specs.Disk as disks
@@ -10,10 +10,10 @@ use Rattle.dragoon_app.specs.declared.command.Command.{Command}
 use Rattle.dragoon_app.specs.declared.command.Command.TheVariants as commands
 use Rattle.dragoon_app.specs.declared.status.Status.{Status}
 use Rattle.dragoon_app.specs.declared.status.Status.TheVariants as statuses
-use Rattle.dragoon_app.specs.Outcome.{AnswersFor, Said, refused}
+use Rattle.dragoon_app.specs.Outcome.{Outcome, AnswersFor, Said, refused}
 use Rattle.dragoon_app.specs.Linked.{link_outcome}
 use Rattle.dragoon_app.specs.Init.{Inits}
-use Rattle.dragoon_app.specs.Top.{outcome_of, AnswersAt}
+use Rattle.dragoon_app.specs.Top.{AnswersAt, AnswersBy}
 use Rattle.dragoon_app.proofs.Answering.{said_answers}
 
 -- the clock's first answer, or any number
@@ -30,19 +30,26 @@ taken_second now None ahead alike h = tt
 taken_second now (Some before) None alike h = absurd cc
 taken_second now (Some before) (Some after) alike h = h.0
 
-pub none_at : (command : Option Command) (clock : clocks.State) (told : Option (List ℕ)) (s : Status) (old new : State) → None ≡ command → Said (refused statuses.Usage) s old new → AnswersAt (outcome_of command) clock told s old new
+-- what no second decides
+by_any : (define : List ℕ → Outcome) (clock : clocks.State) (told : Option (List ℕ)) (s : Status) (old new : State) → AnswersFor define told s old new → AnswersAt (λ now. define) clock told s old new
+by_any define clock told s old new answers = record { now = second clock.answers; is_now = is_second clock.answers; answers = answers }
+
+pub none_at : (command : Option Command) (clock : clocks.State) (told : Option (List ℕ)) (s : Status) (old new : State) → None ≡ command → Said (refused statuses.Usage) s old new → AnswersBy command clock told s old new
 none_at command clock told s old new e said =
-    subst (λ (o : Option Command). AnswersAt (outcome_of o) clock told s old new) e (record { now = second clock.answers; is_now = is_second clock.answers; answers = by told })
+    subst (λ (o : Option Command). AnswersBy o clock told s old new) e (by_any (λ bytes. refused statuses.Usage) clock told s old new (by told))
   where
-    by : (told : Option (List ℕ)) → AnswersFor (outcome_of None (second clock.answers)) told s old new
+    by : (told : Option (List ℕ)) → AnswersFor (λ bytes. refused statuses.Usage) told s old new
     by None = tt
     by (Some bytes) = said_answers (refused statuses.Usage) (λ x. cc) s old new said
 
-pub link_at : (command : Option Command) (clock : clocks.State) (told : Option (List ℕ)) (s : Status) (old new : State) → Some commands.Link ≡ command → AnswersFor link_outcome told s old new → AnswersAt (outcome_of command) clock told s old new
+pub link_at : (command : Option Command) (clock : clocks.State) (told : Option (List ℕ)) (s : Status) (old new : State) → Some commands.Link ≡ command → AnswersFor link_outcome told s old new → AnswersBy command clock told s old new
 link_at command clock told s old new e answers =
-    subst (λ (o : Option Command). AnswersAt (outcome_of o) clock told s old new) e (record { now = second clock.answers; is_now = is_second clock.answers; answers = answers })
+    subst (λ (o : Option Command). AnswersBy o clock told s old new) e (by_any link_outcome clock told s old new answers)
 
 pub inits_at : (command : Option Command) (store : NewStore) (disk later : disks.State) (clock ahead : clocks.State) (s : Status) (old new : State) → Some (commands.Init store) ≡ command → clocks.GoesOn clock ahead
-    → Inits store s disk later clock ahead old new → AnswersAt (outcome_of command) clock disk.reads s old new
+    → Inits store s disk later clock ahead old new → AnswersBy command clock disk.reads s old new
 inits_at command store disk later clock ahead s old new e frame i =
-    subst (λ (o : Option Command). AnswersAt (outcome_of o) clock disk.reads s old new) e (record { now = i.now; is_now = taken_second i.now clock.answers ahead.answers frame.told i.taken; answers = i.inits.answers })
+    subst (λ (o : Option Command). AnswersBy o clock disk.reads s old new) e (record { now = i.now; is_now = taken_second i.now clock.answers ahead.answers frame.told i.taken; answers = i.inits.answers })
+
+pub run_at : (command : Option Command) (id : ℕ) (scripted : Bool) (clock : clocks.State) (told : Option (List ℕ)) (s : Status) (old new : State) → Some (commands.Run id scripted) ≡ command → AnswersBy command clock told s old new
+run_at command id scripted clock told s old new e = subst (λ (o : Option Command). AnswersBy o clock told s old new) e tt

@@ -6,3 +6,10 @@ pub mod Stores
 pub mod Answering
 pub mod Making
 pub mod Defined
+pub mod Seconds
+pub mod Reading
+pub mod Written
+pub mod Standing
+pub mod CarriedLines
+pub mod Replying
+pub mod Ending

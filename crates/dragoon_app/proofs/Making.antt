@@ -1,14 +1,12 @@
 -- A store that is made, or not.
-use Rattle.std.proofs.Common.{◌≡◌, ◌≢◌, ℕ, ◌<◌, ◌≤◌, Bool, true, false, List, [], ◌∷◌, ◌++◌, length, Option, Some, None, Result, Ok, Err, refl, sym, ap, subst, ◌∙◌, arith, inl, inr, rules}
-use Rattle.std.specs.Prelude.{IfSome, IsTrue, OnOk, is_some}
+use Rattle.std.proofs.Common.{◌≡◌, ◌≢◌, ℕ, Bool, List, [], ◌∷◌, ◌++◌, Option, Some, None, Result, Ok, Err, refl, sym, ap, subst, ◌∙◌}
+use Rattle.std.specs.Prelude.{IsTrue, OnOk, is_some}
 use Rattle.std.proofs.lemmas.Option.{same_Some}
-use Rattle.outside_words.specs.Told.{WhereTold, TellsAlike}
+use Rattle.outside_words.specs.Told.{WhereTold}
 use Rattle.outside_words.proofs.Told.{told_map}
 use Rattle.disk_words.specs.Disk as disks
 use Rattle.outside_io.specs.Sink.{State}
-use Rattle.byte_grammar.specs.Gated.{open_gate}
 use Rattle.tuple_bytes.specs.declared.header.Header.{Header}
-use Rattle.tuple_bytes.specs.Limits.{max_moment}
 use Rattle.tuple_bytes.specs.Spelling.{FitsHeader, spell_header}
 use Rattle.tuple_bytes.specs.HeaderBytes.{header_of}
 use Rattle.tuple_bytes.proofs.HeaderLaws.{header_again}
@@ -17,14 +15,13 @@ use Rattle.txn_journal.specs.declared.fail.JournalFail.{JournalFail}
 use Rattle.txn_journal.specs.declared.fail.JournalFail.TheVariants as fails
 use Rattle.txn_journal.specs.Reading.{head_of, left}
 use Rattle.txn_journal.specs.Held.{Held, held_by, held_under, new_file}
-use Rattle.txn_journal.specs.Create.{Creates, Refuses, IsFree, IsTaken}
+use Rattle.txn_journal.specs.Create.{Creates, Refuses}
 use Rattle.txn_journal.proofs.StoreHeads.{header_of_head}
 use Rattle.dragoon_app.specs.declared.command.NewStore.{NewStore}
 use Rattle.dragoon_app.specs.declared.status.Status.{Status}
 use Rattle.dragoon_app.specs.declared.status.Status.TheVariants as statuses
-use Rattle.dragoon_app.specs.Outcome.{Outcome, Answers, AnswersFor, Said, IsSaid, refused}
-use Rattle.dragoon_app.specs.Init.{is_free, says_ready, init_outcome, header_at, new_history, MakesStore}
-use Rattle.dragoon_app.proofs.Answering.{said_answers}
+use Rattle.dragoon_app.specs.Outcome.{Outcome, Said, IsSaid}
+use Rattle.dragoon_app.specs.Init.{says_ready, header_at, new_history, MakesStore}
 
 abbrev is_header : List ℕ → Bool
 is_header bytes = is_some (header_of bytes)
@@ -74,12 +71,15 @@ from_created s now h head r result old new before after is fits spelled taken ok
 said_status : (d : Outcome) (s : Status) (old new : State) → Said d s old new → IsSaid s → s ≡ d.status
 said_status d statuses.Ok old new h is = h.0
 said_status d statuses.Usage old new h is = h.0
+said_status d statuses.Refused old new h is = h.0
 said_status d statuses.NotAStore old new h is = h.0
 said_status d statuses.DiskFault old new h is = h.0
+said_status d statuses.ReadFault old new h is = h.0
 said_status d statuses.WriteFault old new h is = absurd is
 said_status d statuses.NoMemory old new h is = absurd is
 said_status d statuses.AlreadyThere old new h is = h.0
 said_status d statuses.TooLate old new h is = h.0
+said_status d statuses.InputLimit old new h is = h.0
 
 -- one status was said, and so no other
 pub said_other : (d : Outcome) (s x : Status) (old new : State) → Said d s old new → IsSaid x → x ≢ d.status → s ≢ x

@@ -3,7 +3,7 @@ use Rattle.std.proofs.Common.{◌≡◌, ℕ, Bool, List, [], Option, Some, None
 use Rattle.std.specs.Prelude.{IfSome, is_some}
 use Rattle.tuple_bytes.specs.declared.header.Header.{Header}
 use Rattle.tuple_bytes.specs.HeaderBytes.{header_of}
-use Rattle.history_model.specs.Stored.{store_shape, front_header, items_of, stored, stored_under}
+use Rattle.history_model.specs.Stored.{store_shape, front_header, stored_under}
 use Rattle.txn_journal.specs.Reading.{Reading, left, IsSeenIn, Opens}
 use Rattle.txn_journal.proofs.StoreHeads.{header_of_head, no_header}
 use Rattle.dragoon_app.specs.declared.link.Linked.{Linked}

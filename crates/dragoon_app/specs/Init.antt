@@ -1,6 +1,6 @@
 -- What `init` writes, and what becomes of its store.
-use Rattle.std.specs.Prelude.{◌≡◌, ℕ, ◌+◌, ◌<◌, ◌≤◌, ◌&&◌, ◌||◌, ◌==◌, not, nat_lt, nat_le, Bool, List, [], ◌∷◌, ◌++◌, length, slice_index, codes, Some, if◌then◌else◌}
-use Rattle.std.specs.Prelude.{◌^◌, IfSome}
+use Rattle.std.specs.Prelude.{◌≡◌, ℕ, ◌<◌, ◌≤◌, ◌&&◌, ◌||◌, ◌==◌, not, nat_lt, nat_le, Bool, List, [], ◌∷◌, ◌++◌, length, slice_index, codes, Some, if◌then◌else◌}
+use Rattle.std.specs.Prelude.{◌^◌}
 use Rattle.std.specs.Fmt.{decimal}
 use Rattle.outside_words.specs.Told.{WhereTold}
 use Rattle.disk_words.specs.Disk as disks

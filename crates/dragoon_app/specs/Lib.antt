@@ -4,4 +4,7 @@ pub mod Texts
 pub mod Outcome
 pub mod Init
 pub mod Linked
+pub mod Running
+pub mod Ran
+pub mod Carrying
 pub mod Top

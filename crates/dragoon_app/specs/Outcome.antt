@@ -3,6 +3,7 @@ use Rattle.std.specs.Prelude.{◌≡◌, ◌⊎◌, ℕ, List, Option, IfSome}
 use Rattle.outside_words.specs.Faults.{Rose}
 use Rattle.disk_words.specs.Disk as disks
 use Rattle.outside_io.specs.Sink.{State, IsOut, FrontIsOut}
+use Rattle.outside_io.specs.Source as sources
 use Rattle.dragoon_app.specs.declared.status.Status.{Status}
 use Rattle.dragoon_app.specs.declared.status.Status.TheVariants as statuses
 use Rattle.dragoon_app.specs.Texts.{fault_line}
@@ -48,6 +49,10 @@ AnswersFor define told s old new = IfSome told (λ bytes. Answers (define bytes)
 -- a fault of the disk is answered only where its count of faults rose
 abbrev pub DiskCause : Status → disks.State → disks.State → Type 0
 DiskCause s old new = s ≡ statuses.DiskFault → Rose old.faults new.faults
+
+-- a fault of the input is answered only where its count rose
+abbrev pub ReadCause : Status → sources.State → sources.State → Type 0
+ReadCause s old new = s ≡ statuses.ReadFault → Rose old.faults new.faults
 
 -- a fault of the output is answered only where its count rose
 abbrev pub WriteCause : Status → State → State → Type 0

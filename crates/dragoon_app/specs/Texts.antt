@@ -7,22 +7,28 @@ use Rattle.dragoon_app.specs.declared.status.Status.TheVariants as statuses
 abbrev pub status_code : Status → ℕ
 status_code statuses.Ok = 0
 status_code statuses.Usage = 2
+status_code statuses.Refused = 3
 status_code statuses.NotAStore = 4
 status_code statuses.DiskFault = 5
+status_code statuses.ReadFault = 7
 status_code statuses.WriteFault = 8
 status_code statuses.NoMemory = 9
 status_code statuses.AlreadyThere = 13
 status_code statuses.TooLate = 15
+status_code statuses.InputLimit = 17
 
 abbrev pub status_name : Status → List ℕ
 status_name statuses.Ok = codes "Ok"
 status_name statuses.Usage = codes "Usage"
+status_name statuses.Refused = codes "Refused"
 status_name statuses.NotAStore = codes "NotAStore"
 status_name statuses.DiskFault = codes "DiskFault"
+status_name statuses.ReadFault = codes "ReadFault"
 status_name statuses.WriteFault = codes "WriteFault"
 status_name statuses.NoMemory = codes "NoMemory"
 status_name statuses.AlreadyThere = codes "AlreadyThere"
 status_name statuses.TooLate = codes "TooLate"
+status_name statuses.InputLimit = codes "InputLimit"
 
 -- the last line of a run that ends so
 unfoldable pub fault_line : Status → List ℕ

@@ -1,7 +1,8 @@
--- What the words, the clock and the bytes of the store define.
+-- What the words, the clock, the bytes of the store and the input define.
 use Rattle.std.specs.Prelude.{◌≡◌, ℕ, List, Option, Some, None, IfSome}
 use Rattle.disk_words.specs.Disk as disks
 use Rattle.outside_io.specs.Sink as sinks
+use Rattle.outside_io.specs.Source as sources
 use Rattle.outside_io.specs.Clock as clocks
 use Rattle.dragoon_app.specs.declared.command.Command.{Command}
 use Rattle.dragoon_app.specs.declared.command.Command.TheVariants as commands
@@ -10,16 +11,9 @@ use Rattle.dragoon_app.specs.declared.status.Status.TheVariants as statuses
 use Rattle.dragoon_app.specs.Outcome.{Outcome, AnswersFor, refused}
 use Rattle.dragoon_app.specs.Linked.{link_outcome}
 use Rattle.dragoon_app.specs.Init.{init_outcome, Inits, FitsStore}
-use Rattle.dragoon_app.specs.Words.{command_of}
+use Rattle.dragoon_app.specs.Ran.{RunsOn}
 
--- by the command, at a second of the clock
-abbrev pub outcome_of : Option Command → ℕ → List ℕ → Outcome
-outcome_of None now bytes = refused statuses.Usage
-outcome_of (Some commands.Link) now bytes = link_outcome bytes
-outcome_of (Some (commands.Init s)) now bytes = init_outcome s now bytes
-
-abbrev pub outcome : List (List ℕ) → ℕ → List ℕ → Outcome
-outcome words now bytes = outcome_of (command_of words) now bytes
+-- ---- what is written
 
 -- what was defined at the clock's second was answered, where the store tells its bytes
 pub record AnswersAt (define : ℕ → List ℕ → Outcome) (clock : clocks.State) (told : Option (List ℕ)) (result : Status) (old new : sinks.State) : Type 0 where
@@ -27,13 +21,28 @@ pub record AnswersAt (define : ℕ → List ℕ → Outcome) (clock : clocks.Sta
   pub is_now : IfSome clock.answers (λ answers. now ≡ answers 0)
   pub answers : AnswersFor (define now) told result old new
 
+-- By the command, at a second of the clock. What `run` writes its input defines too: `Leaves` says it.
+abbrev pub AnswersBy : Option Command → clocks.State → Option (List ℕ) → Status → sinks.State → sinks.State → Type 0
+AnswersBy None = AnswersAt (λ now bytes. refused statuses.Usage)
+AnswersBy (Some commands.Link) = AnswersAt (λ now bytes. link_outcome bytes)
+AnswersBy (Some (commands.Init s)) = AnswersAt (init_outcome s)
+AnswersBy (Some (commands.Run id scripted)) = λ clock told result old new. Unit {0}
+
+-- ---- what is left
+
 -- what a command may say
 abbrev pub FitsCommand : Command → Type 0
 FitsCommand commands.Link = Unit {0}
 FitsCommand (commands.Init s) = FitsStore s
+FitsCommand (commands.Run id scripted) = Unit {0}
 
--- the store and the clock after the command: as they were, but for `init`
-abbrev pub Leaves : Option Command → Status → disks.State → disks.State → clocks.State → clocks.State → sinks.State → sinks.State → Type 0
-Leaves None result old new clock ahead out later = disks.Unchanged old new × (ahead ≡ clock)
-Leaves (Some commands.Link) result old new clock ahead out later = disks.Unchanged old new × (ahead ≡ clock)
-Leaves (Some (commands.Init s)) result old new clock ahead out later = Inits s result old new clock ahead out later
+-- the store, the clock and the input are as they were
+abbrev pub IsLeft : disks.State → disks.State → clocks.State → clocks.State → sources.State → sources.State → Type 0
+IsLeft old new clock ahead input left = disks.Unchanged old new × (ahead ≡ clock) × (left ≡ input)
+
+-- the store, the clock and the input after the command: as they were, but for `init` and `run`
+abbrev pub Leaves : Option Command → Status → disks.State → disks.State → clocks.State → clocks.State → sources.State → sources.State → sinks.State → sinks.State → Type 0
+Leaves None result old new clock ahead input left out later = IsLeft old new clock ahead input left
+Leaves (Some commands.Link) result old new clock ahead input left out later = IsLeft old new clock ahead input left
+Leaves (Some (commands.Init s)) result old new clock ahead input left out later = Inits s result old new clock ahead out later × (left ≡ input)
+Leaves (Some (commands.Run id scripted)) result old new clock ahead input left out later = RunsOn scripted id result old new clock ahead input left out later

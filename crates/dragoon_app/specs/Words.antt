@@ -1,5 +1,5 @@
 -- The words that the program is called with.
-use Rattle.std.specs.Prelude.{◌≡◌, ◌<◌, ◌≤◌, ◌&&◌, not, nat_eq, ℕ, Bool, false, IsTrue, List, [], ◌∷◌, length, take, slice_index_or, codes, Option, Some, None, option_map, if◌then◌else◌}
+use Rattle.std.specs.Prelude.{◌≡◌, ◌<◌, ◌≤◌, ◌&&◌, not, nat_eq, ℕ, Bool, true, false, IsTrue, List, [], ◌∷◌, length, take, slice_index_or, codes, Option, Some, None, option_map, if◌then◌else◌}
 use Rattle.std.specs.List.{list_any, starts_with}
 use Rattle.std.specs.Str.{bytes_eq}
 use Rattle.tuple_bytes.specs.Limits.{max_width, max_exponent}
@@ -33,9 +33,14 @@ pub record IsLeading (words : List (List ℕ)) (n : ℕ) : Type 0 where
 
 -- ---- the words behind them
 
--- `m`, for neither tile chains nor a tree
+-- `t` for tile chains, `a` for the tree, `ta` for both and `m` for neither
 abbrev pub algorithms_of : List ℕ → Option ℕ
-algorithms_of word = if bytes_eq word (codes "m") then Some 0 else None
+algorithms_of word =
+    if bytes_eq word (codes "m") then Some 0
+    else if bytes_eq word (codes "t") then Some 1
+    else if bytes_eq word (codes "a") then Some 2
+    else if bytes_eq word (codes "ta") then Some 3
+    else None
 
 abbrev pub new_store : Option ℕ → Option ℕ → Option ℕ → Option ℕ → Option NewStore
 new_store (Some id) (Some width) (Some k) (Some algs) = Some (record { id = id; width = width; k = k; algs = algs })
@@ -55,10 +60,26 @@ abbrev pub init_of : List (List ℕ) → Option Command
 init_of (id ∷ width ∷ k ∷ algs ∷ []) = option_map commands.Init (new_store_of id width k algs)
 init_of words = None
 
+-- behind the id stands nothing, or the word that makes a run a scripted one
+abbrev pub scripted_of : List (List ℕ) → Option Bool
+scripted_of [] = Some false
+scripted_of (word ∷ []) = if bytes_eq word (codes "scripted") then Some true else None
+scripted_of (word ∷ other ∷ words) = None
+
+abbrev pub new_run : Option ℕ → Option Bool → Option Command
+new_run (Some id) (Some scripted) = Some (commands.Run id scripted)
+new_run id scripted = None
+
+-- behind `run` stands any id, and perhaps `scripted`
+abbrev pub run_of : List (List ℕ) → Option Command
+run_of [] = None
+run_of (id ∷ words) = new_run (number_of 0 max_u64 id) (scripted_of words)
+
 -- the command that the words are
 abbrev pub command_of : List (List ℕ) → Option Command
 command_of [] = None
 command_of (word ∷ words) =
     if bytes_eq word (codes "link") then link_of words
     else if bytes_eq word (codes "init") then init_of words
+    else if bytes_eq word (codes "run") then run_of words
     else None

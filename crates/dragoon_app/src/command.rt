@@ -5,7 +5,8 @@ ghost use Rattle.std.specs.String.{string_bytes};
 ghost use Rattle.byte_grammar.specs.Reading.{Gives};
 ghost use Rattle.dragoon_app.specs.Init.{FitsStore};
 ghost use Rattle.dragoon_app.specs.Top.{FitsCommand};
-ghost use Rattle.dragoon_app.specs.Words.{algorithms_of, new_store_of, link_of, init_of, command_of};
+ghost use Rattle.dragoon_app.specs.Words.{algorithms_of, new_store_of, link_of, init_of};
+ghost use Rattle.dragoon_app.specs.Words.{scripted_of, run_of, command_of};
 
 use crate::number::number_of;
 use tuple_bytes::{MAX_EXPONENT, MAX_WIDTH};
@@ -34,6 +35,9 @@ pub enum Command {
 
     /// A new store.
     Init(NewStore),
+
+    /// The lines of the input, over the store of this id.
+    Run { id: u64, is_scripted: bool },
 }
 
 /// The algorithms that a word names.
@@ -42,6 +46,12 @@ fn algorithms_of(word: &[u8]) -> Option<u8>
 {
     if word == b"m".as_slice() {
         Some(0)
+    } else if word == b"t".as_slice() {
+        Some(1)
+    } else if word == b"a".as_slice() {
+        Some(2)
+    } else if word == b"ta".as_slice() {
+        Some(3)
     } else {
         None
     }
@@ -93,6 +103,33 @@ fn init_of(words: &[String]) -> Option<Command>
     }
 }
 
+/// Whether a run is scripted, by the words behind its id.
+fn scripted_of(words: &[String]) -> Option<bool>
+    ensures value { result ≡ scripted_of (map string_bytes words.now) }
+{
+    match words {
+        [] => Some(false),
+        [word] => {
+            if word.as_bytes() == b"scripted".as_slice() {
+                Some(true)
+            } else {
+                None
+            }
+        }
+        _ => None,
+    }
+}
+
+fn run_of(words: &[String]) -> Option<Command>
+    ensures value { result ≡ run_of (map string_bytes words.now) }
+    ensures fits { IfSome result FitsCommand }
+{
+    let (id, words) = words.split_first()?;
+    let id = number_of(id.as_bytes(), 0, u64::MAX)?;
+    let is_scripted = scripted_of(words)?;
+    Some(Command::Run { id, is_scripted })
+}
+
 /// The command that the words are, if they are one.
 pub fn command_of(words: &[String]) -> Option<Command>
     ensures value { result ≡ command_of (map string_bytes words.now) }
@@ -103,6 +140,8 @@ pub fn command_of(words: &[String]) -> Option<Command>
         link_of(words)
     } else if word.as_bytes() == b"init".as_slice() {
         init_of(words)
+    } else if word.as_bytes() == b"run".as_slice() {
+        run_of(words)
     } else {
         None
     }

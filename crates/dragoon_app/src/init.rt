@@ -72,6 +72,7 @@ fn init_at<D: Disk, O: Sink>(
     ensures made { now ≤ max_moment → WhereTold (D.state store.old).reads (D.state store.new).reads
         (MakesStore (header_at new.now now) result (D.state store.old) (D.state store.new)) }
     ensures no_usage { result ≢ Status.Usage }
+    ensures no_read_fault { result ≢ Status.ReadFault }
     ensures store_frame { disks.GoesOn (D.state store.old) (D.state store.new) }
     ensures out_frame { sinks.GoesOn (O.state out.old) (O.state out.new) }
     ensures disk_cause { DiskCause result (D.state store.old) (D.state store.new) }
@@ -101,6 +102,7 @@ pub fn run_init<D: Disk, C: Clock, O: Sink>(
     ensures told { Inits new.now result (D.state store.old) (D.state store.new)
         (C.state clock.old) (C.state clock.new) (O.state out.old) (O.state out.new) }
     ensures no_usage { result ≢ Status.Usage }
+    ensures no_read_fault { result ≢ Status.ReadFault }
     ensures store_frame { disks.GoesOn (D.state store.old) (D.state store.new) }
     ensures clock_frame { clocks.GoesOn (C.state clock.old) (C.state clock.new) }
     ensures out_frame { sinks.GoesOn (O.state out.old) (O.state out.new) }

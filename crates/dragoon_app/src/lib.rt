@@ -5,26 +5,39 @@
 //! |---|---|---|
 //! | `link` | `link` | `link_outcome` of what the bytes of the store hold |
 //! | `init ID W K ALGS` | `init` | `init_outcome` of the clock's second and of whether the device is free |
+//! | `run ID`, `run ID scripted` | `run` | `carried` over the lines of the input: the reply of each line |
 //!
 //! | The layer above may rely on | Clause of `dragoon` |
 //! |---|---|
-//! | where the store tells its bytes, the status and the whole text are the defined ones, at a second that is the clock's where it tells it, up to a fault or want of memory; of a text that was cut short a front is out | `told` |
+//! | for `link`, `init` and words that are no command: where the store tells its bytes, the status and the whole text are the defined ones, at a second that is the clock's where it tells it, up to a fault or want of memory; of a text that was cut short a front is out | `told` |
 //! | `Usage` comes exactly where the words are no command, whatever the store is | `usage`, `no_command` |
-//! | a fault is answered only where the count of that device's faults rose | `disk_cause`, `write_cause` |
-//! | the store and the clock are left as they were, but for `init` | `leaves` |
+//! | a fault is answered only where the count of that device's faults rose | `disk_cause`, `read_cause`, `write_cause` |
+//! | `link` leaves all devices but the output as they were, and `init` the input | `leaves` |
 //! | after `init` answered `Ok` the store has 65 bytes: the header of the words and the clock's second, and no item; and it is durable | `made`, `stores`, `durable` of `MakesStore` in `leaves` |
 //! | a taken device, and each device where it is too late, is left as it was | `kept`, `late` there |
 //! | on a settled device a crash during `init` leaves no item, and no header but the new one or one whose bytes stood there | `images` there |
 //!
+//! What `run` does is `RunsOn` in `leaves`, where the store tells its bytes:
+//!
+//! | The layer above may rely on | Field of `Runs` |
+//! |---|---|
+//! | `NotAStore` comes exactly where the bytes have no header of this id; a fault of the disk while the store is opened, and want of memory, end a run before its first line | `RunsOn` |
+//! | after `Ok` and `Refused` all lines of the input were carried out, and exactly their replies are out | `lines` of `read`, `written` |
+//! | where the output fails or memory is wanting at most the last reply is cut short; or all are out, and a front of a fault line that has its cause | `written` |
+//! | at a fault of the disk the line under way is the next of the input; at one of the disk or the output less than a piece was taken beyond the lines that were begun | `under_way`, `little` of `read` |
+//! | a scripted run asks no clock, and others take one second for each line that isn't blank, the one under way too; none is under way unless the disk failed or memory was wanting | `seconds`, `none` |
+//! | on a settled store a crash at any moment leaves what stood there after some first lines | `images` of `store` |
+//! | each reply that is out stands for good: every image has what the lines say that were carried out | `kept` there |
+//!
 //! `leading` says how many words in front of the command name devices. A further device is one more
 //! prefix there, and one more parameter of `dragoon`. A further command is a case of `command_of`, of
-//! `outcome_of`, of `Leaves` and of the call, and a module with its function, its definition and its contract.
+//! `AnswersBy`, of `Leaves` and of the call, and a module with its function, its definition and its contract.
 //!
 //! Only tested: that memory is found where there is plenty of it.
 //!
 //! ```rust
 //! let (devices, call) = words.split_at(leading(&words));
-//! let status = dragoon(alloc, call, &mut store, &mut clock, &mut out);
+//! let status = dragoon(alloc, call, &mut store, &mut clock, &mut input, &mut out);
 //! ExitCode::from(status.code())
 //! ```
 #![tactic(auto)]
@@ -32,8 +45,12 @@
 mod command;
 mod init;
 mod leading_words;
+mod line_kind;
 mod link;
 mod number;
+mod run;
+mod run_fail;
+mod runner;
 mod saying;
 mod status;
 mod top;

@@ -41,11 +41,14 @@ fn fault_text(status: Status) -> &'static str
     match status {
         Status::Ok => "fault Ok\n",
         Status::Usage => "fault Usage\n",
+        Status::Refused => "fault Refused\n",
         Status::NotAStore => "fault NotAStore\n",
         Status::DiskFault => "fault DiskFault\n",
+        Status::ReadFault => "fault ReadFault\n",
         Status::WriteFault => "fault WriteFault\n",
         Status::NoMemory => "fault NoMemory\n",
         Status::AlreadyThere => "fault AlreadyThere\n",
         Status::TooLate => "fault TooLate\n",
+        Status::InputLimit => "fault InputLimit\n",
     }
 }

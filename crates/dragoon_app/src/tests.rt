@@ -2,7 +2,7 @@
 
 use crate::{Status, dragoon, leading};
 use disk_model::{FileDisk, MemDisk};
-use outside_io::{MemClock, MemSink};
+use outside_io::{MemClock, MemSink, MemSource};
 use std::alloc::{AllocError, Global};
 use std::test::Fail;
 
@@ -55,7 +55,8 @@ fn outcome(
     store.failing(failing_reads.to_vec(alloc)?, Vec::new(alloc));
     let mut out = MemSink::new(alloc, failing_writes.to_vec(alloc)?);
     let mut clock = MemClock::new(Vec::new(alloc));
-    let status = dragoon(alloc, &words, &mut store, &mut clock, &mut out);
+    let mut input = MemSource::new(Vec::new(alloc), 1, Vec::new(alloc));
+    let status = dragoon(alloc, &words, &mut store, &mut clock, &mut input, &mut out);
     Ok((status.code(), out.bytes().to_vec(alloc)?))
 }
 
@@ -200,8 +201,9 @@ fn made(
     let words = words(alloc, texts)?;
     let mut store = MemDisk::holding(alloc, bytes.to_vec(alloc)?);
     let mut clock = MemClock::new(vec![in alloc; now]?);
+    let mut input = MemSource::new(Vec::new(alloc), 1, Vec::new(alloc));
     let mut out = MemSink::new(alloc, Vec::new(alloc));
-    let status = dragoon(alloc, &words, &mut store, &mut clock, &mut out);
+    let status = dragoon(alloc, &words, &mut store, &mut clock, &mut input, &mut out);
     Ok((
         status.code(),
         out.bytes().to_vec(alloc)?,
@@ -257,8 +259,9 @@ fn a_store_in_a_file_is_made_once_and_read(rt: HostRuntime) -> Result<(), Fail> 
         let words = words(alloc, texts)?;
         let mut store = FileDisk::new(rt, String::from_str(alloc, path)?);
         let mut clock = MemClock::new(Vec::new(alloc));
+        let mut input = MemSource::new(Vec::new(alloc), 1, Vec::new(alloc));
         let mut out = MemSink::new(alloc, Vec::new(alloc));
-        let _ = dragoon(alloc, &words, &mut store, &mut clock, &mut out);
+        let _ = dragoon(alloc, &words, &mut store, &mut clock, &mut input, &mut out);
         assert_eq!(rt; out.bytes(), wanted);
     }
     std::fs::remove_file(&rt, path)?;
@@ -289,7 +292,10 @@ fn numbers_are_plain_and_in_their_ranges(rt: HostRuntime) -> Result<(), Fail> {
     let alloc = rt.alloc();
     for (id, width, k, algs, wanted) in [
         ("0", "1", "0", "m", 0),
-        ("18446744073709551615", "86400", "10", "m", 0),
+        ("18446744073709551615", "86400", "10", "ta", 0),
+        ("7", "60", "3", "t", 0),
+        ("7", "60", "3", "a", 0),
+        ("7", "60", "3", "at", 2),
         ("18446744073709551616", "60", "3", "m", 2),
         ("07", "60", "3", "m", 2),
         ("+7", "60", "3", "m", 2),
@@ -305,18 +311,67 @@ fn numbers_are_plain_and_in_their_ranges(rt: HostRuntime) -> Result<(), Fail> {
     Ok(())
 }
 
+/// How a call over a new store of id 7 ends that has this input, and what it writes.
+fn carried_out(alloc: Global, texts: &[&str], input: &[u8]) -> Result<(u8, Vec<u8>), AllocError> {
+    let (_, _, bytes) = made(alloc, &["init", "7", "60", "3", "m"], b"", 5)?;
+    let words = words(alloc, texts)?;
+    let mut store = MemDisk::holding(alloc, bytes);
+    let mut clock = MemClock::new(vec![in alloc; 9]?);
+    let mut input = MemSource::new(input.to_vec(alloc)?, 3, Vec::new(alloc));
+    let mut out = MemSink::new(alloc, Vec::new(alloc));
+    let status = dragoon(alloc, &words, &mut store, &mut clock, &mut input, &mut out);
+    Ok((status.code(), out.bytes().to_vec(alloc)?))
+}
+
+#[test]
+fn a_script_is_carried_out_line_by_line(rt: HostRuntime) -> Result<(), Fail> {
+    let alloc = rt.alloc();
+    for (texts, input, wanted) in [
+        (
+            ["run", "7", "scripted"].as_slice(),
+            b"create t k int v int\n\ninsert t 1 5\r\nnow 60\nget t 1".as_slice(),
+            (0, b"ok 1\nok 2\nok\nrow 1 5\n".as_slice()),
+        ),
+        (
+            ["run", "7"].as_slice(),
+            b"now 60\nbegin\nget t x\n".as_slice(),
+            (
+                3,
+                b"refused NotScripted\nrefused Syntax\nrefused Syntax\n".as_slice(),
+            ),
+        ),
+        (
+            ["run", "8"].as_slice(),
+            b"now 60\n".as_slice(),
+            (4, b"fault NotAStore\n".as_slice()),
+        ),
+        (
+            ["run", "7", "again"].as_slice(),
+            b"now 60\n".as_slice(),
+            (2, b"fault Usage\n".as_slice()),
+        ),
+    ] {
+        let (status, text) = carried_out(alloc, texts, input)?;
+        assert_eq!(rt; (status, text.as_slice()), wanted);
+    }
+    Ok(())
+}
+
 #[test]
 fn each_status_has_its_number(rt: HostRuntime) {
     let numbers = [
         Status::Ok,
         Status::Usage,
+        Status::Refused,
         Status::NotAStore,
         Status::DiskFault,
+        Status::ReadFault,
         Status::WriteFault,
         Status::NoMemory,
         Status::AlreadyThere,
         Status::TooLate,
+        Status::InputLimit,
     ]
     .map(|status| status.code());
-    assert_eq!(rt; numbers, [0, 2, 4, 5, 8, 9, 13, 15]);
+    assert_eq!(rt; numbers, [0, 2, 3, 4, 5, 7, 8, 9, 13, 15, 17]);
 }

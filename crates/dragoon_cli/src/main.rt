@@ -11,7 +11,7 @@ mod usage;
 use crate::device::Device;
 use crate::usage::USAGE;
 use dragoon_app::{Status, dragoon, leading};
-use outside_io::{StdSink, SystemClock};
+use outside_io::{StdSink, StdSource, SystemClock};
 use std::alloc::{AllocError, Global};
 use std::process::ExitCode;
 use std::rt::Runtime;
@@ -44,8 +44,16 @@ fn run<R: Runtime + AllocGlobal + Drop>(rt: &R) -> Result<Status, AllocError> {
     let (devices, call) = words.split_at(leading(&words));
     let mut store = Device::named(rt, path_behind("store=", devices))?;
     let mut clock = SystemClock::new(rt.clone()?);
+    let mut input = StdSource::new(rt.clone()?);
     let mut out = StdSink::new(rt.clone()?);
-    Ok(dragoon(rt.alloc(), call, &mut store, &mut clock, &mut out))
+    Ok(dragoon(
+        rt.alloc(),
+        call,
+        &mut store,
+        &mut clock,
+        &mut input,
+        &mut out,
+    ))
 }
 
 fn main(rt: HostRuntime) -> ExitCode {

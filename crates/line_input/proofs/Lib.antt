@@ -1,5 +1,5 @@
 pub mod Lines
-mod Splits
+pub mod Splits
 mod Cuts
 mod Going
 pub mod Giving

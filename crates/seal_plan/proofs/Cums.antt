@@ -18,7 +18,7 @@ use Rattle.history_model.proofs.Orders.{canon_more}
 use Rattle.digest_model.specs.Layout.{layout, first_granule, end_granule}
 use Rattle.digest_model.specs.Digests.{cum, link_of_spelled, granule_digest, granule_over}
 use Rattle.digest_model.proofs.Spelled.{rows_storable}
-use Rattle.audit_model.proofs.Lists.{increasing_range}
+use Rattle.digest_model.proofs.Lists.{increasing_range}
 use Rattle.cumulative_chain.specs.Tiles.{Granule, numbers_of, spelled_below, front, IsSplit, link_at}
 use Rattle.cumulative_chain.proofs.Fronts.{split_front}
 use Rattle.tile_chains.specs.Short.{IsShort}

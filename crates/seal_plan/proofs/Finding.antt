@@ -17,7 +17,7 @@ use Rattle.audit_model.specs.Names.{planned, digest, batch_names}
 use Rattle.audit_model.proofs.Planned.{cum_planned, part_planned}
 use Rattle.audit_model.proofs.TreeAudit.{node_planned}
 use Rattle.digest_model.proofs.Members.{here, Contains-flat_map}
-use Rattle.audit_model.proofs.Lists.{in_range}
+use Rattle.digest_model.proofs.Lists.{in_range}
 use Rattle.seal_plan.specs.Plan.{Planned}
 use Rattle.seal_plan.specs.Places.{parts_of, part_at, part_digest_at, planned_parts, planned_levels, level_of, levels_of}
 use Rattle.seal_plan.specs.Found.{part_found, node_found}

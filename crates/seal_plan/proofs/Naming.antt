@@ -8,7 +8,7 @@ use Rattle.notary_link.specs.declared.name.Name.TheVariants as names
 use Rattle.digest_model.specs.Layout.{Layout, first_granule, tile_size, exponent, has_tile_chains, has_tree, whole}
 use Rattle.digest_model.proofs.Members.{here, there}
 use Rattle.audit_model.specs.Names.{tile_names, node_ending_at, nodes_ending_at, node_names, sealed_names, batch_names, planned}
-use Rattle.audit_model.proofs.Lists.{one_of, none_of, from_map, passes, from_range}
+use Rattle.digest_model.proofs.Lists.{one_of, none_of, from_map, passes, from_range}
 
 -- what a planned name is about
 abbrev pub IsNamed : Layout → ℕ → Name → Type 0

@@ -1,5 +1,5 @@
 -- A commit does to the world what the definition says.
-use Rattle.std.proofs.Common.{◌≡◌, ℕ, ◌+◌, List, [], ◌∷◌, ◌++◌, length, Bool, true, false, Option, Some, None, Result, Ok, Err, IfOk, IsSome, refl, sym, ap, subst, ◌∙◌}
+use Rattle.std.proofs.Common.{◌≡◌, ℕ, ◌+◌, List, length, Bool, false, Option, Some, None, Result, Ok, Err, IfOk, IsSome, inl, refl, sym, ap, subst, ◌∙◌}
 use Rattle.outside_words.specs.Told.{WhereTold}
 use Rattle.outside_words.proofs.Told.{told_map}
 use Rattle.disk_words.specs.Disk.{State, turn, Unchanged}
@@ -7,7 +7,6 @@ use Rattle.disk_model.proofs.Moments.{weaker}
 use Rattle.tuple_bytes.specs.declared.header.Header.{Header}
 use Rattle.tuple_bytes.specs.declared.op.Op.{Op}
 use Rattle.tuple_bytes.specs.declared.item.Txn.{Txn}
-use Rattle.tuple_bytes.specs.declared.item.Item.{Item}
 use Rattle.tuple_bytes.specs.declared.item.Item.TheVariants as items
 use Rattle.tuple_bytes.specs.Spelling.{spell_txn}
 use Rattle.store_engine.specs.declared.fail.StoreFail.{StoreFail}
@@ -16,14 +15,13 @@ use Rattle.store_engine.specs.Opened.{Opened, StoresOldOrNew}
 use Rattle.store_engine.specs.Refusals.{Tail, tail_of, next_txn, commit_fault, IsRefusedBy}
 use Rattle.store_engine.specs.Commits as commits
 use Rattle.store_engine.specs.Commits.{StandsAfter, Adds}
-use Rattle.session_core.specs.declared.reply.Reply.{Reply}
 use Rattle.session_core.specs.declared.reply.Reply.TheVariants as replies
-use Rattle.session_core.specs.declared.sessions.StepFail.{StepFail}
 use Rattle.session_core.specs.declared.sessions.StepFail.TheVariants as steps
-use Rattle.session_core.specs.World.{World, IsIn, StoresEither, tail_of_world, with_txn}
+use Rattle.session_core.specs.World.{World, IsIn, StoresEither, tail_of_world}
 use Rattle.session_core.specs.Refusing.{refused_by_store, answered}
 use Rattle.session_core.specs.Steps.{Step, says, committed, commit}
 use Rattle.session_core.specs.Stepping.{StepsIn, DoesAs}
+use Rattle.session_core.proofs.Promising.{of_ops}
 use Rattle.session_core.proofs.Untouched.{untouched}
 
 module _ (stand new_stand : Opened) (ops : List Op) (now : ℕ) (is_open : stand.at.is_closed ≡ false) where
@@ -56,14 +54,14 @@ module _ (stand new_stand : Opened) (ops : List Op) (now : ℕ) (is_open : stand
           → WhereTold old.reads new.reads (DoesAs (λ w. commit w ops now) (answered result) stand new_stand old new)
       refused (Ok n) by stands = let none : fault ≡ None = by in absurd cc
       refused (Err fails.DiskFault) by stands = let none : fault ≡ None = by in absurd cc
-      refused (Err fails.NoMemory) by stands = untouched stand new_stand old new same only_now (λ w. commit w ops now) (Err steps.NoMemory) (λ w bytes i. tt) tt
+      refused (Err fails.NoMemory) by stands = untouched stand new_stand old new same only_now (λ w. commit w ops now) (Err steps.NoMemory) (λ w bytes i. tt) tt (λ w. of_ops w ops now) tt
       refused (Err fails.NotAStore) by stands = absurd by
-      refused (Err (fails.ClockBack last)) by stands = untouched stand new_stand old new same only_now (λ w. commit w ops now) (answered (Err (fails.ClockBack last))) (other (fails.ClockBack last) by) stands
-      refused (Err fails.TooLate) by stands = untouched stand new_stand old new same only_now (λ w. commit w ops now) (answered (Err fails.TooLate)) (other fails.TooLate by) stands
-      refused (Err fails.TooManyOps) by stands = untouched stand new_stand old new same only_now (λ w. commit w ops now) (answered (Err fails.TooManyOps)) (other fails.TooManyOps by) stands
-      refused (Err fails.TooLong) by stands = untouched stand new_stand old new same only_now (λ w. commit w ops now) (answered (Err fails.TooLong)) (other fails.TooLong by) stands
-      refused (Err fails.StoreFull) by stands = untouched stand new_stand old new same only_now (λ w. commit w ops now) (answered (Err fails.StoreFull)) (other fails.StoreFull by) stands
-      refused (Err fails.Closed) by stands = untouched stand new_stand old new same only_now (λ w. commit w ops now) (answered (Err fails.Closed)) (other fails.Closed by) stands
+      refused (Err (fails.ClockBack last)) by stands = untouched stand new_stand old new same only_now (λ w. commit w ops now) (answered (Err (fails.ClockBack last))) (other (fails.ClockBack last) by) stands (λ w. of_ops w ops now) tt
+      refused (Err fails.TooLate) by stands = untouched stand new_stand old new same only_now (λ w. commit w ops now) (answered (Err fails.TooLate)) (other fails.TooLate by) stands (λ w. of_ops w ops now) tt
+      refused (Err fails.TooManyOps) by stands = untouched stand new_stand old new same only_now (λ w. commit w ops now) (answered (Err fails.TooManyOps)) (other fails.TooManyOps by) stands (λ w. of_ops w ops now) tt
+      refused (Err fails.TooLong) by stands = untouched stand new_stand old new same only_now (λ w. commit w ops now) (answered (Err fails.TooLong)) (other fails.TooLong by) stands (λ w. of_ops w ops now) tt
+      refused (Err fails.StoreFull) by stands = untouched stand new_stand old new same only_now (λ w. commit w ops now) (answered (Err fails.StoreFull)) (other fails.StoreFull by) stands (λ w. of_ops w ops now) tt
+      refused (Err fails.Closed) by stands = untouched stand new_stand old new same only_now (λ w. commit w ops now) (answered (Err fails.Closed)) (other fails.Closed by) stands (λ w. of_ops w ops now) tt
 
     -- nothing stands against it
     module _ (free : fault ≡ None) where
@@ -86,6 +84,7 @@ module _ (stand new_stand : Opened) (ops : List Op) (now : ℕ) (is_open : stand
           settled = λ only. adds.durable;
           images = λ only. weaker (adds.images w.items i.open_on only) into;
           kept = λ only. into a (adds.kept w.items i.open_on only);
+          trace = record { txn = txn; stores = refl; makes = adds.trace };
         }
         steps_in (Err fails.DiskFault) number by stands adds = record {
           reply = tt;
@@ -93,6 +92,7 @@ module _ (stand new_stand : Opened) (ops : List Op) (now : ℕ) (is_open : stand
           settled = λ only. tt;
           images = λ only. weaker (adds.images w.items i.open_on only) into;
           kept = λ only. into a (adds.kept w.items i.open_on only);
+          trace = record { txn = txn; stores = refl; makes = adds.trace };
         }
         steps_in (Err fails.NoMemory) number by stands adds = record {
           reply = tt;
@@ -100,6 +100,7 @@ module _ (stand new_stand : Opened) (ops : List Op) (now : ℕ) (is_open : stand
           settled = λ only. tt;
           images = λ only. weaker (adds.images w.items i.open_on only) into;
           kept = λ only. into a (adds.kept w.items i.open_on only);
+          trace = inl (record { txn = txn; stores = refl; makes = adds.trace });
         }
         steps_in (Err fails.NotAStore) number by stands adds = absurd by
         steps_in (Err (fails.ClockBack last)) number by stands adds = let some : fault ≡ Some (fails.ClockBack last) = by in absurd cc

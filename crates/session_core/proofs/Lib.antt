@@ -5,3 +5,4 @@ pub mod Committing
 pub mod Preparing
 pub mod Promising
 pub mod Refusals
+pub mod Leaving

@@ -1,5 +1,5 @@
 -- A change is prepared against the tables of now, and becomes a transaction of one operation.
-use Rattle.std.proofs.Common.{◌≡◌, ◌≤◌, ◌<◌, ℕ, zero, suc, List, [], ◌∷◌, Option, Some, None, Result, Ok, Err, sym, ap, subst, ◌∙◌, length, arith}
+use Rattle.std.proofs.Common.{◌≡◌, ◌≤◌, ℕ, zero, suc, List, [], ◌∷◌, Option, Some, None, Result, Ok, Err, sym, ap, subst, ◌∙◌, arith}
 use Rattle.std.specs.List.{All}
 use Rattle.tuple_bytes.specs.Writing.{IsCountedOp}
 use Rattle.tuple_bytes.specs.declared.op.Op.{Op}
@@ -11,7 +11,7 @@ use Rattle.tt_table.specs.Versions.{TablesVersions, state_now}
 use Rattle.store_engine.specs.Opened.{Opened}
 use Rattle.session_core.specs.World.{World, IsIn, tables_now}
 use Rattle.session_core.specs.Refusing.{refused_by_tables}
-use Rattle.session_core.specs.Steps.{Step, says, commit, commit_prepared, write}
+use Rattle.session_core.specs.Steps.{says, commit, commit_prepared, write}
 use Rattle.session_core.proofs.ReadFrom.{prepares}
 
 op_by : (fault : Option TableFail) (change : Write) (op : Op) → unless_fault fault (Ok (op_of change)) ≡ Ok op → op ≡ op_of change

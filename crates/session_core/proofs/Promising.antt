@@ -1,5 +1,6 @@
 -- Each reply keeps its promise.
-use Rattle.std.proofs.Common.{◌≡◌, ℕ, ◌+◌, List, [], ◌∷◌, ◌++◌, length, false, Option, Some, None, Result, Ok, Err, refl, ap}
+use Rattle.std.proofs.Common.{◌≡◌, ℕ, ◌+◌, List, [], ◌∷◌, ◌++◌, length, false, Option, Some, None, Result, Ok, Err, arith, refl, ap, ◌∙◌}
+use Rattle.std.proofs.lemmas.List.{length-append}
 use Rattle.tuple_bytes.specs.declared.value.Value.{Value}
 use Rattle.tuple_bytes.specs.declared.op.Op.{Op}
 use Rattle.tuple_bytes.specs.declared.item.Txn.{Txn}
@@ -18,11 +19,10 @@ use Rattle.store_engine.specs.declared.fail.StoreFail.TheVariants as stores
 use Rattle.store_engine.specs.Refusals.{next_txn, commit_fault}
 use Rattle.stmt_text.specs.declared.stmt.Stmt.{Stmt}
 use Rattle.stmt_text.specs.declared.stmt.Stmt.TheVariants as stmts
-use Rattle.stmt_text.specs.declared.line.Line.{Line}
 use Rattle.stmt_text.specs.declared.line.Line.TheVariants as lines
 use Rattle.session_core.specs.World.{World, tail_of_world, tables_now, tables_at}
 use Rattle.session_core.specs.Refusing.{refused_by_tables, refused_by_store}
-use Rattle.session_core.specs.Steps.{found, scanned, told, committed, commit, commit_prepared, write, read, write_in, write_or_read, says, step}
+use Rattle.session_core.specs.Steps.{found, scanned, told, committed, commit_prepared, read, write_in, write_or_read, step, commit}
 use Rattle.session_core.specs.Promises.{IsPromised, KeepsPromise, StepsKeepPromises}
 
 txns_more : (xs : List Item) (t : Txn) → txns (xs ++ items.Txn t ∷ []) ≡ txns xs ++ t ∷ []
@@ -70,8 +70,11 @@ module _ (w : World) where
   of_committed None t next = record { txn = t; behind = txns_more w.items t; numbered = refl; next = next; header = refl }
   of_committed (Some fail) t next = by_store fail
 
-  of_prepared : (r : Result Op TableFail) (now : ℕ) → KeepsPromise w (commit_prepared w r now)
-  of_prepared (Ok op) now = of_committed (commit_fault (tail_of_world w) false (op ∷ []) now) (next_txn (tail_of_world w) (op ∷ []) now) refl
+  pub of_ops : (ops : List Op) (now : ℕ) → KeepsPromise w (commit w ops now)
+  of_ops ops now = of_committed (commit_fault (tail_of_world w) false ops now) (next_txn (tail_of_world w) ops now) refl
+
+  pub of_prepared : (r : Result Op TableFail) (now : ℕ) → KeepsPromise w (commit_prepared w r now)
+  of_prepared (Ok op) now = of_ops (op ∷ []) now
   of_prepared (Err fail) now = by_tables fail
 
   of_read : (stmt : Stmt) → IsPromised w (read w stmt) w
@@ -90,7 +93,7 @@ module _ (w : World) where
   of_read (stmts.Analyse algorithm) = refl
   of_read (stmts.Now moment) = refl
 
-  of_stmt : (change : Option Write) (stmt : Stmt) (now : ℕ) → KeepsPromise w (write_or_read w change stmt now)
+  pub of_stmt : (change : Option Write) (stmt : Stmt) (now : ℕ) → KeepsPromise w (write_or_read w change stmt now)
   of_stmt (Some change) stmt now = of_prepared (prepared (tables_now w) change) now
   of_stmt None stmt now = of_read stmt
 
@@ -100,3 +103,7 @@ steps_keep w (lines.Plain stmt) now = of_stmt w (write_in stmt) stmt now
 steps_keep w lines.Blank now = refl
 steps_keep w (lines.InSession session stmt) now = refl
 steps_keep w (lines.Drill event) now = refl
+
+-- a world that is left has no transaction more
+pub none_more : (xs : List Txn) (t : Txn) → xs ≡ xs ++ t ∷ [] → ⊥
+none_more xs t e = let longer : length xs ≡ length xs + 1 = ap length e ∙ length-append xs (t ∷ []) in omega (longer, arith)

@@ -5,10 +5,9 @@ use Rattle.history_model.specs.Answers.{row_at}
 use Rattle.history_model.specs.Changes.{changes_of}
 use Rattle.history_model.specs.History.{txns, last_moment}
 use Rattle.history_model.specs.State.{State, state, table_of}
-use Rattle.tt_table.specs.declared.version.Version.{Version}
 use Rattle.tt_table.specs.Stands.{versions_from}
-use Rattle.tt_table.specs.Versions.{AreTables, state_now, table_in}
-use Rattle.asof_query.specs.Filters.{scan_of, history_in}
+use Rattle.tt_table.specs.Versions.{AreTables, state_now}
+use Rattle.asof_query.specs.Filters.{scan_of}
 use Rattle.asof_query.specs.Told as histories
 use Rattle.asof_query.proofs.Telling.{answers_stand}
 use Rattle.store_engine.specs.Opened.{Opened, Knows}

@@ -1,5 +1,5 @@
 -- What a reply promises of the world behind a step.
-use Rattle.std.specs.Prelude.{◌≡◌, ℕ, ◌+◌, List, ◌++◌, ◌∷◌, [], length}
+use Rattle.std.specs.Prelude.{◌≡◌, ℕ, ◌+◌, ◌++◌, ◌∷◌, [], length}
 use Rattle.tuple_bytes.specs.declared.item.Txn.{Txn}
 use Rattle.history_model.specs.History.{txns}
 use Rattle.stmt_text.specs.declared.line.Line.{Line}

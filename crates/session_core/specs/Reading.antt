@@ -1,8 +1,6 @@
 -- What is read from the tables of an open store.
 use Rattle.std.specs.Prelude.{ℕ, Option}
 use Rattle.std.specs.Option.{unwrap_or}
-use Rattle.tuple_bytes.specs.declared.value.Value.{Value}
-use Rattle.tuple_bytes.specs.declared.filter.Filter.{Filter}
 use Rattle.history_model.specs.Answers.{row_at}
 use Rattle.history_model.specs.State.{State}
 use Rattle.tt_table.specs.Versions.{state_at, table_in}

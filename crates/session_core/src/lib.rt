@@ -22,6 +22,8 @@
 //! | a step does to the store and its bytes, and replies, what the definition says | `told` of `Sessions::step`, by `StepsTo` |
 //! | a crash at any moment leaves the world before the step or the world after it | `images` and `kept` of `StepsIn` |
 //! | once a step is replied to, its world is the only one that a crash leaves, where that was so before | `settled` of `StepsIn` |
+//! | a reply that stores nothing leaves the store and its disk as they were; so does a failure, unless the store is closed | `same` of `Sessions::step` |
+//! | a transaction is stored by the calls of one append, in order and none after one that failed; all else makes no call | `trace` of `StepsIn` |
 //! | after a failure the store is closed, or as it was | `kept` of `Sessions::step` |
 //! | a failure is the disk's own, or want of memory | `cause` of `Sessions::step` |
 //! | a number that is replied is that of a new last transaction; every other reply leaves the world as it was | `steps_keep_promises` |

@@ -1,7 +1,7 @@
-use Rattle.std.proofs.Common.{◌≡◌, Option, Some, None, sym, ap, ◌∙◌}
+use Rattle.std.proofs.Common.{Some, sym, ap, ◌∙◌}
 use Rattle.disk_words.proofs.Frame.{goes_on_same}
 use Rattle.dragoon_app.specs.declared.command.Command.{Command}
-use Rattle.dragoon_app.proofs.Defined.{none_at, link_at, inits_at}
+use Rattle.dragoon_app.proofs.Defined.{none_at, link_at, inits_at, run_at}
 use Rattle.dragoon_app.proofs.top.dragoon.Goals as goal
 
 pub returns-in-None-clause-store_frame : goal.returns-in-None-clause-store_frame
@@ -21,3 +21,8 @@ pub returns-in-None-clause-told : goal.returns-in-None-clause-told
 returns-in-None-clause-told g c =
     none_at _ (g.C.Clock.state c.args.clock.now) (g.D.Disk.state c.args.store.now).reads c.refuse.result (g.O.Sink.state c.args.out.now) (g.O.Sink.state c.refuse.new.out)
     (sym c.in-None.is ∙ c.command_of.ensures.value) c.refuse.ensures.said
+
+pub returns-in-Some-Run-clause-told : goal.returns-in-Some-Run-clause-told
+returns-in-Some-Run-clause-told g c =
+    run_at _ c.in-Some-Run.id c.in-Some-Run.is_scripted (g.C.Clock.state c.args.clock.now) (g.D.Disk.state c.args.store.now).reads c.run_lines.result (g.O.Sink.state c.args.out.now) (g.O.Sink.state c.run_lines.new.out)
+    (sym (c.in-Some-Run.is ∙ ap (λ (x : Command). Some x) c.in-Some-Run.field-0-is) ∙ c.command_of.ensures.value)

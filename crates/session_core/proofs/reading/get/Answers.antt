@@ -1,8 +1,6 @@
-use Rattle.std.specs.Option.{option_copied}
 use Rattle.history_model.specs.Answers.{row_at}
-use Rattle.asof_query.specs.Filters.{scan_of}
 use Rattle.session_core.specs.Reading.{shown_at}
-use Rattle.session_core.specs.Steps.{found, scanned}
+use Rattle.session_core.specs.Steps.{found}
 use Rattle.session_core.proofs.Refusals.{refused_as}
 use Rattle.session_core.proofs.reading.get.Goals as goal
 

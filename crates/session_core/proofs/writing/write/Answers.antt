@@ -1,14 +1,15 @@
-use Rattle.std.proofs.Common.{◌≡◌, List, ℕ, [], ◌∷◌, ◌++◌, Ok, Err, refl, sym, ap, subst, ◌∙◌, rules}
+use Rattle.std.proofs.Common.{◌≡◌, List, [], ◌∷◌, ◌++◌, Ok, Err, refl, ap, subst, ◌∙◌}
 use Rattle.outside_words.proofs.Told.{told_map}
 use Rattle.disk_words.proofs.Frame.{goes_on_same}
 use Rattle.tuple_bytes.specs.declared.op.Op.{Op}
-use Rattle.history_model.specs.Answers.{op_of, prepared}
+use Rattle.history_model.specs.Answers.{prepared}
 use Rattle.tt_table.specs.Versions.{state_now}
-use Rattle.session_core.specs.World.{World}
-use Rattle.session_core.specs.Refusing.{refused_by_tables}
+use Rattle.session_core.specs.World.{tables_now}
 use Rattle.session_core.specs.Steps.{Step, says, commit, write}
 use Rattle.session_core.specs.Stepping.{StepsIn, DoesAs}
+use Rattle.session_core.proofs.Promising.{of_prepared}
 use Rattle.session_core.proofs.Untouched.{unchanged_same, untouched}
+use Rattle.session_core.proofs.Leaving.{leaves_same}
 use Rattle.session_core.proofs.Preparing.{answered_by, op_is, one_counted, refuses, becomes}
 use Rattle.session_core.proofs.writing.write.Goals as goal
 
@@ -28,7 +29,7 @@ returns-in-Err-clause-told g c =
     let fail = c.in-Err.fail in
     let is : prepared (state_now store.tables) c.args.change ≡ Err fail = answered_by c.args.change (Err fail) _ _ store.tables c.in-Err.ensures.value c.new-pending.ensures.value c.tables.ensures.value in
     untouched store store (S c.args.disk.now) (S c.args.disk.now) (unchanged_same _) (g.met.D.Disk.only_now c.args.disk.now) (λ w. write w c.args.change c.args.now) (Ok c.in_ok-refused_by_tables-in-Err.field-0)
-    (λ w bytes i. ap (says w) c.in_ok-refused_by_tables-in-Err.ensures.value ∙ refuses store c.tables.ensures.last c.args.change c.args.now fail is w bytes i) refl
+    (λ w bytes i. ap (says w) c.in_ok-refused_by_tables-in-Err.ensures.value ∙ refuses store c.tables.ensures.last c.args.change c.args.now fail is w bytes i) refl (λ w. of_prepared w (prepared (tables_now w) c.args.change) c.args.now) tt
 
 pub commit-requires-clause-counted : goal.commit-requires-clause-counted
 commit-requires-clause-counted g c =
@@ -50,3 +51,12 @@ returns-clause-told g c =
     (DoesAs (λ w. write w c.args.change c.args.now) c.commit.result store c.commit.new.store (S c.args.disk.now) (S c.commit.new.disk))
     c.commit.ensures.told
     (λ b a does w i. subst (λ (next : Step). StepsIn w next c.commit.result store c.commit.new.store (S c.args.disk.now) (S c.commit.new.disk) b a) (ap (λ (ops : List Op). commit w ops c.args.now) one ∙ becomes store c.tables.ensures.last c.args.change c.args.now op is w b i) (does w i))
+
+pub returns-in_err-refused_by_tables-in-Err-clause-same : goal.returns-in_err-refused_by_tables-in-Err-clause-same
+returns-in_err-refused_by_tables-in-Err-clause-same g c = leaves_same c.from_residual.result c.args.store.now (g.D.Disk.state c.args.disk.now)
+
+pub returns-in-Err-clause-same : goal.returns-in-Err-clause-same
+returns-in-Err-clause-same g c = leaves_same (Ok c.in_ok-refused_by_tables-in-Err.field-0) c.args.store.now (g.D.Disk.state c.args.disk.now)
+
+pub returns-in_err-push-clause-same : goal.returns-in_err-push-clause-same
+returns-in_err-push-clause-same g c = leaves_same c.from_residual-in_err-push.result c.args.store.now (g.D.Disk.state c.args.disk.now)

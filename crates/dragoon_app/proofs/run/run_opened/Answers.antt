@@ -1,0 +1,23 @@
+use Rattle.dragoon_app.specs.declared.status.Status.TheVariants as statuses
+use Rattle.dragoon_app.proofs.Ending.{ran_ok, ran_refused, ran_failed, written_cause}
+use Rattle.dragoon_app.proofs.run.run_opened.Goals as goal
+
+pub returns-then-runner-clause-told : goal.returns-then-runner-clause-told
+returns-then-runner-clause-told g c =
+    ran_refused statuses.Refused c.args.runner.now c.carry_lines.new.runner (g.D.Disk.state c.args.disk.now) (g.D.Disk.state c.carry_lines.new.disk) (g.C.Clock.state c.args.clock.now) (g.C.Clock.state c.carry_lines.new.clock) (g.I.Source.state c.args.input.now) (g.I.Source.state c.carry_lines.new.input) (g.O.Sink.state c.args.out.now) (g.O.Sink.state c.carry_lines.new.out)
+    c.in-Ok.ensures.told c.if-runner.true
+
+pub returns-else-runner-clause-told : goal.returns-else-runner-clause-told
+returns-else-runner-clause-told g c =
+    ran_ok statuses.Ok c.args.runner.now c.carry_lines.new.runner (g.D.Disk.state c.args.disk.now) (g.D.Disk.state c.carry_lines.new.disk) (g.C.Clock.state c.args.clock.now) (g.C.Clock.state c.carry_lines.new.clock) (g.I.Source.state c.args.input.now) (g.I.Source.state c.carry_lines.new.input) (g.O.Sink.state c.args.out.now) (g.O.Sink.state c.carry_lines.new.out)
+    c.in-Ok.ensures.told c.if-runner.false
+
+pub returns-in-Err-clause-told : goal.returns-in-Err-clause-told
+returns-in-Err-clause-told g c =
+    ran_failed c.args.runner.now c.carry_lines.new.runner (g.D.Disk.state c.args.disk.now) (g.D.Disk.state c.carry_lines.new.disk) (g.C.Clock.state c.args.clock.now) (g.C.Clock.state c.carry_lines.new.clock) (g.I.Source.state c.args.input.now) (g.I.Source.state c.carry_lines.new.input) (g.O.Sink.state c.args.out.now) (g.O.Sink.state c.carry_lines.new.out) (g.O.Sink.state c.end.new.out)
+    c.in-Err.fail c.end.result c.in-Err.ensures.told c.in-Err.ensures.disk_cause c.in-Err.ensures.read_cause c.end.ensures.value
+
+pub returns-in-Err-clause-write_cause : goal.returns-in-Err-clause-write_cause
+returns-in-Err-clause-write_cause g c =
+    written_cause c.in-Err.fail c.end.result (g.O.Sink.state c.args.out.now) (g.O.Sink.state c.carry_lines.new.out) (g.O.Sink.state c.end.new.out)
+    c.in-Err.ensures.write_cause c.carry_lines.ensures.out_frame.faults c.end.ensures.frame.faults c.end.ensures.cause

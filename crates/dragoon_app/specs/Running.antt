@@ -1,0 +1,119 @@
+-- What a script does, line by line.
+use Rattle.std.specs.Prelude.{ℕ, ◌+◌, min, Bool, true, false, ◌||◌, List, [], ◌∷◌, ◌++◌, fold, filter, not, map, codes, Result, Ok, Err}
+use Rattle.history_model.specs.Stored.{stored}
+use Rattle.history_model.specs.History.{last_moment}
+use Rattle.tuple_bytes.specs.declared.header.Header.{Header}
+use Rattle.stmt_text.specs.declared.error.ParseFail.{ParseFail}
+use Rattle.stmt_text.specs.declared.error.ParseFail.TheVariants as fails
+use Rattle.stmt_text.specs.declared.line.Line.{Line}
+use Rattle.stmt_text.specs.declared.line.Line.TheVariants as lines
+use Rattle.stmt_text.specs.declared.stmt.Stmt.{Stmt}
+use Rattle.stmt_text.specs.declared.stmt.Stmt.TheVariants as stmts
+use Rattle.stmt_text.specs.Lines.{answer, is_blank, without_return}
+use Rattle.session_core.specs.World.{World}
+use Rattle.session_core.specs.Steps.{Step, step}
+use Rattle.session_core.specs.Replies.{reply_text, is_refusal}
+use Rattle.dragoon_app.specs.declared.line_kind.LineKind.{LineKind}
+use Rattle.dragoon_app.specs.declared.line_kind.LineKind.TheVariants as kinds
+use Rattle.dragoon_app.specs.Numbers.{max_u64}
+
+-- where a run stands
+pub record Running : Type 0 where
+  pub world : World
+  -- the moment of a scripted run
+  pub moment : ℕ
+  -- all replies so far
+  pub text : List ℕ
+  -- whether one of them is a refusal
+  pub is_refused : Bool
+
+-- the world of a store's bytes behind this header
+abbrev pub world_of : Header → List ℕ → World
+world_of header bytes = record { header = header; items = (stored bytes).items; end = (stored bytes).end }
+
+-- before the first line: a scripted run begins at the last moment
+abbrev pub start : World → Running
+start w = record { world = w; moment = last_moment w.items; text = []; is_refused = false }
+
+-- ---- a line
+
+-- a line, and the second that the clock gave for it; a scripted run asks no clock, and the second says nothing there
+pub record Timed : Type 0 where
+  pub line : List ℕ
+  pub second : ℕ
+
+-- the clock seconds of a line
+abbrev pub seconds_of : Bool → Running → ℕ → ℕ
+seconds_of true r second = min (r.world.header.epoch + r.moment) max_u64
+seconds_of false r second = second
+
+-- something is replied, and the world stays
+abbrev pub replied : Running → List ℕ → Bool → Running
+replied r text refusal = record { world = r.world; moment = r.moment; text = r.text ++ text; is_refused = r.is_refused || refusal }
+
+abbrev pub refused_text : List ℕ → List ℕ
+refused_text name = codes "refused " ++ name ++ 10 ∷ []
+
+abbrev pub refused_line : Running → List ℕ → Running
+refused_line r name = replied r (refused_text name) true
+
+-- after a step
+abbrev pub stepped : Running → Step → Running
+stepped r s = record { world = s.world; moment = r.moment; text = r.text ++ reply_text s.reply; is_refused = r.is_refused || is_refusal s.reply }
+
+-- a moment is set where the run is scripted
+abbrev pub set_moment : Bool → Running → ℕ → Running
+set_moment true r moment = record { world = r.world; moment = moment; text = r.text ++ codes "ok\n"; is_refused = r.is_refused }
+set_moment false r moment = refused_line r (codes "NotScripted")
+
+-- what a statement outside sessions asks for
+abbrev pub stmt_kind : Stmt → LineKind
+stmt_kind (stmts.Create table columns) = kinds.OnTables
+stmt_kind (stmts.Insert table row) = kinds.OnTables
+stmt_kind (stmts.Update table row) = kinds.OnTables
+stmt_kind (stmts.Delete table key) = kinds.OnTables
+stmt_kind (stmts.Get table key moment) = kinds.OnTables
+stmt_kind (stmts.Scan table filter moment) = kinds.OnTables
+stmt_kind (stmts.History table key) = kinds.OnTables
+stmt_kind stmts.Begin = kinds.Unbuilt
+stmt_kind stmts.Commit = kinds.Unbuilt
+stmt_kind stmts.Abort = kinds.Unbuilt
+stmt_kind stmts.Notarize = kinds.Unbuilt
+stmt_kind stmts.Validate = kinds.Unbuilt
+stmt_kind (stmts.Analyse algorithm) = kinds.Unbuilt
+stmt_kind (stmts.Now moment) = kinds.SetsMoment moment
+
+-- what a line asks for; sessions are not built yet, and drills are no lines of a run
+abbrev pub kind_of : Line → LineKind
+kind_of lines.Blank = kinds.Blank
+kind_of (lines.Plain stmt) = stmt_kind stmt
+kind_of (lines.InSession n stmt) = kinds.Unbuilt
+kind_of (lines.Drill event) = kinds.Unbuilt
+
+-- a blank line is nothing, and what no layer carries out yet is no line
+abbrev pub said_by : LineKind → Bool → ℕ → Running → Line → Running
+said_by kinds.Blank scripted now r line = r
+said_by kinds.OnTables scripted now r line = stepped r (step r.world line now)
+said_by (kinds.SetsMoment moment) scripted now r line = set_moment scripted r moment
+said_by kinds.Unbuilt scripted now r line = refused_line r (codes "Syntax")
+
+abbrev pub answered : Bool → ℕ → Running → Result Line ParseFail → Running
+answered scripted now r (Ok line) = said_by (kind_of line) scripted now r line
+answered scripted now r (Err fails.Syntax) = refused_line r (codes "Syntax")
+answered scripted now r (Err fails.NumberTooWide) = refused_line r (codes "NumberTooWide")
+answered scripted now r (Err fails.NoMemory) = r
+
+-- a line is carried out
+unfoldable pub carry : Bool → Running → Timed → Running
+carry scripted r t = answered scripted (seconds_of scripted r t.second) r (answer t.line)
+
+-- lines, one after another
+abbrev pub carried : Bool → Running → List Timed → Running
+carried scripted r timed = fold (carry scripted) r timed
+
+-- the seconds of the lines that are not blank
+abbrev pub is_said : Timed → Bool
+is_said t = not (is_blank (without_return t.line))
+
+abbrev pub seconds_taken : List Timed → List ℕ
+seconds_taken timed = map (λ t. t.second) (filter is_said timed)

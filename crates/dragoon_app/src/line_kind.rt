@@ -1,0 +1,50 @@
+//! What a line of a run asks for.
+
+ghost use Rattle.std.specs.Prelude.{◌≡◌};
+ghost use Rattle.dragoon_app.specs.Running.{stmt_kind, kind_of};
+
+use stmt_text::{Line, Stmt};
+
+/// What a line asks for.
+#[derive(Clone, Copy, Debug, PartialEq, Eq)]
+pub enum LineKind {
+    Blank,
+    /// A statement on tables, outside sessions.
+    OnTables,
+    SetsMoment { moment: u64 },
+    /// What no layer carries out yet.
+    Unbuilt,
+}
+
+fn stmt_kind(stmt: &Stmt) -> LineKind
+    ensures value { result ≡ stmt_kind stmt.now }
+{
+    match stmt {
+        Stmt::Create { .. } => LineKind::OnTables,
+        Stmt::Insert { .. } => LineKind::OnTables,
+        Stmt::Update { .. } => LineKind::OnTables,
+        Stmt::Delete { .. } => LineKind::OnTables,
+        Stmt::Get { .. } => LineKind::OnTables,
+        Stmt::Scan { .. } => LineKind::OnTables,
+        Stmt::History { .. } => LineKind::OnTables,
+        Stmt::Now { moment } => LineKind::SetsMoment { moment: *moment },
+        Stmt::Begin => LineKind::Unbuilt,
+        Stmt::Commit => LineKind::Unbuilt,
+        Stmt::Abort => LineKind::Unbuilt,
+        Stmt::Notarize => LineKind::Unbuilt,
+        Stmt::Validate => LineKind::Unbuilt,
+        Stmt::Analyse { .. } => LineKind::Unbuilt,
+    }
+}
+
+/// What the line asks for.
+pub fn kind_of(line: &Line) -> LineKind
+    ensures value { result ≡ kind_of line.now }
+{
+    match line {
+        Line::Blank => LineKind::Blank,
+        Line::Plain { stmt } => stmt_kind(stmt),
+        Line::InSession { .. } => LineKind::Unbuilt,
+        Line::Drill { .. } => LineKind::Unbuilt,
+    }
+}

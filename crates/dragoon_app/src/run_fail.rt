@@ -1,0 +1,71 @@
+//! Why a run stopped before the end of its input.
+
+ghost use Rattle.std.specs.Prelude.{◌≡◌, ◌≢◌};
+ghost use Rattle.dragoon_app.specs.Carrying.{of_step, of_input, of_output, EndsWith};
+ghost use Rattle.dragoon_app.specs.Outcome.{WriteCause};
+ghost use Rattle.outside_io.specs.Sink.{GoesOn};
+
+use crate::Status;
+use crate::saying::refuse;
+use line_input::InputFail;
+use outside_io::{Sink, StreamFail};
+use session_core::StepFail;
+
+/// Why a run stopped before the end of its input.
+#[derive(Clone, Copy, Debug, PartialEq, Eq)]
+pub enum RunFail {
+    DiskFault,
+    ReadFault,
+    InputLimit,
+    WriteFault,
+    NoMemory,
+}
+
+impl From<StepFail> for RunFail {
+    ghost from_gives = { λ d e. e ≡ of_step d };
+
+    fn from(fail: StepFail) -> Self {
+        match fail {
+            StepFail::DiskFault => RunFail::DiskFault,
+            StepFail::NoMemory => RunFail::NoMemory,
+        }
+    }
+}
+
+impl From<InputFail> for RunFail {
+    ghost from_gives = { λ d e. e ≡ of_input d };
+
+    fn from(fail: InputFail) -> Self {
+        match fail {
+            InputFail::ReadFault => RunFail::ReadFault,
+            InputFail::InputLimit => RunFail::InputLimit,
+            InputFail::NoMemory => RunFail::NoMemory,
+        }
+    }
+}
+
+impl From<StreamFail> for RunFail {
+    ghost from_gives = { λ d e. e ≡ of_output d };
+
+    fn from(fail: StreamFail) -> Self {
+        match fail {
+            StreamFail::Failed => RunFail::WriteFault,
+            StreamFail::NoMemory => RunFail::NoMemory,
+        }
+    }
+}
+
+/// Tells a failure by its line, where the output did not fail, and ends the run.
+pub fn end<O: Sink>(out: &mut O, fail: RunFail) -> Status
+    ensures value { EndsWith fail result (O.state out.old) (O.state out.new) }
+    ensures cause { fail ≢ RunFail.WriteFault → WriteCause result (O.state out.old) (O.state out.new) }
+    ensures frame { GoesOn (O.state out.old) (O.state out.new) }
+{
+    match fail {
+        RunFail::DiskFault => refuse(out, Status::DiskFault),
+        RunFail::ReadFault => refuse(out, Status::ReadFault),
+        RunFail::InputLimit => refuse(out, Status::InputLimit),
+        RunFail::WriteFault => Status::WriteFault,
+        RunFail::NoMemory => Status::NoMemory,
+    }
+}

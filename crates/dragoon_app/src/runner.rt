@@ -1,0 +1,188 @@
+//! A run over an open store, one line at a time.
+
+ghost use Rattle.std.specs.Prelude.{◌≡◌, false, IfOk, IfErr, IfSome, MatchResult};
+ghost use Rattle.outside_words.specs.Faults.{HasCause};
+ghost use Rattle.outside_words.specs.Told.{WhereTold};
+ghost use Rattle.disk_words.specs.Disk as disks;
+ghost use Rattle.outside_io.specs.Clock as clocks;
+ghost use Rattle.history_model.specs.Stored.{stored};
+ghost use Rattle.stmt_text.specs.Fits.{FitsParts};
+ghost use Rattle.session_core.specs.declared.sessions.StepFail.TheVariants as steps;
+ghost use Rattle.session_core.specs.Steps.{IsTableLine, step};
+ghost use Rattle.store_engine.specs.declared.fail.StoreFail.TheVariants as stores;
+ghost use Rattle.store_engine.specs.Refusals.{IsOfOpening, IsNoStore};
+ghost use Rattle.dragoon_app.specs.Running.{stepped};
+ghost use Rattle.dragoon_app.specs.Carrying.{IsReady, GivesSeconds, GoesTo, GoesBy, Replies};
+ghost use Rattle.dragoon_app.specs.Carrying.{refusing, SetsMoment};
+
+use crate::line_kind::{LineKind, kind_of};
+use disk_model::Disk;
+use outside_io::Clock;
+use session_core::{Sessions, StepFail, print_reply};
+use std::alloc::{AllocError, Global};
+use stmt_text::{Line, ParseFail, parse_line};
+use store_engine::{Store, StoreFail};
+use tuple_bytes::Blob;
+
+/// A run over an open store: its sessions, the moment of a scripted run, and whether a reply was a
+/// refusal.
+#[derive(Drop)]
+pub struct Runner {
+    pub store: Store,
+    pub sessions: Sessions,
+    pub moment: u64,
+    pub is_scripted: bool,
+    pub is_refused: bool,
+}
+
+impl Runner {
+    /// Opens the store of this id. A scripted run begins at its last moment.
+    pub fn open<D: Disk>(
+        alloc: Global,
+        disk: &mut D,
+        id: u64,
+        is_scripted: bool,
+    ) -> Result<Runner, StoreFail>
+        ensures value { IfSome (D.state disk.old).reads (λ bytes. MatchResult result
+            (λ r. IsReady r bytes)
+            (IsNoStore id (stored bytes).header)) }
+        ensures fresh { IfOk result (λ r. r.store.at.is_closed ≡ false) }
+        ensures id { IfOk result (λ r. r.store.header.id ≡ id) }
+        ensures scripted { IfOk result (λ r. r.is_scripted ≡ is_scripted) }
+        ensures none_other { IfErr result IsOfOpening }
+        ensures same { disks.Unchanged (D.state disk.old) (D.state disk.new) }
+        ensures frame { disks.GoesOn (D.state disk.old) (D.state disk.new) }
+        ensures cause { HasCause stores.DiskFault (D.state disk.old).faults (D.state disk.new).faults result }
+    {
+        let store = Store::open_store(alloc, disk, id)?;
+        let moment = store.last_moment();
+        Ok(Runner {
+            store,
+            sessions: Sessions::new(alloc),
+            moment,
+            is_scripted,
+            is_refused: false,
+        })
+    }
+
+    /// The clock seconds of a line: those of the moment in a scripted run, and else the clock's.
+    fn seconds<C: Clock>(&self, clock: &mut C) -> u64
+        ensures value { GivesSeconds self.now.is_scripted self.now result (C.state clock.old) (C.state clock.new) }
+        ensures frame { clocks.GoesOn (C.state clock.old) (C.state clock.new) }
+    {
+        if self.is_scripted {
+            self.store.header().epoch.saturating_add(self.moment)
+        } else {
+            clock.now()
+        }
+    }
+
+    /// The line is refused.
+    fn refuse(&mut self, alloc: Global, text: &str) -> Result<Blob, AllocError>
+        ensures value { IfOk result (λ b. b ≡ text.now) }
+        ensures change { self.new ≡ refusing self.old }
+    {
+        self.is_refused = true;
+        Ok(Blob::from_vec(text.as_bytes().to_vec(alloc)?))
+    }
+
+    /// Sets the moment, where the run is scripted.
+    fn set_moment(&mut self, alloc: Global, moment: u64) -> Result<Blob, AllocError>
+        ensures value { SetsMoment self.old.is_scripted moment result self.old self.new }
+    {
+        if !self.is_scripted {
+            return self.refuse(alloc, "refused NotScripted\n");
+        }
+        self.moment = moment;
+        Ok(Blob::from_vec(b"ok\n".to_vec(alloc)?))
+    }
+
+    /// Carries out a statement on tables.
+    fn step<D: Disk>(
+        &mut self,
+        alloc: Global,
+        disk: &mut D,
+        line: &Line,
+        now: u64,
+    ) -> Result<Blob, StepFail>
+        requires open { self.old.store.at.is_closed ≡ false }
+        requires on_tables { IsTableLine line.now }
+        requires fits { FitsParts line.now }
+        ensures open { IfOk result (λ b. self.new.store.at.is_closed ≡ false) }
+        ensures scripted { self.new.is_scripted ≡ self.old.is_scripted }
+        ensures told { WhereTold (D.state disk.old).reads (D.state disk.new).reads
+            (GoesTo (λ r. stepped r (step r.world line.now now)) result self.old self.new (D.state disk.old) (D.state disk.new)) }
+        ensures frame { disks.GoesOn (D.state disk.old) (D.state disk.new) }
+        ensures cause { HasCause steps.DiskFault (D.state disk.old).faults (D.state disk.new).faults result }
+    {
+        let reply = self.sessions.step(alloc, &mut self.store, disk, line, now)?;
+        self.is_refused |= reply.is_refusal();
+        Ok(print_reply(alloc, &reply)?)
+    }
+
+    /// Carries out a line of the grammar, and gives the text of its reply: nothing for a blank one.
+    fn carry<D: Disk, C: Clock>(
+        &mut self,
+        alloc: Global,
+        disk: &mut D,
+        clock: &mut C,
+        line: &Line,
+    ) -> Result<Blob, StepFail>
+        requires open { self.old.store.at.is_closed ≡ false }
+        requires fits { FitsParts line.now }
+        ensures open { IfOk result (λ b. self.new.store.at.is_closed ≡ false) }
+        ensures scripted { self.new.is_scripted ≡ self.old.is_scripted }
+        ensures told { GoesBy line.now result self.old self.new (D.state disk.old) (D.state disk.new)
+            (C.state clock.old) (C.state clock.new) }
+        ensures disk_frame { disks.GoesOn (D.state disk.old) (D.state disk.new) }
+        ensures clock_frame { clocks.GoesOn (C.state clock.old) (C.state clock.new) }
+        ensures cause { HasCause steps.DiskFault (D.state disk.old).faults (D.state disk.new).faults result }
+    {
+        match kind_of(line) {
+            LineKind::Blank => Ok(Blob::new(alloc)),
+            LineKind::OnTables => {
+                let now = self.seconds(clock);
+                self.step(alloc, disk, line, now)
+            }
+            LineKind::SetsMoment { moment } => {
+                let _ = self.seconds(clock);
+                Ok(self.set_moment(alloc, moment)?)
+            }
+            LineKind::Unbuilt => {
+                let _ = self.seconds(clock);
+                Ok(self.refuse(alloc, "refused Syntax\n")?)
+            }
+        }
+    }
+
+    /// Carries out a line, and gives the text of its reply: nothing for a blank one.
+    pub fn reply<D: Disk, C: Clock>(
+        &mut self,
+        alloc: Global,
+        disk: &mut D,
+        clock: &mut C,
+        line: &[u8],
+    ) -> Result<Blob, StepFail>
+        requires open { self.old.store.at.is_closed ≡ false }
+        ensures open { IfOk result (λ b. self.new.store.at.is_closed ≡ false) }
+        ensures scripted { self.new.is_scripted ≡ self.old.is_scripted }
+        ensures told { Replies line.now result self.old self.new (D.state disk.old) (D.state disk.new)
+            (C.state clock.old) (C.state clock.new) }
+        ensures disk_frame { disks.GoesOn (D.state disk.old) (D.state disk.new) }
+        ensures clock_frame { clocks.GoesOn (C.state clock.old) (C.state clock.new) }
+        ensures cause { HasCause steps.DiskFault (D.state disk.old).faults (D.state disk.new).faults result }
+    {
+        match parse_line(alloc, line) {
+            Ok(line) => self.carry(alloc, disk, clock, &line),
+            Err(ParseFail::Syntax) => {
+                let _ = self.seconds(clock);
+                Ok(self.refuse(alloc, "refused Syntax\n")?)
+            }
+            Err(ParseFail::NumberTooWide) => {
+                let _ = self.seconds(clock);
+                Ok(self.refuse(alloc, "refused NumberTooWide\n")?)
+            }
+            Err(ParseFail::NoMemory) => Err(StepFail::NoMemory),
+        }
+    }
+}

@@ -1,0 +1,14 @@
+//! Worked examples: the program as one call over devices in memory, and over a real file.
+//!
+//! Each file of tests shows one thing that a user does. What the program answers is proved where
+//! it stands; the examples hold the definitions against texts that were written by hand.
+#![tactic(auto)]
+
+#[cfg(test)]
+mod crashes;
+#[cfg(test)]
+mod desk;
+#[cfg(test)]
+mod limits;
+#[cfg(test)]
+mod scripts;
