@@ -33,7 +33,7 @@
 //!
 //! A look-up takes the logarithm of the ids and of the names of one id.
 //!
-//! Not proved: that calls succeed where there is memory.
+//! Tested, and not proved: that calls succeed where there is memory, and the bytes of the worked book.
 //!
 //! ```text
 //! let mut book = Book::new(alloc, FileDisk::new(rt, path));
@@ -60,3 +60,6 @@ mod writing;
 pub use book::Book;
 pub use shape::BookShape;
 pub use steady::SteadyDisk;
+
+#[cfg(test)]
+mod tests;
