@@ -7,5 +7,5 @@ pub mod Frame
 pub mod InAll
 pub mod Names
 pub mod Runs
-mod Standing
+pub mod Standing
 pub mod Sums

@@ -23,6 +23,9 @@
 //! | [`MemNotary`] | lists in memory, which tells all, and fails where it is told to |
 //! | [`Untold`] | any notary, which keeps to itself what that one tells |
 //!
+//! [`Shelves`] hold what stands under each id, ready to be asked, for any notary that keeps lists: that they
+//! stand for its lists is `StandForLists` of `specs/Shelves`, and `proofs/Standing` says so after each call.
+//!
 //! A look-up in [`MemNotary`] takes the logarithm of the ids and of the names of one id. Of
 //! filing, each seal takes that too. The record of calls holds each batch once.
 //!
@@ -58,7 +61,7 @@ mod shelf;
 mod tests;
 mod untold;
 
-pub use answer::Answer;
+pub use answer::{Answer, compare};
 pub use fail::{AskFail, NotaryFail};
 pub use filing::file_each;
 pub use mark::{Mark, Outcome};
@@ -66,4 +69,7 @@ pub use memory::MemNotary;
 pub use name::Name;
 pub use notary::{Notary, NotaryLimits};
 pub use seal::{Seal, Seals};
+pub use shelf::{
+    Shelf, Shelves, batch_count, digest_under, mark_under, moment_under, shelve_batch, shelve_mark,
+};
 pub use untold::Untold;

@@ -2,12 +2,11 @@
 
 ghost use Rattle.std.specs.Prelude.{◌≡◌, ◌≤◌, ◌+◌, ◌-◌, ◌^◌, ◌↔◌, [], min, ℕ, length, Contains, IsTrue};
 ghost use Rattle.outside_words.specs.Faults.{Rose};
-ghost use Rattle.notary_link.specs.Batches.{compared};
 ghost use Rattle.notary_link.specs.Calls.{trace_of, lists_of};
 ghost use Rattle.notary_link.specs.Notary.{seals_in_all, marks_in_all};
 ghost use Rattle.notary_link.specs.Shelves.{StandForLists};
 
-use crate::answer::Answer;
+use crate::answer::{Answer, compare};
 use crate::calls::{Change, Filed, Made, enter};
 use crate::fail::NotaryFail;
 use crate::mark::Mark;
@@ -301,14 +300,4 @@ fn is_listed(asks: &mut u64, failing: &[u64], faults: &mut u64) -> bool
         *faults = faults.saturating_add(1);
     }
     listed
-}
-
-fn compare(ours: &[u8; 32], first: &[u8; 32]) -> Answer
-    ensures value { result ≡ compared ours.now first.now }
-{
-    if ours == first {
-        Answer::Same
-    } else {
-        Answer::Differs
-    }
 }

@@ -1,0 +1,11 @@
+pub mod Bytes
+pub mod CallLaws
+pub mod Entries
+pub mod Keeping
+pub mod Leaving
+pub mod Lists
+pub mod Payloads
+pub mod Sizes
+pub mod Skips
+pub mod Storing
+pub mod Telling

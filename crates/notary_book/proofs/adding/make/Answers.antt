@@ -1,0 +1,26 @@
+use Rattle.std.proofs.Common.{◌≡◌, Err, rules}
+use Rattle.notary_book.proofs.Storing.{not_created, not_opened, opened}
+use Rattle.notary_book.proofs.adding.make.Goals as goal
+
+pub returns-in_err-create-clause-told : goal.returns-in_err-create-clause-told
+returns-in_err-create-clause-told g c =
+    let S = g.D.Disk.state in
+    let fail = c.in_err-create.field-0.0 in
+    let same : c.from_residual-in_err-create.result ≡ Err fail = search rules in
+    let created = rw c.book_head.ensures.value at c.in_err-create.ensures.told in
+    rw same (not_created (S c.args.disk.now) (S c.clear.new.disk) c.in_ok-clear.ensures.frame c.in_ok-clear.ensures.told (S c.create.new.disk) fail fail created)
+
+pub returns-in_err-opened-clause-told : goal.returns-in_err-opened-clause-told
+returns-in_err-opened-clause-told g c =
+    let S = g.D.Disk.state in
+    let fail = c.in_err-opened.field-0.0 in
+    let same : c.from_residual-in_err-opened.result ≡ Err fail = search rules in
+    let created = rw c.book_head.ensures.value at c.in_ok-create.ensures.told in
+    rw same (not_opened (S c.args.disk.now) (S c.clear.new.disk) c.in_ok-clear.ensures.frame c.in_ok-clear.ensures.told (S c.create.new.disk) c.in_ok-create.ensures.frame created (S c.open_journal.new.disk) c.in_err-opened.ensures.same fail)
+
+pub returns-clause-told : goal.returns-clause-told
+returns-clause-told g c =
+    let S = g.D.Disk.state in
+    let o = c.in_ok-opened.opened in
+    let created = rw c.book_head.ensures.value at c.in_ok-create.ensures.told in
+    opened (S c.args.disk.now) (S c.clear.new.disk) c.in_ok-clear.ensures.frame c.in_ok-clear.ensures.told (S c.create.new.disk) c.in_ok-create.ensures.frame created (S c.open_journal.new.disk) c.in_ok-opened.ensures.same o.head o.payloads o.journal c.in_ok-opened.ensures.value

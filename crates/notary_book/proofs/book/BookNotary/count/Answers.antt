@@ -1,0 +1,17 @@
+use Rattle.std.proofs.Common.{◌≡◌, ◌∙◌, length, Some}
+use Rattle.notary_link.specs.Notary.{Lists}
+use Rattle.notary_book.proofs.Keeping.{knows_of}
+use Rattle.notary_book.proofs.Lists.{count_is}
+use Rattle.notary_book.proofs.Telling.{gives}
+use Rattle.notary_book.proofs.book.BookNotary.count.Goals as goal
+
+pub returns-in-Some-clause-value : goal.returns-in-Some-clause-value
+returns-in-Some-clause-value g c =
+    let S = g.D.Disk.state in
+    let old = S c.args.self.now.disk in
+    let now = c.read.new.self in
+    let kept = c.in-Some.kept in
+    let v = c.in-Some.is in
+    let is : now.kept ≡ Some kept = cc in
+    let k = knows_of (S now.disk).reads kept (λ x bytes e told. now.keeps x bytes (is ∙ e) told) in
+    gives old.reads (S now.disk).reads kept k (λ (lists : Lists). c.count.result ≡ length (lists.batches c.args.id)) c.in_ok-read.ensures.reads (λ stands. c.count.ensures.value ∙ count_is k.calls kept.pages stands c.args.id)

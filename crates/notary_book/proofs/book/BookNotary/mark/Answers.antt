@@ -1,0 +1,44 @@
+use Rattle.std.proofs.Common.{◌≡◌, ◌∙◌, ℕ, Some, subst}
+use Rattle.notary_link.specs.Notary.{note, Answers}
+use Rattle.notary_book.specs.State.{book_state}
+use Rattle.notary_book.proofs.Leaving.{leaves_read, leaves_behind}
+use Rattle.notary_book.proofs.Telling.{answers_behind}
+use Rattle.notary_book.proofs.book.BookNotary.mark.Goals as goal
+
+pub note_behind-requires-clause-keeps : goal.note_behind-requires-clause-keeps
+note_behind-requires-clause-keeps g c =
+    let v = c.in-Some.ensures.value in
+    let is : c.read.new.self.kept ≡ Some c.in-Some.kept = cc in
+    λ k bytes e told. c.read.new.self.keeps k bytes (is ∙ e) told
+
+pub note_behind-requires-clause-settled : goal.note_behind-requires-clause-settled
+note_behind-requires-clause-settled g c =
+    let v = c.in-Some.ensures.value in
+    let is : c.read.new.self.kept ≡ Some c.in-Some.kept = cc in
+    λ k bytes e told. c.read.new.self.settled k bytes (is ∙ e) told
+
+pub returns-in-Some-clause-change : goal.returns-in-Some-clause-change
+returns-in-Some-clause-change g c =
+    let S = g.D.Disk.state in
+    let old = c.args.self.now in
+    let mid = c.read.new.self in
+    let new = c.note_behind.new.self in
+    let call = note c.args.id c.args.mark in
+    let behind = subst (λ (n : ℕ). Answers call c.note_behind.result (book_state (S mid.disk) n mid.unreadable) (book_state (S new.disk) new.asked new.unreadable)) c.in_ok-read.ensures.asked c.note_behind.ensures.change in
+    answers_behind call c.note_behind.result (S old.disk) (S mid.disk) (S new.disk) old.asked old.unreadable mid.unreadable new.asked new.unreadable c.in_ok-read.ensures.reads behind
+
+pub returns-in_err-read-clause-images : goal.returns-in_err-read-clause-images
+returns-in_err-read-clause-images g c =
+    let S = g.D.Disk.state in
+    leaves_read (note c.args.id c.args.mark) (S c.args.self.now.disk) (S c.read.new.self.disk) c.in_err-read.ensures.told
+
+pub returns-in-None-clause-images : goal.returns-in-None-clause-images
+returns-in-None-clause-images g c =
+    let S = g.D.Disk.state in
+    leaves_read (note c.args.id c.args.mark) (S c.args.self.now.disk) (S c.read.new.self.disk) c.in_ok-read.ensures.told
+
+pub returns-in-Some-clause-images : goal.returns-in-Some-clause-images
+returns-in-Some-clause-images g c =
+    let S = g.D.Disk.state in
+    let mid = c.read.new.self in
+    leaves_behind (note c.args.id c.args.mark) (S c.args.self.now.disk) (S mid.disk) (S c.note_behind.new.self.disk) c.in_ok-read.ensures.reads (g.met.D.Disk.counts_now mid.disk) c.in_ok-read.ensures.told c.note_behind.ensures.images

@@ -1,0 +1,304 @@
+//! A notary in a file.
+
+ghost use Rattle.notary_book.specs.Kept.{KeepsOf, SettledOf, OpenOf};
+
+use crate::adding::add_payload;
+use crate::kept::Kept;
+use crate::opening::open_book;
+use crate::shape::BookShape;
+use crate::steady::SteadyDisk;
+use crate::writing::{spell_batch, spell_mark};
+use disk_model::DiskFail;
+use notary_link::{Answer, Mark, Name, Notary, NotaryFail, Seal, compare};
+use std::alloc::Global;
+use txn_journal::{Journal, JournalFail};
+
+/// A notary that keeps its book in a file over a disk. It reads the file at its first call, and again
+/// at the first call after one that answered `Failed` or `NoMemory`.
+#[derive(Drop)]
+pub struct Book<D: SteadyDisk> {
+    alloc: Global,
+    disk: D,
+    kept: Option<Kept>,
+    asked: u64,
+    // how often what was read was no book
+    unreadable: u64,
+    ghost keeps: { KeepsOf (D.state disk).reads kept },
+    ghost settled: { SettledOf (D.state disk) kept },
+    ghost opens: { OpenOf kept },
+}
+
+impl<D: SteadyDisk> Book<D> {
+    ghost use Rattle.std.specs.Prelude.{◌≡◌, ◌≤◌, ◌+◌, ◌∷◌, [], false, None, Some, IsSome, IfOk, OnOk};
+    ghost use Rattle.outside_words.specs.Faults.{HasCause};
+    ghost use Rattle.outside_words.specs.Told.{WhereTold};
+    ghost use Rattle.disk_words.specs.Disk.{GoesOn as DiskGoesOn};
+    ghost use Rattle.byte_grammar.specs.Gated.{FitsRecord};
+    ghost use Rattle.notary_link.specs.declared.fail.NotaryFail.TheVariants.{Failed};
+    ghost use Rattle.notary_link.specs.Batches.{IsBatch};
+    ghost use Rattle.notary_link.specs.Notary.{file, note, batch_of, IsAsked, IsNotOutOfTurn, Answers, GoesOn};
+    ghost use Rattle.notary_book.specs.Adding.{Adds};
+    ghost use Rattle.notary_book.specs.Books.{book_shape};
+    ghost use Rattle.notary_book.specs.Kept.{IsOpen, IsSettled};
+    ghost use Rattle.notary_book.specs.Moments.{LeavesNone, LeavesOf};
+    ghost use Rattle.notary_book.specs.State.{book_state};
+
+    /// A book over a disk. It takes no memory, and calls no device.
+    pub fn new(alloc: Global, disk: D) -> Self
+        ensures fresh { ⟦<Book<D> as Notary>⟧.state result ≡ book_state (D.state disk) 0 0 }
+    {
+        Book {
+            alloc,
+            disk,
+            kept: None,
+            asked: 0,
+            unreadable: 0,
+        }
+    }
+
+    /// The disk, with the file as it is.
+    pub fn into_disk(self) -> D
+        ensures value { result ≡ self.disk }
+    {
+        self.disk
+    }
+
+    // Reads the file, where what it says is not kept.
+    fn read(&mut self) -> Result<(), NotaryFail>
+        ensures is_read { OnOk result (IsSome self.new.kept) }
+        ensures only { IsAsked result }
+        ensures reads { (D.state self.new.disk).reads ≡ (D.state self.old.disk).reads }
+        ensures faults { (D.state self.old.disk).faults ≤ (D.state self.new.disk).faults }
+        ensures unreadable { self.old.unreadable ≤ self.new.unreadable }
+        ensures asked { self.new.asked ≡ self.old.asked }
+        ensures told { WhereTold (D.state self.old.disk).reads (D.state self.new.disk).reads
+            (LeavesNone (D.state self.old.disk) (D.state self.new.disk)) }
+        ensures cause { HasCause Failed ((D.state self.old.disk).faults + self.old.unreadable)
+            ((D.state self.new.disk).faults + self.new.unreadable) result }
+    {
+        if self.kept.is_some() {
+            return Ok(());
+        }
+        match open_book(self.alloc, &mut self.disk) {
+            Ok(Some(kept)) => {
+                self.kept = Some(kept);
+                Ok(())
+            }
+            Ok(None) => {
+                self.unreadable = self.unreadable.saturating_add(1);
+                Err(NotaryFail::Failed)
+            }
+            Err(DiskFail::Failed) => Err(NotaryFail::Failed),
+            Err(DiskFail::NoMemory) => Err(NotaryFail::NoMemory),
+        }
+    }
+
+    // Adds a payload to the file. Nothing is kept then, until the caller keeps what it knows.
+    fn add(
+        &mut self,
+        journal: Option<Journal<BookShape>>,
+        payload: &[u8],
+    ) -> Result<Journal<BookShape>, NotaryFail>
+        requires none { self.old.kept ≡ None }
+        requires fits { FitsRecord book_shape payload.now }
+        requires open { IsOpen journal }
+        ensures none { self.new.kept ≡ None }
+        ensures open { IfOk result (λ now. now.is_closed ≡ false) }
+        ensures only { IsAsked result }
+        ensures told { WhereTold (D.state self.old.disk).reads (D.state self.new.disk).reads
+            (Adds journal payload.now result (D.state self.old.disk) (D.state self.new.disk)) }
+        ensures frame { DiskGoesOn (D.state self.old.disk) (D.state self.new.disk) }
+        ensures unreadable { self.old.unreadable ≤ self.new.unreadable }
+        ensures asked { self.new.asked ≡ self.old.asked }
+        ensures cause { HasCause Failed ((D.state self.old.disk).faults + self.old.unreadable)
+            ((D.state self.new.disk).faults + self.new.unreadable) result }
+    {
+        match add_payload(self.alloc, &mut self.disk, journal, payload) {
+            Ok(journal) => Ok(journal),
+            Err(JournalFail::DiskFault) => Err(NotaryFail::Failed),
+            Err(JournalFail::NoMemory) => Err(NotaryFail::NoMemory),
+            // The device changed behind the book's back.
+            Err(_) => {
+                self.unreadable = self.unreadable.saturating_add(1);
+                Err(NotaryFail::Failed)
+            }
+        }
+    }
+
+    // Files a batch behind what is kept.
+    fn file_behind(
+        &mut self,
+        kept: Kept,
+        id: u64,
+        index: u32,
+        moment: u64,
+        seals: &[Seal],
+    ) -> Result<(), NotaryFail>
+        requires none { self.old.kept ≡ None }
+        requires keeps { KeepsOf (D.state self.old.disk).reads (Some kept) }
+        requires settled { SettledOf (D.state self.old.disk) (Some kept) }
+        requires open { OpenOf (Some kept) }
+        requires batch { IsBatch seals.now }
+        ensures change { Answers (file id index (batch_of moment seals.now)) result
+            (book_state (D.state self.old.disk) self.old.asked self.old.unreadable)
+            (book_state (D.state self.new.disk) self.new.asked self.new.unreadable) }
+        ensures frame { GoesOn
+            (book_state (D.state self.old.disk) self.old.asked self.old.unreadable)
+            (book_state (D.state self.new.disk) self.new.asked self.new.unreadable) }
+        ensures cause { HasCause Failed ((D.state self.old.disk).faults + self.old.unreadable)
+            ((D.state self.new.disk).faults + self.new.unreadable) result }
+        ensures durable { OnOk result (IsSettled (D.state self.new.disk)) }
+        ensures images { WhereTold (D.state self.old.disk).reads (D.state self.new.disk).reads
+            (LeavesOf (file id index (batch_of moment seals.now)) (D.state self.old.disk) (D.state self.new.disk)) }
+    {
+        let count = kept.pages.count(id);
+        if index != count {
+            self.kept = Some(kept);
+            return Err(NotaryFail::OutOfTurn { count });
+        }
+        if !kept.pages.has_room(seals.len()) {
+            self.kept = Some(kept);
+            return Err(NotaryFail::Full);
+        }
+        let payload = spell_batch(self.alloc, id, index, moment, seals)?;
+        let Kept { journal, mut pages } = kept;
+        let journal = self.add(journal, &payload)?;
+        pages.add_batch(self.alloc, id, moment, seals)?;
+        self.kept = Some(Kept {
+            journal: Some(journal),
+            pages,
+        });
+        Ok(())
+    }
+
+    // Notes a mark behind what is kept.
+    fn note_behind(&mut self, kept: Kept, id: u64, mark: Mark) -> Result<(), NotaryFail>
+        requires none { self.old.kept ≡ None }
+        requires keeps { KeepsOf (D.state self.old.disk).reads (Some kept) }
+        requires settled { SettledOf (D.state self.old.disk) (Some kept) }
+        requires open { OpenOf (Some kept) }
+        ensures change { Answers (note id mark) result
+            (book_state (D.state self.old.disk) self.old.asked self.old.unreadable)
+            (book_state (D.state self.new.disk) self.new.asked self.new.unreadable) }
+        ensures only { IsNotOutOfTurn result }
+        ensures frame { GoesOn
+            (book_state (D.state self.old.disk) self.old.asked self.old.unreadable)
+            (book_state (D.state self.new.disk) self.new.asked self.new.unreadable) }
+        ensures cause { HasCause Failed ((D.state self.old.disk).faults + self.old.unreadable)
+            ((D.state self.new.disk).faults + self.new.unreadable) result }
+        ensures durable { OnOk result (IsSettled (D.state self.new.disk)) }
+        ensures images { WhereTold (D.state self.old.disk).reads (D.state self.new.disk).reads
+            (LeavesOf (note id mark) (D.state self.old.disk) (D.state self.new.disk)) }
+    {
+        if !kept.pages.has_room_for_mark() {
+            self.kept = Some(kept);
+            return Err(NotaryFail::Full);
+        }
+        let payload = spell_mark(self.alloc, id, mark)?;
+        let Kept { journal, mut pages } = kept;
+        let journal = self.add(journal, &payload)?;
+        pages.add_mark(self.alloc, id, mark)?;
+        self.kept = Some(Kept {
+            journal: Some(journal),
+            pages,
+        });
+        Ok(())
+    }
+}
+
+impl<D: SteadyDisk> Notary for Book<D> {
+    ghost use Rattle.std.proofs.Common.{lit≤};
+    ghost use Rattle.std.specs.Prelude.{◌+◌, OnOk};
+    ghost use Rattle.outside_words.specs.Faults.{HasCause};
+    ghost use Rattle.notary_link.specs.declared.fail.NotaryFail.TheVariants.{Failed};
+    ghost use Rattle.notary_link.specs.Batches.{IsBatch};
+    ghost use Rattle.notary_link.specs.Notary.{file, note, batch_of, IsNotOutOfTurn, Answers, GoesOn};
+    ghost use Rattle.outside_words.specs.Told.{WhereTold};
+    ghost use Rattle.notary_book.specs.Kept.{IsSettled};
+    ghost use Rattle.notary_book.specs.Moments.{LeavesOf};
+    ghost use Rattle.notary_book.specs.State.{book_state};
+
+    ghost state = { λ b. book_state (D.state b.disk) b.asked b.unreadable };
+
+    ghost limited = { λ b. lit≤ tt };
+
+    fn count(&mut self, id: u64) -> Result<u32, NotaryFail> {
+        self.read()?;
+        match &self.kept {
+            Some(kept) => Ok(kept.pages.count(id)),
+            None => Err(NotaryFail::NoMemory),
+        }
+    }
+
+    fn file(&mut self, id: u64, index: u32, moment: u64, seals: &[Seal]) -> Result<(), NotaryFail>
+        requires { IsBatch seals.now }
+        ensures change { Answers (file id index (batch_of moment seals.now)) result
+            (book_state (D.state self.old.disk) self.old.asked self.old.unreadable)
+            (book_state (D.state self.new.disk) self.new.asked self.new.unreadable) }
+        ensures frame { GoesOn
+            (book_state (D.state self.old.disk) self.old.asked self.old.unreadable)
+            (book_state (D.state self.new.disk) self.new.asked self.new.unreadable) }
+        ensures cause { HasCause Failed ((D.state self.old.disk).faults + self.old.unreadable)
+            ((D.state self.new.disk).faults + self.new.unreadable) result }
+
+        ensures durable { OnOk result (IsSettled (D.state self.new.disk)) }
+        ensures images { WhereTold (D.state self.old.disk).reads (D.state self.new.disk).reads
+            (LeavesOf (file id index (batch_of moment seals.now)) (D.state self.old.disk) (D.state self.new.disk)) }
+    {
+        self.read()?;
+        match self.kept.take() {
+            Some(kept) => self.file_behind(kept, id, index, moment, seals),
+            None => Err(NotaryFail::NoMemory),
+        }
+    }
+
+    fn ask(&mut self, id: u64, name: Name, digest: &[u8; 32]) -> Result<Answer, NotaryFail> {
+        self.asked = self.asked.saturating_add(1);
+        self.read()?;
+        match &self.kept {
+            Some(kept) => match kept.pages.digest(id, name) {
+                Some(first) => Ok(compare(digest, first)),
+                None => Ok(Answer::Absent),
+            },
+            None => Err(NotaryFail::NoMemory),
+        }
+    }
+
+    fn moment_of(&mut self, id: u64, index: u32) -> Result<Option<u64>, NotaryFail> {
+        self.read()?;
+        match &self.kept {
+            Some(kept) => Ok(kept.pages.moment(id, index)),
+            None => Err(NotaryFail::NoMemory),
+        }
+    }
+
+    fn mark(&mut self, id: u64, mark: Mark) -> Result<(), NotaryFail>
+        ensures change { Answers (note id mark) result
+            (book_state (D.state self.old.disk) self.old.asked self.old.unreadable)
+            (book_state (D.state self.new.disk) self.new.asked self.new.unreadable) }
+        ensures only { IsNotOutOfTurn result }
+        ensures frame { GoesOn
+            (book_state (D.state self.old.disk) self.old.asked self.old.unreadable)
+            (book_state (D.state self.new.disk) self.new.asked self.new.unreadable) }
+        ensures cause { HasCause Failed ((D.state self.old.disk).faults + self.old.unreadable)
+            ((D.state self.new.disk).faults + self.new.unreadable) result }
+
+        ensures durable { OnOk result (IsSettled (D.state self.new.disk)) }
+        ensures images { WhereTold (D.state self.old.disk).reads (D.state self.new.disk).reads
+            (LeavesOf (note id mark) (D.state self.old.disk) (D.state self.new.disk)) }
+    {
+        self.read()?;
+        match self.kept.take() {
+            Some(kept) => self.note_behind(kept, id, mark),
+            None => Err(NotaryFail::NoMemory),
+        }
+    }
+
+    fn mark_at(&mut self, id: u64, place: u32) -> Result<Option<Mark>, NotaryFail> {
+        self.read()?;
+        match &self.kept {
+            Some(kept) => Ok(kept.pages.mark(id, place)),
+            None => Err(NotaryFail::NoMemory),
+        }
+    }
+}

@@ -1,0 +1,65 @@
+//! A notary that keeps its book in a file over a disk: [`Book`] files batches of sealed digests and
+//! marks as records behind gates, and answers from what it read.
+//!
+//! The book is a gated file of `txn_journal`. Its head is an open gate, the letters DRAGBOK1 and 55
+//! zeros; a payload has at most 262,144 bytes, and no gate reaches place 2,147,483,648.
+//!
+//! | Payload | Spelling |
+//! |---|---|
+//! | batch | 01, id u64, index u32, moment u64, count of seals u16 (1 to 4,096), the seals |
+//! | mark | 02, id u64, moment u64, tiles u32, outcome u8, first bad tile u32 |
+//! | seal | name, digest (32) |
+//! | name | 00 Header; 01 and tile u32; 02, tile u32 and part u8; 03, level u8 and index u32 |
+//!
+//! Numbers stand with the highest byte first. The outcome is 00 clean, 01 altered, 02 header altered;
+//! the first bad tile is 0 unless the outcome is 01. A part is 0 to 9 or 255, a level 0 to 20.
+//!
+//! What bytes say is `told_by` of `specs/Books`: the lists that the calls of the longest prefix of valid
+//! records leave, each of which is in turn and within 16,777,216 seals and 65,536 marks, or nothing
+//! where one is not. A device on which a file may be made stands for an empty book.
+//!
+//! | The layer above may rely on | Clause |
+//! |---|---|
+//! | a book is a notary, with these lists where its disk tells its bytes | the clauses of `Notary` |
+//! | after Ok what reads give is the only image | `durable` of `file` and `mark` |
+//! | at each moment of a call a crash leaves an image of before, or the old lists with the batch or mark in flight or without | `images` of `file` and `mark` |
+//! | a payload is read as what it spells, and what is spelled is read | `proofs/CallLaws` |
+//! | a book has no trace and no plan, and its faults are those of its disk and the readings that found no book | `fresh` of `new` |
+//!
+//! A book syncs its disk before it reads, and clears a free device before it makes a file there, so that
+//! a crash at any moment leaves the old lists, with the batch or mark in flight or without. It needs a
+//! disk of which reads give the same after a sync that failed ([`SteadyDisk`]): a call that asks may have
+//! to sync, and changes nothing.
+//!
+//! A look-up takes the logarithm of the ids and of the names of one id.
+//!
+//! Tested, and not proved: that calls succeed where there is memory, and the bytes of the worked book.
+//!
+//! ```text
+//! let mut book = Book::new(alloc, FileDisk::new(rt, path));
+//! book.file(id, 0, moment, &[seal])?;
+//! let answer = book.ask(id, seal.name, &digest)?;
+//! ```
+#![tactic(auto)]
+
+mod adding;
+mod book;
+mod decoding;
+mod entry;
+mod kept;
+mod limits;
+mod opening;
+mod pages;
+mod reading;
+mod replay;
+mod shape;
+mod skipping;
+mod steady;
+mod writing;
+
+pub use book::Book;
+pub use shape::BookShape;
+pub use steady::SteadyDisk;
+
+#[cfg(test)]
+mod tests;
