@@ -1,0 +1,100 @@
+-- What becomes of the store when a history is notarized: it is as it was, or has a Frontier more.
+use Rattle.std.specs.Prelude.{◌≡◌, ◌⊎◌, ℕ, List, [], ◌∷◌, ◌++◌, max, length, Option, Some, None, Result, Ok, Err, IfOk}
+use Rattle.outside_words.specs.Told.{WhereTold}
+use Rattle.disk_words.specs.declared.DiskFail.TheVariants as disk_fails
+use Rattle.disk_words.specs.Disk as disks
+use Rattle.disk_model.specs.Moments.{EveryImage, MakesCalls}
+use Rattle.tuple_bytes.specs.declared.header.Header.{Header}
+use Rattle.tuple_bytes.specs.declared.item.Item.{Item}
+use Rattle.tuple_bytes.specs.declared.item.Item.TheVariants as items
+use Rattle.tuple_bytes.specs.Spelling.{spell_frontier}
+use Rattle.history_model.specs.History.{history}
+use Rattle.txn_journal.specs.Append.{append_calls}
+use Rattle.notary_link.specs.Notary as notaries
+use Rattle.store_engine.specs.Opened.{Opened, Stores, StoresOldOrNew, IsOpenOn}
+use Rattle.store_engine.specs.Refusals.{tail_of}
+use Rattle.store_engine.specs.Commits.{with_frontier}
+use Rattle.validator.specs.declared.fail.AuditFail.{AuditFail}
+use Rattle.validator.specs.declared.fail.AuditFail.TheVariants as fails
+use Rattle.validator.specs.Notarizing.{notarize_fault, IsRefusedBy, sealed_after, frontier_for, next_batches}
+use Rattle.validator.specs.Filing.{FilesFor, CallsFor, FilesSome}
+
+-- ---- with a Frontier
+
+-- a Frontier behind these items, where one is stored
+abbrev pub with_frontier_for : Option ℕ → List Item → List Item
+with_frontier_for None stored_items = stored_items
+with_frontier_for (Some moment) stored_items = stored_items ++ items.Frontier moment ∷ []
+
+abbrev pub reached : Option ℕ → Opened → Opened
+reached None s = s
+reached (Some moment) s = with_frontier s moment
+
+-- these bytes store the items, or those and the Frontier
+abbrev pub StoresAround : Header → List Item → Option ℕ → List ℕ → Type 0
+StoresAround header stored_items None c = Stores header stored_items c
+StoresAround header stored_items (Some moment) c = StoresOldOrNew header stored_items (items.Frontier moment) c
+
+-- ---- the store and its disk
+
+-- they are as they were
+abbrev pub IsLeft : Opened → Opened → disks.State → disks.State → Type 0
+IsLeft s later old new = (later ≡ s) × disks.Unchanged old new
+
+-- the store has what is needed, and stands for the new bytes
+pub record IsReached (need : Option ℕ) (s later : Opened) (stored_items : List Item) (old new : disks.State) (before after : List ℕ) : Type 0 where
+  pub store_is : later ≡ reached need s
+  pub open_on : IsOpenOn later (with_frontier_for need stored_items) after
+  pub settled : disks.Only before old → disks.Only after new
+
+-- where the store stands after an answer
+abbrev pub StandsAfter : {A : Type 0} → Result A AuditFail → (reached left : Type 0) → Type 0
+StandsAfter (Ok done) reached left = reached
+StandsAfter (Err fails.Full) reached left = reached
+StandsAfter (Err fails.NotaryFault) reached left = left ⊎ reached
+StandsAfter (Err fails.DiskFault) reached left = Unit {0}
+StandsAfter (Err fails.NoMemory) reached left = Unit {0}
+StandsAfter (Err fail) reached left = left
+
+-- the calls that append a Frontier, where one is stored
+abbrev pub frontier_calls : Opened → Option ℕ → List disks.Call
+frontier_calls s None = []
+frontier_calls s (Some moment) = append_calls s.at (spell_frontier moment)
+
+-- the changing calls are those of its Frontier, in order, and none after one that failed
+abbrev pub MakesFor : {A : Type 0} → List disks.Call → Result A AuditFail → disks.State → disks.State → Type 0
+MakesFor calls (Ok done) old new = MakesCalls calls (Ok tt) old new
+MakesFor calls (Err fails.Full) old new = MakesCalls calls (Ok tt) old new
+MakesFor calls (Err fails.NotaryFault) old new = (new.trace ≡ old.trace) ⊎ MakesCalls calls (Ok tt) old new
+MakesFor calls (Err fails.DiskFault) old new = (new.trace ≡ old.trace) ⊎ MakesCalls calls (Err disk_fails.Failed) old new
+MakesFor calls (Err fails.NoMemory) old new = (new.trace ≡ old.trace) ⊎ MakesCalls calls (Ok tt) old new ⊎ MakesCalls calls (Err disk_fails.NoMemory) old new
+MakesFor calls (Err fail) old new = new.trace ≡ old.trace
+
+-- ---- whatever is told
+
+-- the store keeps its header, and a refusal that names no fault leaves it as open as it was
+abbrev pub StaysOpen : {A : Type 0} → Result A AuditFail → Opened → Opened → Type 0
+StaysOpen (Err fails.DiskFault) s later = later.header ≡ s.header
+StaysOpen (Err fails.NoMemory) s later = later.header ≡ s.header
+StaysOpen result s later = (later.header ≡ s.header) × (later.at.is_closed ≡ s.at.is_closed)
+
+-- the notary was not asked, and not called
+abbrev pub AsksNothing : notaries.State → notaries.State → Type 0
+AsksNothing filed later = later ≡ filed
+
+-- ---- all of it
+
+-- A notarization at these clock seconds of an open store that stands for these items and bytes.
+pub record Notarizes (now : ℕ) (stored_items : List Item) (result : Result ℕ AuditFail) (s later_s : Opened) (old new : disks.State) (before after : List ℕ) (filed later : notaries.State) (lists later_lists : notaries.Lists) : Type 0 where
+  pub refused : IsRefusedBy (notarize_fault (tail_of s) s.at.is_closed now stored_items (lists.batches s.header.id)) result
+  pub value : IfOk result (λ n. n ≡ sealed_after s.header now (lists.batches s.header.id))
+  pub files : FilesFor s.header.id filed.limits (next_batches (history s.header stored_items) now (lists.batches s.header.id)) result lists later_lists
+  pub calls : WhereTold filed.trace later.trace (CallsFor s.header.id (length (lists.batches s.header.id)) (next_batches (history s.header stored_items) now (lists.batches s.header.id)) result)
+  pub stands : StandsAfter result (IsReached (frontier_for (tail_of s) now (lists.batches s.header.id)) s later_s stored_items old new before after) (IsLeft s later_s old new)
+  -- a batch is filed only where the store has reached the end of its tile
+  pub ordered : FilesSome s.header.id lists later_lists → IsReached (frontier_for (tail_of s) now (lists.batches s.header.id)) s later_s stored_items old new before after
+  -- a crash at any moment leaves the items, or those and the Frontier
+  pub images : disks.Only before old → EveryImage old new (StoresAround s.header stored_items (frontier_for (tail_of s) now (lists.batches s.header.id)))
+  -- whatever was answered
+  pub kept : disks.Only before old → StoresAround s.header stored_items (frontier_for (tail_of s) now (lists.batches s.header.id)) after
+  pub trace : MakesFor (frontier_calls s (frontier_for (tail_of s) now (lists.batches s.header.id))) result old new

@@ -1,0 +1,142 @@
+-- What a validation finds, and the mark that it adds.
+use Rattle.std.specs.Prelude.{◌≡◌, ◌⊎◌, ◌<◌, ◌==◌, ℕ, ◌+◌, ◌-◌, nat_lt, nat_le, if◌then◌else◌, Bool, List, [], ◌∷◌, length, Option, Some, None, Result, Ok, Err}
+use Rattle.outside_words.specs.Told.{WhereTold}
+use Rattle.tuple_bytes.specs.declared.header.Header.{Header}
+use Rattle.history_model.specs.declared.stored.Stored.{Stored}
+use Rattle.history_model.specs.History.{History, history}
+use Rattle.digest_model.specs.Layout.{layout, first_granule, max_granules}
+use Rattle.notary_link.specs.declared.answer.Answer.{Answer}
+use Rattle.notary_link.specs.declared.answer.Answer.TheVariants.{Same, Differs, Absent}
+use Rattle.notary_link.specs.declared.fail.NotaryFail.TheVariants as notary_fails
+use Rattle.notary_link.specs.declared.mark.Mark.{Mark}
+use Rattle.notary_link.specs.declared.mark.Outcome.{Outcome}
+use Rattle.notary_link.specs.declared.mark.Outcome.TheVariants as outcomes
+use Rattle.notary_link.specs.declared.name.Name.TheVariants as names
+use Rattle.notary_link.specs.declared.notary.NotaryLimits.{NotaryLimits}
+use Rattle.notary_link.specs.Batches.{Batch}
+use Rattle.notary_link.specs.Notary.{State, Lists, Entry, Keeps, Notes, HasRoom, note}
+use Rattle.notary_link.specs.Runs.{is_done, was_answered}
+use Rattle.audit_model.specs.Mono.{BeginsRegion}
+use Rattle.audit_model.specs.Notary.{answers}
+use Rattle.audit_model.specs.Tree.{digit_count}
+use Rattle.validator.specs.declared.verdict.Verdict.{Verdict}
+use Rattle.validator.specs.declared.verdict.Verdict.TheVariants as verdicts
+use Rattle.validator.specs.declared.fail.AuditFail.{AuditFail}
+use Rattle.validator.specs.declared.fail.AuditFail.TheVariants as fails
+use Rattle.validator.specs.Tiles.{first_past, cums}
+
+-- ---- what is found
+
+-- the history under a header, where that has this id
+abbrev pub under_id : ℕ → Option Header → Stored → Option History
+under_id id None s = None
+under_id id (Some header) s = if header.id == id then Some (history header s.items) else None
+
+-- the stored history, where its header has this id
+abbrev pub history_with : ℕ → Stored → Option History
+history_with id s = under_id id s.header s
+
+-- of n tiles, by the answers for the chain: clean where the last is the same, else altered from the first bad tile on
+abbrev pub IsFoundBy : (ℕ → Answer) → ℕ → Result Verdict AuditFail → Type 0
+IsFoundBy chain n (Ok (verdicts.Clean tiles)) = (tiles ≡ n) × BeginsRegion chain n None
+IsFoundBy chain n (Ok (verdicts.Altered tiles first)) = (tiles ≡ n) × BeginsRegion chain n (Some first)
+IsFoundBy chain n (Err (fails.SealMissing name)) = (tile : ℕ) × (tile < n) × (name ≡ names.Cum tile) × (chain tile ≡ Absent)
+IsFoundBy chain n found = ⊥
+
+-- tiles that end behind the last granule were never filed by this program
+abbrev pub IsFoundUnder : List Batch → ℕ → History → Result Verdict AuditFail → Type 0
+IsFoundUnder batches n s found =
+    if nat_le (first_granule (layout s) n) max_granules then IsFoundBy (cums batches s) n found
+    else found ≡ Err (fails.SealMissing (names.Cum (first_past (layout s))))
+
+-- by the answer for the header
+abbrev pub IsFoundAt : Answer → List Batch → ℕ → History → Result Verdict AuditFail → Type 0
+IsFoundAt Same batches n s found = IsFoundUnder batches n s found
+IsFoundAt Differs batches n s found = found ≡ Ok (verdicts.HeaderAltered n)
+IsFoundAt Absent batches n s found = found ≡ Err (fails.SealMissing names.Header)
+
+-- with n sealed tiles; where there is no such history, its header is altered
+abbrev pub IsVerdict : List Batch → ℕ → Option History → Result Verdict AuditFail → Type 0
+IsVerdict batches n None found = found ≡ Ok (verdicts.HeaderAltered n)
+IsVerdict batches n (Some s) found = IsFoundAt (answers batches s names.Header) batches n s found
+
+-- What these batches, the header's and one for each sealed tile, show of what a file stores.
+abbrev pub IsFound : ℕ → List Batch → Stored → Result Verdict AuditFail → Type 0
+IsFound id [] s found = found ≡ Ok verdicts.Unsealed
+IsFound id (batch ∷ batches) s found = IsVerdict (batch ∷ batches) (length batches) (history_with id s) found
+
+-- ---- the mark
+
+abbrev pub mark_with : ℕ → ℕ → Outcome → Option Mark
+mark_with now tiles outcome = Some (record { moment = now; tiles = tiles; outcome = outcome })
+
+-- the mark of a verdict at these clock seconds; there is none where nothing was sealed
+abbrev pub mark_of : Verdict → ℕ → Option Mark
+mark_of verdicts.Unsealed now = None
+mark_of (verdicts.Clean tiles) now = mark_with now tiles outcomes.Clean
+mark_of (verdicts.HeaderAltered tiles) now = mark_with now tiles outcomes.HeaderAltered
+mark_of (verdicts.Altered tiles first) now = mark_with now tiles (outcomes.Altered first)
+
+-- it was added, and there was room for it
+abbrev pub IsMarked : Option Mark → ℕ → NotaryLimits → Lists → Lists → Type 0
+IsMarked None id limits lists later = Keeps lists later
+IsMarked (Some mark) id limits lists later = HasRoom (note id mark) limits lists × Notes id mark lists later
+
+-- there was no room for it
+abbrev pub IsNotMarked : Option Mark → ℕ → NotaryLimits → Lists → Lists → Type 0
+IsNotMarked None id limits lists later = ⊥
+IsNotMarked (Some mark) id limits lists later = (HasRoom (note id mark) limits lists → ⊥) × Keeps lists later
+
+-- it is there, or all stands as it stood
+abbrev pub MayBeMarked : Option Mark → ℕ → Lists → Lists → Type 0
+MayBeMarked None id lists later = Keeps lists later
+MayBeMarked (Some mark) id lists later = Notes id mark lists later ⊎ Keeps lists later
+
+-- a verdict of which P holds was found
+abbrev pub AfterVerdict : ℕ → List Batch → Stored → (Verdict → Type 0) → Type 0
+AfterVerdict id batches s P = (verdict : Verdict) × IsFound id batches s (Ok verdict) × P verdict
+
+-- What a validation at these clock seconds answers of what is stored, and what becomes of the notary's lists.
+abbrev pub Validates : ℕ → ℕ → NotaryLimits → Stored → Result Verdict AuditFail → Lists → Lists → Type 0
+Validates id now limits s (Ok verdict) lists later = IsFound id (lists.batches id) s (Ok verdict) × IsMarked (mark_of verdict now) id limits lists later
+Validates id now limits s (Err (fails.SealMissing name)) lists later = IsFound id (lists.batches id) s (Err (fails.SealMissing name)) × Keeps lists later
+Validates id now limits s (Err fails.Full) lists later = AfterVerdict id (lists.batches id) s (λ verdict. IsNotMarked (mark_of verdict now) id limits lists later)
+Validates id now limits s (Err fails.NotaryFault) lists later = Keeps lists later ⊎ AfterVerdict id (lists.batches id) s (λ verdict. MayBeMarked (mark_of verdict now) id lists later)
+Validates id now limits s (Err fails.NoMemory) lists later = Keeps lists later ⊎ AfterVerdict id (lists.batches id) s (λ verdict. MayBeMarked (mark_of verdict now) id lists later)
+Validates id now limits s (Err fails.DiskFault) lists later = Keeps lists later
+Validates id now limits s (Err fail) lists later = ⊥
+
+-- ---- the answers, whatever is told
+
+-- a validation is refused by no other cause
+abbrev pub IsOfValidation : AuditFail → Type 0
+IsOfValidation fails.DiskFault = Unit {0}
+IsOfValidation fails.NotaryFault = Unit {0}
+IsOfValidation (fails.SealMissing name) = Unit {0}
+IsOfValidation fails.Full = Unit {0}
+IsOfValidation fails.NoMemory = Unit {0}
+IsOfValidation (fails.ClockBack last) = ⊥
+IsOfValidation fails.TooLate = ⊥
+IsOfValidation fails.StoreFull = ⊥
+IsOfValidation fails.Closed = ⊥
+IsOfValidation fails.Broken = ⊥
+IsOfValidation (fails.OutOfTurn count) = ⊥
+
+-- how many questions a verdict takes at most: one for the header, and those of the search
+abbrev pub questions : Verdict → ℕ
+questions verdicts.Unsealed = 0
+questions (verdicts.HeaderAltered tiles) = 1
+questions (verdicts.Clean tiles) = digit_count tiles + 3
+questions (verdicts.Altered tiles first) = digit_count tiles + 3
+
+-- a mark was added by one call
+abbrev pub CallsMark : ℕ → Option Mark → List Entry → List Entry → Type 0
+CallsMark id None old new = new ≡ old
+CallsMark id (Some mark) old new = new ≡ is_done (note id mark) ∷ old
+
+-- The one call of a validation that changes anything adds its mark.
+abbrev pub MakesMark : ℕ → ℕ → Result Verdict AuditFail → List Entry → List Entry → Type 0
+MakesMark id now (Ok verdict) old new = CallsMark id (mark_of verdict now) old new
+MakesMark id now (Err fails.Full) old new = (mark : Mark) × (mark.moment ≡ now) × (new ≡ was_answered notary_fails.Full (note id mark) ∷ old)
+MakesMark id now (Err fails.NotaryFault) old new = (new ≡ old) ⊎ ((mark : Mark) × (mark.moment ≡ now) × (new ≡ was_answered notary_fails.Failed (note id mark) ∷ old))
+MakesMark id now (Err fail) old new = new ≡ old

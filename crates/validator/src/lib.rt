@@ -1,0 +1,14 @@
+//! Filing the digests of a store with a notary, and holding the store against them later.
+#![tactic(auto)]
+
+mod fail;
+mod notarizing;
+mod printing;
+mod validating;
+mod verdict;
+
+pub use fail::AuditFail;
+pub use notarizing::notarize;
+pub use printing::{put_refusal, put_verdict};
+pub use validating::validate;
+pub use verdict::Verdict;
