@@ -4,7 +4,7 @@ use Rattle.tuple_bytes.specs.declared.header.Header.{Header}
 use Rattle.tuple_bytes.specs.declared.item.Item.{Item}
 use Rattle.tuple_bytes.specs.declared.item.Item.TheVariants as items
 use Rattle.tuple_bytes.specs.declared.item.Txn.{Txn}
-use Rattle.tuple_bytes.specs.Spelling.{spell_txn}
+use Rattle.tuple_bytes.specs.Spelling.{spell_txn, spell_frontier}
 use Rattle.history_model.specs.History.{txns, last_moment}
 use Rattle.history_model.specs.State.{State, state}
 use Rattle.store_engine.specs.Opened.{Opened, Stores, IsOpenOn}
@@ -23,6 +23,10 @@ tail_of_world w = record { header = w.header; count = length (txns w.items); las
 -- with one transaction more
 abbrev pub with_txn : World → Txn → World
 with_txn w t = record { header = w.header; items = w.items ++ items.Txn t ∷ []; end = w.end + 5 + length (spell_txn t) }
+
+-- with a Frontier more
+abbrev pub with_frontier : World → ℕ → World
+with_frontier w moment = record { header = w.header; items = w.items ++ items.Frontier moment ∷ []; end = w.end + 5 + length (spell_frontier moment) }
 
 -- the tables of now
 abbrev pub tables_now : World → State

@@ -60,10 +60,14 @@ abbrev pub IsVerdict : List Batch → ℕ → Option History → Result Verdict 
 IsVerdict batches n None found = found ≡ Ok (verdicts.HeaderAltered n)
 IsVerdict batches n (Some s) found = IsFoundAt (answers batches s names.Header) batches n s found
 
--- What these batches, the header's and one for each sealed tile, show of what a file stores.
+-- What these batches, the header's and one for each sealed tile, show of a history, or of bytes that have none of it.
+abbrev pub IsFoundIn : List Batch → Option History → Result Verdict AuditFail → Type 0
+IsFoundIn [] s found = found ≡ Ok verdicts.Unsealed
+IsFoundIn (batch ∷ batches) s found = IsVerdict (batch ∷ batches) (length batches) s found
+
+-- what they show of what a file stores
 abbrev pub IsFound : ℕ → List Batch → Stored → Result Verdict AuditFail → Type 0
-IsFound id [] s found = found ≡ Ok verdicts.Unsealed
-IsFound id (batch ∷ batches) s found = IsVerdict (batch ∷ batches) (length batches) (history_with id s) found
+IsFound id batches s found = IsFoundIn batches (history_with id s) found
 
 -- ---- the mark
 

@@ -1,0 +1,135 @@
+-- What a line does to a world, and the text of its reply.
+use Rattle.std.specs.Prelude.{◌≡◌, ℕ, ◌+◌, ◌==◌, false, true, nat_lt, if◌then◌else◌, Bool, List, ◌++◌, ◌∷◌, [], length, take, codes, Option, Some, None, Result, Ok, Err}
+use Rattle.std.specs.Fmt.{decimal}
+use Rattle.history_model.specs.declared.stored.Stored.{Stored}
+use Rattle.history_model.specs.History.{History, history}
+use Rattle.notary_link.specs.declared.mark.Mark.{Mark}
+use Rattle.notary_link.specs.Batches.{Batch}
+use Rattle.notary_link.specs.Filing.{fitting, room_in}
+use Rattle.notary_link.specs.Notary.{marks_in_all}
+use Rattle.stmt_text.specs.declared.stmt.Stmt.{Stmt}
+use Rattle.stmt_text.specs.declared.stmt.Stmt.TheVariants as stmts
+use Rattle.stmt_text.specs.declared.line.Line.{Line}
+use Rattle.stmt_text.specs.declared.line.Line.TheVariants as lines
+use Rattle.session_core.specs.World as statements
+use Rattle.session_core.specs.Steps as statement_steps
+use Rattle.session_core.specs.Replies as replies
+use Rattle.validator.specs.declared.verdict.Verdict.{Verdict}
+use Rattle.validator.specs.declared.verdict.Verdict.TheVariants as verdicts
+use Rattle.validator.specs.declared.fail.AuditFail.{AuditFail}
+use Rattle.validator.specs.declared.fail.AuditFail.TheVariants as fails
+use Rattle.validator.specs.Notarizing.{notarize_fault, next_batches, sealed_after, frontier_for}
+use Rattle.validator.specs.Verdicts.{IsFoundIn, mark_of}
+use Rattle.validator.specs.Reaching.{with_frontier_for}
+use Rattle.validator.specs.Texts.{verdict_text, refusal_text, numbered}
+use Rattle.drill_core.specs.World.{World, with_store, with_lists, with_batches, with_mark}
+
+-- the world after a line, the text of the reply, and whether it is a refusal
+pub record Step : Type 0 where
+  pub world : World
+  pub text : List ℕ
+  pub is_refused : Bool
+
+-- a reply of one line
+abbrev pub says : World → List ℕ → Step
+says w words = record { world = w; text = words ++ 10 ∷ []; is_refused = false }
+
+-- a refusal
+abbrev pub refuses : World → List ℕ → Step
+refuses w name = record { world = w; text = codes "refused " ++ name ++ 10 ∷ []; is_refused = true }
+
+-- without a store
+abbrev pub has_no_store : World → Step
+has_no_store w = refuses w (codes "NotAStore")
+
+-- ---- a statement on tables
+
+abbrev pub after_statement : World → statement_steps.Step → Step
+after_statement w s = record { world = with_store w s.world; text = replies.reply_text s.reply; is_refused = replies.is_refusal s.reply }
+
+abbrev pub on_tables : World → Option statements.World → Line → ℕ → Step
+on_tables w None line now = has_no_store w
+on_tables w (Some store) line now = after_statement w (statement_steps.step store line now)
+
+-- ---- a notarization
+
+-- with a Frontier more, where one is stored
+abbrev pub reached : Option ℕ → statements.World → statements.World
+reached None w = w
+reached (Some moment) w = statements.with_frontier w moment
+
+-- what is filed under the id of the world's store
+abbrev pub filed_for : World → List Batch
+filed_for w = w.lists.batches w.id
+
+-- as many batches as there is room for
+abbrev pub filed : World → List Batch → World
+filed w batches = with_lists w (with_batches w.id (take (fitting (room_in w.limits w.lists) batches) batches) w.lists)
+
+-- how many tiles are sealed, or that there was no room for all
+abbrev pub all_filed : World → World → List Batch → ℕ → Step
+all_filed w new batches tiles =
+    if fitting (room_in w.limits w.lists) batches == length batches then says new (numbered (codes "sealed ") tiles)
+    else refuses new (refusal_text fails.Full)
+
+-- what is filed where nothing speaks against it
+abbrev pub sealed : World → statements.World → ℕ → Step
+sealed w store now =
+    all_filed w
+    (filed (with_store w (reached (frontier_for (statements.tail_of_world store) now (filed_for w)) store)) (next_batches (history store.header store.items) now (filed_for w)))
+    (next_batches (history store.header store.items) now (filed_for w))
+    (sealed_after store.header now (filed_for w))
+
+abbrev pub unless : Option AuditFail → World → Step → Step
+unless (Some fail) w s = refuses w (refusal_text fail)
+unless None w s = s
+
+abbrev pub notarized : World → Option statements.World → ℕ → Step
+notarized w None now = has_no_store w
+notarized w (Some store) now =
+    unless (notarize_fault (statements.tail_of_world store) false now store.items (filed_for w)) w (sealed w store now)
+
+-- ---- a validation
+
+-- a mark is added, where there is one and room for it
+abbrev pub marked : World → Option Mark → List ℕ → Step
+marked w None text = says w text
+marked w (Some mark) text =
+    if nat_lt (marks_in_all w.lists) w.limits.marks then says (with_lists w (with_mark w.id mark w.lists)) text
+    else refuses w (refusal_text fails.Full)
+
+-- what was found is told and marked
+abbrev pub validated : World → ℕ → Result Verdict AuditFail → Step
+validated w now (Ok verdict) = marked w (mark_of verdict now) (verdict_text verdict)
+validated w now (Err fail) = refuses w (refusal_text fail)
+
+-- the history of a world
+abbrev pub history_of : Option statements.World → Option History
+history_of None = None
+history_of (Some store) = Some (history store.header store.items)
+
+-- ---- a line
+
+-- What a line does at these clock seconds. Where it is a validation, this was found.
+unfoldable pub step : World → Line → ℕ → Result Verdict AuditFail → Step
+step w (lines.Plain stmts.Notarize) now found = notarized w w.store now
+step w (lines.Plain stmts.Validate) now found = validated w now found
+step w line now found = on_tables w w.store line now
+
+-- What may be found: in all but odd cases there is one answer. A line that is no validation finds nothing, and anything may
+-- stand for that.
+abbrev pub MayFind : World → Line → Result Verdict AuditFail → Type 0
+MayFind w (lines.Plain stmts.Validate) found = IsFoundIn (filed_for w) (history_of w.store) found
+MayFind w line found = Unit {0}
+
+abbrev pub IsWorldStmt : Stmt → Type 0
+IsWorldStmt stmts.Notarize = Unit {0}
+IsWorldStmt stmts.Validate = Unit {0}
+IsWorldStmt stmt = statement_steps.IsOnTables stmt
+
+-- the lines that a world takes: statements on tables, `notarize` and `validate`
+abbrev pub IsWorldLine : Line → Type 0
+IsWorldLine (lines.Plain stmt) = IsWorldStmt stmt
+IsWorldLine lines.Blank = ⊥
+IsWorldLine (lines.InSession session stmt) = ⊥
+IsWorldLine (lines.Drill event) = ⊥

@@ -1,0 +1,107 @@
+//! A store and its sessions, as lines find them.
+
+ghost use Rattle.std.specs.Prelude.{◌≡◌, ◌≤◌, ◌+◌, ⊤, None, false, true, IfSome, IsSome, IfOk, IfErr, MatchOption, MatchResult, OnErr, OnOk, is_some};
+ghost use Rattle.outside_words.specs.Faults.{HasCause};
+ghost use Rattle.disk_words.specs.Disk as disks;
+ghost use Rattle.notary_link.specs.Notary as notaries;
+ghost use Rattle.history_model.specs.Stored.{stored};
+ghost use Rattle.stmt_text.specs.Fits.{FitsParts};
+ghost use Rattle.store_engine.specs.declared.fail.StoreFail.TheVariants as stores;
+ghost use Rattle.store_engine.specs.Opened.{IsOpenOn};
+ghost use Rattle.store_engine.specs.Refusals.{IsNoStore, IsOfOpening};
+ghost use Rattle.validator.specs.Safe.{KeepsSound};
+ghost use Rattle.drill_core.specs.declared.fail.LineFail.TheVariants.{DiskFault, NotaryFault};
+ghost use Rattle.drill_core.specs.World.{StandsFor, IsEntered};
+ghost use Rattle.drill_core.specs.Steps.{IsWorldLine};
+ghost use Rattle.drill_core.specs.Stepping.{StepsFor, KeepsStore};
+
+use crate::answered::Answered;
+use crate::fail::LineFail;
+use disk_model::Disk;
+use notary_link::Notary;
+use session_core::Sessions;
+use std::alloc::Global;
+use std::marker::Model;
+use stmt_text::Line;
+use store_engine::{Store, StoreFail};
+
+/// The store of an id with its sessions, or no store yet. Each call on it is lent the disk and the
+/// notary, which have to be as the last call left them.
+#[derive(Drop)]
+pub struct World {
+    id: u64,
+    sessions: Sessions,
+    store: Option<Store>,
+    ghost open: { IfSome store (λ s. s.at.is_closed ≡ false) },
+    ghost own: { IfSome store (λ s. s.header.id ≡ id) },
+}
+
+impl Model for World {
+    ghost use Rattle.drill_core.specs.World.{Held};
+
+    ghost Value = { Held };
+
+    ghost view = { λ w. record { id = w.id; store = w.store } };
+}
+
+impl World {
+    /// No store, and no memory.
+    pub fn new(alloc: Global, id: u64) -> World
+        ensures id { result.id ≡ id }
+        ensures value { result.store ≡ None }
+    {
+        World {
+            id,
+            sessions: Sessions::new(alloc),
+            store: None,
+        }
+    }
+
+    /// Opens the store of the id anew, without any session. After a refusal there is no store.
+    pub fn enter<D: Disk>(&mut self, alloc: Global, disk: &mut D) -> Result<(), StoreFail>
+        ensures id { self.new.id ≡ self.old.id }
+        ensures value { IfSome (D.state disk.old).reads (λ bytes. IsEntered self.old.id bytes result self.new.store) }
+        ensures some { OnOk result (IsSome self.new.store) }
+        ensures none { OnErr result (self.new.store ≡ None) }
+        ensures none_other { IfErr result IsOfOpening }
+        ensures same { disks.Unchanged (D.state disk.old) (D.state disk.new) }
+        ensures frame { disks.GoesOn (D.state disk.old) (D.state disk.new) }
+        ensures cause { HasCause stores.DiskFault (D.state disk.old).faults (D.state disk.new).faults result }
+    {
+        self.store = None;
+        Err(StoreFail::NoMemory)
+    }
+
+    /// Carries out a line at these clock seconds. After a failure there is no store.
+    pub fn line<D: Disk, N: Notary>(
+        &mut self,
+        alloc: Global,
+        disk: &mut D,
+        notary: &mut N,
+        line: &Line,
+        now: u64,
+    ) -> Result<Answered, LineFail>
+        requires is_line { IsWorldLine line.now }
+        requires fits { FitsParts line.now }
+        ensures id { self.new.id ≡ self.old.id }
+        ensures store { KeepsStore result self.old self.new }
+        ensures told { StepsFor line.now now result self.old self.new
+            (D.state disk.old) (D.state disk.new) (N.state notary.old) (N.state notary.new) }
+        ensures sound { KeepsSound (StandsFor self.old)
+            (D.state disk.old) (D.state disk.new) (N.state notary.old) (N.state notary.new) }
+        ensures disk_frame { disks.GoesOn (D.state disk.old) (D.state disk.new) }
+        ensures notary_frame { notaries.GoesOn (N.state notary.old) (N.state notary.new) }
+        ensures disk_cause { HasCause DiskFault (D.state disk.old).faults (D.state disk.new).faults result }
+        ensures notary_cause { HasCause NotaryFault (N.state notary.old).faults (N.state notary.new).faults result }
+    {
+        self.store = None;
+        Err(LineFail::NoMemory)
+    }
+
+    /// The store, where there is one.
+    pub fn store(&self) -> Option<&Store>
+        ensures value { result.now ≡ self.now.store }
+    {
+        self.store.as_ref()
+    }
+}
