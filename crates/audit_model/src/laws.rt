@@ -1,6 +1,7 @@
 //! What the answers of a notary show, each law the contract of a function that does nothing.
 
 ghost use Rattle.audit_model.specs.Examples.{WorkedExamples};
+ghost use Rattle.audit_model.specs.Filing.{AddedStaysNotarized, FrontierStaysFiled, FrontierFilesSame, FilingBegins, FilingExtends, BatchesMayBeFiled};
 ghost use Rattle.audit_model.specs.Laws.{CandidatesAreExact, CandidatesAmongAreExact, FoundAreExact, ChecksAreFew, AnswersCompare, OthersAreAbsent, BatchesAreCounted, OtherHeaderIsAltered, SameChainIsClean, RegionHasAltered, CandidatesHaveAltered, DescentHasAltered, DescentIsAltered, HeaderIsShown, RegionBeginsAltered, FailingTileIsAltered, ChangedChainHasAltered, TreeIsConsistent, StepIsRegion, CandidatesAmongHaveAltered, FoundAscend, NotarizedIsSame, HeldIsSame};
 
 /// The candidates of a tile are the numbers that have every bit of the target.
@@ -121,4 +122,34 @@ pub fn notarized_is_same()
 /// Bytes that hold what is filed, as each image of a sound store, are answered the same for each planned name.
 pub fn held_is_same()
     ensures { HeldIsSame }
+{}
+
+/// A notarized history stays so with an item that is not before its last moment.
+pub fn added_stays_notarized()
+    ensures { AddedStaysNotarized }
+{}
+
+/// A frontier leaves what is filed.
+pub fn frontier_stays_filed()
+    ensures { FrontierStaysFiled }
+{}
+
+/// It leaves each batch.
+pub fn frontier_files_same()
+    ensures { FrontierFilesSame }
+{}
+
+/// With the header's batch alone no tile is sealed.
+pub fn filing_begins()
+    ensures { FilingBegins }
+{}
+
+/// With the batch of the next tile one tile more is sealed.
+pub fn filing_extends()
+    ensures { FilingExtends }
+{}
+
+/// Each batch may be filed: it has at most 4,096 seals, of names that a notary takes.
+pub fn batches_may_be_filed()
+    ensures { BatchesMayBeFiled }
 {}

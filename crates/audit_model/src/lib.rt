@@ -42,6 +42,8 @@
 //! | an altered granule is a candidate, and among sets of as many members as are altered, or a clash; a tile that differs has an altered granule | `candidates_have_altered`, `candidates_among_have_altered`, `failing_tile_is_altered` |
 //! | an altered granule is found, or a clash; a found one is altered; below a node that differs a child differs | `descent_has_altered`, `descent_is_altered`, `tree_is_consistent` |
 //! | the list of leaves has exactly those found, ascends, and few nodes are asked for it | `found_are_exact`, `found_ascend`, `checks_are_few` |
+//! | a notarized history stays so with an item that is not before its last moment; a frontier of any moment leaves what is filed, and each batch | `added_stays_notarized`, `frontier_stays_filed`, `frontier_files_same` |
+//! | the header's batch begins what is filed, and the next tile's extends it; each batch may be filed | `filing_begins`, `filing_extends`, `batches_may_be_filed` |
 //! | examples worked by hand | `worked_examples` |
 //!
 //! Words on tiles go by a layout and never by a header, so that tiles may one day change their size.
@@ -53,10 +55,11 @@
 mod laws;
 
 pub use laws::{
-    answers_compare, batches_are_counted, candidates_among_are_exact,
-    candidates_among_have_altered, candidates_are_exact, candidates_have_altered,
-    changed_chain_has_altered, checks_are_few, descent_has_altered, descent_is_altered,
-    failing_tile_is_altered, found_are_exact, found_ascend, header_is_shown, held_is_same,
+    added_stays_notarized, answers_compare, batches_are_counted, batches_may_be_filed,
+    candidates_among_are_exact, candidates_among_have_altered, candidates_are_exact,
+    candidates_have_altered, changed_chain_has_altered, checks_are_few, descent_has_altered,
+    descent_is_altered, failing_tile_is_altered, filing_begins, filing_extends, found_are_exact,
+    found_ascend, frontier_files_same, frontier_stays_filed, header_is_shown, held_is_same,
     notarized_is_same, other_header_is_altered, others_are_absent, region_begins_altered,
     region_has_altered, same_chain_is_clean, step_is_region, tree_is_consistent, worked_examples,
 };
