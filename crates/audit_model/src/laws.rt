@@ -2,7 +2,7 @@
 
 ghost use Rattle.audit_model.specs.Examples.{WorkedExamples};
 ghost use Rattle.audit_model.specs.Filing.{AddedStaysNotarized, FrontierStaysFiled, FrontierFilesSame, FilingBegins, FilingExtends, BatchesMayBeFiled};
-ghost use Rattle.audit_model.specs.Laws.{CandidatesAreExact, CandidatesAmongAreExact, FoundAreExact, ChecksAreFew, AnswersCompare, OthersAreAbsent, BatchesAreCounted, OtherHeaderIsAltered, SameChainIsClean, RegionHasAltered, CandidatesHaveAltered, DescentHasAltered, DescentIsAltered, HeaderIsShown, RegionBeginsAltered, FailingTileIsAltered, ChangedChainHasAltered, TreeIsConsistent, StepIsRegion, CandidatesAmongHaveAltered, FoundAscend, NotarizedIsSame, HeldIsSame};
+ghost use Rattle.audit_model.specs.Laws.{CandidatesAreExact, CandidatesAmongAreExact, FoundAreExact, ChecksAreFew, AnswersCompare, OthersAreAbsent, BatchesAreCounted, OtherHeaderIsAltered, SameChainIsClean, RegionHasAltered, CandidatesHaveAltered, DescentHasAltered, DescentIsAltered, HeaderIsShown, RegionBeginsAltered, FailingTileIsAltered, ChangedChainHasAltered, TreeIsConsistent, NodesAreConsistent, HeadersAreOneOrOther, RefusedHeaderIsOther, StepIsRegion, CandidatesAmongHaveAltered, FoundAscend, NotarizedIsSame, HeldIsSame};
 
 /// The candidates of a tile are the numbers that have every bit of the target.
 pub fn candidates_are_exact()
@@ -79,6 +79,16 @@ pub fn header_is_shown()
     ensures { HeaderIsShown }
 {}
 
+/// A file has the notarized header or another one.
+pub fn headers_are_one_or_other()
+    ensures { HeadersAreOneOrOther }
+{}
+
+/// A header whose answer differs is another one.
+pub fn refused_header_is_other()
+    ensures { RefusedHeaderIsOther }
+{}
+
 /// The region begins at an altered tile, unless two inputs clash.
 pub fn region_begins_altered()
     ensures { RegionBeginsAltered }
@@ -97,6 +107,11 @@ pub fn changed_chain_has_altered()
 /// A node that differs has a child that does.
 pub fn tree_is_consistent()
     ensures { TreeIsConsistent }
+{}
+
+/// A node that differs, of whatever history, has a child that is not the same.
+pub fn nodes_are_consistent()
+    ensures { NodesAreConsistent }
 {}
 
 /// Answers that change once show where the region begins.
