@@ -59,8 +59,8 @@ pub use laws::{
     candidates_among_are_exact, candidates_among_have_altered, candidates_are_exact,
     candidates_have_altered, changed_chain_has_altered, checks_are_few, descent_has_altered,
     descent_is_altered, failing_tile_is_altered, filing_begins, filing_extends, found_are_exact,
-    found_ascend, frontier_files_same, frontier_stays_filed, header_is_shown, held_is_same,
-    notarized_is_same, other_header_is_altered, others_are_absent, refused_header_is_other,
-    region_begins_altered, region_has_altered, same_chain_is_clean, step_is_region,
-    tree_is_consistent, worked_examples,
+    found_ascend, frontier_files_same, frontier_stays_filed, header_is_shown,
+    headers_are_one_or_other, held_is_same, nodes_are_consistent, notarized_is_same,
+    other_header_is_altered, others_are_absent, refused_header_is_other, region_begins_altered,
+    region_has_altered, same_chain_is_clean, step_is_region, tree_is_consistent, worked_examples,
 };
