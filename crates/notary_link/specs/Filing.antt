@@ -1,11 +1,12 @@
 -- Batches filed one after another.
-use Rattle.std.specs.Prelude.{◌≡◌, ◌≢◌, ◌+◌, ℕ, List, [], ◌∷◌, ◌++◌, take, map, Some, Result, Ok, Err}
+use Rattle.std.specs.Prelude.{◌≡◌, ◌≢◌, ◌<◌, ◌≤◌, ◌+◌, ◌-◌, ℕ, suc, nat_le, if◌then◌else◌, List, [], ◌∷◌, ◌++◌, length, take, map, Some, Result, Ok, Err}
 use Rattle.std.specs.List.{slice_get}
 use Rattle.notary_link.specs.declared.fail.NotaryFail.{NotaryFail}
+use Rattle.notary_link.specs.declared.fail.NotaryFail.TheVariants.{Failed, OutOfTurn, Full, NoMemory}
 use Rattle.notary_link.specs.declared.notary.NotaryLimits.{NotaryLimits}
 use Rattle.notary_link.specs.declared.seal.Seal.{Seal}
 use Rattle.notary_link.specs.Batches.{Batch}
-use Rattle.notary_link.specs.Notary.{Call, file, Lists, batch_of, Changes}
+use Rattle.notary_link.specs.Notary.{Call, file, Lists, batch_of, seals_in_all, Changes}
 
 -- the batches of some seals, all of one moment
 abbrev pub planned : ℕ → List (List Seal) → List Batch
@@ -35,3 +36,39 @@ pub record StopsFiling (id from : ℕ) (limits : NotaryLimits) (batches : List B
 abbrev pub FilesEach : ℕ → ℕ → NotaryLimits → List Batch → Result (Unit {0}) NotaryFail → Lists → Lists → Type 0
 FilesEach id from limits batches (Ok _) = FilesAll id batches
 FilesEach id from limits batches (Err fail) = StopsFiling id from limits batches fail
+
+-- ---- How many there is room for
+
+-- how many of the batches, from the first on, fit into this much room
+abbrev pub fitting : ℕ → List Batch → ℕ
+fitting room [] = 0
+fitting room (batch ∷ batches) = if nat_le (length batch.seals) room then suc (fitting (room - length batch.seals) batches) else 0
+
+-- the room for seals that is left
+abbrev pub room_in : NotaryLimits → Lists → ℕ
+room_in limits lists = limits.seals - seals_in_all lists
+
+-- there was room for all of them, and they were filed
+pub record FilesWhole (id : ℕ) (limits : NotaryLimits) (batches : List Batch) (old new : Lists) : Type 0 where
+  pub fit : fitting (room_in limits old) batches ≡ length batches
+  pub filed : FilesAll id batches old new
+
+-- there was no room for all of them, and those were filed that fit
+pub record FilesFitting (id : ℕ) (limits : NotaryLimits) (batches : List Batch) (old new : Lists) : Type 0 where
+  pub left : fitting (room_in limits old) batches < length batches
+  pub filed : FilesAll id (take (fitting (room_in limits old) batches) batches) old new
+
+-- so many were filed, all of which fit but for the one that failed
+pub record FilesSome (id : ℕ) (limits : NotaryLimits) (batches : List Batch) (old new : Lists) : Type 0 where
+  pub done : ℕ
+  pub some : done ≤ length batches
+  pub fit : done ≤ fitting (room_in limits old) batches + 1
+  pub filed : FilesAll id (take done batches) old new
+
+-- what was filed from the next index of an id on
+abbrev pub FilesInTurn : ℕ → NotaryLimits → List Batch → Result (Unit {0}) NotaryFail → Lists → Lists → Type 0
+FilesInTurn id limits batches (Ok _) old new = FilesWhole id limits batches old new
+FilesInTurn id limits batches (Err Full) old new = FilesFitting id limits batches old new
+FilesInTurn id limits batches (Err (OutOfTurn count)) old new = ⊥
+FilesInTurn id limits batches (Err Failed) old new = FilesSome id limits batches old new
+FilesInTurn id limits batches (Err NoMemory) old new = FilesSome id limits batches old new

@@ -5,7 +5,7 @@ ghost use Rattle.outside_words.specs.Faults.{HasCause};
 ghost use Rattle.outside_words.specs.Told.{WhereTold};
 ghost use Rattle.notary_link.specs.declared.fail.NotaryFail.TheVariants.{Failed};
 ghost use Rattle.notary_link.specs.Batches.{IsBatch};
-ghost use Rattle.notary_link.specs.Filing.{planned, filings, FilesEach};
+ghost use Rattle.notary_link.specs.Filing.{planned, filings, FilesEach, FilesInTurn};
 ghost use Rattle.notary_link.specs.Notary.{GoesOn};
 ghost use Rattle.notary_link.specs.Runs.{MakesCalls};
 
@@ -26,6 +26,9 @@ pub fn file_each<N: Notary>(
     requires few { from + length batches.now < 2 ^ 32 }
     ensures told { WhereTold (N.state notary.old).lists (N.state notary.new).lists
         (FilesEach id from (N.state notary.old).limits (planned moment batches.now) result) }
+    ensures in_turn { WhereTold (N.state notary.old).lists (N.state notary.new).lists
+        (λ before after. from ≡ length (before.batches id)
+        → FilesInTurn id (N.state notary.old).limits (planned moment batches.now) result before after) }
     ensures trace { WhereTold (N.state notary.old).trace (N.state notary.new).trace
         (MakesCalls (filings id from (planned moment batches.now)) result) }
     ensures asked { (N.state notary.new).asked ≡ (N.state notary.old).asked }
