@@ -10,13 +10,13 @@ use Rattle.std.proofs.lemmas.List.Folds.{flat_map-map}
 use Rattle.notary_link.specs.declared.name.Name.{Name}
 use Rattle.notary_link.specs.declared.name.Name.TheVariants as names
 use Rattle.notary_link.specs.declared.seal.Seal.{Seal}
-use Rattle.notary_link.specs.declared.answer.Answer.TheVariants.{Same, Differs}
+use Rattle.notary_link.specs.declared.answer.Answer.TheVariants.{Same, Differs, Absent}
 use Rattle.history_model.specs.History.{History}
 use Rattle.notary_link.specs.Batches.{Batch, same_name, filed, compared, answer_by, answer}
 use Rattle.digest_model.specs.Layout.{layout}
 use Rattle.audit_model.specs.Laws.{AnswersCompare, BatchesAreCounted, NotarizedIsSame, OthersAreAbsent}
 use Rattle.audit_model.specs.Names.{batch_names, planned, digest, seal, batch}
-use Rattle.audit_model.specs.Notary.{NotaryOf}
+use Rattle.audit_model.specs.Notary.{NotaryOf, answers}
 use Rattle.digest_model.proofs.Members.{here, there}
 use Rattle.digest_model.proofs.Lists.{one_of, none_of}
 
@@ -50,6 +50,15 @@ no_seal h (m ∷ ms) name is = elim (cases_Bool (same_name m name)) [
   | inr no_it ↦ rw no_it (no_seal h ms name (λ in'. is (there m name ms in')))
 ]
 
+-- a seal of the name is the history's
+own_or_none : (h : History) (all : List Name) (name : Name)
+    → (find (λ (s : Seal). same_name s.name name) (map (seal h) all) ≡ Some (seal h name)) ⊎ (find (λ (s : Seal). same_name s.name name) (map (seal h) all) ≡ None)
+own_or_none h [] name = inr refl
+own_or_none h (m ∷ ms) name = elim (cases_Bool (same_name m name)) [
+  | inl yes_it ↦ inl (rw yes_it (ap (λ (x : Name). Some (seal h x)) (same_name_is m name yes_it)))
+  | inr no_it ↦ rw no_it (own_or_none h ms name)
+]
+
 mapped_parts : {A B C : Type 0} (f : B → C) (g : A → List B) (xs : List A) → flat_map (λ x. map f (g x)) xs ≡ map f (flat_map g xs)
 mapped_parts f g [] = refl
 mapped_parts f g (x ∷ xs) = ap (λ ys. map f (g x) ++ ys) (mapped_parts f g xs) ∙ sym (map-append f (g x) (flat_map g xs))
@@ -73,6 +82,17 @@ unfolding filed answer
 absent batches id h s n name is out' =
     ap (λ (o : Option Seal). answer_by o (digest s name))
     (ap (find (λ (x : Seal). same_name x.name name)) (all_seals batches id h n is) ∙ no_seal h (planned (layout h) n) name out')
+
+-- a name is answered by comparing the two digests, or is absent
+pub compared_or_absent : (batches : List Batch) (id : ℕ) (h s : History) (n : ℕ) (name : Name) → NotaryOf batches id h n
+    → (answers batches s name ≡ compared (digest s name) (digest h name)) ⊎ (answers batches s name ≡ Absent)
+unfolding filed answer
+compared_or_absent batches id h s n name is =
+    let all = ap (find (λ (x : Seal). same_name x.name name)) (all_seals batches id h n is) in
+    elim (own_or_none h (planned (layout h) n) name) [
+      | inl own ↦ inl (ap (λ (o : Option Seal). answer_by o (digest s name)) (all ∙ own))
+      | inr none ↦ inr (ap (λ (o : Option Seal). answer_by o (digest s name)) (all ∙ none))
+    ]
 
 pub same_of : (a b : List ℕ) → compared a b ≡ Same → a ≡ b
 same_of a b e = elim (cases_Bool (pointwise nat_eq a b)) [

@@ -4,18 +4,19 @@ use Rattle.std.specs.List.{Contains, range_with_len}
 use Rattle.std.proofs.lemmas.Nat.{mul-le}
 use Rattle.std.proofs.lemmas.Bool.{cases_eq, cases_lt}
 use Rattle.tuple_bytes.specs.Spelling.{spell_fields}
+use Rattle.notary_link.specs.declared.name.Name.{Name}
 use Rattle.notary_link.specs.declared.name.Name.TheVariants as names
 use Rattle.notary_link.specs.declared.answer.Answer.{Answer}
-use Rattle.notary_link.specs.declared.answer.Answer.TheVariants.{Same, Differs}
+use Rattle.notary_link.specs.declared.answer.Answer.TheVariants.{Same, Differs, Absent}
 use Rattle.history_model.specs.History.{History, rows}
 use Rattle.tuple_bytes.specs.Spelling.{spell_txn}
 use Rattle.notary_link.specs.Batches.{Batch, compared}
 use Rattle.digest_model.specs.Laws.{HasSpelling}
 use Rattle.digest_model.specs.Layout.{end_granule, Layout, layout, first_granule, tile_size, whole, is_in_part}
 use Rattle.digest_model.specs.Digests.{header_input, header_digest, granule_digest, node_digest, tile_digest, cum}
-use Rattle.audit_model.specs.Laws.{IsAudit, HasAltered, HeaderIsShown, ChangedChainHasAltered, RegionBeginsAltered, FailingTileIsAltered, TreeIsConsistent, StepIsRegion}
+use Rattle.audit_model.specs.Laws.{IsAudit, HasAltered, HeaderIsShown, ChangedChainHasAltered, RegionBeginsAltered, FailingTileIsAltered, TreeIsConsistent, NodesAreConsistent, HeadersAreOneOrOther, RefusedHeaderIsOther, StepIsRegion}
 use Rattle.audit_model.specs.Names.{digest, inputs_of, inputs, planned, batch_names}
-use Rattle.audit_model.specs.Notary.{answers}
+use Rattle.audit_model.specs.Notary.{NotaryOf, answers}
 use Rattle.digest_model.proofs.Clashes.{same_or_clash}
 use mathlib.Core.List.{List-discrete}
 use native.Mathlib.Decide.{ℕ_discrete}
@@ -26,7 +27,7 @@ use Rattle.digest_model.proofs.Follows.{follow}
 use Rattle.audit_model.specs.Altered.{IsAltered}
 use Rattle.audit_model.specs.Mono.{BeginsRegion, IsStep}
 use Rattle.digest_model.proofs.Lists.{in_range, from_filter}
-use Rattle.audit_model.proofs.Compare.{compare, same_of, differs_of, one_answer}
+use Rattle.audit_model.proofs.Compare.{compare, compared_or_absent, same_of, differs_of, one_answer}
 use Rattle.audit_model.proofs.Planned.{adjoin, part_planned, cum_planned, hashed_for, same_view}
 use Rattle.audit_model.proofs.TileAudit.{differing, of_differing, not_same_digest, first_of, part_same}
 use Rattle.audit_model.proofs.TreeAudit.{node_planned, reached_within, same_some}
@@ -99,6 +100,42 @@ consistent batches id h s n is has level index r e =
         | inl right ↦ absurd (differ (from_children s h level index left.0 right.0))
       ]
     ]
+
+-- a digest that is not the notarized one is not answered the same
+not_same : (batches : List Batch) (id : ℕ) (h s : History) (n : ℕ) (name : Name) → NotaryOf batches id h n → (digest s name ≡ digest h name → ⊥) → answers batches s name ≡ Same → ⊥
+not_same batches id h s n name filed differ e = elim (compared_or_absent batches id h s n name filed) [
+  | inl asked ↦ differ (same_of (digest s name) (digest h name) (sym asked ∙ e))
+  | inr absent ↦ (let other : Absent ≡ Same = sym absent ∙ e in cc)
+]
+
+-- a digest that is answered to differ is not the notarized one
+not_own : (batches : List Batch) (id : ℕ) (h s : History) (n : ℕ) (name : Name) → NotaryOf batches id h n → answers batches s name ≡ Differs → digest s name ≡ digest h name → ⊥
+not_own batches id h s n name filed e = elim (compared_or_absent batches id h s n name filed) [
+  | inl asked ↦ differs_of (digest s name) (digest h name) (sym asked ∙ e)
+  | inr absent ↦ absurd (let other : Absent ≡ Differs = sym absent ∙ e in cc)
+]
+
+pub nodes_consistent : NodesAreConsistent
+unfolding digest
+nodes_consistent batches id h s n level index filed e = elim (one_answer (node_digest s level (2 * index)) (node_digest h level (2 * index))) [
+  | inr left ↦ inl (not_same batches id h s n (names.Node level (2 * index)) filed left.0)
+  | inl left ↦ elim (one_answer (node_digest s level (2 * index + 1)) (node_digest h level (2 * index + 1))) [
+    | inr right ↦ inr (not_same batches id h s n (names.Node level (2 * index + 1)) filed right.0)
+    | inl right ↦ absurd (not_own batches id h s n (names.Node (suc level) index) filed e (from_children s h level index left.0 right.0))
+  ]
+]
+
+-- ---- headers
+
+pub one_or_other : HeadersAreOneOrOther
+one_or_other h s ours theirs = elim (List-discrete ℕ_discrete (spell_fields h.header) (spell_fields s.header)) [
+  | yes same ↦ inl (same_header h.header s.header ours theirs same)
+  | no other ↦ inr other
+]
+
+pub refused_other : RefusedHeaderIsOther
+unfolding digest
+refused_other batches id h s n filed e fields = not_own batches id h s n names.Header filed e (let same : header_digest s.header ≡ header_digest h.header = cc in same)
 
 -- ---- the region
 

@@ -1,11 +1,12 @@
 -- What the answers show.
-use Rattle.std.specs.Prelude.{◌≡◌, ◌↔◌, ◌⊎◌, ℕ, ◌+◌, ◌*◌, ◌^◌, ◌<◌, ◌≤◌, true, List, Contains, length, Option, Some, None}
+use Rattle.std.specs.Prelude.{◌≡◌, ◌≢◌, ◌↔◌, ◌⊎◌, ℕ, suc, ◌+◌, ◌*◌, ◌^◌, ◌<◌, ◌≤◌, true, List, Contains, length, Option, Some, None}
 use Rattle.std.specs.List.Sorted.{IsStrictlyIncreasing}
 use Rattle.notary_link.specs.declared.name.Name.{Name}
 use Rattle.notary_link.specs.declared.name.Name.TheVariants.{Header, Cum, Tile, Node}
 use Rattle.notary_link.specs.declared.answer.Answer.{Answer}
 use Rattle.notary_link.specs.declared.answer.Answer.TheVariants.{Same, Differs, Absent}
 use Rattle.notary_link.specs.Batches.{Batch, compared}
+use Rattle.tuple_bytes.specs.Spelling.{FitsHeader}
 use Rattle.history_model.specs.History.{History}
 use Rattle.history_model.specs.Stored.{stored}
 use Rattle.digest_model.specs.Layout.{layout, exponent, first_granule, end_granule, tile_size, whole, has_tile_chains, has_tree}
@@ -117,6 +118,17 @@ HeaderIsShown = (batches : List Batch) (id : ℕ) (h s : History) (n : ℕ) → 
     → answers batches s Header ≡ Same
     → (h.header ≡ s.header) ⊎ HashClash h (Some s) n
 
+-- A file has the notarized header or another one.
+abbrev pub HeadersAreOneOrOther : Type 0
+HeadersAreOneOrOther = (h s : History) → FitsHeader h.header → FitsHeader s.header
+    → (h.header ≡ s.header) ⊎ HasOtherHeader h (Some s)
+
+-- Where the header's answer differs, the file has another one, without exception.
+abbrev pub RefusedHeaderIsOther : Type 0
+RefusedHeaderIsOther = (batches : List Batch) (id : ℕ) (h s : History) (n : ℕ) → NotaryOf batches id h n
+    → answers batches s Header ≡ Differs
+    → HasOtherHeader h (Some s)
+
 -- the granule of this number within a tile is altered
 abbrev pub IsAlteredIn : History → History → ℕ → ℕ → ℕ → Type 0
 IsAlteredIn h s n tile number =
@@ -149,6 +161,12 @@ FailingTileIsAltered = (batches : List Batch) (id : ℕ) (h s : History) (n tile
 abbrev pub TreeIsConsistent : Type 0
 TreeIsConsistent = (batches : List Batch) (id : ℕ) (h s : History) (n : ℕ) → IsAudit batches id h s n → HasTree h n
     → IsConsistent (first_granule (layout h) n) (λ level index. answers batches s (Node level index))
+
+-- A node that differs, of whatever history, has a child that is not the same, without exception.
+abbrev pub NodesAreConsistent : Type 0
+NodesAreConsistent = (batches : List Batch) (id : ℕ) (h s : History) (n level index : ℕ) → NotaryOf batches id h n
+    → answers batches s (Node (suc level) index) ≡ Differs
+    → (answers batches s (Node level (2 * index)) ≢ Same) ⊎ (answers batches s (Node level (2 * index + 1)) ≢ Same)
 
 -- Where the answers are the same up to a tile and differ from there on, the region begins there and nowhere else.
 abbrev pub StepIsRegion : Type 0

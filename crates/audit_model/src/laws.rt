@@ -1,7 +1,8 @@
 //! What the answers of a notary show, each law the contract of a function that does nothing.
 
 ghost use Rattle.audit_model.specs.Examples.{WorkedExamples};
-ghost use Rattle.audit_model.specs.Laws.{CandidatesAreExact, CandidatesAmongAreExact, FoundAreExact, ChecksAreFew, AnswersCompare, OthersAreAbsent, BatchesAreCounted, OtherHeaderIsAltered, SameChainIsClean, RegionHasAltered, CandidatesHaveAltered, DescentHasAltered, DescentIsAltered, HeaderIsShown, RegionBeginsAltered, FailingTileIsAltered, ChangedChainHasAltered, TreeIsConsistent, StepIsRegion, CandidatesAmongHaveAltered, FoundAscend, NotarizedIsSame, HeldIsSame};
+ghost use Rattle.audit_model.specs.Filing.{AddedStaysNotarized, FrontierStaysFiled, FrontierFilesSame, FilingBegins, FilingExtends, BatchesMayBeFiled};
+ghost use Rattle.audit_model.specs.Laws.{CandidatesAreExact, CandidatesAmongAreExact, FoundAreExact, ChecksAreFew, AnswersCompare, OthersAreAbsent, BatchesAreCounted, OtherHeaderIsAltered, SameChainIsClean, RegionHasAltered, CandidatesHaveAltered, DescentHasAltered, DescentIsAltered, HeaderIsShown, RegionBeginsAltered, FailingTileIsAltered, ChangedChainHasAltered, TreeIsConsistent, NodesAreConsistent, HeadersAreOneOrOther, RefusedHeaderIsOther, StepIsRegion, CandidatesAmongHaveAltered, FoundAscend, NotarizedIsSame, HeldIsSame};
 
 /// The candidates of a tile are the numbers that have every bit of the target.
 pub fn candidates_are_exact()
@@ -78,6 +79,16 @@ pub fn header_is_shown()
     ensures { HeaderIsShown }
 {}
 
+/// A file has the notarized header or another one.
+pub fn headers_are_one_or_other()
+    ensures { HeadersAreOneOrOther }
+{}
+
+/// A header whose answer differs is another one.
+pub fn refused_header_is_other()
+    ensures { RefusedHeaderIsOther }
+{}
+
 /// The region begins at an altered tile, unless two inputs clash.
 pub fn region_begins_altered()
     ensures { RegionBeginsAltered }
@@ -96,6 +107,11 @@ pub fn changed_chain_has_altered()
 /// A node that differs has a child that does.
 pub fn tree_is_consistent()
     ensures { TreeIsConsistent }
+{}
+
+/// A node that differs, of whatever history, has a child that is not the same.
+pub fn nodes_are_consistent()
+    ensures { NodesAreConsistent }
 {}
 
 /// Answers that change once show where the region begins.
@@ -121,4 +137,34 @@ pub fn notarized_is_same()
 /// Bytes that hold what is filed, as each image of a sound store, are answered the same for each planned name.
 pub fn held_is_same()
     ensures { HeldIsSame }
+{}
+
+/// A notarized history stays so with an item that is not before its last moment.
+pub fn added_stays_notarized()
+    ensures { AddedStaysNotarized }
+{}
+
+/// A frontier leaves what is filed.
+pub fn frontier_stays_filed()
+    ensures { FrontierStaysFiled }
+{}
+
+/// It leaves each batch.
+pub fn frontier_files_same()
+    ensures { FrontierFilesSame }
+{}
+
+/// With the header's batch alone no tile is sealed.
+pub fn filing_begins()
+    ensures { FilingBegins }
+{}
+
+/// With the batch of the next tile one tile more is sealed.
+pub fn filing_extends()
+    ensures { FilingExtends }
+{}
+
+/// Each batch may be filed: it has at most 4,096 seals, of names that a notary takes.
+pub fn batches_may_be_filed()
+    ensures { BatchesMayBeFiled }
 {}

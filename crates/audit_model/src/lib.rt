@@ -35,13 +35,15 @@
 //! | Law | Clause |
 //! |---|---|
 //! | a planned name is answered by comparing the two digests, every other name is absent, h itself is the same throughout; there are n + 1 batches; so each image of a sound store is answered the same | `answers_compare`, `others_are_absent`, `notarized_is_same`, `batches_are_counted`, `held_is_same` |
-//! | the header's answer is Same: the headers are equal, or a clash; under another header every sealed granule is altered | `header_is_shown`, `other_header_is_altered` |
+//! | the header's answer is Same: the headers are equal, or a clash; it differs: the file has another header; a file has the one or another; under another every sealed granule is altered | `header_is_shown`, `refused_header_is_other`, `headers_are_one_or_other`, `other_header_is_altered` |
 //! | the chain is the same at a tile's end: nothing is altered up to there, or a clash; it differs: some granule up to there is altered | `same_chain_is_clean`, `changed_chain_has_altered` |
 //! | the region has every altered granule and begins at an altered tile, or a clash; where the answers change once, it begins there | `region_has_altered`, `region_begins_altered`, `step_is_region` |
 //! | the candidates are the numbers that have every bit of the target; among sets of kappa members the target alone, all of them, or none | `candidates_are_exact`, `candidates_among_are_exact` |
 //! | an altered granule is a candidate, and among sets of as many members as are altered, or a clash; a tile that differs has an altered granule | `candidates_have_altered`, `candidates_among_have_altered`, `failing_tile_is_altered` |
-//! | an altered granule is found, or a clash; a found one is altered; below a node that differs a child differs | `descent_has_altered`, `descent_is_altered`, `tree_is_consistent` |
+//! | an altered granule is found, or a clash; a found one is altered; below a node that differs a child differs; of whatever history, a child is not the same | `descent_has_altered`, `descent_is_altered`, `tree_is_consistent`, `nodes_are_consistent` |
 //! | the list of leaves has exactly those found, ascends, and few nodes are asked for it | `found_are_exact`, `found_ascend`, `checks_are_few` |
+//! | a notarized history stays so with an item that is not before its last moment; a frontier of any moment leaves what is filed, and each batch | `added_stays_notarized`, `frontier_stays_filed`, `frontier_files_same` |
+//! | the header's batch begins what is filed, and the next tile's extends it; each batch may be filed | `filing_begins`, `filing_extends`, `batches_may_be_filed` |
 //! | examples worked by hand | `worked_examples` |
 //!
 //! Words on tiles go by a layout and never by a header, so that tiles may one day change their size.
@@ -53,10 +55,12 @@
 mod laws;
 
 pub use laws::{
-    answers_compare, batches_are_counted, candidates_among_are_exact,
-    candidates_among_have_altered, candidates_are_exact, candidates_have_altered,
-    changed_chain_has_altered, checks_are_few, descent_has_altered, descent_is_altered,
-    failing_tile_is_altered, found_are_exact, found_ascend, header_is_shown, held_is_same,
-    notarized_is_same, other_header_is_altered, others_are_absent, region_begins_altered,
+    added_stays_notarized, answers_compare, batches_are_counted, batches_may_be_filed,
+    candidates_among_are_exact, candidates_among_have_altered, candidates_are_exact,
+    candidates_have_altered, changed_chain_has_altered, checks_are_few, descent_has_altered,
+    descent_is_altered, failing_tile_is_altered, filing_begins, filing_extends, found_are_exact,
+    found_ascend, frontier_files_same, frontier_stays_filed, header_is_shown,
+    headers_are_one_or_other, held_is_same, nodes_are_consistent, notarized_is_same,
+    other_header_is_altered, others_are_absent, refused_header_is_other, region_begins_altered,
     region_has_altered, same_chain_is_clean, step_is_region, tree_is_consistent, worked_examples,
 };

@@ -55,7 +55,7 @@ module _ (id from moment : ℕ) (batches : List (List Seal)) where
     pub calls_left : filings id from all ≡ (filings id from (take i all) ++ file id (from + i) batch ∷ []) ++ filings id (from + length (take (i + 1) all)) (drop (i + 1) all)
     calls_left = ap (filings id from) (sym (take-append-drop (i + 1) all)) ∙ filings-append id from (take (i + 1) all) (drop (i + 1) all) ∙ ap (λ (cs : List Call). cs ++ filings id (from + length (take (i + 1) all)) (drop (i + 1) all)) calls_more
 
-    grows : (old mid new : Lists) → FilesAll id (take i all) old mid → Files id batch mid new → FilesAll id (take (i + 1) all) old new
+    pub grows : (old mid new : Lists) → FilesAll id (take i all) old mid → Files id batch mid new → FilesAll id (take (i + 1) all) old new
     grows old mid new front next = record {
       filed = next.filed ∙ ap (λ (l : List Batch). l ++ batch ∷ []) front.filed ∙ append_assoc (old.batches id) (take i all) (batch ∷ []) ∙ ap (λ (l : List Batch). old.batches id ++ l) (sym one_more);
       others = λ other apart. next.others other apart ∙ front.others other apart;

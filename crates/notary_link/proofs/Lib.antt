@@ -1,7 +1,9 @@
 mod Counted
 mod Entered
 mod FiledEach
+mod FiledInTurn
 mod FirstDigests
+pub mod Fitting
 pub mod Found
 pub mod Frame
 pub mod InAll

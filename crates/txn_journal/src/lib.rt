@@ -25,6 +25,7 @@
 //! | the payloads read, one by one, are those of the walk, and reading ends where the walk does | `value` of `advance` |
 //! | the place goes on by a record within the limits, also over a disk that tells nothing | `moves` |
 //! | after a fault the reader stands where it stood | `err` |
+//! | a store is read as what its bytes mean, and, also over a disk that tells nothing, its header and items have spellings that its records can hold | `value`, `fits` of `read_stored` |
 //! | the disk is only read, and a fault has its cause | `same`, `frame`, `cause` |
 //!
 //! `create` makes a file, and a `Journal` adds to it. Neither writes over an open gate: it is closed,

@@ -1,11 +1,15 @@
 //! Reading all that a store holds.
 
 ghost use Rattle.std.specs.Prelude.{◌≡◌, ◌++◌, ◌∷◌, [], Some, None, IfSome, IfOk, IfErr, OnOk, OnErr};
-ghost use Rattle.std.specs.List.{filter_map};
+ghost use Rattle.std.specs.List.{All, filter_map};
 ghost use Rattle.outside_words.specs.Faults.{HasCause};
 ghost use Rattle.disk_words.specs.Disk.{Unchanged, GoesOn};
+ghost use Rattle.byte_grammar.specs.Gated.{FitsRecord};
 ghost use Rattle.tuple_bytes.specs.Items.{item_of};
-ghost use Rattle.history_model.specs.Stored.{store_shape, stored, stored_under};
+ghost use Rattle.tuple_bytes.specs.Spelling.{FitsHeader};
+ghost use Rattle.history_model.specs.History.{history};
+ghost use Rattle.history_model.specs.Stored.{store_shape, stored, stored_under, IsStorable};
+ghost use Rattle.history_model.specs.StoredHistory.{IsHistory};
 ghost use Rattle.txn_journal.specs.declared.fail.JournalFail.TheVariants.{DiskFault};
 ghost use Rattle.txn_journal.specs.Reading.{left, IsSeenIn};
 ghost use Rattle.txn_journal.specs.Opening.{IsOfDisk};
@@ -19,6 +23,7 @@ use tuple_bytes::{Header, Items, decode_header, decode_item};
 /// The header of a store, its items, and where they end. Bytes without a header store nothing.
 pub fn read_stored<D: Disk>(alloc: Global, disk: &mut D) -> Result<Stored, JournalFail>
     ensures value { IfSome (D.state disk.old).reads (λ bytes. IfOk result (λ s. s ≡ stored bytes)) }
+    ensures fits { IfOk result (λ s. IfSome s.header (λ header. IsHistory (history header s.items))) }
     ensures none_other { IfErr result IsOfDisk }
     ensures same { Unchanged (D.state disk.old) (D.state disk.new) }
     ensures frame { GoesOn (D.state disk.old) (D.state disk.new) }
@@ -51,8 +56,10 @@ fn read_items<D: Disk>(
     header: Header,
 ) -> Result<Stored, JournalFail>
     requires begins { records.place ≡ 64 }
+    requires fits { FitsHeader header }
     ensures value { IfSome (D.state disk.old).reads (λ bytes. IsSeenIn bytes records
         → IfOk result (λ s. s ≡ stored_under (Some header) (left store_shape 64 bytes))) }
+    ensures fits { IfOk result (λ s. IfSome s.header (λ h. IsHistory (history h s.items))) }
     ensures none_other { IfErr result IsOfDisk }
     ensures same { Unchanged (D.state disk.old) (D.state disk.new) }
     ensures frame { GoesOn (D.state disk.old) (D.state disk.new) }
@@ -71,7 +78,9 @@ fn read_items<D: Disk>(
 
 /// Adds the item that a payload spells.
 fn read_item(alloc: Global, items: &mut Items, payload: &[u8]) -> Result<(), AllocError>
+    requires fits { FitsRecord store_shape payload.now }
     ensures ok { OnOk result (items.new ≡ items.old ++ filter_map item_of (payload.now ∷ [])) }
+    ensures storable { OnOk result (All IsStorable items.old → All IsStorable items.new) }
 {
     match decode_item(alloc, payload)? {
         Some(item) => items.push(item),

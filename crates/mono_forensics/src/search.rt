@@ -1,0 +1,73 @@
+//! The search for the first bad tile, by halves.
+
+ghost use Rattle.std.specs.Prelude.{◌≤◌, ◌<◌, ◌+◌, IfOk, IfSome, length};
+ghost use Rattle.outside_words.specs.Faults.{HasCause};
+ghost use Rattle.outside_words.specs.Told.{WhereTold};
+ghost use Rattle.notary_link.specs.declared.fail.AskFail.TheVariants.{NotaryFault};
+ghost use Rattle.notary_link.specs.Notary.{Unchanged, GoesOn};
+ghost use Rattle.audit_model.specs.Tree.{digit_count};
+ghost use Rattle.mono_forensics.specs.Finds.{cums, Finds, Compares, IsFindFail};
+
+use notary_link::{Answer, AskFail, Name, Notary};
+
+/// The first bad tile, where the last one differs.
+///
+/// The tile before those that are still looked at is the same, and the last of them differs. So the
+/// one that is left at the end begins a region, whatever was answered of the others.
+pub fn first_bad<N: Notary>(
+    links: &[[u8; 32]],
+    notary: &mut N,
+    id: u64,
+) -> Result<Option<u32>, AskFail>
+    requires some { 1 ≤ length links.now }
+    requires few { length links.now ≤ 1048576 }
+    ensures value { WhereTold (N.state notary.old).lists (N.state notary.new).lists
+        (λ before after. Finds (cums before id links.now) (length links.now) result) }
+    ensures within { IfOk result (λ found. IfSome found (λ tile. tile < length links.now)) }
+    ensures only { IsFindFail (length links.now) result }
+    ensures same { Unchanged (N.state notary.old) (N.state notary.new) }
+    ensures asked { (N.state notary.new).asked
+        ≤ (N.state notary.old).asked + digit_count (length links.now) + 2 }
+    ensures frame { GoesOn (N.state notary.old) (N.state notary.new) }
+    ensures cause { HasCause NotaryFault (N.state notary.old).faults (N.state notary.new).faults result }
+{
+    let last = links.len() as u32 - 1;
+    if !differs(links, notary, id, last)? {
+        return Ok(None);
+    }
+    let mut low = 0;
+    let mut high = last;
+    while low < high {
+        let middle = low + (high - low) / 2;
+        if differs(links, notary, id, middle)? {
+            high = middle;
+        } else {
+            low = middle + 1;
+        }
+    }
+    Ok(Some(high))
+}
+
+// Whether the chain at the end of a tile is another one than was filed.
+fn differs<N: Notary>(
+    links: &[[u8; 32]],
+    notary: &mut N,
+    id: u64,
+    tile: u32,
+) -> Result<bool, AskFail>
+    requires within { tile < length links.now }
+    ensures value { WhereTold (N.state notary.old).lists (N.state notary.new).lists
+        (λ before after. Compares (cums before id links.now) tile result) }
+    ensures only { IsFindFail (length links.now) result }
+    ensures same { Unchanged (N.state notary.old) (N.state notary.new) }
+    ensures asked { (N.state notary.new).asked ≤ (N.state notary.old).asked + 1 }
+    ensures frame { GoesOn (N.state notary.old) (N.state notary.new) }
+    ensures cause { HasCause NotaryFault (N.state notary.old).faults (N.state notary.new).faults result }
+{
+    let name = Name::Cum { tile };
+    match notary.ask(id, name, &links[tile as usize])? {
+        Answer::Same => Ok(false),
+        Answer::Differs => Ok(true),
+        Answer::Absent => Err(AskFail::SealMissing { name }),
+    }
+}
