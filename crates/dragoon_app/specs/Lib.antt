@@ -6,5 +6,6 @@ pub mod Init
 pub mod Linked
 pub mod Running
 pub mod Ran
+pub mod Audited
 pub mod Carrying
 pub mod Top

@@ -3,6 +3,7 @@ use Rattle.std.specs.Prelude.{◌≡◌, ◌⊎◌, ℕ, List, Option, IfSome}
 use Rattle.outside_words.specs.Faults.{Rose}
 use Rattle.disk_words.specs.Disk as disks
 use Rattle.outside_io.specs.Sink.{State, IsOut, FrontIsOut}
+use Rattle.notary_link.specs.Notary as notaries
 use Rattle.outside_io.specs.Source as sources
 use Rattle.dragoon_app.specs.declared.status.Status.{Status}
 use Rattle.dragoon_app.specs.declared.status.Status.TheVariants as statuses
@@ -57,3 +58,7 @@ ReadCause s old new = s ≡ statuses.ReadFault → Rose old.faults new.faults
 -- a fault of the output is answered only where its count rose
 abbrev pub WriteCause : Status → State → State → Type 0
 WriteCause s old new = s ≡ statuses.WriteFault → Rose old.faults new.faults
+
+-- a fault of the notary is answered only where its count rose
+abbrev pub NotaryCause : Status → notaries.State → notaries.State → Type 0
+NotaryCause s old new = s ≡ statuses.NotaryFault → Rose old.faults new.faults

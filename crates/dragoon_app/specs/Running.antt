@@ -1,5 +1,5 @@
 -- What a script does, line by line.
-use Rattle.std.specs.Prelude.{ℕ, ◌+◌, min, Bool, true, false, ◌||◌, List, [], ◌∷◌, ◌++◌, fold, filter, not, map, codes, Result, Ok, Err}
+use Rattle.std.specs.Prelude.{ℕ, ◌+◌, min, Bool, true, false, ◌||◌, List, [], ◌∷◌, ◌++◌, fold, filter, not, map, codes, Some, Result, Ok, Err}
 use Rattle.history_model.specs.Stored.{stored}
 use Rattle.history_model.specs.History.{last_moment}
 use Rattle.tuple_bytes.specs.declared.header.Header.{Header}
@@ -10,9 +10,13 @@ use Rattle.stmt_text.specs.declared.line.Line.TheVariants as lines
 use Rattle.stmt_text.specs.declared.stmt.Stmt.{Stmt}
 use Rattle.stmt_text.specs.declared.stmt.Stmt.TheVariants as stmts
 use Rattle.stmt_text.specs.Lines.{answer, is_blank, without_return}
-use Rattle.session_core.specs.World.{World}
-use Rattle.session_core.specs.Steps.{Step, step}
-use Rattle.session_core.specs.Replies.{reply_text, is_refusal}
+use Rattle.notary_link.specs.declared.notary.NotaryLimits.{NotaryLimits}
+use Rattle.notary_link.specs.Notary.{Lists}
+use Rattle.session_core.specs.World as statements
+use Rattle.validator.specs.declared.verdict.Verdict.{Verdict}
+use Rattle.validator.specs.declared.fail.AuditFail.{AuditFail}
+use Rattle.drill_core.specs.World.{World}
+use Rattle.drill_core.specs.Steps.{Step, step, MayFind}
 use Rattle.dragoon_app.specs.declared.line_kind.LineKind.{LineKind}
 use Rattle.dragoon_app.specs.declared.line_kind.LineKind.TheVariants as kinds
 use Rattle.dragoon_app.specs.Numbers.{max_u64}
@@ -20,6 +24,8 @@ use Rattle.dragoon_app.specs.Numbers.{max_u64}
 -- where a run stands
 pub record Running : Type 0 where
   pub world : World
+  -- the store's first second
+  pub epoch : ℕ
   -- the moment of a scripted run
   pub moment : ℕ
   -- all replies so far
@@ -28,28 +34,36 @@ pub record Running : Type 0 where
   pub is_refused : Bool
 
 -- the world of a store's bytes behind this header
-abbrev pub world_of : Header → List ℕ → World
+abbrev pub world_of : Header → List ℕ → statements.World
 world_of header bytes = record { header = header; items = (stored bytes).items; end = (stored bytes).end }
 
--- before the first line: a scripted run begins at the last moment
-abbrev pub start : World → Running
-start w = record { world = w; moment = last_moment w.items; text = []; is_refused = false }
+-- before the first line, over a store and what a notary holds: a scripted run begins at the last moment
+abbrev pub start : statements.World → Lists → NotaryLimits → Running
+start store lists limits = record {
+  world = record { id = store.header.id; store = Some store; lists = lists; limits = limits };
+  epoch = store.header.epoch;
+  moment = last_moment store.items;
+  text = [];
+  is_refused = false;
+}
 
 -- ---- a line
 
--- a line, and the second that the clock gave for it; a scripted run asks no clock, and the second says nothing there
+-- A line, the second that the clock gave for it, and what was found where it is a validation. A scripted run asks no clock,
+-- and the second says nothing there; nor does what was found by another line.
 pub record Timed : Type 0 where
   pub line : List ℕ
   pub second : ℕ
+  pub found : Result Verdict AuditFail
 
 -- the clock seconds of a line
 abbrev pub seconds_of : Bool → Running → ℕ → ℕ
-seconds_of true r second = min (r.world.header.epoch + r.moment) max_u64
+seconds_of true r second = min (r.epoch + r.moment) max_u64
 seconds_of false r second = second
 
 -- something is replied, and the world stays
 abbrev pub replied : Running → List ℕ → Bool → Running
-replied r text refusal = record { world = r.world; moment = r.moment; text = r.text ++ text; is_refused = r.is_refused || refusal }
+replied r text refusal = record { world = r.world; epoch = r.epoch; moment = r.moment; text = r.text ++ text; is_refused = r.is_refused || refusal }
 
 abbrev pub refused_text : List ℕ → List ℕ
 refused_text name = codes "refused " ++ name ++ 10 ∷ []
@@ -59,27 +73,27 @@ refused_line r name = replied r (refused_text name) true
 
 -- after a step
 abbrev pub stepped : Running → Step → Running
-stepped r s = record { world = s.world; moment = r.moment; text = r.text ++ reply_text s.reply; is_refused = r.is_refused || is_refusal s.reply }
+stepped r s = record { world = s.world; epoch = r.epoch; moment = r.moment; text = r.text ++ s.text; is_refused = r.is_refused || s.is_refused }
 
 -- a moment is set where the run is scripted
 abbrev pub set_moment : Bool → Running → ℕ → Running
-set_moment true r moment = record { world = r.world; moment = moment; text = r.text ++ codes "ok\n"; is_refused = r.is_refused }
+set_moment true r moment = record { world = r.world; epoch = r.epoch; moment = moment; text = r.text ++ codes "ok\n"; is_refused = r.is_refused }
 set_moment false r moment = refused_line r (codes "NotScripted")
 
 -- what a statement outside sessions asks for
 abbrev pub stmt_kind : Stmt → LineKind
-stmt_kind (stmts.Create table columns) = kinds.OnTables
-stmt_kind (stmts.Insert table row) = kinds.OnTables
-stmt_kind (stmts.Update table row) = kinds.OnTables
-stmt_kind (stmts.Delete table key) = kinds.OnTables
-stmt_kind (stmts.Get table key moment) = kinds.OnTables
-stmt_kind (stmts.Scan table filter moment) = kinds.OnTables
-stmt_kind (stmts.History table key) = kinds.OnTables
+stmt_kind (stmts.Create table columns) = kinds.InWorld
+stmt_kind (stmts.Insert table row) = kinds.InWorld
+stmt_kind (stmts.Update table row) = kinds.InWorld
+stmt_kind (stmts.Delete table key) = kinds.InWorld
+stmt_kind (stmts.Get table key moment) = kinds.InWorld
+stmt_kind (stmts.Scan table filter moment) = kinds.InWorld
+stmt_kind (stmts.History table key) = kinds.InWorld
 stmt_kind stmts.Begin = kinds.Unbuilt
 stmt_kind stmts.Commit = kinds.Unbuilt
 stmt_kind stmts.Abort = kinds.Unbuilt
-stmt_kind stmts.Notarize = kinds.Unbuilt
-stmt_kind stmts.Validate = kinds.Unbuilt
+stmt_kind stmts.Notarize = kinds.InWorld
+stmt_kind stmts.Validate = kinds.InWorld
 stmt_kind (stmts.Analyse algorithm) = kinds.Unbuilt
 stmt_kind (stmts.Now moment) = kinds.SetsMoment moment
 
@@ -91,25 +105,37 @@ kind_of (lines.InSession n stmt) = kinds.Unbuilt
 kind_of (lines.Drill event) = kinds.Unbuilt
 
 -- a blank line is nothing, and what no layer carries out yet is no line
-abbrev pub said_by : LineKind → Bool → ℕ → Running → Line → Running
-said_by kinds.Blank scripted now r line = r
-said_by kinds.OnTables scripted now r line = stepped r (step r.world line now)
-said_by (kinds.SetsMoment moment) scripted now r line = set_moment scripted r moment
-said_by kinds.Unbuilt scripted now r line = refused_line r (codes "Syntax")
+abbrev pub said_by : LineKind → Bool → ℕ → Result Verdict AuditFail → Running → Line → Running
+said_by kinds.Blank scripted now found r line = r
+said_by kinds.InWorld scripted now found r line = stepped r (step r.world line now found)
+said_by (kinds.SetsMoment moment) scripted now found r line = set_moment scripted r moment
+said_by kinds.Unbuilt scripted now found r line = refused_line r (codes "Syntax")
 
-abbrev pub answered : Bool → ℕ → Running → Result Line ParseFail → Running
-answered scripted now r (Ok line) = said_by (kind_of line) scripted now r line
-answered scripted now r (Err fails.Syntax) = refused_line r (codes "Syntax")
-answered scripted now r (Err fails.NumberTooWide) = refused_line r (codes "NumberTooWide")
-answered scripted now r (Err fails.NoMemory) = r
+abbrev pub answered : Bool → ℕ → Result Verdict AuditFail → Running → Result Line ParseFail → Running
+answered scripted now found r (Ok line) = said_by (kind_of line) scripted now found r line
+answered scripted now found r (Err fails.Syntax) = refused_line r (codes "Syntax")
+answered scripted now found r (Err fails.NumberTooWide) = refused_line r (codes "NumberTooWide")
+answered scripted now found r (Err fails.NoMemory) = r
 
 -- a line is carried out
 unfoldable pub carry : Bool → Running → Timed → Running
-carry scripted r t = answered scripted (seconds_of scripted r t.second) r (answer t.line)
+carry scripted r t = answered scripted (seconds_of scripted r t.second) t.found r (answer t.line)
 
 -- lines, one after another
 abbrev pub carried : Bool → Running → List Timed → Running
 carried scripted r timed = fold (carry scripted) r timed
+
+-- ---- what validations find
+
+-- what a line that is read so may have found in this world
+abbrev pub MayFindBy : World → Result Line ParseFail → Result Verdict AuditFail → Type 0
+MayFindBy w (Ok line) found = MayFind w line found
+MayFindBy w (Err fail) found = Unit {0}
+
+-- each line's finding is one that its world allows
+abbrev pub AllMayFind : Bool → Running → List Timed → Type 0
+AllMayFind scripted r [] = Unit {0}
+AllMayFind scripted r (t ∷ timed) = MayFindBy r.world (answer t.line) t.found × AllMayFind scripted (carry scripted r t) timed
 
 -- the seconds of the lines that are not blank
 abbrev pub is_said : Timed → Bool

@@ -1,6 +1,9 @@
 -- What the words, the clock, the bytes of the store and the input define.
 use Rattle.std.specs.Prelude.{◌≡◌, ℕ, List, Option, Some, None, IfSome}
 use Rattle.disk_words.specs.Disk as disks
+use Rattle.outside_words.specs.Told.{WhereTold}
+use Rattle.notary_link.specs.Notary as notaries
+use Rattle.audit_model.specs.Sound.{IsSound}
 use Rattle.outside_io.specs.Sink as sinks
 use Rattle.outside_io.specs.Source as sources
 use Rattle.outside_io.specs.Clock as clocks
@@ -12,6 +15,7 @@ use Rattle.dragoon_app.specs.Outcome.{Outcome, AnswersFor, refused}
 use Rattle.dragoon_app.specs.Linked.{link_outcome}
 use Rattle.dragoon_app.specs.Init.{init_outcome, Inits, FitsStore}
 use Rattle.dragoon_app.specs.Ran.{RunsOn}
+use Rattle.dragoon_app.specs.Audited.{NotarizesOn, ValidatesOn}
 
 -- ---- what is written
 
@@ -21,12 +25,14 @@ pub record AnswersAt (define : ℕ → List ℕ → Outcome) (clock : clocks.Sta
   pub is_now : IfSome clock.answers (λ answers. now ≡ answers 0)
   pub answers : AnswersFor (define now) told result old new
 
--- By the command, at a second of the clock. What `run` writes its input defines too: `Leaves` says it.
+-- By the command, at a second of the clock. What the others write is defined by more than the store: `Leaves` says it.
 abbrev pub AnswersBy : Option Command → clocks.State → Option (List ℕ) → Status → sinks.State → sinks.State → Type 0
 AnswersBy None = AnswersAt (λ now bytes. refused statuses.Usage)
 AnswersBy (Some commands.Link) = AnswersAt (λ now bytes. link_outcome bytes)
 AnswersBy (Some (commands.Init s)) = AnswersAt (init_outcome s)
 AnswersBy (Some (commands.Run id scripted)) = λ clock told result old new. Unit {0}
+AnswersBy (Some (commands.Notarize id)) = λ clock told result old new. Unit {0}
+AnswersBy (Some (commands.Validate id)) = λ clock told result old new. Unit {0}
 
 -- ---- what is left
 
@@ -35,14 +41,39 @@ abbrev pub FitsCommand : Command → Type 0
 FitsCommand commands.Link = Unit {0}
 FitsCommand (commands.Init s) = FitsStore s
 FitsCommand (commands.Run id scripted) = Unit {0}
+FitsCommand (commands.Notarize id) = Unit {0}
+FitsCommand (commands.Validate id) = Unit {0}
 
--- the store, the clock and the input are as they were
-abbrev pub IsLeft : disks.State → disks.State → clocks.State → clocks.State → sources.State → sources.State → Type 0
-IsLeft old new clock ahead input left = disks.Unchanged old new × (ahead ≡ clock) × (left ≡ input)
+-- the store, the notary, the clock and the input are as they were
+abbrev pub IsLeft : disks.State → disks.State → notaries.State → notaries.State → clocks.State → clocks.State → sources.State → sources.State → Type 0
+IsLeft old new filed later clock ahead input left = disks.Unchanged old new × (later ≡ filed) × (ahead ≡ clock) × (left ≡ input)
 
--- the store, the clock and the input after the command: as they were, but for `init` and `run`
-abbrev pub Leaves : Option Command → Status → disks.State → disks.State → clocks.State → clocks.State → sources.State → sources.State → sinks.State → sinks.State → Type 0
-Leaves None result old new clock ahead input left out later = IsLeft old new clock ahead input left
-Leaves (Some commands.Link) result old new clock ahead input left out later = IsLeft old new clock ahead input left
-Leaves (Some (commands.Init s)) result old new clock ahead input left out later = Inits s result old new clock ahead out later × (left ≡ input)
-Leaves (Some (commands.Run id scripted)) result old new clock ahead input left out later = RunsOn scripted id result old new clock ahead input left out later
+-- the devices after the command: as they were, but for what it is there to change
+abbrev pub Leaves : Option Command → Status → disks.State → disks.State → notaries.State → notaries.State → clocks.State → clocks.State → sources.State → sources.State → sinks.State → sinks.State → Type 0
+Leaves None result old new filed later clock ahead input left out written = IsLeft old new filed later clock ahead input left
+Leaves (Some commands.Link) result old new filed later clock ahead input left out written = IsLeft old new filed later clock ahead input left
+Leaves (Some (commands.Init s)) result old new filed later clock ahead input left out written = Inits s result old new clock ahead out written × (later ≡ filed) × (left ≡ input)
+Leaves (Some (commands.Run id scripted)) result old new filed later clock ahead input left out written = RunsOn scripted id result old new filed later clock ahead input left out written
+Leaves (Some (commands.Notarize id)) result old new filed later clock ahead input left out written = NotarizesOn id result old new filed later clock ahead input left out written
+Leaves (Some (commands.Validate id)) result old new filed later clock ahead input left out written = ValidatesOn id result old new filed later clock ahead input left out written
+
+-- ---- sound stores
+
+-- the verdicts and refusals that tell of an alteration
+abbrev pub IsUnaltered : Status → Type 0
+IsUnaltered statuses.Altered = ⊥
+IsUnaltered statuses.Broken = ⊥
+IsUnaltered (statuses.SealMissing name) = ⊥
+IsUnaltered (statuses.OutOfTurn count) = ⊥
+IsUnaltered s = Unit {0}
+
+-- the id that a command speaks of, where it asks the notary
+abbrev pub audited_id : Option Command → Option ℕ
+audited_id (Some (commands.Notarize id)) = Some id
+audited_id (Some (commands.Validate id)) = Some id
+audited_id command = None
+
+-- Of a sound store on a settled disk no command says that it is altered.
+abbrev pub SoundIsUnaltered : Option Command → Status → disks.State → disks.State → notaries.State → notaries.State → Type 0
+SoundIsUnaltered command result old new filed later = IfSome (audited_id command) (λ id. WhereTold old.reads new.reads (λ before after. WhereTold filed.lists later.lists (λ lists later_lists.
+    disks.Only before old → IsSound old.is_image (lists.batches id) id → IsUnaltered result)))

@@ -12,7 +12,7 @@ use Rattle.dragoon_app.specs.Numbers.{number_of, max_u64}
 
 -- what a word begins with that names a device
 abbrev pub prefixes : List (List ℕ)
-prefixes = codes "store=" ∷ []
+prefixes = codes "store=" ∷ codes "notary=" ∷ []
 
 abbrev pub has_prefix : List ℕ → List ℕ → Bool
 has_prefix prefix word = starts_with nat_eq word prefix
@@ -75,6 +75,11 @@ abbrev pub run_of : List (List ℕ) → Option Command
 run_of [] = None
 run_of (id ∷ words) = new_run (number_of 0 max_u64 id) (scripted_of words)
 
+-- behind a command on the store of an id stands the id alone
+abbrev pub id_of : List (List ℕ) → Option ℕ
+id_of (id ∷ []) = number_of 0 max_u64 id
+id_of words = None
+
 -- the command that the words are
 abbrev pub command_of : List (List ℕ) → Option Command
 command_of [] = None
@@ -82,4 +87,6 @@ command_of (word ∷ words) =
     if bytes_eq word (codes "link") then link_of words
     else if bytes_eq word (codes "init") then init_of words
     else if bytes_eq word (codes "run") then run_of words
+    else if bytes_eq word (codes "notarize") then option_map commands.Notarize (id_of words)
+    else if bytes_eq word (codes "validate") then option_map commands.Validate (id_of words)
     else None

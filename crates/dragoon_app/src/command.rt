@@ -6,7 +6,7 @@ ghost use Rattle.byte_grammar.specs.Reading.{Gives};
 ghost use Rattle.dragoon_app.specs.Init.{FitsStore};
 ghost use Rattle.dragoon_app.specs.Top.{FitsCommand};
 ghost use Rattle.dragoon_app.specs.Words.{algorithms_of, new_store_of, link_of, init_of};
-ghost use Rattle.dragoon_app.specs.Words.{scripted_of, run_of, command_of};
+ghost use Rattle.dragoon_app.specs.Words.{scripted_of, run_of, id_of, command_of};
 
 use crate::number::number_of;
 use tuple_bytes::{MAX_EXPONENT, MAX_WIDTH};
@@ -38,6 +38,12 @@ pub enum Command {
 
     /// The lines of the input, over the store of this id.
     Run { id: u64, is_scripted: bool },
+
+    /// The tiles that have ended are filed with the notary.
+    Notarize { id: u64 },
+
+    /// The store is held against what was filed.
+    Validate { id: u64 },
 }
 
 /// The algorithms that a word names.
@@ -130,6 +136,16 @@ fn run_of(words: &[String]) -> Option<Command>
     Some(Command::Run { id, is_scripted })
 }
 
+/// The id that stands alone behind a command.
+fn id_of(words: &[String]) -> Option<u64>
+    ensures value { result ≡ id_of (map string_bytes words.now) }
+{
+    match words {
+        [id] => number_of(id.as_bytes(), 0, u64::MAX),
+        _ => None,
+    }
+}
+
 /// The command that the words are, if they are one.
 pub fn command_of(words: &[String]) -> Option<Command>
     ensures value { result ≡ command_of (map string_bytes words.now) }
@@ -142,6 +158,12 @@ pub fn command_of(words: &[String]) -> Option<Command>
         init_of(words)
     } else if word.as_bytes() == b"run".as_slice() {
         run_of(words)
+    } else if word.as_bytes() == b"notarize".as_slice() {
+        let id = id_of(words)?;
+        Some(Command::Notarize { id })
+    } else if word.as_bytes() == b"validate".as_slice() {
+        let id = id_of(words)?;
+        Some(Command::Validate { id })
     } else {
         None
     }
