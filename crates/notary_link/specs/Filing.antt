@@ -58,7 +58,7 @@ pub record FilesFitting (id : ℕ) (limits : NotaryLimits) (batches : List Batch
   pub left : fitting (room_in limits old) batches < length batches
   pub filed : FilesAll id (take (fitting (room_in limits old) batches) batches) old new
 
--- so many were filed, all of which fit but for the one that failed
+-- so many were filed, and there was room for all but perhaps the last, which failed
 pub record FilesSome (id : ℕ) (limits : NotaryLimits) (batches : List Batch) (old new : Lists) : Type 0 where
   pub done : ℕ
   pub some : done ≤ length batches
