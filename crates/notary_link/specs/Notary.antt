@@ -135,6 +135,12 @@ IsRefusal call limits Full lists = IsInTurn call lists × (HasRoom call limits l
 IsRefusal call limits Failed lists = ⊥
 IsRefusal call limits NoMemory lists = ⊥
 
+-- a refusal has its cause in the lists, also where their telling ends in the call
+abbrev pub HasReason : Call → NotaryLimits → Result (Unit {0}) NotaryFail → Lists → Type 0
+HasReason call limits (Err (OutOfTurn count)) lists = IsRefusal call limits (OutOfTurn count) lists
+HasReason call limits (Err Full) lists = IsRefusal call limits Full lists
+HasReason call limits result lists = Unit {0}
+
 -- what a changing call does to the lists, by its answer
 abbrev pub Changes : Call → NotaryLimits → Result (Unit {0}) NotaryFail → Lists → Lists → Type 0
 Changes call limits (Ok _) old new = IsInTurn call old × HasRoom call limits old × Adds call old new
@@ -153,6 +159,7 @@ Traces call result old new = new ≡ (call, result) ∷ old
 -- a changing call was made, and answered so
 pub record Answers (call : Call) (result : Result (Unit {0}) NotaryFail) (old new : State) : Type 0 where
   pub lists : WhereTold old.lists new.lists (Changes call old.limits result)
+  pub reason : IfSome old.lists (HasReason call old.limits result)
   pub trace : WhereTold old.trace new.trace (Traces call result)
   pub asked : new.asked ≡ old.asked
 
