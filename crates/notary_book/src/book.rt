@@ -6,9 +6,8 @@ use crate::adding::add_payload;
 use crate::kept::Kept;
 use crate::opening::open_book;
 use crate::shape::BookShape;
-use crate::steady::SteadyDisk;
 use crate::writing::{spell_batch, spell_mark};
-use disk_model::DiskFail;
+use disk_model::{Disk, DiskFail};
 use notary_link::{Answer, Mark, Name, Notary, NotaryFail, Seal, compare};
 use std::alloc::Global;
 use txn_journal::{Journal, JournalFail};
@@ -16,7 +15,7 @@ use txn_journal::{Journal, JournalFail};
 /// A notary that keeps its book in a file over a disk. It reads the file at its first call, and again
 /// at the first call after one that answered `Failed` or `NoMemory`.
 #[derive(Drop)]
-pub struct Book<D: SteadyDisk> {
+pub struct Book<D: Disk> {
     alloc: Global,
     disk: D,
     kept: Option<Kept>,
@@ -28,7 +27,7 @@ pub struct Book<D: SteadyDisk> {
     ghost opens: { OpenOf kept },
 }
 
-impl<D: SteadyDisk> Book<D> {
+impl<D: Disk> Book<D> {
     ghost use Rattle.std.specs.Prelude.{◌≡◌, ◌≤◌, ◌+◌, ◌∷◌, [], false, None, Some, IsSome, IfOk, OnOk};
     ghost use Rattle.outside_words.specs.Faults.{HasCause};
     ghost use Rattle.outside_words.specs.Told.{WhereTold};
@@ -206,7 +205,7 @@ impl<D: SteadyDisk> Book<D> {
     }
 }
 
-impl<D: SteadyDisk> Notary for Book<D> {
+impl<D: Disk> Notary for Book<D> {
     ghost use Rattle.std.proofs.Common.{lit≤};
     ghost use Rattle.std.specs.Prelude.{◌+◌, OnOk};
     ghost use Rattle.outside_words.specs.Faults.{HasCause};

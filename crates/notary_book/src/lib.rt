@@ -27,9 +27,8 @@
 //! | a book has no trace and no plan, and its faults are those of its disk and the readings that found no book | `fresh` of `new` |
 //!
 //! A book syncs its disk before it reads, and clears a free device before it makes a file there, so that
-//! a crash at any moment leaves the old lists, with the batch or mark in flight or without. It needs a
-//! disk of which reads give the same after a sync that failed ([`SteadyDisk`]): a call that asks may have
-//! to sync, and changes nothing.
+//! a crash at any moment leaves the old lists, with the batch or mark in flight or without. A call that
+//! asks may have to sync, and changes nothing: a sync leaves what reads give, whatever it answers.
 //!
 //! A look-up takes the logarithm of the ids and of the names of one id.
 //!
@@ -54,12 +53,10 @@ mod reading;
 mod replay;
 mod shape;
 mod skipping;
-mod steady;
 mod writing;
 
 pub use book::Book;
 pub use shape::BookShape;
-pub use steady::SteadyDisk;
 
 #[cfg(test)]
 mod tests;

@@ -13,7 +13,6 @@ use crate::kept::Kept;
 use crate::pages::Pages;
 use crate::replay::read_pages;
 use crate::shape::BookShape;
-use crate::steady::SteadyDisk;
 use disk_model::{Disk, DiskFail};
 use std::alloc::Global;
 use txn_journal::{JournalFail, open_journal};
@@ -23,19 +22,16 @@ const OPEN: u8 = 0xA7;
 
 /// Syncs, so that what is read is the only image, and reads. Nothing comes back where the bytes are no
 /// book and no device on which one may be made.
-pub(crate) fn open_book<D: SteadyDisk>(
-    alloc: Global,
-    disk: &mut D,
-) -> Result<Option<Kept>, DiskFail>
+pub(crate) fn open_book<D: Disk>(alloc: Global, disk: &mut D) -> Result<Option<Kept>, DiskFail>
     ensures value { IfOk result (IsReadFrom (D.state disk.new).reads) }
     ensures settled { OnOk result (IsSettled (D.state disk.new)) }
-    ensures steady { (D.state disk.new).reads ≡ (D.state disk.old).reads }
+    ensures reads { (D.state disk.new).reads ≡ (D.state disk.old).reads }
     ensures told { WhereTold (D.state disk.old).reads (D.state disk.new).reads
         (LeavesNone (D.state disk.old) (D.state disk.new)) }
     ensures frame { GoesOn (D.state disk.old) (D.state disk.new) }
     ensures cause { HasCause Failed (D.state disk.old).faults (D.state disk.new).faults result }
 {
-    disk.sync_steadily()?;
+    disk.sync()?;
     read_book(alloc, disk)
 }
 

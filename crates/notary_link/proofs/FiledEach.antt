@@ -1,11 +1,11 @@
 -- One batch more of several, or one that was not filed.
-use Rattle.std.proofs.Common.{◌≡◌, ℕ, ◌+◌, ◌<◌, ◌≤◌, List, [], ◌∷◌, ◌++◌, length, take, drop, get_or, Option, Some, Ok, Err, refl, sym, ap, subst, ◌∙◌, arith, append_assoc}
+use Rattle.std.proofs.Common.{◌≡◌, ℕ, ◌+◌, ◌<◌, ◌≤◌, List, [], ◌∷◌, ◌++◌, length, take, drop, get_or, Some, Ok, Err, refl, sym, ap, subst, ◌∙◌, arith, append_assoc}
 use Rattle.std.specs.List.{slice_get}
 use Rattle.std.specs.Option.{option_map}
-use Rattle.std.proofs.lemmas.List.{append-nil, take_more, take_all, take-append-drop, length-map, get_or-map, length-take}
+use Rattle.std.proofs.lemmas.List.{take_more, take_all, take-append-drop, length-map, get_or-map, length-take}
 use Rattle.std.proofs.lemmas.Option.{slice_get-map, slice_get_read}
 use Rattle.outside_words.specs.Told.{WhereTold}
-use Rattle.outside_words.proofs.Told.{told_while, told_same}
+use Rattle.outside_words.proofs.Told.{told_while}
 use Rattle.notary_link.specs.declared.fail.NotaryFail.{NotaryFail}
 use Rattle.notary_link.specs.declared.notary.NotaryLimits.{NotaryLimits}
 use Rattle.notary_link.specs.declared.seal.Seal.{Seal}
@@ -20,11 +20,6 @@ use Rattle.notary_link.proofs.Runs.{made_one, made_then, made_less}
 filings-append : (id index : ℕ) (xs ys : List Batch) → filings id index (xs ++ ys) ≡ filings id index xs ++ filings id (index + length xs) ys
 filings-append id index [] ys = let e : index + 0 ≡ index = omega arith in rw e refl
 filings-append id index (x ∷ xs) ys = ap (λ (cs : List Call). file id index x ∷ cs) (filings-append id (index + 1) xs ys ∙ (let e : index + 1 + length xs ≡ index + length (x ∷ xs) = omega arith in ap (λ (n : ℕ). filings id (index + 1) xs ++ filings id n ys) e))
-
--- ---- No batch yet
-
-pub none_yet : (id : ℕ) (o : Option Lists) → WhereTold o o (FilesAll id [])
-none_yet id o = told_same o o (FilesAll id []) refl (λ lists. record { filed = sym (append-nil (lists.batches id)); others = λ other apart. refl; marks = λ any. refl })
 
 module _ (id from moment : ℕ) (batches : List (List Seal)) where
   abbrev all : List Batch
@@ -63,9 +58,6 @@ module _ (id from moment : ℕ) (batches : List (List Seal)) where
     }
 
     module _ (old mid new : State) (on : GoesOn old mid) (further : GoesOn mid new) where
-      pub filed_more : WhereTold old.lists mid.lists (FilesAll id (take i all)) → Answers (file id (from + i) batch) (Ok tt) mid new → WhereTold old.lists new.lists (FilesAll id (take (i + 1) all))
-      filed_more so_far next = told_while old.lists mid.lists new.lists (FilesAll id (take i all)) (Changes (file id (from + i) batch) mid.limits (Ok tt)) (FilesAll id (take (i + 1) all)) further.told.untold so_far next.lists (λ o m n front changes. grows o m n front changes.2)
-
       pub calls_on : WhereTold old.trace mid.trace (MakesCalls (filings id from (take i all)) (Ok tt)) → Answers (file id (from + i) batch) (Ok tt) mid new → WhereTold old.trace new.trace (MakesCalls (filings id from (take (i + 1) all)) (Ok tt))
       calls_on so_far next = rw calls_more (made_then (filings id from (take i all)) (file id (from + i) batch ∷ []) (Ok tt) old mid new on so_far (made_one (file id (from + i) batch) (Ok tt) mid new next))
 

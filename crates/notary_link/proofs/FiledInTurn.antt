@@ -11,7 +11,7 @@ use Rattle.notary_link.specs.declared.notary.NotaryLimits.{NotaryLimits}
 use Rattle.notary_link.specs.declared.seal.Seal.{Seal}
 use Rattle.notary_link.specs.Batches.{Batch, IsBatch}
 use Rattle.notary_link.specs.Filing.{planned, FilesAll, fitting, room_in, FilesInTurn, FilesSome}
-use Rattle.notary_link.specs.Notary.{file, Lists, State, batch_of, seals_of, seals_in_all, Keeps, Files, Changes, Answers, GoesOn}
+use Rattle.notary_link.specs.Notary.{file, Lists, State, batch_of, seals_of, seals_in_all, Keeps, Files, AddsWithin, Changes, Answers, GoesOn}
 use Rattle.notary_link.proofs.Fitting.{fitting_few, fitting_most, fitting_fits}
 use Rattle.notary_link.proofs.FiledEach.{one_more, grows}
 use Rattle.notary_link.proofs.Sums.{more_below}
@@ -19,11 +19,14 @@ use Rattle.notary_link.proofs.Sums.{more_below}
 -- ---- Any batches
 
 -- so many of the batches were filed, and had room
-abbrev pub Fit : ℕ → NotaryLimits → ℕ → List Batch → Lists → Lists → Type 0
-Fit id limits i batches old new = FilesAll id (take i batches) old new × (seals_of (take i batches) ≤ room_in limits old)
+abbrev pub FilesFront : ℕ → NotaryLimits → ℕ → List Batch → Lists → Lists → Type 0
+FilesFront id limits i batches old new = FilesAll id (take i batches) old new × (seals_of (take i batches) ≤ room_in limits old)
 
-pub none_fit : (id : ℕ) (limits : NotaryLimits) (batches : List Batch) (o : Option Lists) → WhereTold o o (Fit id limits 0 batches)
-none_fit id limits batches o = told_same o o (Fit id limits 0 batches) refl (λ lists. (record { filed = sym (append-nil (lists.batches id)); others = λ other apart. refl; marks = λ any. refl }, omega arith))
+pub front_filed : (id : ℕ) (limits : NotaryLimits) (i : ℕ) (batches : List Batch) (o n : Option Lists) → WhereTold o n (FilesFront id limits i batches) → WhereTold o n (FilesAll id (take i batches))
+front_filed id limits i batches o n front = told_map o n (FilesFront id limits i batches) (FilesAll id (take i batches)) front (λ b a both. both.0)
+
+pub none_filed : (id : ℕ) (limits : NotaryLimits) (batches : List Batch) (o : Option Lists) → WhereTold o o (FilesFront id limits 0 batches)
+none_filed id limits batches o = told_same o o (FilesFront id limits 0 batches) refl (λ lists. (record { filed = sym (append-nil (lists.batches id)); others = λ other apart. refl; marks = λ any. refl }, omega arith))
 
 -- what is to be shown, where it is told
 abbrev pub InTurn : ℕ → ℕ → NotaryLimits → List Batch → Result (Unit {0}) NotaryFail → Lists → Lists → Type 0
@@ -57,8 +60,8 @@ module _ (id from moment : ℕ) (batches : List (List Seal)) where
         let same : take (length all) all ≡ take i all = take_all (length all) all (omega arith) ∙ sym every in
         omega (arith, fitting_few (room_in limits old) all, fitting_most (room_in limits old) (length all) all (omega arith) (subst (λ (l : List Batch). seals_of l ≤ room_in limits old) (sym same) fit))
 
-    pub all_in_turn : (o n : Option Lists) → WhereTold o n (Fit id limits i all) → WhereTold o n (InTurn id from limits all (Ok tt))
-    all_in_turn o n so_far = told_map o n (Fit id limits i all) (InTurn id from limits all (Ok tt)) so_far (λ b a front turn. record { fit = whole b front.1; filed = subst (λ (l : List Batch). FilesAll id l b a) every front.0 })
+    pub all_in_turn : (o n : Option Lists) → WhereTold o n (FilesFront id limits i all) → WhereTold o n (InTurn id from limits all (Ok tt))
+    all_in_turn o n so_far = told_map o n (FilesFront id limits i all) (InTurn id from limits all (Ok tt)) so_far (λ b a front turn. record { fit = whole b front.1; filed = subst (λ (l : List Batch). FilesAll id l b a) every front.0 })
 
   module _ (i : ℕ) (seals : List Seal) (within : i < length batches) (is : seals ≡ get_or batches i seals) (small : id < 2 ^ 64) where
     abbrev batch : Batch
@@ -72,7 +75,7 @@ module _ (id from moment : ℕ) (batches : List (List Seal)) where
 
     module _ (limits : NotaryLimits) (old mid new : Lists) (front : FilesAll id (take i all) old mid) where
       -- one more had room
-      room_left : seals_in_all mid + length seals ≤ limits.seals → Files id batch mid new → Fit id limits (i + 1) all old new
+      room_left : seals_in_all mid + length seals ≤ limits.seals → Files id batch mid new → FilesFront id limits (i + 1) all old new
       room_left room files = (grows id from moment batches i seals within is old mid new front files, omega (arith, room, seals_more, seals_after id (take i all) old mid small front))
 
       module _ (some : 1 ≤ length seals) (fit : seals_of (take i all) ≤ room_in limits old) where
@@ -87,12 +90,12 @@ module _ (id from moment : ℕ) (batches : List (List Seal)) where
             by (inr le) = omega (arith, le, enough)
 
         -- one that failed is there or isn't
-        some_filed : Files id batch mid new ⊎ Keeps mid new → FilesSome id limits all old new
-        some_filed (inl files) = record {
+        some_filed : AddsWithin (file id (from + i) batch) limits mid new ⊎ Keeps mid new → FilesSome id limits all old new
+        some_filed (inl adds) = let more = room_left adds.1 adds.2 in record {
           done = i + 1;
           some = omega (arith, short);
-          fit = omega (arith, enough);
-          filed = grows id from moment batches i seals within is old mid new front files;
+          fit = fitting_most (room_in limits old) (i + 1) all (omega (arith, short)) more.1;
+          filed = more.0;
         }
         some_filed (inr keeps) = record {
           done = i;
@@ -113,9 +116,9 @@ module _ (id from moment : ℕ) (batches : List (List Seal)) where
         stopped Failed change turn = some_filed change
         stopped NoMemory change turn = some_filed change
 
-    module _ (old mid new : State) (on : GoesOn old mid) (further : GoesOn mid new) (so_far : WhereTold old.lists mid.lists (Fit id old.limits i all)) where
-      pub fit_more : Answers (file id (from + i) batch) (Ok tt) mid new → WhereTold old.lists new.lists (Fit id old.limits (i + 1) all)
-      fit_more next = told_while old.lists mid.lists new.lists (Fit id old.limits i all) (Changes (file id (from + i) batch) mid.limits (Ok tt)) (Fit id old.limits (i + 1) all) further.told.untold so_far next.lists (λ o m n front changes. let more = subst (λ (limits : NotaryLimits). Changes (file id (from + i) batch) limits (Ok tt) m n) on.limits changes in room_left old.limits o m n front.0 more.1 more.2)
+    module _ (old mid new : State) (on : GoesOn old mid) (further : GoesOn mid new) (so_far : WhereTold old.lists mid.lists (FilesFront id old.limits i all)) where
+      pub front_more : Answers (file id (from + i) batch) (Ok tt) mid new → WhereTold old.lists new.lists (FilesFront id old.limits (i + 1) all)
+      front_more next = told_while old.lists mid.lists new.lists (FilesFront id old.limits i all) (Changes (file id (from + i) batch) mid.limits (Ok tt)) (FilesFront id old.limits (i + 1) all) further.told.untold so_far next.lists (λ o m n front changes. let more = subst (λ (limits : NotaryLimits). Changes (file id (from + i) batch) limits (Ok tt) m n) on.limits changes in room_left old.limits o m n front.0 more.1 more.2)
 
       pub stopped_in_turn : IsBatch seals → (e : NotaryFail) → Answers (file id (from + i) batch) (Err e) mid new → WhereTold old.lists new.lists (InTurn id from old.limits all (Err e))
-      stopped_in_turn is_batch e next = told_while old.lists mid.lists new.lists (Fit id old.limits i all) (Changes (file id (from + i) batch) mid.limits (Err e)) (InTurn id from old.limits all (Err e)) further.told.untold so_far next.lists (λ o m n front changes. stopped old.limits o m n front.0 is_batch.some front.1 e (subst (λ (limits : NotaryLimits). Changes (file id (from + i) batch) limits (Err e) m n) on.limits changes))
+      stopped_in_turn is_batch e next = told_while old.lists mid.lists new.lists (FilesFront id old.limits i all) (Changes (file id (from + i) batch) mid.limits (Err e)) (InTurn id from old.limits all (Err e)) further.told.untold so_far next.lists (λ o m n front changes. stopped old.limits o m n front.0 is_batch.some front.1 e (subst (λ (limits : NotaryLimits). Changes (file id (from + i) batch) limits (Err e) m n) on.limits changes))

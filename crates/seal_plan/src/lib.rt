@@ -16,7 +16,7 @@
 //! |---|---|
 //! | in contracts a plan is a history and a number of tiles, those that it was made of | `new`: `value` |
 //! | it answers exactly the digest of a planned name, and none for another | `digest`: `value`, `planned` |
-//! | the batches are the planned seals in their order | `batch`: `value` |
+//! | the batches are the planned seals in their order, and each may be filed | `batch`: `value`, `fileable` |
 //! | each transaction is hashed at most twice, once for its link and once for its granule | `new`: `steps` |
 //! | `digest` and the readers take no memory | they answer no want of it |
 //!

@@ -2,6 +2,7 @@
 
 ghost use Rattle.std.specs.Prelude.{◌≡◌, ◌≤◌, ◌<◌, ◌+◌, ◌++◌, ◌∷◌, [], true, if◌then◌else◌, IfOk, OnOk, map};
 ghost use Rattle.std.specs.List.{Contains};
+ghost use Rattle.notary_link.specs.Batches.{IsBatch};
 ghost use Rattle.digest_model.specs.Layout.{layout, first_granule, max_granules, has_tile_chains, has_tree};
 ghost use Rattle.audit_model.specs.Names.{planned, tile_names, node_names, nodes_ending_at, seal, batch};
 ghost use Rattle.seal_plan.specs.Nodes.{node_at_level};
@@ -139,6 +140,7 @@ impl Plan {
     pub fn batch(&self, alloc: Global, index: u32) -> Result<Seals, AllocError>
         requires { index ≤ self.now.tiles }
         ensures value { IfOk result (λ seals. seals ≡ batch self.now.history index) }
+        ensures fileable { IfOk result IsBatch }
     {
         let _ = &self.header;
         if index == 0 {

@@ -1,9 +1,10 @@
-use Rattle.std.proofs.Common.{◌≡◌, ℕ, ◌+◌, ◌-◌, ◌^◌, ◌<◌, ◌≤◌, length}
+use Rattle.std.proofs.Common.{◌+◌, ◌-◌, ◌<◌, ◌≤◌, length}
 use Rattle.outside_words.specs.Told.{WhereTold}
 use Rattle.notary_link.specs.Notary.{Unchanged, GoesOn}
 use Rattle.audit_model.specs.Tree.{digit_count}
 use Rattle.mono_forensics.specs.Finds.{cums}
 use Rattle.mono_forensics.proofs.Between.{AreBetween}
+use Rattle.mono_forensics.proofs.Halving.{HasQuestions}
 use Rattle.mono_forensics.proofs.search.first_bad.Given as goal
 
 abbrev pub invariant-loop-low : goal.invariant-loop-low
@@ -12,7 +13,7 @@ invariant-loop-low g l = let S = g.N.Notary.state in record {
   within : l.high < length l.links;
   told : WhereTold (S l.fn.notary).lists (S l.notary).lists (λ before after. AreBetween (cums before l.id l.links) (length l.links - 1) l.low l.high);
   same : Unchanged (S l.fn.notary) (S l.notary);
-  few : (left : ℕ) × (l.high - l.low < 2 ^ left) × ((S l.notary).asked + left ≤ (S l.fn.notary).asked + 1 + digit_count (length l.links));
+  few : HasQuestions (l.high - l.low) (S l.notary).asked ((S l.fn.notary).asked + digit_count (length l.links) + 1);
   frame : GoesOn (S l.fn.notary) (S l.notary);
 }
 
