@@ -2,13 +2,16 @@
 #![tactic(auto)]
 
 mod fail;
+mod finding;
+mod marking;
 mod notarizing;
 mod printing;
+mod tiles;
 mod validating;
 mod verdict;
 
 pub use fail::AuditFail;
 pub use notarizing::notarize;
-pub use printing::{put_refusal, put_verdict};
+pub use printing::{put_name, put_refusal, put_verdict};
 pub use validating::validate;
 pub use verdict::Verdict;
