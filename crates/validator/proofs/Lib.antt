@@ -1,0 +1,5 @@
+mod Answered
+mod Searched
+mod Within
+mod Validated
+pub mod SomethingFound
