@@ -14,6 +14,7 @@ use Rattle.notary_link.specs.Batches.{Batch, answer}
 use Rattle.notary_link.specs.Notary.{Lists}
 use Rattle.audit_model.specs.Mono.{BeginsRegion, IsFirstBad}
 use Rattle.audit_model.specs.Names.{digest}
+use Rattle.seal_plan.specs.Plan.{Planned, planned_of}
 use Rattle.mono_forensics.specs.Finds.{Finds, IsFindFail, cums as link_answers}
 use Rattle.validator.specs.declared.verdict.Verdict.{Verdict}
 use Rattle.validator.specs.declared.verdict.Verdict.TheVariants as verdicts
@@ -45,6 +46,10 @@ abbrev pub found_of : ℕ → Result (Option ℕ) AskFail → Result Verdict Aud
 found_of n (Ok None) = Ok (verdicts.Clean n)
 found_of n (Ok (Some tile)) = Ok (verdicts.Altered n tile)
 found_of n (Err fail) = Err (of_asking fail)
+
+-- the links of a plan
+pub links_are : (h : History) (n : ℕ) (plan : Planned) (links : List (List ℕ)) → links ≡ map (cum plan.history) (range_with_len 0 plan.tiles) → plan ≡ planned_of h n → links ≡ map (cum h) (range_with_len 0 n)
+links_are h n plan links are is = are ∙ ap (λ (p : Planned). map (cum p.history) (range_with_len 0 p.tiles)) is
 
 digest_is : (h : History) (tile : ℕ) → digest h (names.Cum tile) ≡ cum h tile
 unfolding digest

@@ -26,7 +26,7 @@ module _ (chain : ℕ → Answer) (last : ℕ) (ends : chain last ≡ Differs) w
       by : (a : Answer) → chain tile ≡ a → (chain tile ≡ Differs → (found : Result Verdict AuditFail) × IsFoundBy chain (suc last) found) → (found : Result Verdict AuditFail) × IsFoundBy chain (suc last) found
       by Same is lower = (Ok (verdicts.Altered (suc last) (suc tile)), (refl, (ends, record { within = within; differs = differs; before = inr (let e : suc tile - 1 ≡ tile = omega arith in rw e is) })))
       by Differs is lower = lower is
-      by Absent is lower = (Err (fails.SealMissing (names.Cum tile)), (tile, (less, (refl, is))))
+      by Absent is lower = (Err (fails.SealMissing (names.Cum tile)), (tile, less, refl, is))
 
 by_chain : (chain : ℕ → Answer) (n : ℕ) → (found : Result Verdict AuditFail) × IsFoundBy chain n found
 by_chain chain zero = (Ok (verdicts.Clean 0), (refl, refl))
@@ -38,7 +38,7 @@ by_chain chain (suc last) = by (chain last) refl
     by : (a : Answer) → chain last ≡ a → (found : Result Verdict AuditFail) × IsFoundBy chain (suc last) found
     by Same is = (Ok (verdicts.Clean (suc last)), (refl, is))
     by Differs is = below chain last is last within is
-    by Absent is = (Err (fails.SealMissing (names.Cum last)), (last, (within, (refl, is))))
+    by Absent is = (Err (fails.SealMissing (names.Cum last)), (last, within, refl, is))
 
 at_most : (b : Bool) (batches : List Batch) (n : ℕ) (s : History) → (found : Result Verdict AuditFail) × IsFoundWithin b batches n s found
 at_most true batches n s = by_chain (cums batches s) n

@@ -1,6 +1,6 @@
 //! Filing the digests of a store with a notary, and holding the store against them later.
 //!
-//! [`validate`] reads the store once and hashes each transaction at most twice. Then it asks for the
+//! [`validate`] reads the store once, and its plan hashes each transaction at most twice. It asks for the
 //! header, and searches the chain by halves for the first bad tile.
 //!
 //! | Found | Where |
