@@ -44,13 +44,13 @@ module _ (id now : ℕ) (limits : NotaryLimits) (s : Stored) where
     not_marked_before None is = is
     not_marked_before (Some mark) is = (λ room. is.0 (room_behind mark room), keeps_before is.1)
 
-    may_before : (mark : Option Mark) → MayBeMarked mark id mid later → MayBeMarked mark id old later
+    may_before : (mark : Option Mark) → MayBeMarked mark id limits mid later → MayBeMarked mark id limits old later
     may_before None is = keeps_before is
-    may_before (Some mark) (inl notes) = inl (notes_before mark notes)
+    may_before (Some mark) (inl adds) = inl (adds.0, room_before mark adds.1, notes_before mark adds.2)
     may_before (Some mark) (inr same) = inr (keeps_before same)
 
-    gave_up_before : Keeps mid later ⊎ AfterVerdict id (mid.batches id) s (λ verdict. MayBeMarked (mark_of verdict now) id mid later)
-        → Keeps old later ⊎ AfterVerdict id (old.batches id) s (λ verdict. MayBeMarked (mark_of verdict now) id old later)
+    gave_up_before : Keeps mid later ⊎ AfterVerdict id (mid.batches id) s (λ verdict. MayBeMarked (mark_of verdict now) id limits mid later)
+        → Keeps old later ⊎ AfterVerdict id (old.batches id) s (λ verdict. MayBeMarked (mark_of verdict now) id limits old later)
     gave_up_before (inl same) = inl (keeps_before same)
     gave_up_before (inr is) = inr (is.0, found_before (Ok is.0) is.1, may_before (mark_of is.0 now) is.2)
 

@@ -14,7 +14,7 @@ use Rattle.notary_link.specs.declared.mark.Outcome.TheVariants as outcomes
 use Rattle.notary_link.specs.declared.name.Name.TheVariants as names
 use Rattle.notary_link.specs.declared.notary.NotaryLimits.{NotaryLimits}
 use Rattle.notary_link.specs.Batches.{Batch}
-use Rattle.notary_link.specs.Notary.{State, Lists, Entry, Keeps, Notes, HasRoom, note}
+use Rattle.notary_link.specs.Notary.{State, Lists, Entry, Keeps, Notes, HasRoom, AddsWithin, note}
 use Rattle.notary_link.specs.Runs.{is_done, was_answered}
 use Rattle.audit_model.specs.Mono.{BeginsRegion}
 use Rattle.audit_model.specs.Notary.{answers}
@@ -93,10 +93,10 @@ abbrev pub IsNotMarked : Option Mark → ℕ → NotaryLimits → Lists → List
 IsNotMarked None id limits lists later = ⊥
 IsNotMarked (Some mark) id limits lists later = (HasRoom (note id mark) limits lists → ⊥) × Keeps lists later
 
--- it is there, or all stands as it stood
-abbrev pub MayBeMarked : Option Mark → ℕ → Lists → Lists → Type 0
-MayBeMarked None id lists later = Keeps lists later
-MayBeMarked (Some mark) id lists later = Notes id mark lists later ⊎ Keeps lists later
+-- it is there, within the limits, or all stands as it stood
+abbrev pub MayBeMarked : Option Mark → ℕ → NotaryLimits → Lists → Lists → Type 0
+MayBeMarked None id limits lists later = Keeps lists later
+MayBeMarked (Some mark) id limits lists later = AddsWithin (note id mark) limits lists later ⊎ Keeps lists later
 
 -- a verdict of which P holds was found
 abbrev pub AfterVerdict : ℕ → List Batch → Stored → (Verdict → Type 0) → Type 0
@@ -107,8 +107,8 @@ abbrev pub Validates : ℕ → ℕ → NotaryLimits → Stored → Result Verdic
 Validates id now limits s (Ok verdict) lists later = IsFound id (lists.batches id) s (Ok verdict) × IsMarked (mark_of verdict now) id limits lists later
 Validates id now limits s (Err (fails.SealMissing name)) lists later = IsFound id (lists.batches id) s (Err (fails.SealMissing name)) × Keeps lists later
 Validates id now limits s (Err fails.Full) lists later = AfterVerdict id (lists.batches id) s (λ verdict. IsNotMarked (mark_of verdict now) id limits lists later)
-Validates id now limits s (Err fails.NotaryFault) lists later = Keeps lists later ⊎ AfterVerdict id (lists.batches id) s (λ verdict. MayBeMarked (mark_of verdict now) id lists later)
-Validates id now limits s (Err fails.NoMemory) lists later = Keeps lists later ⊎ AfterVerdict id (lists.batches id) s (λ verdict. MayBeMarked (mark_of verdict now) id lists later)
+Validates id now limits s (Err fails.NotaryFault) lists later = Keeps lists later ⊎ AfterVerdict id (lists.batches id) s (λ verdict. MayBeMarked (mark_of verdict now) id limits lists later)
+Validates id now limits s (Err fails.NoMemory) lists later = Keeps lists later ⊎ AfterVerdict id (lists.batches id) s (λ verdict. MayBeMarked (mark_of verdict now) id limits lists later)
 Validates id now limits s (Err fails.DiskFault) lists later = Keeps lists later
 Validates id now limits s (Err fail) lists later = ⊥
 
