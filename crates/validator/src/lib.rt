@@ -2,6 +2,8 @@
 #![tactic(auto)]
 
 mod fail;
+mod filing;
+mod holding;
 mod notarizing;
 mod printing;
 mod validating;
