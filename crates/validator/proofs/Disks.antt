@@ -76,31 +76,31 @@ abbrev pub IsStill : AuditFail → Type 0
 IsStill fails.Full = ⊥
 IsStill e = Unit {0}
 
-pub makes_none : {A : Type 0} (calls : List Call) (e : AuditFail) (old new : State) → IsStill e → new.trace ≡ old.trace → MakesFor {A = A} calls (Err e) old new
-makes_none calls fails.Full old new still same = absurd still
-makes_none calls fails.NotaryFault old new still same = inl same
-makes_none calls fails.DiskFault old new still same = inl same
-makes_none calls fails.NoMemory old new still same = inl same
-makes_none calls (fails.ClockBack last) old new still same = same
-makes_none calls fails.TooLate old new still same = same
-makes_none calls fails.StoreFull old new still same = same
-makes_none calls fails.Closed old new still same = same
-makes_none calls fails.Broken old new still same = same
-makes_none calls (fails.SealMissing name) old new still same = same
-makes_none calls (fails.OutOfTurn count) old new still same = same
+pub makes_none : (A : Type 0) (calls : List Call) (e : AuditFail) (old new : State) → IsStill e → new.trace ≡ old.trace → MakesFor {A = A} calls (Err e) old new
+makes_none A calls fails.Full old new still same = absurd still
+makes_none A calls fails.NotaryFault old new still same = inl same
+makes_none A calls fails.DiskFault old new still same = inl same
+makes_none A calls fails.NoMemory old new still same = inl same
+makes_none A calls (fails.ClockBack last) old new still same = same
+makes_none A calls fails.TooLate old new still same = same
+makes_none A calls fails.StoreFull old new still same = same
+makes_none A calls fails.Closed old new still same = same
+makes_none A calls fails.Broken old new still same = same
+makes_none A calls (fails.SealMissing name) old new still same = same
+makes_none A calls (fails.OutOfTurn count) old new still same = same
 
-pub stands_left : {A : Type 0} (e : AuditFail) (R L : Type 0) → IsStill e → L → StandsAfter {A = A} (Err e) R L
-stands_left fails.Full R L still left = absurd still
-stands_left fails.NotaryFault R L still left = inl left
-stands_left fails.DiskFault R L still left = tt
-stands_left fails.NoMemory R L still left = tt
-stands_left (fails.ClockBack last) R L still left = left
-stands_left fails.TooLate R L still left = left
-stands_left fails.StoreFull R L still left = left
-stands_left fails.Closed R L still left = left
-stands_left fails.Broken R L still left = left
-stands_left (fails.SealMissing name) R L still left = left
-stands_left (fails.OutOfTurn count) R L still left = left
+pub stands_left : (A : Type 0) (e : AuditFail) (R L : Type 0) → IsStill e → L → StandsAfter {A = A} (Err e) R L
+stands_left A fails.Full R L still left = absurd still
+stands_left A fails.NotaryFault R L still left = inl left
+stands_left A fails.DiskFault R L still left = tt
+stands_left A fails.NoMemory R L still left = tt
+stands_left A (fails.ClockBack last) R L still left = left
+stands_left A fails.TooLate R L still left = left
+stands_left A fails.StoreFull R L still left = left
+stands_left A fails.Closed R L still left = left
+stands_left A fails.Broken R L still left = left
+stands_left A (fails.SealMissing name) R L still left = left
+stands_left A (fails.OutOfTurn count) R L still left = left
 
 -- the same with weaker facts
 pub stands_map : {A : Type 0} (r : Result A AuditFail) (R L S M : Type 0) → (R → S) → (L → M) → StandsAfter r R L → StandsAfter r S M

@@ -56,36 +56,36 @@ pub chain_past : (batches : List Batch) (h : History) (tile : ℕ) → (first_gr
 chain_past batches h tile past = grind (arith, nat_tests, past)
 
 -- the first refusal decides
-pub refused_first : {A B : Type 0} (fault other : Option AuditFail) (e : AuditFail) → IsOfAsking e → IsRefusedBy {A = A} fault (Err e) → IsRefusedBy {A = B} (else_cause fault other) (Err e)
-refused_first fault other fails.DiskFault of_it refused = absurd of_it
-refused_first fault other fails.NotaryFault of_it refused = tt
-refused_first fault other (fails.ClockBack last) of_it refused = absurd of_it
-refused_first fault other fails.TooLate of_it refused = absurd of_it
-refused_first fault other fails.StoreFull of_it refused = absurd of_it
-refused_first fault other fails.Full of_it refused = absurd of_it
-refused_first fault other fails.Closed of_it refused = absurd of_it
-refused_first fault other fails.Broken of_it refused = ap (λ (f : Option AuditFail). else_cause f other) refused
-refused_first fault other (fails.SealMissing name) of_it refused = ap (λ (f : Option AuditFail). else_cause f other) refused
-refused_first fault other (fails.OutOfTurn count) of_it refused = absurd of_it
-refused_first fault other fails.NoMemory of_it refused = tt
+pub refused_first : (A B : Type 0) (fault other : Option AuditFail) (e : AuditFail) → IsOfAsking e → IsRefusedBy {A = A} fault (Err e) → IsRefusedBy {A = B} (else_cause fault other) (Err e)
+refused_first A B fault other fails.DiskFault of_it refused = absurd of_it
+refused_first A B fault other fails.NotaryFault of_it refused = tt
+refused_first A B fault other (fails.ClockBack last) of_it refused = absurd of_it
+refused_first A B fault other fails.TooLate of_it refused = absurd of_it
+refused_first A B fault other fails.StoreFull of_it refused = absurd of_it
+refused_first A B fault other fails.Full of_it refused = absurd of_it
+refused_first A B fault other fails.Closed of_it refused = absurd of_it
+refused_first A B fault other fails.Broken of_it refused = ap (λ (f : Option AuditFail). else_cause f other) refused
+refused_first A B fault other (fails.SealMissing name) of_it refused = ap (λ (f : Option AuditFail). else_cause f other) refused
+refused_first A B fault other (fails.OutOfTurn count) of_it refused = absurd of_it
+refused_first A B fault other fails.NoMemory of_it refused = tt
 
 -- the second one where there is no first
 pub refused_then : {A : Type 0} (fault other : Option AuditFail) (result : Result A AuditFail) → fault ≡ None → IsRefusedBy other result → IsRefusedBy (else_cause fault other) result
 refused_then {A} fault other result none refused = subst (λ (f : Option AuditFail). IsRefusedBy (else_cause f other) result) (sym none) refused
 
 -- an answer of another kind is refused the same
-pub refused_alike : {A B : Type 0} (fault : Option AuditFail) (e : AuditFail) → IsRefusedBy {A = A} fault (Err e) → IsRefusedBy {A = B} fault (Err e)
-refused_alike fault fails.DiskFault refused = refused
-refused_alike fault fails.NotaryFault refused = refused
-refused_alike fault (fails.ClockBack last) refused = refused
-refused_alike fault fails.TooLate refused = refused
-refused_alike fault fails.StoreFull refused = refused
-refused_alike fault fails.Full refused = refused
-refused_alike fault fails.Closed refused = refused
-refused_alike fault fails.Broken refused = refused
-refused_alike fault (fails.SealMissing name) refused = refused
-refused_alike fault (fails.OutOfTurn count) refused = refused
-refused_alike fault fails.NoMemory refused = refused
+pub refused_alike : (A B : Type 0) (fault : Option AuditFail) (e : AuditFail) → IsRefusedBy {A = A} fault (Err e) → IsRefusedBy {A = B} fault (Err e)
+refused_alike A B fault fails.DiskFault refused = refused
+refused_alike A B fault fails.NotaryFault refused = refused
+refused_alike A B fault (fails.ClockBack last) refused = refused
+refused_alike A B fault fails.TooLate refused = refused
+refused_alike A B fault fails.StoreFull refused = refused
+refused_alike A B fault fails.Full refused = refused
+refused_alike A B fault fails.Closed refused = refused
+refused_alike A B fault fails.Broken refused = refused
+refused_alike A B fault (fails.SealMissing name) refused = refused
+refused_alike A B fault (fails.OutOfTurn count) refused = refused
+refused_alike A B fault fails.NoMemory refused = refused
 
 -- ---- of all
 
@@ -105,29 +105,29 @@ module _ (s : Opened) (now : ℕ) (items : List Item) (batches : List Batch) whe
   not_needed ended is none = let lt : tiles_at s.header now < length batches = omega (arith, is, none) in grind (arith, nat_tests, lt)
 
   -- an early refusal
-  pub refused_early : {A : Type 0} (e : AuditFail) → IsOfClock e → early_fault (tail_of s) s.at.is_closed now ≡ Some e → IsRefusedBy {A = A} (notarize_fault (tail_of s) s.at.is_closed now items batches) (Err e)
-  refused_early fails.DiskFault of_it is = absurd of_it
-  refused_early fails.NotaryFault of_it is = absurd of_it
-  refused_early (fails.ClockBack last) of_it is = ap (λ (f : Option AuditFail). else_cause f (else_cause (filed_fault batches (history s.header items)) (room_fault (tail_of s) need))) is
-  refused_early fails.TooLate of_it is = ap (λ (f : Option AuditFail). else_cause f (else_cause (filed_fault batches (history s.header items)) (room_fault (tail_of s) need))) is
-  refused_early fails.StoreFull of_it is = absurd of_it
-  refused_early fails.Full of_it is = absurd of_it
-  refused_early fails.Closed of_it is = ap (λ (f : Option AuditFail). else_cause f (else_cause (filed_fault batches (history s.header items)) (room_fault (tail_of s) need))) is
-  refused_early fails.Broken of_it is = absurd of_it
-  refused_early (fails.SealMissing name) of_it is = absurd of_it
-  refused_early (fails.OutOfTurn count) of_it is = absurd of_it
-  refused_early fails.NoMemory of_it is = absurd of_it
+  pub refused_early : (A : Type 0) (e : AuditFail) → IsOfClock e → early_fault (tail_of s) s.at.is_closed now ≡ Some e → IsRefusedBy {A = A} (notarize_fault (tail_of s) s.at.is_closed now items batches) (Err e)
+  refused_early A fails.DiskFault of_it is = absurd of_it
+  refused_early A fails.NotaryFault of_it is = absurd of_it
+  refused_early A (fails.ClockBack last) of_it is = ap (λ (f : Option AuditFail). else_cause f (else_cause (filed_fault batches (history s.header items)) (room_fault (tail_of s) need))) is
+  refused_early A fails.TooLate of_it is = ap (λ (f : Option AuditFail). else_cause f (else_cause (filed_fault batches (history s.header items)) (room_fault (tail_of s) need))) is
+  refused_early A fails.StoreFull of_it is = absurd of_it
+  refused_early A fails.Full of_it is = absurd of_it
+  refused_early A fails.Closed of_it is = ap (λ (f : Option AuditFail). else_cause f (else_cause (filed_fault batches (history s.header items)) (room_fault (tail_of s) need))) is
+  refused_early A fails.Broken of_it is = absurd of_it
+  refused_early A (fails.SealMissing name) of_it is = absurd of_it
+  refused_early A (fails.OutOfTurn count) of_it is = absurd of_it
+  refused_early A fails.NoMemory of_it is = absurd of_it
 
   -- a refusal of what is filed
-  pub refused_held : {A B : Type 0} (e : AuditFail) → IsOfHolding e → early_fault (tail_of s) s.at.is_closed now ≡ None → IsRefusedBy {A = A} (filed_fault batches (history s.header items)) (Err e) → IsRefusedBy {A = B} (notarize_fault (tail_of s) s.at.is_closed now items batches) (Err e)
-  refused_held fails.DiskFault of_it early is = tt
-  refused_held fails.NotaryFault of_it early is = tt
-  refused_held (fails.ClockBack last) of_it early is = absurd of_it
-  refused_held fails.TooLate of_it early is = absurd of_it
-  refused_held fails.StoreFull of_it early is = absurd of_it
-  refused_held fails.Full of_it early is = absurd of_it
-  refused_held fails.Closed of_it early is = absurd of_it
-  refused_held fails.Broken of_it early is = ap (λ (f : Option AuditFail). else_cause f (else_cause (filed_fault batches (history s.header items)) (room_fault (tail_of s) need))) early ∙ ap (λ (f : Option AuditFail). else_cause f (room_fault (tail_of s) need)) is
-  refused_held (fails.SealMissing name) of_it early is = ap (λ (f : Option AuditFail). else_cause f (else_cause (filed_fault batches (history s.header items)) (room_fault (tail_of s) need))) early ∙ ap (λ (f : Option AuditFail). else_cause f (room_fault (tail_of s) need)) is
-  refused_held (fails.OutOfTurn count) of_it early is = absurd of_it
-  refused_held fails.NoMemory of_it early is = tt
+  pub refused_held : (A B : Type 0) (e : AuditFail) → IsOfHolding e → early_fault (tail_of s) s.at.is_closed now ≡ None → IsRefusedBy {A = A} (filed_fault batches (history s.header items)) (Err e) → IsRefusedBy {A = B} (notarize_fault (tail_of s) s.at.is_closed now items batches) (Err e)
+  refused_held A B fails.DiskFault of_it early is = tt
+  refused_held A B fails.NotaryFault of_it early is = tt
+  refused_held A B (fails.ClockBack last) of_it early is = absurd of_it
+  refused_held A B fails.TooLate of_it early is = absurd of_it
+  refused_held A B fails.StoreFull of_it early is = absurd of_it
+  refused_held A B fails.Full of_it early is = absurd of_it
+  refused_held A B fails.Closed of_it early is = absurd of_it
+  refused_held A B fails.Broken of_it early is = ap (λ (f : Option AuditFail). else_cause f (else_cause (filed_fault batches (history s.header items)) (room_fault (tail_of s) need))) early ∙ ap (λ (f : Option AuditFail). else_cause f (room_fault (tail_of s) need)) is
+  refused_held A B (fails.SealMissing name) of_it early is = ap (λ (f : Option AuditFail). else_cause f (else_cause (filed_fault batches (history s.header items)) (room_fault (tail_of s) need))) early ∙ ap (λ (f : Option AuditFail). else_cause f (room_fault (tail_of s) need)) is
+  refused_held A B (fails.OutOfTurn count) of_it early is = absurd of_it
+  refused_held A B fails.NoMemory of_it early is = tt

@@ -36,31 +36,31 @@ module _ (id : ℕ) where
   some_kept limits batches lists later keeps = record { done = 0; some = omega arith; fit = omega arith; filed = none_filed batches lists later keeps }
 
   -- nothing was filed
-  pub files_none : {A : Type 0} (limits : NotaryLimits) (batches : List Batch) (e : AuditFail) (lists later : Lists) → IsStill e → Keeps lists later → FilesFor {A = A} id limits batches (Err e) lists later
-  files_none limits batches fails.Full lists later still keeps = absurd still
-  files_none limits batches fails.NotaryFault lists later still keeps = some_kept limits batches lists later keeps
-  files_none limits batches fails.NoMemory lists later still keeps = some_kept limits batches lists later keeps
-  files_none limits batches fails.DiskFault lists later still keeps = keeps
-  files_none limits batches (fails.ClockBack last) lists later still keeps = keeps
-  files_none limits batches fails.TooLate lists later still keeps = keeps
-  files_none limits batches fails.StoreFull lists later still keeps = keeps
-  files_none limits batches fails.Closed lists later still keeps = keeps
-  files_none limits batches fails.Broken lists later still keeps = keeps
-  files_none limits batches (fails.SealMissing name) lists later still keeps = keeps
-  files_none limits batches (fails.OutOfTurn count) lists later still keeps = keeps
+  pub files_none : (A : Type 0) (limits : NotaryLimits) (batches : List Batch) (e : AuditFail) (lists later : Lists) → IsStill e → Keeps lists later → FilesFor {A = A} id limits batches (Err e) lists later
+  files_none A limits batches fails.Full lists later still keeps = absurd still
+  files_none A limits batches fails.NotaryFault lists later still keeps = some_kept limits batches lists later keeps
+  files_none A limits batches fails.NoMemory lists later still keeps = some_kept limits batches lists later keeps
+  files_none A limits batches fails.DiskFault lists later still keeps = keeps
+  files_none A limits batches (fails.ClockBack last) lists later still keeps = keeps
+  files_none A limits batches fails.TooLate lists later still keeps = keeps
+  files_none A limits batches fails.StoreFull lists later still keeps = keeps
+  files_none A limits batches fails.Closed lists later still keeps = keeps
+  files_none A limits batches fails.Broken lists later still keeps = keeps
+  files_none A limits batches (fails.SealMissing name) lists later still keeps = keeps
+  files_none A limits batches (fails.OutOfTurn count) lists later still keeps = keeps
 
-  pub calls_none : {A : Type 0} (from : ℕ) (batches : List Batch) (e : AuditFail) (old new : List Entry) → IsStill e → new ≡ old → CallsFor {A = A} id from batches (Err e) old new
-  calls_none from batches fails.Full old new still same = absurd still
-  calls_none from batches fails.NotaryFault old new still same = inl same
-  calls_none from batches fails.NoMemory old new still same = inl same
-  calls_none from batches fails.DiskFault old new still same = same
-  calls_none from batches (fails.ClockBack last) old new still same = same
-  calls_none from batches fails.TooLate old new still same = same
-  calls_none from batches fails.StoreFull old new still same = same
-  calls_none from batches fails.Closed old new still same = same
-  calls_none from batches fails.Broken old new still same = same
-  calls_none from batches (fails.SealMissing name) old new still same = same
-  calls_none from batches (fails.OutOfTurn count) old new still same = same
+  pub calls_none : (A : Type 0) (from : ℕ) (batches : List Batch) (e : AuditFail) (old new : List Entry) → IsStill e → new ≡ old → CallsFor {A = A} id from batches (Err e) old new
+  calls_none A from batches fails.Full old new still same = absurd still
+  calls_none A from batches fails.NotaryFault old new still same = inl same
+  calls_none A from batches fails.NoMemory old new still same = inl same
+  calls_none A from batches fails.DiskFault old new still same = same
+  calls_none A from batches (fails.ClockBack last) old new still same = same
+  calls_none A from batches fails.TooLate old new still same = same
+  calls_none A from batches fails.StoreFull old new still same = same
+  calls_none A from batches fails.Closed old new still same = same
+  calls_none A from batches fails.Broken old new still same = same
+  calls_none A from batches (fails.SealMissing name) old new still same = same
+  calls_none A from batches (fails.OutOfTurn count) old new still same = same
 
   -- nothing was to be filed
   pub files_nothing : {A : Type 0} (limits : NotaryLimits) (done : A) (lists later : Lists) → Keeps lists later → FilesFor id limits [] (Ok done) lists later
@@ -118,31 +118,31 @@ module _ (id : ℕ) where
 
   -- ---- one answer for another
 
-  pub files_alike : {A B : Type 0} (limits : NotaryLimits) (batches : List Batch) (e : AuditFail) (lists later : Lists) → FilesFor {A = A} id limits batches (Err e) lists later → FilesFor {A = B} id limits batches (Err e) lists later
-  files_alike limits batches fails.Full lists later files = files
-  files_alike limits batches fails.NotaryFault lists later files = files
-  files_alike limits batches fails.NoMemory lists later files = files
-  files_alike limits batches fails.DiskFault lists later files = files
-  files_alike limits batches (fails.ClockBack last) lists later files = files
-  files_alike limits batches fails.TooLate lists later files = files
-  files_alike limits batches fails.StoreFull lists later files = files
-  files_alike limits batches fails.Closed lists later files = files
-  files_alike limits batches fails.Broken lists later files = files
-  files_alike limits batches (fails.SealMissing name) lists later files = files
-  files_alike limits batches (fails.OutOfTurn count) lists later files = files
+  pub files_alike : (A B : Type 0) (limits : NotaryLimits) (batches : List Batch) (e : AuditFail) (lists later : Lists) → FilesFor {A = A} id limits batches (Err e) lists later → FilesFor {A = B} id limits batches (Err e) lists later
+  files_alike A B limits batches fails.Full lists later files = files
+  files_alike A B limits batches fails.NotaryFault lists later files = files
+  files_alike A B limits batches fails.NoMemory lists later files = files
+  files_alike A B limits batches fails.DiskFault lists later files = files
+  files_alike A B limits batches (fails.ClockBack last) lists later files = files
+  files_alike A B limits batches fails.TooLate lists later files = files
+  files_alike A B limits batches fails.StoreFull lists later files = files
+  files_alike A B limits batches fails.Closed lists later files = files
+  files_alike A B limits batches fails.Broken lists later files = files
+  files_alike A B limits batches (fails.SealMissing name) lists later files = files
+  files_alike A B limits batches (fails.OutOfTurn count) lists later files = files
 
-  pub calls_alike : {A B : Type 0} (from : ℕ) (batches : List Batch) (e : AuditFail) (old new : List Entry) → CallsFor {A = A} id from batches (Err e) old new → CallsFor {A = B} id from batches (Err e) old new
-  calls_alike from batches fails.Full old new calls = calls
-  calls_alike from batches fails.NotaryFault old new calls = calls
-  calls_alike from batches fails.NoMemory old new calls = calls
-  calls_alike from batches fails.DiskFault old new calls = calls
-  calls_alike from batches (fails.ClockBack last) old new calls = calls
-  calls_alike from batches fails.TooLate old new calls = calls
-  calls_alike from batches fails.StoreFull old new calls = calls
-  calls_alike from batches fails.Closed old new calls = calls
-  calls_alike from batches fails.Broken old new calls = calls
-  calls_alike from batches (fails.SealMissing name) old new calls = calls
-  calls_alike from batches (fails.OutOfTurn count) old new calls = calls
+  pub calls_alike : (A B : Type 0) (from : ℕ) (batches : List Batch) (e : AuditFail) (old new : List Entry) → CallsFor {A = A} id from batches (Err e) old new → CallsFor {A = B} id from batches (Err e) old new
+  calls_alike A B from batches fails.Full old new calls = calls
+  calls_alike A B from batches fails.NotaryFault old new calls = calls
+  calls_alike A B from batches fails.NoMemory old new calls = calls
+  calls_alike A B from batches fails.DiskFault old new calls = calls
+  calls_alike A B from batches (fails.ClockBack last) old new calls = calls
+  calls_alike A B from batches fails.TooLate old new calls = calls
+  calls_alike A B from batches fails.StoreFull old new calls = calls
+  calls_alike A B from batches fails.Closed old new calls = calls
+  calls_alike A B from batches fails.Broken old new calls = calls
+  calls_alike A B from batches (fails.SealMissing name) old new calls = calls
+  calls_alike A B from batches (fails.OutOfTurn count) old new calls = calls
 
   -- what the notary's answer says, as it is told here
   pub in_turn : (limits : NotaryLimits) (batches : List Batch) (e : NotaryFail) (lists later : Lists) → FilesInTurn id limits batches (Err e) lists later → IsOfFiling (fail_of_notary e) × FilesFor {A = Unit {0}} id limits batches (Err (fail_of_notary e)) lists later

@@ -5,3 +5,7 @@ pub mod Filed
 pub mod Notarized
 pub mod Before
 pub mod Sound
+pub mod Reached
+pub mod Held
+pub mod FiledNext
+pub mod Ended

@@ -46,31 +46,31 @@ reaching_still (fails.SealMissing name) of_it = tt
 reaching_still (fails.OutOfTurn count) of_it = tt
 reaching_still fails.NoMemory of_it = tt
 
-stands_alike : {A B : Type 0} (e : AuditFail) (R L : Type 0) → StandsAfter {A = A} (Err e) R L → StandsAfter {A = B} (Err e) R L
-stands_alike fails.DiskFault R L h = h
-stands_alike fails.NotaryFault R L h = h
-stands_alike (fails.ClockBack last) R L h = h
-stands_alike fails.TooLate R L h = h
-stands_alike fails.StoreFull R L h = h
-stands_alike fails.Full R L h = h
-stands_alike fails.Closed R L h = h
-stands_alike fails.Broken R L h = h
-stands_alike (fails.SealMissing name) R L h = h
-stands_alike (fails.OutOfTurn count) R L h = h
-stands_alike fails.NoMemory R L h = h
+stands_alike : (A B : Type 0) (e : AuditFail) (R L : Type 0) → StandsAfter {A = A} (Err e) R L → StandsAfter {A = B} (Err e) R L
+stands_alike A B fails.DiskFault R L h = h
+stands_alike A B fails.NotaryFault R L h = h
+stands_alike A B (fails.ClockBack last) R L h = h
+stands_alike A B fails.TooLate R L h = h
+stands_alike A B fails.StoreFull R L h = h
+stands_alike A B fails.Full R L h = h
+stands_alike A B fails.Closed R L h = h
+stands_alike A B fails.Broken R L h = h
+stands_alike A B (fails.SealMissing name) R L h = h
+stands_alike A B (fails.OutOfTurn count) R L h = h
+stands_alike A B fails.NoMemory R L h = h
 
-makes_alike : {A B : Type 0} (calls : List disks.Call) (e : AuditFail) (old new : disks.State) → MakesFor {A = A} calls (Err e) old new → MakesFor {A = B} calls (Err e) old new
-makes_alike calls fails.DiskFault old new h = h
-makes_alike calls fails.NotaryFault old new h = h
-makes_alike calls (fails.ClockBack last) old new h = h
-makes_alike calls fails.TooLate old new h = h
-makes_alike calls fails.StoreFull old new h = h
-makes_alike calls fails.Full old new h = h
-makes_alike calls fails.Closed old new h = h
-makes_alike calls fails.Broken old new h = h
-makes_alike calls (fails.SealMissing name) old new h = h
-makes_alike calls (fails.OutOfTurn count) old new h = h
-makes_alike calls fails.NoMemory old new h = h
+makes_alike : (A B : Type 0) (calls : List disks.Call) (e : AuditFail) (old new : disks.State) → MakesFor {A = A} calls (Err e) old new → MakesFor {A = B} calls (Err e) old new
+makes_alike A B calls fails.DiskFault old new h = h
+makes_alike A B calls fails.NotaryFault old new h = h
+makes_alike A B calls (fails.ClockBack last) old new h = h
+makes_alike A B calls fails.TooLate old new h = h
+makes_alike A B calls fails.StoreFull old new h = h
+makes_alike A B calls fails.Full old new h = h
+makes_alike A B calls fails.Closed old new h = h
+makes_alike A B calls fails.Broken old new h = h
+makes_alike A B calls (fails.SealMissing name) old new h = h
+makes_alike A B calls (fails.OutOfTurn count) old new h = h
+makes_alike A B calls fails.NoMemory old new h = h
 
 -- ---- filing stops behind the Frontier
 
@@ -130,13 +130,13 @@ module _ (now : ℕ) (items : List Item) (s : Opened) (before : List ℕ) (open_
   left e old new after filed later lists later_lists still refused same only_now bytes keeps quiet = record {
     refused = refused;
     value = tt;
-    files = files_none s.header.id filed.limits (next_batches h now (lists.batches s.header.id)) e lists later_lists still keeps;
-    calls = told_map filed.trace later.trace (λ (b a : List Entry). a ≡ b) (CallsFor {A = ℕ} s.header.id (length (lists.batches s.header.id)) (next_batches h now (lists.batches s.header.id)) (Err e)) quiet (λ b a is. calls_none s.header.id (length (lists.batches s.header.id)) (next_batches h now (lists.batches s.header.id)) e b a still is);
-    stands = stands_left {A = ℕ} e (IsReached (need_of (lists.batches s.header.id)) s s items old new before after) (IsLeft s s old new) still (refl, same);
+    files = files_none s.header.id ℕ filed.limits (next_batches h now (lists.batches s.header.id)) e lists later_lists still keeps;
+    calls = told_map filed.trace later.trace (λ (b a : List Entry). a ≡ b) (CallsFor {A = ℕ} s.header.id (length (lists.batches s.header.id)) (next_batches h now (lists.batches s.header.id)) (Err e)) quiet (λ b a is. calls_none s.header.id ℕ (length (lists.batches s.header.id)) (next_batches h now (lists.batches s.header.id)) e b a still is);
+    stands = stands_left ℕ e (IsReached (need_of (lists.batches s.header.id)) s s items old new before after) (IsLeft s s old new) still (refl, same);
     ordered = λ more. absurd (more (keeps.batches s.header.id));
     images = λ only. images_left old new new same only_now before (StoresAround s.header items (need_of (lists.batches s.header.id))) only here;
     kept = λ only. subst (StoresAround s.header items (need_of (lists.batches s.header.id))) (sym bytes) here;
-    trace = makes_none {A = ℕ} (frontier_calls s (need_of (lists.batches s.header.id))) e old new still same.trace;
+    trace = makes_none ℕ (frontier_calls s (need_of (lists.batches s.header.id))) e old new still same.trace;
   }
     where
       here : StoresAround s.header items (need_of (lists.batches s.header.id)) before
@@ -166,7 +166,7 @@ module _ (now : ℕ) (items : List Item) (s : Opened) (before : List ℕ) (open_
       no_need = not_needed s now items batches ended checked.ended_is (omega (arith, none, checked.held.counted))
 
       no_batch : next_batches h now batches ≡ []
-      no_batch = ap (λ (n : ℕ). map (λ index. batch_of now (batch h index)) (range_with_len (length batches) n)) (omega (arith, none, checked.held.counted, checked.ended_is))
+      no_batch = let e : suc (tiles_at s.header now) - length batches ≡ 0 = omega (arith, none, checked.held.counted, checked.ended_is) in ap (λ (n : ℕ). map (λ index. batch_of now (batch h index)) (range_with_len (length batches) n)) e
 
       pub nothing_left : (old : disks.State) (filed : notaries.State) → OnlyNow old → (r : ℕ) → r ≡ count - 1
           → Notarizes now items (Ok r) s s old old before before filed filed lists lists
@@ -204,15 +204,15 @@ module _ (now : ℕ) (items : List Item) (s : Opened) (before : List ℕ) (open_
       pub not_reached : (e : AuditFail) → IsOfReaching e → Reaches (frontier_to s ended) items (Err e) s later_s old new before after → (filed : notaries.State)
           → Notarizes now items (Err e) s later_s old new before after filed filed lists lists
       not_reached e of_it reaches filed = record {
-        refused = subst (λ (f : Option AuditFail). IsRefusedBy {A = ℕ} f (Err e)) (sym fault_is) (refused_alike (room_fault (tail_of s) need) e this.refused);
+        refused = subst (λ (f : Option AuditFail). IsRefusedBy {A = ℕ} f (Err e)) (sym fault_is) (refused_alike (Unit {0}) ℕ (room_fault (tail_of s) need) e this.refused);
         value = tt;
-        files = files_none s.header.id filed.limits (next_batches h now batches) e lists lists still (keeps_same lists);
-        calls = told_same filed.trace filed.trace (CallsFor {A = ℕ} s.header.id (length batches) (next_batches h now batches) (Err e)) refl (λ b. calls_none s.header.id (length batches) (next_batches h now batches) e b b still refl);
-        stands = stands_alike e (IsReached need s later_s items old new before after) (IsLeft s later_s old new) this.stands;
+        files = files_none s.header.id ℕ filed.limits (next_batches h now batches) e lists lists still (keeps_same lists);
+        calls = told_same filed.trace filed.trace (CallsFor {A = ℕ} s.header.id (length batches) (next_batches h now batches) (Err e)) refl (λ b. calls_none s.header.id ℕ (length batches) (next_batches h now batches) e b b still refl);
+        stands = stands_alike (Unit {0}) ℕ e (IsReached need s later_s items old new before after) (IsLeft s later_s old new) this.stands;
         ordered = λ more. absurd (more refl);
         images = this.images;
         kept = this.kept;
-        trace = makes_alike (frontier_calls s need) e old new this.trace;
+        trace = makes_alike (Unit {0}) ℕ (frontier_calls s need) e old new this.trace;
       }
         where
           this : Reaches need items (Err e) s later_s old new before after
@@ -255,8 +255,8 @@ module _ (now : ℕ) (items : List Item) (s : Opened) (before : List ℕ) (open_
         not_filed e files = record {
           refused = subst (λ (f : Option AuditFail). IsRefusedBy {A = ℕ} f (Err e)) (sym no_fault) (filing_refused e this.in_turn);
           value = tt;
-          files = files_alike s.header.id filed.limits (next_batches h now batches) e lists later_lists this.files;
-          calls = told_map filed.trace later.trace (CallsFor {A = Unit {0}} s.header.id (length batches) (next_batches h now batches) (Err e)) (CallsFor {A = ℕ} s.header.id (length batches) (next_batches h now batches) (Err e)) this.calls (λ b a is. calls_alike s.header.id (length batches) (next_batches h now batches) e b a is);
+          files = files_alike s.header.id (Unit {0}) ℕ filed.limits (next_batches h now batches) e lists later_lists this.files;
+          calls = told_map filed.trace later.trace (CallsFor {A = Unit {0}} s.header.id (length batches) (next_batches h now batches) (Err e)) (CallsFor {A = ℕ} s.header.id (length batches) (next_batches h now batches) (Err e)) this.calls (λ b a is. calls_alike s.header.id (Unit {0}) ℕ (length batches) (next_batches h now batches) e b a is);
           stands = filing_stands e (IsReached need s later_s items old new before after) (IsLeft s later_s old new) this.in_turn at_need.stands;
           ordered = λ more. at_need.stands;
           images = at_need.images;

@@ -22,3 +22,24 @@ module _ {A : Type 0} where
   told_of (Some b) (Some a) P Q known f = f b a known
   told_of (Some b) None P Q known f = tt
   told_of None n P Q known f = tt
+
+  -- nothing
+  pub told_any : (o n : Option A) → WhereTold o n (λ b a. Unit {0})
+  told_any (Some b) (Some a) = tt
+  told_any (Some b) None = tt
+  told_any None n = tt
+
+  -- what always holds
+  pub told_all : (o n : Option A) (P : A → A → Type 0) → ((b a : A) → P b a) → WhereTold o n P
+  told_all (Some b) (Some a) P f = f b a
+  told_all (Some b) None P f = tt
+  told_all None n P f = tt
+
+  -- what is told before two steps, the first of which leaves it
+  pub told_two : (o m n : Option A) (P Q R : A → A → Type 0) → m ≡ o → WhereTold o m P → WhereTold m n Q → ((b a : A) → P b b → Q b a → R b a) → WhereTold o n R
+  told_two o m n P Q R same first next f = at o n (subst (λ (x : Option A). WhereTold o x P) same first) (subst (λ (x : Option A). WhereTold x n Q) same next)
+    where
+      at : (o n : Option A) → WhereTold o o P → WhereTold o n Q → WhereTold o n R
+      at (Some b) (Some a) one two = f b a one two
+      at (Some b) None one two = tt
+      at None n one two = tt

@@ -19,6 +19,8 @@ use Rattle.notary_link.specs.Notary.{State, Lists, batch_of}
 use Rattle.audit_model.specs.Names.{batch}
 use Rattle.audit_model.specs.Notary.{answers}
 use Rattle.seal_plan.specs.Plan.{Planned, planned_of}
+use Rattle.store_engine.specs.declared.fail.StoreFail.{StoreFail}
+use Rattle.store_engine.specs.declared.fail.StoreFail.TheVariants as stores
 use Rattle.store_engine.specs.Opened.{Opened, IsOpenOn}
 use Rattle.store_engine.specs.Refusals.{Tail, tail_of}
 use Rattle.validator.specs.declared.fail.AuditFail.{AuditFail}
@@ -65,6 +67,12 @@ fail_of_notary notary_fails.Failed = fails.NotaryFault
 fail_of_notary (notary_fails.OutOfTurn count) = fails.OutOfTurn count
 fail_of_notary notary_fails.Full = fails.Full
 fail_of_notary notary_fails.NoMemory = fails.NoMemory
+
+-- the refusals of counting
+abbrev pub IsOfCounting : AuditFail → Type 0
+IsOfCounting fails.NotaryFault = Unit {0}
+IsOfCounting fails.NoMemory = Unit {0}
+IsOfCounting fail = ⊥
 
 -- the refusals of asking
 abbrev pub IsOfAsking : AuditFail → Type 0
@@ -120,6 +128,18 @@ pub record IsHeld (h : History) (batches : List Batch) (plan : Planned) (count :
 abbrev pub frontier_to : Opened → ℕ → Option ℕ
 frontier_to s ended = if nat_lt s.last (end_of s.header ended) then Some (end_of s.header ended) else None
 
+-- how a Frontier's refusal is told: an open store has only these three
+abbrev pub fail_of_frontier : StoreFail → AuditFail
+fail_of_frontier stores.DiskFault = fails.DiskFault
+fail_of_frontier stores.StoreFull = fails.StoreFull
+fail_of_frontier stores.NoMemory = fails.NoMemory
+fail_of_frontier stores.NotAStore = fails.NoMemory
+fail_of_frontier (stores.ClockBack last) = fails.NoMemory
+fail_of_frontier stores.TooLate = fails.NoMemory
+fail_of_frontier stores.TooManyOps = fails.NoMemory
+fail_of_frontier stores.TooLong = fails.NoMemory
+fail_of_frontier stores.Closed = fails.NoMemory
+
 -- the refusals of a Frontier
 abbrev pub IsOfReaching : AuditFail → Type 0
 IsOfReaching fails.DiskFault = Unit {0}
@@ -147,6 +167,14 @@ IsOfFiling fails.NotaryFault = Unit {0}
 IsOfFiling fails.Full = Unit {0}
 IsOfFiling fails.NoMemory = Unit {0}
 IsOfFiling fail = ⊥
+
+-- those of a notary that is filed with
+abbrev pub IsOfNotary : AuditFail → Type 0
+IsOfNotary fails.NotaryFault = Unit {0}
+IsOfNotary fails.Full = Unit {0}
+IsOfNotary fails.NoMemory = Unit {0}
+IsOfNotary (fails.OutOfTurn count) = Unit {0}
+IsOfNotary fail = ⊥
 
 -- none of the refusals that come before
 abbrev pub IsOfFilingAfter : AuditFail → Type 0

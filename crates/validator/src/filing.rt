@@ -15,7 +15,8 @@ ghost use Rattle.notary_link.specs.Notary as notaries;
 ghost use Rattle.store_engine.specs.Opened.{IsOpenOn};
 ghost use Rattle.validator.specs.declared.fail.AuditFail.TheVariants.{DiskFault, NotaryFault};
 ghost use Rattle.validator.specs.Reaching.{StaysOpen, Notarizes};
-ghost use Rattle.validator.specs.Steps.{frontier_to, IsOfReaching, IsOfFilingAfter, Reaches, batches_from, FilesNext, IsPlanFor, IsChecked};
+ghost use Rattle.validator.specs.Tiles.{end_of};
+ghost use Rattle.validator.specs.Steps.{fail_of_frontier, frontier_to, IsOfReaching, IsOfNotary, IsOfFilingAfter, Reaches, batches_from, FilesNext, IsPlanFor, IsChecked};
 
 use crate::fail::AuditFail;
 use crate::holding::refusal;
@@ -24,6 +25,27 @@ use notary_link::{Notary, Seals, file_each};
 use seal_plan::Plan;
 use std::alloc::{AllocError, Global};
 use store_engine::{Store, StoreFail};
+use tuple_bytes::Header;
+
+/// The moment at which so many tiles have ended.
+fn end_of(header: &Header, tiles: u32) -> u64
+    requires fits { FitsHeader header.now }
+    requires within { first_granule (layout_of header.now) tiles ≤ max_granules }
+    ensures value { result ≡ end_of header.now tiles }
+{
+    (u64::from(tiles) << header.k) * u64::from(header.width)
+}
+
+/// A Frontier's refusal, as it is told here. An open store refuses it only for these three causes.
+fn frontier_refusal(fail: StoreFail) -> AuditFail
+    ensures value { result ≡ fail_of_frontier fail }
+{
+    match fail {
+        StoreFail::DiskFault => AuditFail::DiskFault,
+        StoreFail::StoreFull => AuditFail::StoreFull,
+        _ => AuditFail::NoMemory,
+    }
+}
 
 /// Makes the store reach the end of so many tiles, by a Frontier where its last moment is earlier.
 fn reach<D: Disk>(
@@ -42,14 +64,10 @@ fn reach<D: Disk>(
     ensures frame { disks.GoesOn (D.state disk.old) (D.state disk.new) }
     ensures cause { HasCause DiskFault (D.state disk.old).faults (D.state disk.new).faults result }
 {
-    let header = store.header();
-    let moment = (u64::from(ended) << header.k) * u64::from(header.width);
-    // An open store refuses a Frontier for no other cause.
+    let moment = end_of(store.header(), ended);
     match store.frontier(alloc, disk, moment) {
         Ok(()) => Ok(()),
-        Err(StoreFail::DiskFault) => Err(AuditFail::DiskFault),
-        Err(StoreFail::StoreFull) => Err(AuditFail::StoreFull),
-        Err(_) => Err(AuditFail::NoMemory),
+        Err(fail) => Err(frontier_refusal(fail)),
     }
 }
 
@@ -89,6 +107,7 @@ fn file_batches<N: Notary>(
         count ≡ length (before.batches plan.now.history.header.id)
         → FilesNext plan.now.history.header.id count (batches_from plan.now.history now count ended) result
         (N.state notary.old) (N.state notary.new) before after) }
+    ensures only { IfErr result IsOfNotary }
     ensures asked { (N.state notary.new).asked ≡ (N.state notary.old).asked }
     ensures frame { notaries.GoesOn (N.state notary.old) (N.state notary.new) }
     ensures cause { HasCause NotaryFault (N.state notary.old).faults (N.state notary.new).faults result }

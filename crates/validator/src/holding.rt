@@ -18,7 +18,7 @@ ghost use Rattle.seal_plan.specs.Plan.{planned_of};
 ghost use Rattle.store_engine.specs.Opened.{Stores};
 ghost use Rattle.validator.specs.declared.fail.AuditFail.TheVariants.{DiskFault, NotaryFault};
 ghost use Rattle.validator.specs.Notarizing.{fault_by, filed_fault, IsRefusedBy};
-ghost use Rattle.validator.specs.Steps.{IsReadAs, IsOfReading, IsOfAsking, IsOfHolding, fail_of_notary, header_fault, sealed_fault, IsPlanned, IsPlanFor, Holds};
+ghost use Rattle.validator.specs.Steps.{IsReadAs, IsOfReading, IsOfCounting, IsOfAsking, IsOfHolding, fail_of_notary, header_fault, sealed_fault, IsPlanned, IsPlanFor, Holds};
 
 use crate::fail::AuditFail;
 use cumulative_chain::header_digest;
@@ -206,7 +206,7 @@ fn hold_filed<N: Notary, L: Ledger>(
 fn count_filed<N: Notary>(notary: &mut N, id: u64) -> Result<u32, AuditFail>
     ensures told { WhereTold (N.state notary.old).lists (N.state notary.new).lists
         (λ before after. IfOk result (λ count. count ≡ length (before.batches id))) }
-    ensures only { IfErr result IsOfAsking }
+    ensures only { IfErr result IsOfCounting }
     ensures same { notaries.Unchanged (N.state notary.old) (N.state notary.new) }
     ensures asked { (N.state notary.new).asked ≡ (N.state notary.old).asked }
     ensures frame { notaries.GoesOn (N.state notary.old) (N.state notary.new) }

@@ -13,6 +13,7 @@ ghost use Rattle.validator.specs.Notarizing.{early_fault, IsEarly};
 ghost use Rattle.validator.specs.Reaching.{Notarizes, IsLeft, StaysOpen, AsksNothing};
 ghost use Rattle.validator.specs.Safe.{KeepsSound};
 ghost use Rattle.validator.specs.Steps.{IsEnded, IsOfClock};
+ghost use Rattle.tuple_bytes.specs.Spelling.{FitsHeader};
 ghost use Rattle.digest_model.specs.Layout.{first_granule, max_granules};
 ghost use Rattle.cumulative_chain.specs.Tiles.{layout_of};
 
@@ -76,11 +77,12 @@ fn ended_tiles(store: &Store, now: u64) -> Result<u32, AuditFail>
         (λ fail. early_fault (tail_of store.now) store.now.at.is_closed now ≡ Some fail) }
     ensures within { IfOk result (λ n. first_granule (layout_of store.now.header) n ≤ max_granules) }
     ensures only { IfErr result IsOfClock }
+    ensures fits { FitsHeader store.now.header }
 {
+    let header = store.header();
     if store.is_closed() {
         return Err(AuditFail::Closed);
     }
-    let header = store.header();
     let last = store.last_moment();
     let moment = match now.checked_sub(header.epoch) {
         Some(moment) if last <= moment => moment,
