@@ -1,8 +1,10 @@
 -- A notarization, told of the disk and of the notary.
-use Rattle.std.proofs.Common.{◌≡◌, ℕ, ◌+◌, ◌-◌, ◌<◌, ◌≤◌, Bool, true, false, List, length, Option, Some, None, Result, Ok, Err, refl, sym, ap, subst, ◌∙◌}
+use Rattle.std.proofs.Common.{◌≡◌, ℕ, ◌+◌, ◌-◌, ◌<◌, ◌≤◌, Bool, true, false, List, [], length, Option, Some, None, Result, Ok, Err, refl, sym, ap, subst, ◌∙◌}
 use Rattle.outside_words.specs.Told.{WhereTold}
 use Rattle.outside_words.proofs.Told.{told_map, told_same, told_while}
 use Rattle.disk_words.specs.Disk as disks
+use Rattle.tuple_bytes.specs.declared.header.Header.{Header}
+use Rattle.tuple_bytes.specs.Spelling.{FitsHeader}
 use Rattle.tuple_bytes.specs.declared.item.Item.{Item}
 use Rattle.history_model.specs.History.{history}
 use Rattle.notary_link.specs.Notary as notaries
@@ -19,10 +21,15 @@ use Rattle.validator.specs.Steps.{IsChecked, FilesNext, batches_from, Holds, IsH
 use Rattle.validator.proofs.Disks.{OnlyNow, IsStill, unchanged_same}
 use Rattle.validator.proofs.Filed.{keeps_same}
 use Rattle.validator.proofs.Faults.{refused_early, refused_held}
-use Rattle.validator.proofs.Telling.{told_both, told_still}
+use Rattle.validator.proofs.Telling.{told_both, told_still, told_two, told_of}
 use Rattle.validator.proofs.Notarized.{SameTrace, left, nothing_left, not_reached, all_filed, not_filed}
 use Rattle.validator.proofs.Before.{behind}
 use Rattle.validator.proofs.Reached.{IsReaching}
+use Rattle.std.specs.Prelude.{IfSome}
+use Rattle.digest_model.specs.Layout.{layout, first_granule, max_granules}
+use Rattle.audit_model.specs.Sound.{IsSound}
+use Rattle.validator.specs.Safe.{KeepsSound}
+use Rattle.validator.proofs.Sound.{stays_sound}
 
 -- no early cause: the store is open
 is_open : (s : Opened) (now : ℕ) → early_fault (tail_of s) s.at.is_closed now ≡ None → s.at.is_closed ≡ false
@@ -121,9 +128,15 @@ module _ (now : ℕ) (s : Opened) where
       (λ before. told_same filed.lists filed.lists (All_of s (Err e) old old filed filed before before) refl
           (λ lists items open_on. left now items s before open_on e old old before filed filed lists lists (clock_still e of_it) (refused_early s now items (lists.batches s.header.id) ℕ e of_it early) (unchanged_same old) only_now refl (keeps_same lists) (same_trace filed))))
 
+  -- what is told of holding the batches against the items
+  abbrev pub HeldTold : ℕ → disks.State → disks.State → notaries.State → notaries.State → Result (Planned × ℕ) AuditFail → Header → Type 0
+  HeldTold ended old mid filed next held header = WhereTold old.reads mid.reads (λ before after. WhereTold filed.lists next.lists (λ lists later. (items : List Item) → Stores header items before → Holds header items ended (lists.batches header.id) held))
+
   module _ (ended : ℕ) (early : early_fault (tail_of s) s.at.is_closed now ≡ None) (old mid : disks.State) (same : disks.Unchanged old mid) (only_now : OnlyNow old)
-      (filed next : notaries.State) (quiet : notaries.Unchanged filed next) (held : Result (Planned × ℕ) AuditFail)
-      (told : WhereTold old.reads mid.reads (λ before after. WhereTold filed.lists next.lists (λ lists later. (items : List Item) → Stores s.header items before → Holds s.header items ended (lists.batches s.header.id) held))) where
+      (filed next : notaries.State) (quiet : notaries.Unchanged filed next) (held : Result (Planned × ℕ) AuditFail) (header : Header) (header_is : header ≡ s.header) (told_at : HeldTold ended old mid filed next held header) where
+    told : HeldTold ended old mid filed next held s.header
+    told = subst (HeldTold ended old mid filed next held) header_is told_at
+
     abbrev HoldsOf : List ℕ → Lists → Lists → Type 0
     HoldsOf before lists later = (items : List Item) → Stores s.header items before → Holds s.header items ended (lists.batches s.header.id) held
 
@@ -147,3 +160,14 @@ module _ (now : ℕ) (s : Opened) where
                   held = subst (λ bs. IsHeld (history s.header items) bs plan count) (sym (both.0.batches s.header.id)) holds.held;
                 } in
                 behind now items s later_s before after open_on old mid new same only_now filed next later on.limits on.traced quiet.trace lists between later_lists both.0 r (notarizes items open_on checked)))
+
+  -- a sound store stays sound
+  pub keeps_sound : (later_s : Opened) (r : Result ℕ AuditFail) (old new : disks.State) (filed later : notaries.State) → FitsHeader s.header → first_granule (layout (history s.header [])) (tiles_at s.header now) ≤ max_granules
+      → IfSome old.reads old.is_image → ((t : ℕ) (c : List ℕ) → t ≤ disks.turn new → new.is_image c → new.was_image t c)
+      → AllTold later_s r old new filed later → KeepsSound (λ before. (items : List Item) × IsOpenOn s items before) old new filed later
+  keeps_sound later_s r old new filed later fits within here counts told =
+      told_map old.reads new.reads (λ before after. old.is_image before × WhereTold filed.lists later.lists (All_of later_s r old new filed later before after))
+      (λ before after. WhereTold filed.lists later.lists (λ lists later_lists. (id : ℕ) → ((items : List Item) × IsOpenOn s items before) → disks.Only before old → IsSound old.is_image (lists.batches id) id → IsSound new.is_image (later_lists.batches id) id))
+      (told_both old.reads new.reads (λ before after. old.is_image before) (λ before after. WhereTold filed.lists later.lists (All_of later_s r old new filed later before after)) (told_of old.reads new.reads old.is_image (λ before after. old.is_image before) here (λ before after image. image)) told)
+      (λ before after both. told_map filed.lists later.lists (All_of later_s r old new filed later before after) (λ lists later_lists. (id : ℕ) → ((items : List Item) × IsOpenOn s items before) → disks.Only before old → IsSound old.is_image (lists.batches id) id → IsSound new.is_image (later_lists.batches id) id) both.1
+          (λ lists later_lists notarizes id stands only sound. stays_sound now stands.0 s later_s before after stands.1 fits within old new both.0 (λ c image. counts (disks.turn old) c ((notarizes stands.0 stands.1).images only).later image) filed later lists later_lists r (notarizes stands.0 stands.1) only id sound))

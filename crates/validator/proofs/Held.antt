@@ -152,3 +152,7 @@ module _ (header : Header) (items : List Item) (count ended : ℕ) where
     where
       within : first_granule (layout h) (count - 1) ≤ max_granules
       within = let le = mul-le (count - 1) (2 ^ header.k) tiles (2 ^ header.k) (omega (arith, tiles_are)) (omega arith) in omega (arith, le, planned.0)
+
+-- an answer of another kind
+pub alike_of : {A : Type 0} (r : Result A AuditFail) (e : AuditFail) → r ≡ Err e → (f : Option AuditFail) → IsRefusedBy {A = Unit {0}} f (Err e) → IsRefusedBy f r
+alike_of {A} r e same f refused = subst (λ (x : Result A AuditFail). IsRefusedBy f x) (sym same) (refused_alike (Unit {0}) A f e refused)

@@ -142,40 +142,46 @@ module _ (s later : Opened) (moment : ℕ) (old new : State) where
 
 -- ---- which of the two
 
-module _ (s later : Opened) (ended : ℕ) (old new : State) where
-  abbrev end : ℕ
-  end = end_of s.header ended
+abbrev pub IsReaching : Opened → Opened → ℕ → State → State → Result (Unit {0}) AuditFail → List ℕ → List ℕ → Type 0
+IsReaching s later ended old new r before after = (is : List Item) → IsOpenOn s is before → s.at.is_closed ≡ false → Reaches (frontier_to s ended) is r s later old new before after
+
+module _ (s later : Opened) (ended end : ℕ) (end_is : end ≡ end_of s.header ended) (old new : State) where
+  needs_at : s.last < end_of s.header ended → frontier_to s ended ≡ Some (end_of s.header ended)
+  needs_at lt = grind (arith, nat_tests, lt)
+
+  needs_none_at : end_of s.header ended ≤ s.last → frontier_to s ended ≡ None
+  needs_none_at le = grind (arith, nat_tests, le)
 
   needs : s.last < end → frontier_to s ended ≡ Some end
-  needs lt = grind (arith, nat_tests, lt)
+  needs lt = needs_at (subst (λ (n : ℕ). s.last < n) end_is lt) ∙ ap (λ (n : ℕ). Some n) (sym end_is)
 
   needs_none : end ≤ s.last → frontier_to s ended ≡ None
-  needs_none le = grind (arith, nat_tests, le)
+  needs_none le = needs_none_at (subst (λ (n : ℕ). n ≤ s.last) end_is le)
 
-  abbrev pub IsReaching : Result (Unit {0}) AuditFail → List ℕ → List ℕ → Type 0
-  IsReaching r before after = (is : List Item) → IsOpenOn s is before → s.at.is_closed ≡ false → Reaches (frontier_to s ended) is r s later old new before after
+  abbrev Reaching : Result (Unit {0}) AuditFail → List ℕ → List ℕ → Type 0
+  Reaching r = IsReaching s later ended old new r
 
   abbrev Needed : Result (Unit {0}) StoreFail → Type 0
   Needed r = s.last < end → WhereTold old.reads new.reads (Adds (items.Frontier end) r s later old new)
 
   pub reach_done : engine.IsRefusedBy {A = Unit {0}} (frontier_fault (tail_of s) s.at.is_closed end) (Ok tt) → commits.StandsAfter {A = Unit {0}} (Ok tt) s (frontier_at s end) later
-      → (end ≤ s.last → Unchanged old new) → OnlyNow old → (s.last < end → WhereTold old.reads new.reads (Adds {A = Unit {0}} (items.Frontier end) (Ok tt) s later old new)) → WhereTold old.reads new.reads (IsReaching (Ok tt))
+      → (end ≤ s.last → Unchanged old new) → OnlyNow old → (s.last < end → WhereTold old.reads new.reads (Adds {A = Unit {0}} (items.Frontier end) (Ok tt) s later old new)) → WhereTold old.reads new.reads (Reaching (Ok tt))
   reach_done refused stands same only_now told = by (cases_lt s.last end)
     where
-      by : (s.last < end) ⊎ (end ≤ s.last) → WhereTold old.reads new.reads (IsReaching (Ok tt))
-      by (inl lt) = told_map old.reads new.reads (Adds {A = Unit {0}} (items.Frontier end) (Ok tt) s later old new) (IsReaching (Ok tt)) (told lt)
+      by : (s.last < end) ⊎ (end ≤ s.last) → WhereTold old.reads new.reads (Reaching (Ok tt))
+      by (inl lt) = told_map old.reads new.reads (Adds {A = Unit {0}} (items.Frontier end) (Ok tt) s later old new) (Reaching (Ok tt)) (told lt)
           (λ before after adds is open_on opened. subst (λ (o : Option ℕ). Reaches o is (Ok tt) s later old new before after) (sym (needs lt)) (reaches_done s later end old new is before after open_on opened lt refused stands adds))
-      by (inr le) = told_still old.reads new.reads (λ before after. Unit {0}) (IsReaching (Ok tt)) (same le).reads (told_any old.reads new.reads)
+      by (inr le) = told_still old.reads new.reads (λ before after. Unit {0}) (Reaching (Ok tt)) (same le).reads (told_any old.reads new.reads)
           (λ before after bytes any is open_on opened. subst (λ (o : Option ℕ). Reaches o is (Ok tt) s later old new before after) (sym (needs_none le)) (reaches_still s later end old new is before after open_on opened bytes (stands ∙ here le) (same le) only_now))
         where
           here : end ≤ s.last → frontier_at s end ≡ s
           here le = let yes : nat_le end s.last ≡ true = grind (arith, nat_tests, le) in ap (λ (b : Bool). if b then s else with_frontier s end) yes
 
   pub reach_failed : (e : StoreFail) → engine.IsRefusedBy {A = Unit {0}} (frontier_fault (tail_of s) s.at.is_closed end) (Err e) → commits.StandsAfter {A = Unit {0}} (Err e) s (frontier_at s end) later
-      → (end ≤ s.last → ⊥) → (s.last < end → WhereTold old.reads new.reads (Adds {A = Unit {0}} (items.Frontier end) (Err e) s later old new)) → WhereTold old.reads new.reads (IsReaching (Err (fail_of_frontier e)))
+      → (end ≤ s.last → ⊥) → (s.last < end → WhereTold old.reads new.reads (Adds {A = Unit {0}} (items.Frontier end) (Err e) s later old new)) → WhereTold old.reads new.reads (Reaching (Err (fail_of_frontier e)))
   reach_failed e refused stands ok told = by (cases_lt s.last end)
     where
-      by : (s.last < end) ⊎ (end ≤ s.last) → WhereTold old.reads new.reads (IsReaching (Err (fail_of_frontier e)))
-      by (inl lt) = told_map old.reads new.reads (Adds {A = Unit {0}} (items.Frontier end) (Err e) s later old new) (IsReaching (Err (fail_of_frontier e))) (told lt)
+      by : (s.last < end) ⊎ (end ≤ s.last) → WhereTold old.reads new.reads (Reaching (Err (fail_of_frontier e)))
+      by (inl lt) = told_map old.reads new.reads (Adds {A = Unit {0}} (items.Frontier end) (Err e) s later old new) (Reaching (Err (fail_of_frontier e))) (told lt)
           (λ before after adds is open_on opened. subst (λ (o : Option ℕ). Reaches o is (Err (fail_of_frontier e)) s later old new before after) (sym (needs lt)) (reaches_failed s later end old new is before after open_on opened e refused stands adds))
       by (inr le) = absurd (ok le)

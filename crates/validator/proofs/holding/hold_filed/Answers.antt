@@ -2,8 +2,7 @@ use Rattle.std.proofs.Common.{rules, arith, ◌≡◌, ◌≤◌, ◌<◌, ◌+�
 use Rattle.notary_link.proofs.Frame.{goes_on_then}
 use Rattle.validator.specs.declared.fail.AuditFail.{AuditFail}
 use Rattle.validator.specs.Notarizing.{IsRefusedBy}
-use Rattle.validator.proofs.Faults.{refused_alike}
-use Rattle.validator.proofs.Held.{told_by_header, told_by_plan, told_by_chain}
+use Rattle.validator.proofs.Held.{told_by_header, told_by_plan, told_by_chain, alike_of}
 use Rattle.validator.proofs.holding.hold_filed.Goals as goal
 
 pub returns-in_err-hold_header-clause-told : goal.returns-in_err-hold_header-clause-told
@@ -25,7 +24,7 @@ returns-in_err-hold_chain-clause-told g c =
     let same : c.from_residual-in_err-hold_chain.result ≡ Err c.in_err-hold_chain.field-0.0 = search rules in
     let tiles : c.max-tiles.result ≡ max c.args.ended (c.args.count - 1) = search rules in
     told_by_chain c.args.header.now c.args.items.now c.args.count c.args.ended (S c.args.notary.now).lists (S c.hold_header.new.notary).lists (S c.hold_chain.new.notary).lists c.max-tiles.result c.in_ok-plan.plan (Err c.in_err-hold_chain.field-0.0) c.from_residual-in_err-hold_chain.result
-        (λ f refused. subst (IsRefusedBy f) (sym same) (refused_alike (Unit {0}) _ f c.in_err-hold_chain.field-0.0 refused)) tiles c.in_ok-plan.ensures.value c.in_err-hold_chain.ensures.frame.told.untold c.in_ok-hold_header.ensures.same.lists c.in_ok-hold_header.ensures.told c.in_err-hold_chain.ensures.told
+        (alike_of c.from_residual-in_err-hold_chain.result c.in_err-hold_chain.field-0.0 same) tiles c.in_ok-plan.ensures.value c.in_err-hold_chain.ensures.frame.told.untold c.in_ok-hold_header.ensures.same.lists c.in_ok-hold_header.ensures.told c.in_err-hold_chain.ensures.told
 
 pub returns-in_err-hold_chain-clause-frame : goal.returns-in_err-hold_chain-clause-frame
 returns-in_err-hold_chain-clause-frame g c =
@@ -36,5 +35,5 @@ pub returns-clause-told : goal.returns-clause-told
 returns-clause-told g c =
     let S = g.N.Notary.state in
     let tiles : c.max-tiles.result ≡ max c.args.ended (c.args.count - 1) = search rules in
-    told_by_chain {A = Unit {0}} c.args.header.now c.args.items.now c.args.count c.args.ended (S c.args.notary.now).lists (S c.hold_header.new.notary).lists (S c.hold_chain.new.notary).lists c.max-tiles.result c.in_ok-plan.plan (Ok tt) (Ok tt)
+    told_by_chain c.args.header.now c.args.items.now c.args.count c.args.ended (S c.args.notary.now).lists (S c.hold_header.new.notary).lists (S c.hold_chain.new.notary).lists c.max-tiles.result c.in_ok-plan.plan (Ok tt) (Ok tt)
         (λ f refused. refused) tiles c.in_ok-plan.ensures.value c.in_ok-hold_chain.ensures.frame.told.untold c.in_ok-hold_header.ensures.same.lists c.in_ok-hold_header.ensures.told c.in_ok-hold_chain.ensures.told
