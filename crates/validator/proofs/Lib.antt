@@ -9,3 +9,4 @@ pub mod Reached
 pub mod Held
 pub mod FiledNext
 pub mod Ended
+pub mod Clean

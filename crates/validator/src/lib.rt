@@ -4,12 +4,16 @@
 mod fail;
 mod filing;
 mod holding;
+mod laws;
 mod notarizing;
+#[cfg(test)]
+mod notarizing_tests;
 mod printing;
 mod validating;
 mod verdict;
 
 pub use fail::AuditFail;
+pub use laws::{sound_is_clean, sound_is_not_refused};
 pub use notarizing::notarize;
 pub use printing::{put_refusal, put_verdict};
 pub use validating::validate;

@@ -35,5 +35,6 @@ pub returns-clause-told : goal.returns-clause-told
 returns-clause-told g c =
     let S = g.N.Notary.state in
     let tiles : c.max-tiles.result ≡ max c.args.ended (c.args.count - 1) = search rules in
-    told_by_chain c.args.header.now c.args.items.now c.args.count c.args.ended (S c.args.notary.now).lists (S c.hold_header.new.notary).lists (S c.hold_chain.new.notary).lists c.max-tiles.result c.in_ok-plan.plan (Ok tt) (Ok tt)
+    let done : Result (Unit {0}) AuditFail = Ok tt in
+    told_by_chain c.args.header.now c.args.items.now c.args.count c.args.ended (S c.args.notary.now).lists (S c.hold_header.new.notary).lists (S c.hold_chain.new.notary).lists c.max-tiles.result c.in_ok-plan.plan done done
         (λ f refused. refused) tiles c.in_ok-plan.ensures.value c.in_ok-hold_chain.ensures.frame.told.untold c.in_ok-hold_header.ensures.same.lists c.in_ok-hold_header.ensures.told c.in_ok-hold_chain.ensures.told
