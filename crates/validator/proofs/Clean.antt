@@ -49,7 +49,6 @@ not_refused : (batches : List Batch) (id n : ℕ) (h : History) → NotaryOf bat
 not_refused [] id n h filed = refl
 not_refused (first ∷ []) id n h filed = ap (fault_by names.Header) (header_same (first ∷ []) id n h filed)
 not_refused (first ∷ second ∷ batches) id n h filed =
-
     let many : suc (length batches) ≡ n = omega (arith, counted (first ∷ second ∷ batches) id h n filed) in
     let within : first_granule (layout h) (suc (length batches)) ≤ max_granules = subst (λ (m : ℕ). first_granule (layout h) m ≤ max_granules) (sym many) filed.within in
     ap (λ (a : Answer). else_cause (fault_by names.Header a) (chain_fault (first ∷ second ∷ batches) h (length batches))) (header_same (first ∷ second ∷ batches) id n h filed)

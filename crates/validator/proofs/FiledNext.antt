@@ -53,11 +53,11 @@ module _ (h : History) (id now count ended : ℕ) (filed later : State) where
     pub next_not_filed : (e : NotaryFail) → TurnTold (Err e) → TraceTold (Err e) → NextTold (Err (fail_of_notary e))
     next_not_filed e turn trace = told_map filed.lists later.lists (λ before after. count ≡ length (before.batches id) → FilesInTurn id filed.limits (planned now seals) (Err e) before after) (λ before after. count ≡ length (before.batches id) → FilesNext id count (batches_from h now count ended) (Err (fail_of_notary e)) filed later before after) turn
         (λ before after files counted. let both = in_turn id filed.limits (planned now seals) e before after (files counted) in
-            subst (λ (bs : List Batch). FilesNext id count bs (Err (fail_of_notary e)) filed later before after) batches_are (record {
-              in_turn = both.0;
-              files = both.1;
-              calls = told_map filed.trace later.trace (MakesCalls (filings id count (planned now seals)) (Err e)) (CallsFor {A = Unit {0}} id count (planned now seals) (Err (fail_of_notary e))) trace (λ b a calls. calls_in_turn id count (planned now seals) e b a both.0 calls);
-            }))
+        subst (λ (bs : List Batch). FilesNext id count bs (Err (fail_of_notary e)) filed later before after) batches_are (record {
+          in_turn = both.0;
+          files = both.1;
+          calls = told_map filed.trace later.trace (MakesCalls (filings id count (planned now seals)) (Err e)) (CallsFor {A = Unit {0}} id count (planned now seals) (Err (fail_of_notary e))) trace (λ b a calls. calls_in_turn id count (planned now seals) e b a both.0 calls);
+        }))
 
 -- there was no memory for the batches
 pub none_built : (h : History) (id now count ended : ℕ) (filed : State) (r : Result (Unit {0}) AuditFail) → r ≡ Err fails.NoMemory → NextTold h id now count ended filed filed r

@@ -147,8 +147,8 @@ module _ (header : Header) (items : List Item) (count ended : ℕ) where
       (λ lists. count ≡ length (lists.batches header.id) → IsRefusedBy (filed_fault (lists.batches header.id) h) r)
       stays keeps known next
       (λ b x kept same chain counted. alike (filed_fault (b.batches header.id) h) (by_chain (b.batches header.id) h count ended counted (same items counted) asked
-          (subst (λ (bs : List Batch). IsRefusedBy (sealed_fault bs h) asked) (kept.batches header.id)
-          (subst (λ (k : History). count ≡ length (x.batches k.header.id) → first_granule (layout k) (count - 1) ≤ max_granules → IsRefusedBy (sealed_fault (x.batches k.header.id) k) asked) (ap (λ (p : Planned). p.history) planned.1) chain (counted ∙ ap length (sym (kept.batches header.id))) within))))
+      (subst (λ (bs : List Batch). IsRefusedBy (sealed_fault bs h) asked) (kept.batches header.id)
+      (subst (λ (k : History). count ≡ length (x.batches k.header.id) → first_granule (layout k) (count - 1) ≤ max_granules → IsRefusedBy (sealed_fault (x.batches k.header.id) k) asked) (ap (λ (p : Planned). p.history) planned.1) chain (counted ∙ ap length (sym (kept.batches header.id))) within))))
     where
       within : first_granule (layout h) (count - 1) ≤ max_granules
       within = let le = mul-le (count - 1) (2 ^ header.k) tiles (2 ^ header.k) (omega (arith, tiles_are)) (omega arith) in omega (arith, le, planned.0)

@@ -1,3 +1,8 @@
+mod Answered
+mod Searched
+mod Within
+mod Validated
+pub mod SomethingFound
 pub mod Telling
 pub mod Faults
 pub mod Disks

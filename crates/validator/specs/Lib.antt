@@ -1,3 +1,4 @@
+pub mod Fails
 pub mod Tiles
 pub mod Verdicts
 pub mod Notarizing

@@ -1,5 +1,5 @@
 -- What a validation finds, and the mark that it adds.
-use Rattle.std.specs.Prelude.{◌≡◌, ◌⊎◌, ◌<◌, ◌==◌, ℕ, ◌+◌, ◌-◌, nat_lt, nat_le, if◌then◌else◌, Bool, List, [], ◌∷◌, length, Option, Some, None, Result, Ok, Err}
+use Rattle.std.specs.Prelude.{◌≡◌, ◌⊎◌, ◌<◌, ◌==◌, ℕ, ◌+◌, ◌-◌, nat_lt, nat_le, if◌then◌else◌, Bool, true, false, List, [], ◌∷◌, length, Option, Some, None, Result, Ok, Err}
 use Rattle.outside_words.specs.Told.{WhereTold}
 use Rattle.tuple_bytes.specs.declared.header.Header.{Header}
 use Rattle.history_model.specs.declared.stored.Stored.{Stored}
@@ -43,11 +43,13 @@ IsFoundBy chain n (Ok (verdicts.Altered tiles first)) = (tiles ≡ n) × BeginsR
 IsFoundBy chain n (Err (fails.SealMissing name)) = (tile : ℕ) × (tile < n) × (name ≡ names.Cum tile) × (chain tile ≡ Absent)
 IsFoundBy chain n found = ⊥
 
--- tiles that end behind the last granule were never filed by this program
+-- where the tiles end at most behind the last granule; others were never filed by this program
+abbrev pub IsFoundWithin : Bool → List Batch → ℕ → History → Result Verdict AuditFail → Type 0
+IsFoundWithin true batches n s found = IsFoundBy (cums batches s) n found
+IsFoundWithin false batches n s found = found ≡ Err (fails.SealMissing (names.Cum (first_past (layout s))))
+
 abbrev pub IsFoundUnder : List Batch → ℕ → History → Result Verdict AuditFail → Type 0
-IsFoundUnder batches n s found =
-    if nat_le (first_granule (layout s) n) max_granules then IsFoundBy (cums batches s) n found
-    else found ≡ Err (fails.SealMissing (names.Cum (first_past (layout s))))
+IsFoundUnder batches n s found = IsFoundWithin (nat_le (first_granule (layout s) n) max_granules) batches n s found
 
 -- by the answer for the header
 abbrev pub IsFoundAt : Answer → List Batch → ℕ → History → Result Verdict AuditFail → Type 0
@@ -125,6 +127,30 @@ IsOfValidation fails.StoreFull = ⊥
 IsOfValidation fails.Closed = ⊥
 IsOfValidation fails.Broken = ⊥
 IsOfValidation (fails.OutOfTurn count) = ⊥
+
+-- ---- the parts of a validation
+
+-- what P says of an answer, where the notary didn't fail and memory didn't run out
+abbrev pub OrGivesUp : (Result Verdict AuditFail → Type 0) → Result Verdict AuditFail → Type 0
+OrGivesUp P (Err fails.NotaryFault) = Unit {0}
+OrGivesUp P (Err fails.NoMemory) = Unit {0}
+OrGivesUp P found = P found
+
+-- what refuses a verdict, before its mark is added
+abbrev pub IsOfFinding : AuditFail → Type 0
+IsOfFinding fails.NotaryFault = Unit {0}
+IsOfFinding (fails.SealMissing name) = Unit {0}
+IsOfFinding fails.NoMemory = Unit {0}
+IsOfFinding fail = ⊥
+
+-- a refusal that is not the disk's
+abbrev pub IsOfJudging : AuditFail → Type 0
+IsOfJudging fails.Full = Unit {0}
+IsOfJudging fail = IsOfFinding fail
+
+-- the batches stand as they stood
+abbrev pub KeepsBatches : Lists → Lists → Type 0
+KeepsBatches lists later = (id : ℕ) → later.batches id ≡ lists.batches id
 
 -- how many questions a verdict takes at most: one for the header, and those of the search
 abbrev pub questions : Verdict → ℕ

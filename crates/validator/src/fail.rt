@@ -2,9 +2,11 @@
 
 ghost use Rattle.std.specs.Prelude.{◌≡◌};
 ghost use Rattle.validator.specs.declared.fail.AuditFail.TheVariants.{NoMemory};
+ghost use Rattle.validator.specs.Fails.{of_notary, of_asking, of_journal};
 
-use notary_link::Name;
+use notary_link::{AskFail, Name, NotaryFail};
 use std::alloc::AllocError;
+use txn_journal::JournalFail;
 
 /// Why a notarization or a validation came to no end.
 #[derive(Clone, Copy, Debug, PartialEq, Eq)]
@@ -35,5 +37,45 @@ impl From<AllocError> for AuditFail {
 
     fn from(_: AllocError) -> Self {
         AuditFail::NoMemory
+    }
+}
+
+impl From<NotaryFail> for AuditFail {
+    ghost from_gives = { λ fail e. e ≡ of_notary fail };
+
+    fn from(fail: NotaryFail) -> Self {
+        match fail {
+            NotaryFail::Failed => AuditFail::NotaryFault,
+            NotaryFail::OutOfTurn { count } => AuditFail::OutOfTurn { count },
+            NotaryFail::Full => AuditFail::Full,
+            NotaryFail::NoMemory => AuditFail::NoMemory,
+        }
+    }
+}
+
+impl From<AskFail> for AuditFail {
+    ghost from_gives = { λ fail e. e ≡ of_asking fail };
+
+    fn from(fail: AskFail) -> Self {
+        match fail {
+            AskFail::NotaryFault => AuditFail::NotaryFault,
+            AskFail::SealMissing { name } => AuditFail::SealMissing { name },
+            AskFail::NotSealedSo | AskFail::NotaryInconsistent { .. } => AuditFail::Broken,
+            AskFail::NoMemory => AuditFail::NoMemory,
+        }
+    }
+}
+
+impl From<JournalFail> for AuditFail {
+    ghost from_gives = { λ fail e. e ≡ of_journal fail };
+
+    fn from(fail: JournalFail) -> Self {
+        match fail {
+            JournalFail::DiskFault => AuditFail::DiskFault,
+            JournalFail::StoreFull => AuditFail::StoreFull,
+            JournalFail::Closed => AuditFail::Closed,
+            JournalFail::AlreadyThere | JournalFail::NotAStore => AuditFail::Broken,
+            JournalFail::NoMemory => AuditFail::NoMemory,
+        }
     }
 }

@@ -58,11 +58,7 @@ fn is_same(ours: &Header, other: &Header) -> bool
 }
 
 /// The items that are stored behind this header, read anew.
-fn read_anew<D: Disk>(
-    alloc: Global,
-    disk: &mut D,
-    header: &Header,
-) -> Result<Items, AuditFail>
+fn read_anew<D: Disk>(alloc: Global, disk: &mut D, header: &Header) -> Result<Items, AuditFail>
     ensures value { IfSome (D.state disk.old).reads (λ bytes.
         (stored bytes).header ≡ Some header.now → IsReadAs (stored bytes).items result) }
     ensures history { IfOk result (λ items. IsHistory (history header.now items)) }
@@ -106,11 +102,7 @@ fn ask_same<N: Notary>(
 }
 
 /// Whether the header is the one that was filed, where a batch is.
-fn hold_header<N: Notary>(
-    notary: &mut N,
-    header: &Header,
-    count: u32,
-) -> Result<(), AuditFail>
+fn hold_header<N: Notary>(notary: &mut N, header: &Header, count: u32) -> Result<(), AuditFail>
     ensures told { WhereTold (N.state notary.old).lists (N.state notary.new).lists
         (λ before after. (items : List Item) → count ≡ length (before.batches header.now.id)
         → IsRefusedBy (header_fault (before.batches header.now.id) (history header.now items)) result) }

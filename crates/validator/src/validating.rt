@@ -1,20 +1,26 @@
 //! Holding a store against what was filed.
 
-ghost use Rattle.std.specs.Prelude.{◌≤◌, ◌+◌, List, ⊤, IfOk, IfErr, IfSome};
+ghost use Rattle.std.specs.Prelude.{◌≡◌, ◌≤◌, ◌+◌, ⊤, IfOk, IfErr, IfSome, length};
 ghost use Rattle.outside_words.specs.Faults.{HasCause};
 ghost use Rattle.outside_words.specs.Told.{WhereTold};
 ghost use Rattle.disk_words.specs.Disk as disks;
 ghost use Rattle.notary_link.specs.Notary as notaries;
+ghost use Rattle.history_model.specs.History.{history};
 ghost use Rattle.history_model.specs.Stored.{stored};
+ghost use Rattle.history_model.specs.StoredHistory.{IsHistory};
 ghost use Rattle.validator.specs.declared.fail.AuditFail.TheVariants.{DiskFault, NotaryFault};
-ghost use Rattle.validator.specs.Verdicts.{Validates, MakesMark, IsOfValidation, questions};
+ghost use Rattle.validator.specs.Verdicts.{Validates, MakesMark, KeepsBatches, IsOfValidation, IsOfJudging, questions};
 ghost use Rattle.validator.specs.Safe.{KeepsSound};
 
 use crate::fail::AuditFail;
+use crate::finding::find;
+use crate::marking::add_mark;
 use crate::verdict::Verdict;
 use disk_model::Disk;
+use history_model::Stored;
 use notary_link::Notary;
 use std::alloc::Global;
+use txn_journal::read_stored;
 
 /// Hashes what is stored under the id, and asks the notary whether it is what was filed. The verdict
 /// is added to the notary's marks, except where nothing was filed yet.
@@ -39,5 +45,57 @@ pub fn validate<D: Disk, N: Notary>(
     ensures disk_cause { HasCause DiskFault (D.state disk.old).faults (D.state disk.new).faults result }
     ensures notary_cause { HasCause NotaryFault (N.state notary.old).faults (N.state notary.new).faults result }
 {
-    Err(AuditFail::NoMemory)
+    match notary.count(id)? {
+        0 => Ok(Verdict::Unsealed),
+        count => validate_sealed(alloc, disk, notary, id, count - 1, now),
+    }
+}
+
+/// The same where so many tiles are sealed: the store is read once.
+fn validate_sealed<D: Disk, N: Notary>(
+    alloc: Global,
+    disk: &mut D,
+    notary: &mut N,
+    id: u64,
+    tiles: u32,
+    now: u64,
+) -> Result<Verdict, AuditFail>
+    ensures told { IfSome (D.state disk.old).reads (λ bytes.
+        WhereTold (N.state notary.old).lists (N.state notary.new).lists (λ lists later. length (lists.batches id) ≡ tiles + 1
+        → Validates id now (N.state notary.old).limits (stored bytes) result lists later)) }
+    ensures none_other { IfErr result IsOfValidation }
+    ensures batches { WhereTold (N.state notary.old).lists (N.state notary.new).lists KeepsBatches }
+    ensures trace { WhereTold (N.state notary.old).trace (N.state notary.new).trace (MakesMark id now result) }
+    ensures same { disks.Unchanged (D.state disk.old) (D.state disk.new) }
+    ensures asked { IfOk result (λ verdict. (N.state notary.new).asked ≤ (N.state notary.old).asked + questions verdict) }
+    ensures disk_frame { disks.GoesOn (D.state disk.old) (D.state disk.new) }
+    ensures notary_frame { notaries.GoesOn (N.state notary.old) (N.state notary.new) }
+    ensures disk_cause { HasCause DiskFault (D.state disk.old).faults (D.state disk.new).faults result }
+    ensures notary_cause { HasCause NotaryFault (N.state notary.old).faults (N.state notary.new).faults result }
+{
+    let stored = read_stored(alloc, disk)?;
+    judge(alloc, &stored, notary, id, tiles, now)
+}
+
+/// Finds the verdict and adds its mark.
+fn judge<N: Notary>(
+    alloc: Global,
+    stored: &Stored,
+    notary: &mut N,
+    id: u64,
+    tiles: u32,
+    now: u64,
+) -> Result<Verdict, AuditFail>
+    requires fits { IfSome stored.now.header (λ header. IsHistory (history header stored.now.items)) }
+    ensures told { WhereTold (N.state notary.old).lists (N.state notary.new).lists (λ lists later. length (lists.batches id) ≡ tiles + 1
+        → Validates id now (N.state notary.old).limits stored.now result lists later) }
+    ensures none_other { IfErr result IsOfJudging }
+    ensures batches { WhereTold (N.state notary.old).lists (N.state notary.new).lists KeepsBatches }
+    ensures trace { WhereTold (N.state notary.old).trace (N.state notary.new).trace (MakesMark id now result) }
+    ensures asked { IfOk result (λ verdict. (N.state notary.new).asked ≤ (N.state notary.old).asked + questions verdict) }
+    ensures frame { notaries.GoesOn (N.state notary.old) (N.state notary.new) }
+    ensures cause { HasCause NotaryFault (N.state notary.old).faults (N.state notary.new).faults result }
+{
+    let verdict = find(alloc, stored, notary, id, tiles)?;
+    add_mark(notary, id, verdict, now)
 }

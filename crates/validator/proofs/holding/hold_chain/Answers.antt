@@ -17,6 +17,6 @@ pub returns-clause-told : goal.returns-clause-told
 returns-clause-told g c =
     let S = g.N.Notary.state in
     let digest : get_or c.links.result.now (c.args.count - 2) [] ≡ cum c.args.plan.now.history (c.args.count - 2) =
-        ap (λ (links : List (List ℕ)). get_or links (c.args.count - 2) []) c.links.ensures.value
-        ∙ get_or-map-range_with_len (cum c.args.plan.now.history) 0 c.args.plan.now.tiles (c.args.count - 2) (c.args.count - 2) [] (omega (arith, c.requires.planned, c.if-count-lt2.false)) (omega arith) in
+    ap (λ (links : List (List ℕ)). get_or links (c.args.count - 2) []) c.links.ensures.value
+    ∙ get_or-map-range_with_len (cum c.args.plan.now.history) 0 c.args.plan.now.tiles (c.args.count - 2) (c.args.count - 2) [] (omega (arith, c.requires.planned, c.if-count-lt2.false)) (omega arith) in
     told_chain (S c.args.notary.now).lists (S c.ask_same.new.notary).lists c.args.plan.now.history c.header.result.now.id c.args.count (get_or c.links.result.now (c.args.count - 2) []) c.ask_same.result digest c.if-count-lt2.false (ap (λ (h : Header). h.id) c.header.ensures.value) c.ask_same.ensures.told

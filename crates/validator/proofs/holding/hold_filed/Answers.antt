@@ -24,7 +24,7 @@ returns-in_err-hold_chain-clause-told g c =
     let same : c.from_residual-in_err-hold_chain.result ≡ Err c.in_err-hold_chain.field-0.0 = search rules in
     let tiles : c.max-tiles.result ≡ max c.args.ended (c.args.count - 1) = search rules in
     told_by_chain c.args.header.now c.args.items.now c.args.count c.args.ended (S c.args.notary.now).lists (S c.hold_header.new.notary).lists (S c.hold_chain.new.notary).lists c.max-tiles.result c.in_ok-plan.plan (Err c.in_err-hold_chain.field-0.0) c.from_residual-in_err-hold_chain.result
-        (alike_of c.from_residual-in_err-hold_chain.result c.in_err-hold_chain.field-0.0 same) tiles c.in_ok-plan.ensures.value c.in_err-hold_chain.ensures.frame.told.untold c.in_ok-hold_header.ensures.same.lists c.in_ok-hold_header.ensures.told c.in_err-hold_chain.ensures.told
+    (alike_of c.from_residual-in_err-hold_chain.result c.in_err-hold_chain.field-0.0 same) tiles c.in_ok-plan.ensures.value c.in_err-hold_chain.ensures.frame.told.untold c.in_ok-hold_header.ensures.same.lists c.in_ok-hold_header.ensures.told c.in_err-hold_chain.ensures.told
 
 pub returns-in_err-hold_chain-clause-frame : goal.returns-in_err-hold_chain-clause-frame
 returns-in_err-hold_chain-clause-frame g c =
@@ -37,4 +37,4 @@ returns-clause-told g c =
     let tiles : c.max-tiles.result ≡ max c.args.ended (c.args.count - 1) = search rules in
     let done : Result (Unit {0}) AuditFail = Ok tt in
     told_by_chain c.args.header.now c.args.items.now c.args.count c.args.ended (S c.args.notary.now).lists (S c.hold_header.new.notary).lists (S c.hold_chain.new.notary).lists c.max-tiles.result c.in_ok-plan.plan done done
-        (λ f refused. refused) tiles c.in_ok-plan.ensures.value c.in_ok-hold_chain.ensures.frame.told.untold c.in_ok-hold_header.ensures.same.lists c.in_ok-hold_header.ensures.told c.in_ok-hold_chain.ensures.told
+    (λ f refused. refused) tiles c.in_ok-plan.ensures.value c.in_ok-hold_chain.ensures.frame.told.untold c.in_ok-hold_header.ensures.same.lists c.in_ok-hold_header.ensures.told c.in_ok-hold_chain.ensures.told
