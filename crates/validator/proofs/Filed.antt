@@ -15,7 +15,8 @@ use Rattle.notary_link.proofs.Sums.{same_below}
 use Rattle.validator.specs.declared.fail.AuditFail.{AuditFail}
 use Rattle.validator.specs.declared.fail.AuditFail.TheVariants as fails
 use Rattle.validator.specs.Filing.{FilesFor, CallsFor}
-use Rattle.validator.specs.Steps.{fail_of_notary, IsOfFiling}
+use Rattle.validator.specs.Steps.{IsOfFiling}
+use Rattle.validator.specs.Fails.{of_notary}
 use Rattle.validator.proofs.Disks.{IsStill}
 
 pub keeps_same : (lists : Lists) → Keeps lists lists
@@ -145,13 +146,13 @@ module _ (id : ℕ) where
   calls_alike A B from batches (fails.OutOfTurn count) old new calls = calls
 
   -- what the notary's answer says, as it is told here
-  pub in_turn : (limits : NotaryLimits) (batches : List Batch) (e : NotaryFail) (lists later : Lists) → FilesInTurn id limits batches (Err e) lists later → IsOfFiling (fail_of_notary e) × FilesFor {A = Unit {0}} id limits batches (Err (fail_of_notary e)) lists later
+  pub in_turn : (limits : NotaryLimits) (batches : List Batch) (e : NotaryFail) (lists later : Lists) → FilesInTurn id limits batches (Err e) lists later → IsOfFiling (of_notary e) × FilesFor {A = Unit {0}} id limits batches (Err (of_notary e)) lists later
   in_turn limits batches notary_fails.Full lists later files = (tt, files)
   in_turn limits batches notary_fails.Failed lists later files = (tt, files)
   in_turn limits batches notary_fails.NoMemory lists later files = (tt, files)
   in_turn limits batches (notary_fails.OutOfTurn count) lists later files = absurd files
 
-  pub calls_in_turn : (from : ℕ) (batches : List Batch) (e : NotaryFail) (old new : List Entry) → IsOfFiling (fail_of_notary e) → MakesCalls (filings id from batches) (Err e) old new → CallsFor {A = Unit {0}} id from batches (Err (fail_of_notary e)) old new
+  pub calls_in_turn : (from : ℕ) (batches : List Batch) (e : NotaryFail) (old new : List Entry) → IsOfFiling (of_notary e) → MakesCalls (filings id from batches) (Err e) old new → CallsFor {A = Unit {0}} id from batches (Err (of_notary e)) old new
   calls_in_turn from batches notary_fails.Full old new of_it calls = calls
   calls_in_turn from batches notary_fails.Failed old new of_it calls = inr calls
   calls_in_turn from batches notary_fails.NoMemory old new of_it calls = inr calls

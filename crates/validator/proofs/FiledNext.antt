@@ -19,7 +19,8 @@ use Rattle.audit_model.proofs.Fileable.{fileable}
 use Rattle.validator.specs.declared.fail.AuditFail.{AuditFail}
 use Rattle.validator.specs.declared.fail.AuditFail.TheVariants as fails
 use Rattle.validator.specs.Filing.{CallsFor}
-use Rattle.validator.specs.Steps.{batches_from, FilesNext, fail_of_notary, IsOfFiling}
+use Rattle.validator.specs.Steps.{batches_from, FilesNext, IsOfFiling}
+use Rattle.validator.specs.Fails.{of_notary}
 use Rattle.validator.proofs.Filed.{files_none, calls_none, in_turn, calls_in_turn, keeps_same}
 
 pub few_tiles : (k n : ℕ) → n * 2 ^ k ≤ 1048576 → n ≤ 1048576
@@ -50,13 +51,13 @@ module _ (h : History) (id now count ended : ℕ) (filed later : State) where
     next_filed turn trace = told_map filed.lists later.lists (λ before after. count ≡ length (before.batches id) → FilesInTurn id filed.limits (planned now seals) (Ok tt) before after) (λ before after. count ≡ length (before.batches id) → FilesNext id count (batches_from h now count ended) (Ok tt) filed later before after) turn
         (λ before after files counted. subst (λ (bs : List Batch). FilesNext id count bs (Ok tt) filed later before after) batches_are (record { in_turn = tt; files = files counted; calls = trace }))
 
-    pub next_not_filed : (e : NotaryFail) → TurnTold (Err e) → TraceTold (Err e) → NextTold (Err (fail_of_notary e))
-    next_not_filed e turn trace = told_map filed.lists later.lists (λ before after. count ≡ length (before.batches id) → FilesInTurn id filed.limits (planned now seals) (Err e) before after) (λ before after. count ≡ length (before.batches id) → FilesNext id count (batches_from h now count ended) (Err (fail_of_notary e)) filed later before after) turn
+    pub next_not_filed : (e : NotaryFail) → TurnTold (Err e) → TraceTold (Err e) → NextTold (Err (of_notary e))
+    next_not_filed e turn trace = told_map filed.lists later.lists (λ before after. count ≡ length (before.batches id) → FilesInTurn id filed.limits (planned now seals) (Err e) before after) (λ before after. count ≡ length (before.batches id) → FilesNext id count (batches_from h now count ended) (Err (of_notary e)) filed later before after) turn
         (λ before after files counted. let both = in_turn id filed.limits (planned now seals) e before after (files counted) in
-        subst (λ (bs : List Batch). FilesNext id count bs (Err (fail_of_notary e)) filed later before after) batches_are (record {
+        subst (λ (bs : List Batch). FilesNext id count bs (Err (of_notary e)) filed later before after) batches_are (record {
           in_turn = both.0;
           files = both.1;
-          calls = told_map filed.trace later.trace (MakesCalls (filings id count (planned now seals)) (Err e)) (CallsFor {A = Unit {0}} id count (planned now seals) (Err (fail_of_notary e))) trace (λ b a calls. calls_in_turn id count (planned now seals) e b a both.0 calls);
+          calls = told_map filed.trace later.trace (MakesCalls (filings id count (planned now seals)) (Err e)) (CallsFor {A = Unit {0}} id count (planned now seals) (Err (of_notary e))) trace (λ b a calls. calls_in_turn id count (planned now seals) e b a both.0 calls);
         }))
 
 -- there was no memory for the batches

@@ -9,8 +9,6 @@ use Rattle.tuple_bytes.specs.declared.item.Item.{Item}
 use Rattle.tuple_bytes.specs.Spelling.{FitsHeader}
 use Rattle.history_model.specs.History.{History, history}
 use Rattle.digest_model.specs.Layout.{layout, first_granule, max_granules}
-use Rattle.notary_link.specs.declared.fail.NotaryFail.{NotaryFail}
-use Rattle.notary_link.specs.declared.fail.NotaryFail.TheVariants as notary_fails
 use Rattle.notary_link.specs.declared.name.Name.{Name}
 use Rattle.notary_link.specs.declared.name.Name.TheVariants as names
 use Rattle.notary_link.specs.declared.notary.NotaryLimits.{NotaryLimits}
@@ -60,13 +58,6 @@ IsOfReading fails.Broken = Unit {0}
 IsOfReading fail = ⊥
 
 -- ---- asking
-
--- how a notary's refusal is told
-abbrev pub fail_of_notary : NotaryFail → AuditFail
-fail_of_notary notary_fails.Failed = fails.NotaryFault
-fail_of_notary (notary_fails.OutOfTurn count) = fails.OutOfTurn count
-fail_of_notary notary_fails.Full = fails.Full
-fail_of_notary notary_fails.NoMemory = fails.NoMemory
 
 -- the refusals of counting
 abbrev pub IsOfCounting : AuditFail → Type 0

@@ -17,10 +17,12 @@ ghost use Rattle.notary_link.specs.Notary as notaries;
 ghost use Rattle.seal_plan.specs.Plan.{planned_of};
 ghost use Rattle.store_engine.specs.Opened.{Stores};
 ghost use Rattle.validator.specs.declared.fail.AuditFail.TheVariants.{DiskFault, NotaryFault};
+ghost use Rattle.validator.specs.Fails.{of_notary};
 ghost use Rattle.validator.specs.Notarizing.{fault_by, filed_fault, IsRefusedBy};
-ghost use Rattle.validator.specs.Steps.{IsReadAs, IsOfReading, IsOfCounting, IsOfAsking, IsOfHolding, fail_of_notary, header_fault, sealed_fault, IsPlanned, IsPlanFor, Holds};
+ghost use Rattle.validator.specs.Steps.{IsReadAs, IsOfReading, IsOfCounting, IsOfAsking, IsOfHolding, header_fault, sealed_fault, IsPlanned, IsPlanFor, Holds};
 
 use crate::fail::AuditFail;
+use crate::tiles::{MAX_GRANULES, first_past};
 use cumulative_chain::header_digest;
 use disk_model::Disk;
 use notary_link::{Answer, Name, Notary, NotaryFail};
@@ -30,19 +32,11 @@ use step_count::{Blank, Ledger, Steps};
 use tuple_bytes::{Header, Items};
 use txn_journal::{JournalFail, read_stored};
 
-/// No granule from this one on is sealed.
-const MAX_GRANULES: u32 = 1_048_576;
-
 /// A notary's refusal, as it is told here.
 pub(crate) fn refusal(fail: NotaryFail) -> AuditFail
-    ensures value { result ≡ fail_of_notary fail }
+    ensures value { result ≡ of_notary fail }
 {
-    match fail {
-        NotaryFail::Failed => AuditFail::NotaryFault,
-        NotaryFail::OutOfTurn { count } => AuditFail::OutOfTurn { count },
-        NotaryFail::Full => AuditFail::Full,
-        NotaryFail::NoMemory => AuditFail::NoMemory,
-    }
+    AuditFail::from(fail)
 }
 
 /// Whether two headers are one.
@@ -131,7 +125,7 @@ fn plan_tiles<L: Ledger>(
     ensures value { IsPlanned (history header.now items.now) tiles result }
 {
     if u64::from(tiles) << header.k > u64::from(MAX_GRANULES) {
-        let tile = MAX_GRANULES >> header.k;
+        let tile = first_past(header);
         return Err(AuditFail::SealMissing {
             name: Name::Cum { tile },
         });

@@ -20,6 +20,7 @@ ghost use Rattle.cumulative_chain.specs.Tiles.{layout_of};
 use crate::fail::AuditFail;
 use crate::filing::file_rest;
 use crate::holding::hold_stored;
+use crate::tiles::MAX_GRANULES;
 use disk_model::Disk;
 use notary_link::Notary;
 use std::alloc::Global;
@@ -27,9 +28,6 @@ use std::marker::Brand;
 use step_count::Blank;
 use store_engine::Store;
 use tuple_bytes::granule;
-
-/// No granule has this number or a greater one.
-const MAX_GRANULES: u64 = 1_048_576;
 
 /// Files the digests of each tile that has ended at these clock seconds and isn't filed yet, and
 /// answers how many tiles are sealed then.
@@ -89,7 +87,7 @@ fn ended_tiles(store: &Store, now: u64) -> Result<u32, AuditFail>
         _ => return Err(AuditFail::ClockBack { last }),
     };
     let granule = granule(moment, header.width);
-    if granule >= MAX_GRANULES {
+    if granule >= u64::from(MAX_GRANULES) {
         return Err(AuditFail::TooLate);
     }
     Ok(granule as u32 >> header.k)

@@ -7,7 +7,7 @@ use Rattle.notary_link.specs.declared.seal.Seal.{Seal}
 use Rattle.tuple_bytes.specs.declared.header.Header.{Header}
 use Rattle.audit_model.specs.Names.{batch}
 use Rattle.validator.specs.declared.fail.AuditFail.{AuditFail}
-use Rattle.validator.specs.Steps.{fail_of_notary}
+use Rattle.validator.specs.Fails.{of_notary}
 use Rattle.validator.proofs.FiledNext.{NextTold, few_tiles, all_fileable, next_filed, next_not_filed}
 use Rattle.validator.proofs.filing.file_batches.Goals as goal
 
@@ -38,7 +38,7 @@ returns-clause-told g c =
     let S = g.N.Notary.state in
     let is : c.deref.result.now ≡ map (batch c.args.plan.now.history) (range_with_len c.args.count (suc c.args.ended - c.args.count)) = c.deref.ensures.value ∙ c.in_ok-batches.ensures.value in
     let own : c.header.result.now.id ≡ c.args.plan.now.history.header.id = ap (λ (h : Header). h.id) c.header.ensures.value in
-    let e : c.refusal.result ≡ fail_of_notary c.in-Err.fail = c.refusal.ensures.value in
+    let e : c.refusal.result ≡ of_notary c.in-Err.fail = c.refusal.ensures.value in
     subst (λ (f : AuditFail). NextTold c.args.plan.now.history c.args.plan.now.history.header.id c.args.now c.args.count c.args.ended (S c.args.notary.now) (S c.file_each.new.notary) (Err f)) (sym e)
-    (subst (λ (id : ℕ). NextTold c.args.plan.now.history id c.args.now c.args.count c.args.ended (S c.args.notary.now) (S c.file_each.new.notary) (Err (fail_of_notary c.in-Err.fail))) own
+    (subst (λ (id : ℕ). NextTold c.args.plan.now.history id c.args.now c.args.count c.args.ended (S c.args.notary.now) (S c.file_each.new.notary) (Err (of_notary c.in-Err.fail))) own
     (next_not_filed c.args.plan.now.history c.header.result.now.id c.args.now c.args.count c.args.ended (S c.args.notary.now) (S c.file_each.new.notary) c.deref.result.now is c.in-Err.fail c.in-Err.ensures.in_turn c.in-Err.ensures.trace))
