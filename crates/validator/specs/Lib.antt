@@ -5,5 +5,6 @@ pub mod Notarizing
 pub mod Filing
 pub mod Reaching
 pub mod Safe
+pub mod Steps
 pub mod Texts
 pub mod Laws

@@ -20,19 +20,46 @@
 //! | few questions are asked: one for the header, and the number of binary digits of the tiles and two more | `asked` |
 //! | a fault is answered only where the disk or the notary counted it | `disk_cause`, `notary_cause` |
 //!
+//! [`notarize`] reads the store once, holds what is filed already against it, stores a Frontier where the
+//! last moment has not reached the end of the last tile that has ended, and only then files the batches up
+//! to it, one after another. It may be called again after every refusal.
+//!
+//! | The layer above may rely on | Clause of `notarize` |
+//! |---|---|
+//! | a closed store, an earlier clock and a granule too late are refused first, and nothing is asked or changed | `early`, `untouched` |
+//! | any other refusal has its cause (`notarize_fault`): `Broken` and `SealMissing` of what is filed, `StoreFull` of the Frontier | `told`: `refused` |
+//! | Ok tells how many tiles are sealed then, and their batches are filed, of the clock's moment | `told`: `value`, `files`, `calls` |
+//! | after `Full` as many batches are filed as there is room for | `told`: `files` |
+//! | no batch is filed before the store has reached the end of its tile on a settled disk | `told`: `ordered` |
+//! | a crash leaves the items, or those and the Frontier | `told`: `images`, `kept` |
+//! | a sound store stays sound under each id, whatever is answered | `sound` |
+//! | at most two questions are asked | `asked` |
+//! | only a fault and want of memory close the store | `open` |
+//!
+//! | A law | Says |
+//! |---|---|
+//! | [`sound_is_clean`] | of what a sound store's images hold only a clean verdict is found |
+//! | [`sound_is_not_refused`] | nothing that is filed speaks against a sound store |
+//!
 //! That something can always be found is `proofs/SomethingFound`. Only tested: that calls succeed
 //! where there is memory.
 //!
 //! ```rust
+//! let sealed = notarize(alloc, &mut store, &mut disk, &mut notary, now)?;
 //! let verdict = validate(alloc, &mut disk, &mut notary, id, now)?;
 //! put_verdict(alloc, &mut out, verdict)?;
 //! ```
 #![tactic(auto)]
 
 mod fail;
+mod filing;
 mod finding;
+mod holding;
+mod laws;
 mod marking;
 mod notarizing;
+#[cfg(test)]
+mod notarizing_tests;
 mod printing;
 mod tiles;
 mod validating;
@@ -41,6 +68,7 @@ mod validating_tests;
 mod verdict;
 
 pub use fail::AuditFail;
+pub use laws::{sound_is_clean, sound_is_not_refused};
 pub use notarizing::notarize;
 pub use printing::{put_name, put_refusal, put_verdict};
 pub use validating::validate;

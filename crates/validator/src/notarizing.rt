@@ -1,6 +1,6 @@
 //! Filing the digests of a store's tiles.
 
-ghost use Rattle.std.specs.Prelude.{◌≡◌, ◌≤◌, ◌+◌, List, IsSome, OnErr, OnOk};
+ghost use Rattle.std.specs.Prelude.{◌≡◌, ◌≤◌, ◌+◌, List, Some, IsSome, IfOk, IfErr, MatchResult};
 ghost use Rattle.outside_words.specs.Faults.{HasCause};
 ghost use Rattle.outside_words.specs.Told.{WhereTold};
 ghost use Rattle.disk_words.specs.Disk as disks;
@@ -12,12 +12,22 @@ ghost use Rattle.validator.specs.declared.fail.AuditFail.TheVariants.{DiskFault,
 ghost use Rattle.validator.specs.Notarizing.{early_fault, IsEarly};
 ghost use Rattle.validator.specs.Reaching.{Notarizes, IsLeft, StaysOpen, AsksNothing};
 ghost use Rattle.validator.specs.Safe.{KeepsSound};
+ghost use Rattle.validator.specs.Steps.{IsEnded, IsOfClock};
+ghost use Rattle.tuple_bytes.specs.Spelling.{FitsHeader};
+ghost use Rattle.digest_model.specs.Layout.{first_granule, max_granules};
+ghost use Rattle.cumulative_chain.specs.Tiles.{layout_of};
 
 use crate::fail::AuditFail;
+use crate::filing::file_rest;
+use crate::holding::hold_stored;
+use crate::tiles::MAX_GRANULES;
 use disk_model::Disk;
 use notary_link::Notary;
 use std::alloc::Global;
+use std::marker::Brand;
+use step_count::Blank;
 use store_engine::Store;
+use tuple_bytes::granule;
 
 /// Files the digests of each tile that has ended at these clock seconds and isn't filed yet, and
 /// answers how many tiles are sealed then.
@@ -47,5 +57,38 @@ pub fn notarize<D: Disk, N: Notary>(
     ensures disk_cause { HasCause DiskFault (D.state disk.old).faults (D.state disk.new).faults result }
     ensures notary_cause { HasCause NotaryFault (N.state notary.old).faults (N.state notary.new).faults result }
 {
-    Err(AuditFail::NoMemory)
+    let ended = ended_tiles(store, now)?;
+    let (plan, count) = hold_stored::<D, N, Brand>(
+        alloc,
+        disk,
+        notary,
+        store.header(),
+        ended,
+        Blank::new(1),
+    )?;
+    file_rest(alloc, store, disk, notary, &plan, count, ended, now)
+}
+
+/// How many tiles have ended at these clock seconds, which are a moment of the open store.
+fn ended_tiles(store: &Store, now: u64) -> Result<u32, AuditFail>
+    ensures value { MatchResult result (IsEnded (tail_of store.now) store.now.at.is_closed now)
+        (λ fail. early_fault (tail_of store.now) store.now.at.is_closed now ≡ Some fail) }
+    ensures within { IfOk result (λ n. first_granule (layout_of store.now.header) n ≤ max_granules) }
+    ensures only { IfErr result IsOfClock }
+    ensures fits { FitsHeader store.now.header }
+{
+    let header = store.header();
+    if store.is_closed() {
+        return Err(AuditFail::Closed);
+    }
+    let last = store.last_moment();
+    let moment = match now.checked_sub(header.epoch) {
+        Some(moment) if last <= moment => moment,
+        _ => return Err(AuditFail::ClockBack { last }),
+    };
+    let granule = granule(moment, header.width);
+    if granule >= u64::from(MAX_GRANULES) {
+        return Err(AuditFail::TooLate);
+    }
+    Ok(granule as u32 >> header.k)
 }

@@ -8,7 +8,7 @@ ghost use Rattle.validator.specs.Tiles.{first_past};
 use tuple_bytes::Header;
 
 /// No granule from this one on is sealed.
-const MAX_GRANULES: u32 = 1_048_576;
+pub(crate) const MAX_GRANULES: u32 = 1_048_576;
 
 /// The first tile that ends behind the last granule.
 pub(crate) fn first_past(header: &Header) -> u32

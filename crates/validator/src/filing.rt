@@ -1,0 +1,186 @@
+//! Reaching the end of the last tile, and filing the batches up to it.
+
+ghost use Rattle.std.specs.Prelude.{◌≡◌, ◌≤◌, ◌<◌, ◌+◌, ◌-◌, ◌^◌, suc, false, ℕ, List, All, map, length, IfOk, IfErr};
+ghost use Rattle.std.specs.List.{range_with_len};
+ghost use Rattle.outside_words.specs.Faults.{HasCause};
+ghost use Rattle.outside_words.specs.Told.{WhereTold};
+ghost use Rattle.disk_words.specs.Disk as disks;
+ghost use Rattle.tuple_bytes.specs.declared.item.Item.{Item};
+ghost use Rattle.tuple_bytes.specs.Spelling.{FitsHeader};
+ghost use Rattle.digest_model.specs.Layout.{layout, first_granule, max_granules};
+ghost use Rattle.cumulative_chain.specs.Tiles.{layout_of};
+ghost use Rattle.audit_model.specs.Names.{batch};
+ghost use Rattle.notary_link.specs.Batches.{IsBatch};
+ghost use Rattle.notary_link.specs.Notary as notaries;
+ghost use Rattle.store_engine.specs.Opened.{IsOpenOn};
+ghost use Rattle.validator.specs.declared.fail.AuditFail.TheVariants.{DiskFault, NotaryFault};
+ghost use Rattle.validator.specs.Reaching.{StaysOpen, Notarizes};
+ghost use Rattle.validator.specs.Tiles.{end_of};
+ghost use Rattle.validator.specs.Steps.{fail_of_frontier, frontier_to, IsOfReaching, IsOfNotary, IsOfFilingAfter, Reaches, batches_from, FilesNext, IsPlanFor, IsChecked};
+
+use crate::fail::AuditFail;
+use crate::holding::refusal;
+use disk_model::Disk;
+use notary_link::{Notary, Seals, file_each};
+use seal_plan::Plan;
+use std::alloc::{AllocError, Global};
+use store_engine::{Store, StoreFail};
+use tuple_bytes::Header;
+
+/// The moment at which so many tiles have ended.
+fn end_of(header: &Header, tiles: u32) -> u64
+    requires fits { FitsHeader header.now }
+    requires within { first_granule (layout_of header.now) tiles ≤ max_granules }
+    ensures value { result ≡ end_of header.now tiles }
+{
+    (u64::from(tiles) << header.k) * u64::from(header.width)
+}
+
+/// A Frontier's refusal, as it is told here. An open store refuses it only for these three causes.
+fn frontier_refusal(fail: StoreFail) -> AuditFail
+    ensures value { result ≡ fail_of_frontier fail }
+{
+    match fail {
+        StoreFail::DiskFault => AuditFail::DiskFault,
+        StoreFail::StoreFull => AuditFail::StoreFull,
+        _ => AuditFail::NoMemory,
+    }
+}
+
+/// Makes the store reach the end of so many tiles, by a Frontier where its last moment is earlier.
+fn reach<D: Disk>(
+    alloc: Global,
+    store: &mut Store,
+    disk: &mut D,
+    ended: u32,
+) -> Result<(), AuditFail>
+    requires within { first_granule (layout_of store.old.header) ended ≤ max_granules }
+    ensures told { WhereTold (D.state disk.old).reads (D.state disk.new).reads (λ before after.
+        (items : List Item) → IsOpenOn store.old items before → store.old.at.is_closed ≡ false
+        → Reaches (frontier_to store.old ended) items result store.old store.new
+        (D.state disk.old) (D.state disk.new) before after) }
+    ensures only { IfErr result IsOfReaching }
+    ensures open { StaysOpen result store.old store.new }
+    ensures frame { disks.GoesOn (D.state disk.old) (D.state disk.new) }
+    ensures cause { HasCause DiskFault (D.state disk.old).faults (D.state disk.new).faults result }
+{
+    let moment = end_of(store.header(), ended);
+    match store.frontier(alloc, disk, moment) {
+        Ok(()) => Ok(()),
+        Err(fail) => Err(frontier_refusal(fail)),
+    }
+}
+
+/// The seals of each batch from an index on, up to a last one.
+fn seal_batches(
+    alloc: Global,
+    plan: &Plan,
+    count: u32,
+    ended: u32,
+) -> Result<Vec<Seals>, AllocError>
+    requires planned { ended ≤ plan.now.tiles }
+    requires few { ended < 2 ^ 32 - 1 }
+    requires some { count ≤ ended }
+    ensures value { IfOk result (λ batches. batches.items ≡ map (batch plan.now.history) (range_with_len count (suc ended - count))) }
+{
+    let mut batches = Vec::new(alloc);
+    for index in count..ended + 1 {
+        batches.push(plan.batch(alloc, index)?)?;
+    }
+    Ok(batches)
+}
+
+/// Files these batches, one after another.
+fn file_batches<N: Notary>(
+    alloc: Global,
+    notary: &mut N,
+    plan: &Plan,
+    count: u32,
+    ended: u32,
+    now: u64,
+) -> Result<(), AuditFail>
+    requires fits { FitsHeader plan.now.history.header }
+    requires within { first_granule (layout plan.now.history) plan.now.tiles ≤ max_granules }
+    requires planned { ended ≤ plan.now.tiles }
+    requires some { count ≤ ended }
+    ensures told { WhereTold (N.state notary.old).lists (N.state notary.new).lists (λ before after.
+        count ≡ length (before.batches plan.now.history.header.id)
+        → FilesNext plan.now.history.header.id count (batches_from plan.now.history now count ended) result
+        (N.state notary.old) (N.state notary.new) before after) }
+    ensures only { IfErr result IsOfNotary }
+    ensures asked { (N.state notary.new).asked ≡ (N.state notary.old).asked }
+    ensures frame { notaries.GoesOn (N.state notary.old) (N.state notary.new) }
+    ensures cause { HasCause NotaryFault (N.state notary.old).faults (N.state notary.new).faults result }
+{
+    let id = plan.header().id;
+    let batches = seal_batches(alloc, plan, count, ended)?;
+    match file_each(notary, id, count, now, &batches) {
+        Ok(()) => Ok(()),
+        Err(fail) => Err(refusal(fail)),
+    }
+}
+
+/// Reaches the end of the last tile that has ended, and then files the batches up to it.
+fn file_ended<D: Disk, N: Notary>(
+    alloc: Global,
+    store: &mut Store,
+    disk: &mut D,
+    notary: &mut N,
+    plan: &Plan,
+    count: u32,
+    ended: u32,
+    now: u64,
+) -> Result<u32, AuditFail>
+    requires plan { IsPlanFor store.old.header ended plan.now count }
+    requires some { count ≤ ended }
+    ensures told { WhereTold (D.state disk.old).reads (D.state disk.new).reads (λ before after.
+        WhereTold (N.state notary.old).lists (N.state notary.new).lists (λ lists later.
+        (items : List Item) → IsOpenOn store.old items before
+        → IsChecked now store.old items (lists.batches store.old.header.id) ended count plan.now
+        → Notarizes now items result store.old store.new
+        (D.state disk.old) (D.state disk.new) before after (N.state notary.old) (N.state notary.new) lists later)) }
+    ensures only { IfErr result IsOfFilingAfter }
+    ensures open { StaysOpen result store.old store.new }
+    ensures asked { (N.state notary.new).asked ≡ (N.state notary.old).asked }
+    ensures disk_frame { disks.GoesOn (D.state disk.old) (D.state disk.new) }
+    ensures notary_frame { notaries.GoesOn (N.state notary.old) (N.state notary.new) }
+    ensures disk_cause { HasCause DiskFault (D.state disk.old).faults (D.state disk.new).faults result }
+    ensures notary_cause { HasCause NotaryFault (N.state notary.old).faults (N.state notary.new).faults result }
+{
+    reach(alloc, store, disk, ended)?;
+    file_batches(alloc, notary, plan, count, ended, now)?;
+    Ok(ended)
+}
+
+/// Files the batches that are not filed yet, where there are any, and answers how many tiles are
+/// sealed then.
+pub(crate) fn file_rest<D: Disk, N: Notary>(
+    alloc: Global,
+    store: &mut Store,
+    disk: &mut D,
+    notary: &mut N,
+    plan: &Plan,
+    count: u32,
+    ended: u32,
+    now: u64,
+) -> Result<u32, AuditFail>
+    requires plan { IsPlanFor store.old.header ended plan.now count }
+    ensures told { WhereTold (D.state disk.old).reads (D.state disk.new).reads (λ before after.
+        WhereTold (N.state notary.old).lists (N.state notary.new).lists (λ lists later.
+        (items : List Item) → IsOpenOn store.old items before
+        → IsChecked now store.old items (lists.batches store.old.header.id) ended count plan.now
+        → Notarizes now items result store.old store.new
+        (D.state disk.old) (D.state disk.new) before after (N.state notary.old) (N.state notary.new) lists later)) }
+    ensures only { IfErr result IsOfFilingAfter }
+    ensures open { StaysOpen result store.old store.new }
+    ensures asked { (N.state notary.new).asked ≡ (N.state notary.old).asked }
+    ensures disk_frame { disks.GoesOn (D.state disk.old) (D.state disk.new) }
+    ensures notary_frame { notaries.GoesOn (N.state notary.old) (N.state notary.new) }
+    ensures disk_cause { HasCause DiskFault (D.state disk.old).faults (D.state disk.new).faults result }
+    ensures notary_cause { HasCause NotaryFault (N.state notary.old).faults (N.state notary.new).faults result }
+{
+    if ended < count {
+        return Ok(count - 1);
+    }
+    file_ended(alloc, store, disk, notary, plan, count, ended, now)
+}
