@@ -2,7 +2,10 @@
 #![tactic(auto)]
 
 mod answered;
+mod audits;
 mod fail;
+mod lines;
+mod statements;
 mod world;
 
 pub use answered::Answered;

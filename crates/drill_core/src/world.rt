@@ -17,6 +17,7 @@ ghost use Rattle.drill_core.specs.Stepping.{StepsFor, KeepsStore};
 
 use crate::answered::Answered;
 use crate::fail::LineFail;
+use crate::lines::{answer_with_store, answer_without_store};
 use disk_model::Disk;
 use notary_link::Notary;
 use session_core::Sessions;
@@ -69,7 +70,9 @@ impl World {
         ensures cause { HasCause stores.DiskFault (D.state disk.old).faults (D.state disk.new).faults result }
     {
         self.store = None;
-        Err(StoreFail::NoMemory)
+        self.sessions = Sessions::new(alloc);
+        self.store = Some(Store::open_store(alloc, disk, self.id)?);
+        Ok(())
     }
 
     /// Carries out a line at these clock seconds. After a failure there is no store.
@@ -94,8 +97,16 @@ impl World {
         ensures disk_cause { HasCause DiskFault (D.state disk.old).faults (D.state disk.new).faults result }
         ensures notary_cause { HasCause NotaryFault (N.state notary.old).faults (N.state notary.new).faults result }
     {
-        self.store = None;
-        Err(LineFail::NoMemory)
+        match self.store.take() {
+            Some(mut store) => {
+                let sessions = &mut self.sessions;
+                let answered =
+                    answer_with_store(alloc, sessions, &mut store, disk, notary, line, now)?;
+                self.store = Some(store);
+                Ok(answered)
+            }
+            None => answer_without_store(alloc, disk, notary, self.id, line, now),
+        }
     }
 
     /// The store, where there is one.
