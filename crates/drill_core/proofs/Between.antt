@@ -33,9 +33,9 @@ module _ {A : Type 0} where
       → IsBetween l (if any == id then l ++ news else l) (if any == id then l ++ wishes else l) middle
   between_at id any l news wishes middle at others = ⊎_elim
       (λ is. subst (λ (x : List A). IsBetween l x (if any == id then l ++ wishes else l) middle) (sym (here id any (l ++ news) l is))
-          (subst (λ (x : List A). IsBetween l (l ++ news) x middle) (sym (here id any (l ++ wishes) l is)) (at is)))
+      (subst (λ (x : List A). IsBetween l (l ++ news) x middle) (sym (here id any (l ++ wishes) l is)) (at is)))
       (λ apart. subst (λ (x : List A). IsBetween l x (if any == id then l ++ wishes else l) middle) (sym (there id any (l ++ news) l apart))
-          (subst (λ (x : List A). IsBetween l l x middle) (sym (there id any (l ++ wishes) l apart)) (others apart)))
+      (subst (λ (x : List A). IsBetween l l x middle) (sym (there id any (l ++ wishes) l apart)) (others apart)))
       (cases_eq any id)
 
   keeps_at : (id any : ℕ) (l news later : List A) → (any ≡ id → later ≡ l ++ news) → (any ≢ id → later ≡ l) → later ≡ (if any == id then l ++ news else l)
@@ -127,7 +127,7 @@ module _ (id : ℕ) (old lists later : Lists) (keeps : Keeps old lists) where
         under : (any : ℕ) → IsBetween (old.marks any) (old.marks any) ((with_mark id mark old).marks any) (later.marks any)
         under any = ⊎_elim
             (λ is. subst (λ (x : List Mark). IsBetween (old.marks any) (old.marks any) x (later.marks any)) (sym (here id any (old.marks any ++ mark ∷ []) (old.marks any) is))
-                (record { len = length (old.marks any); least = omega arith; most = omega arith; front = (keeps_then old lists later keeps same).marks any ∙ sym (take-length (old.marks any)) ∙ sym (none_more any) }))
+            (record { len = length (old.marks any); least = omega arith; most = omega arith; front = (keeps_then old lists later keeps same).marks any ∙ sym (take-length (old.marks any)) ∙ sym (none_more any) }))
             (λ other. subst (λ (x : List Mark). IsBetween (old.marks any) (old.marks any) x (later.marks any)) (sym (there id any (old.marks any ++ mark ∷ []) (old.marks any) other)) (same_between (old.marks any) (later.marks any) ((keeps_then old lists later keeps same).marks any)))
             (cases_eq any id)
 

@@ -1,6 +1,6 @@
 -- A validation always finds something.
 use Rattle.std.proofs.Common.{◌≡◌, ◌⊎◌, inl, inr, ℕ, zero, suc, ◌<◌, List, [], ◌∷◌, length, Bool, true, false, Option, Some, None, Result, Ok, Err, refl, arith}
-use Rattle.std.specs.Prelude.{nat_le, if◌then◌else◌}
+use Rattle.std.specs.Prelude.{nat_le}
 use Rattle.digest_model.specs.Layout.{layout, first_granule, max_granules}
 use Rattle.history_model.specs.History.{History}
 use Rattle.notary_link.specs.declared.answer.Answer.{Answer}
@@ -14,7 +14,7 @@ use Rattle.validator.specs.declared.verdict.Verdict.TheVariants as verdicts
 use Rattle.validator.specs.declared.fail.AuditFail.{AuditFail}
 use Rattle.validator.specs.declared.fail.AuditFail.TheVariants as fails
 use Rattle.validator.specs.Tiles.{first_past, cums}
-use Rattle.validator.specs.Verdicts.{IsFoundBy, IsFoundUnder, IsFoundAt, IsFoundIn}
+use Rattle.validator.specs.Verdicts.{IsFoundBy, IsFoundWithin, IsFoundAt, IsFoundIn}
 
 -- something of which P holds
 abbrev Some_ : (Result Verdict AuditFail → Type 0) → Type 0
@@ -48,15 +48,12 @@ module _ (chain : ℕ → Answer) where
       by answers_as.Absent is = (Err (fails.SealMissing (names.Cum last)), last, omega arith, refl, is)
 
 module _ (batches : List Batch) (n : ℕ) (s : History) where
-  under : Some_ (IsFoundUnder batches n s)
-  under = by (nat_le (first_granule (layout s) n) max_granules) (by_chain (cums batches s) n)
-    where
-      by : (b : Bool) → Some_ (IsFoundBy (cums batches s) n) → Some_ (λ found. if b then IsFoundBy (cums batches s) n found else (found ≡ Err (fails.SealMissing (names.Cum (first_past (layout s))))))
-      by true some = some
-      by false some = (Err (fails.SealMissing (names.Cum (first_past (layout s)))), refl)
+  within : (b : Bool) → Some_ (IsFoundWithin b batches n s)
+  within true = by_chain (cums batches s) n
+  within false = (Err (fails.SealMissing (names.Cum (first_past (layout s)))), refl)
 
   at : (a : Answer) → Some_ (IsFoundAt a batches n s)
-  at answers_as.Same = under
+  at answers_as.Same = within (nat_le (first_granule (layout s) n) max_granules)
   at answers_as.Differs = (Ok (verdicts.HeaderAltered n), refl)
   at answers_as.Absent = (Err (fails.SealMissing names.Header), refl)
 

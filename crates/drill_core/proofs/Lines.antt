@@ -18,13 +18,13 @@ pub steps_wherever : (line : Line) (now : ℕ) (fail : LineFail) (held later oth
     → StepsFor line now (Err fail) held later old new filed filed_later → StepsFor line now (Err fail) held other old new filed filed_later
 steps_wherever line now fail held later other old new filed filed_later told =
     told_map old.reads new.reads
-        (λ before after. WhereTold filed.lists filed_later.lists (λ lists later_lists. (w : World) → IsIn w held before lists → w.limits ≡ filed.limits → Steps line now w (Err fail) later old new before after later_lists))
-        (λ before after. WhereTold filed.lists filed_later.lists (λ lists later_lists. (w : World) → IsIn w held before lists → w.limits ≡ filed.limits → Steps line now w (Err fail) other old new before after later_lists))
-        told
-        (λ before after at. told_map filed.lists filed_later.lists
-            (λ lists later_lists. (w : World) → IsIn w held before lists → w.limits ≡ filed.limits → Steps line now w (Err fail) later old new before after later_lists)
-            (λ lists later_lists. (w : World) → IsIn w held before lists → w.limits ≡ filed.limits → Steps line now w (Err fail) other old new before after later_lists)
-            at
-            (λ lists later_lists does w i limits.
-                let s = does w i limits in
-                record { found = s.found; may = s.may; goes = wherever w (step w line now s.found) fail later other old new before after later_lists s.goes }))
+    (λ before after. WhereTold filed.lists filed_later.lists (λ lists later_lists. (w : World) → IsIn w held before lists → w.limits ≡ filed.limits → Steps line now w (Err fail) later old new before after later_lists))
+    (λ before after. WhereTold filed.lists filed_later.lists (λ lists later_lists. (w : World) → IsIn w held before lists → w.limits ≡ filed.limits → Steps line now w (Err fail) other old new before after later_lists))
+    told
+    (λ before after at. told_map filed.lists filed_later.lists
+    (λ lists later_lists. (w : World) → IsIn w held before lists → w.limits ≡ filed.limits → Steps line now w (Err fail) later old new before after later_lists)
+    (λ lists later_lists. (w : World) → IsIn w held before lists → w.limits ≡ filed.limits → Steps line now w (Err fail) other old new before after later_lists)
+    at
+    (λ lists later_lists does w i limits.
+    let s = does w i limits in
+    record { found = s.found; may = s.may; goes = wherever w (step w line now s.found) fail later other old new before after later_lists s.goes }))

@@ -152,9 +152,9 @@ module _ (now : ℕ) (s later_s : Opened) (old new : State) (before after : List
     stay : (result : Result Answered LineFail) → IfOk result (λ answered. answered ≡ refusal (refusal_text fail)) → Goes w next result (alone s) old new before after later
     stay result reply = subst (λ (a : List ℕ). Goes w next result (alone s) old new before a later) (sym (reads same))
         (left w (alone s) old new before lists i same only_now next result later refl refl
-            (replies_as next (refusal (refusal_text fail)) result refl refl reply)
-            (given result (keeps_then w.lists lists later i.lists keeps))
-            (kept_between w.lists later (keeps_then w.lists lists later i.lists keeps)))
+        (replies_as next (refusal (refusal_text fail)) result refl refl reply)
+        (given result (keeps_then w.lists lists later i.lists keeps))
+        (kept_between w.lists later (keeps_then w.lists lists later i.lists keeps)))
 
     faulty : (result : Result Answered LineFail) → OnOk result ⊥ → To next result
     faulty (Ok answered) never = absurd never
@@ -164,7 +164,7 @@ module _ (now : ℕ) (s later_s : Opened) (old new : State) (before after : List
     told told_fail told_is stands result reply =
         let same_fail : told_fail ≡ fail = cc in
         subst (λ (x : Opened). Goes w next result (alone x) old new before after later) (sym stands)
-            (stay result (subst (λ (f : AuditFail). IfOk result (λ answered. answered ≡ refusal (refusal_text f))) same_fail reply))
+        (stay result (subst (λ (f : AuditFail). IfOk result (λ answered. answered ≡ refusal (refusal_text f))) same_fail reply))
 
     pub refused : (r : Result ℕ AuditFail) (result : Result Answered LineFail) → IsAnswer sealed_text r result → IsRefusedBy fault r → (reached_too : Type 0) → reaching.StandsAfter r reached_too (reaching.IsLeft s later_s old new) → To next result
     refused (Ok n) result answer by R stands = let none : fault ≡ None = by in absurd cc
@@ -198,11 +198,14 @@ module _ (now : ℕ) (s later_s : Opened) (old new : State) (before after : List
 
   stands_in : (o : Option ℕ) → IsReached o s later_s ws.items old new before after → statements.IsIn (reached o ws) later_s after × ((reached o ws).header.id ≡ w.id)
   stands_in None r = (record { header = header ∙ has.stands.header; end = ap (λ (x : Opened). x.at.end) r.store_is ∙ has.stands.end; open_on = r.open_on }, has.own)
-  stands_in (Some moment) r = (record {
-    header = header ∙ has.stands.header;
-    end = ap (λ (x : Opened). x.at.end) r.store_is ∙ ap (λ (e : ℕ). e + 5 + length (spell_frontier moment)) has.stands.end;
-    open_on = r.open_on;
-  }, has.own)
+  stands_in (Some moment) r = (
+    record {
+      header = header ∙ has.stands.header;
+      end = ap (λ (x : Opened). x.at.end) r.store_is ∙ ap (λ (e : ℕ). e + 5 + length (spell_frontier moment)) has.stands.end;
+      open_on = r.open_on;
+    },
+    has.own,
+  )
 
   module _ (images : Only before old → EveryImage old new Around) (kept : Only before old → Around after) (part : FilesFew w.id batches fit lists later) where
     abbrev with_all : Lists
@@ -326,21 +329,21 @@ told_known None n P Q told f = tt
 pub notarization : (now : ℕ) (s later_s : Opened) (old new : State) (filed later : notaries.State) → s.at.is_closed ≡ false → later_s.header ≡ s.header
     → ((c : List ℕ) → old.was_image (turn old) c → old.is_image c) → (r : Result ℕ AuditFail) (result : Result Answered LineFail) → IsAnswer sealed_text r result
     → WhereTold old.reads new.reads (λ before after. WhereTold filed.lists later.lists (λ lists later_lists.
-        (items : List Item) → IsOpenOn s items before → Notarizes now items r s later_s old new before after filed later lists later_lists))
+    (items : List Item) → IsOpenOn s items before → Notarizes now items r s later_s old new before after filed later lists later_lists))
     → StepsFor (lines.Plain stmts.Notarize) now result (alone s) (alone later_s) old new filed later
 notarization now s later_s old new filed later is_open header only_now r result answer told =
     told_known old.reads new.reads
-        (λ before after. WhereTold filed.lists later.lists (λ lists later_lists. (items : List Item) → IsOpenOn s items before → Notarizes now items r s later_s old new before after filed later lists later_lists))
-        (λ before after. WhereTold filed.lists later.lists (λ lists later_lists. (w : World) → IsIn w (alone s) before lists → w.limits ≡ filed.limits → Steps (lines.Plain stmts.Notarize) now w result (alone later_s) old new before after later_lists))
-        told
-        (λ before after was is at. told_map filed.lists later.lists
-            (λ lists later_lists. (items : List Item) → IsOpenOn s items before → Notarizes now items r s later_s old new before after filed later lists later_lists)
-            (λ lists later_lists. (w : World) → IsIn w (alone s) before lists → w.limits ≡ filed.limits → Steps (lines.Plain stmts.Notarize) now w result (alone later_s) old new before after later_lists)
-            at
-            (λ lists later_lists does w i within.
-                let has = has_store w s before lists i in
-                notarizes now s later_s old new before after lists later_lists filed.limits is_open header only_now (λ same. same_bytes before after (sym is ∙ same.reads ∙ was)) w i within has
-                    filed later refl r result answer (does has.world.items has.stands.open_on)))
+    (λ before after. WhereTold filed.lists later.lists (λ lists later_lists. (items : List Item) → IsOpenOn s items before → Notarizes now items r s later_s old new before after filed later lists later_lists))
+    (λ before after. WhereTold filed.lists later.lists (λ lists later_lists. (w : World) → IsIn w (alone s) before lists → w.limits ≡ filed.limits → Steps (lines.Plain stmts.Notarize) now w result (alone later_s) old new before after later_lists))
+    told
+    (λ before after was is at. told_map filed.lists later.lists
+    (λ lists later_lists. (items : List Item) → IsOpenOn s items before → Notarizes now items r s later_s old new before after filed later lists later_lists)
+    (λ lists later_lists. (w : World) → IsIn w (alone s) before lists → w.limits ≡ filed.limits → Steps (lines.Plain stmts.Notarize) now w result (alone later_s) old new before after later_lists)
+    at
+    (λ lists later_lists does w i within.
+    let has = has_store w s before lists i in
+    notarizes now s later_s old new before after lists later_lists filed.limits is_open header only_now (λ same. same_bytes before after (sym is ∙ same.reads ∙ was)) w i within has
+    filed later refl r result answer (does has.world.items has.stands.open_on)))
   where
     same_bytes : (b a : List ℕ) → Some a ≡ Some b → a ≡ b
     same_bytes b a e = cc

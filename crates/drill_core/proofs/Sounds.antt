@@ -123,4 +123,4 @@ module _ (s later : Opened) (line : Line) (now : ℕ) (r : Result Reply StepFail
       (λ before after. WhereTold filed.lists filed.lists (λ lists later_lists. (id : ℕ) → ((items : List Item) × IsOpenOn s items before) → Only before old → IsSound old.is_image (lists.batches id) id → IsSound new.is_image (later_lists.batches id) id))
       old.is_image told reads
       (λ b a image does. told_same filed.lists filed.lists (λ lists later_lists. (id : ℕ) → ((items : List Item) × IsOpenOn s items b) → Only b old → IsSound old.is_image (lists.batches id) id → IsSound new.is_image (later_lists.batches id) id) refl
-          (λ lists id is only. stays b a image does only is.0 is.1 (lists.batches id) id))
+      (λ lists id is only. stays b a image does only is.0 is.1 (lists.batches id) id))

@@ -92,4 +92,4 @@ module _ (s later : Opened) (header : later.header ≡ s.header) (old new : disk
         (λ before after. WhereTold filed.lists filed.lists (λ lists later_lists. (w : World) → IsIn w (alone s) before lists → w.limits ≡ filed.limits → Steps line now w result (alone later) old new before after later_lists))
         told
         (λ b a does. told_same filed.lists filed.lists (λ lists later_lists. (w : World) → IsIn w (alone s) b lists → w.limits ≡ filed.limits → Steps line now w result (alone later) old new b a later_lists) refl
-            (λ lists w i limits. steps w lists b a i does))
+        (λ lists w i limits. steps w lists b a i does))

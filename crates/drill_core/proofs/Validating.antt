@@ -89,8 +89,8 @@ module _ (now : ℕ) (w : World) (held : Held) (old new : State) (bytes : List �
   keep next result stays wished keeps reply =
       let all = keeps_then w.lists lists later i.lists keeps in
       left w held old new bytes lists i same only_now next result later (ap (λ (x : World). x.id) stays) (ap (λ (x : World). x.store) stays) reply
-          (given result (subst (λ (x : World). Keeps x.lists later) (sym stays) all))
-          (subst (λ (x : World). AreBetween w.lists x.lists next.wished later) (sym stays) (subst (λ (l : Lists). AreBetween w.lists w.lists l later) (sym wished) (kept_between w.lists later all)))
+      (given result (subst (λ (x : World). Keeps x.lists later) (sym stays) all))
+      (subst (λ (x : World). AreBetween w.lists x.lists next.wished later) (sym stays) (subst (λ (l : Lists). AreBetween w.lists w.lists l later) (sym wished) (kept_between w.lists later all)))
 
   module _ (mark : Mark) (text : List ℕ) where
     abbrev after_mark : Bool → Step
@@ -178,7 +178,7 @@ module _ (now : ℕ) (w : World) (held : Held) (old new : State) (bytes : List �
     validates (Err (fails.SealMissing name)) result answer (is, keeps) =
         let next = refuses w (refusal_text (fails.SealMissing name)) in
         steps result (Err (fails.SealMissing name)) (found_in (Err (fails.SealMissing name)) is)
-            (keep next result refl refl keeps (replies_as next (refusal (refusal_text (fails.SealMissing name))) result refl refl answer))
+        (keep next result refl refl keeps (replies_as next (refusal (refusal_text (fails.SealMissing name))) result refl refl answer))
     validates (Err fails.Full) result answer (verdict, is, none) = steps result (Ok verdict) (found_in (Ok verdict) is) (is_not_marked (mark_of verdict now) (verdict_text verdict) result answer none)
     validates (Err fails.NotaryFault) result answer (inl keeps) = early result answer keeps
     validates (Err fails.NotaryFault) result answer (inr (verdict, is, may)) = late result verdict answer is may
@@ -206,10 +206,10 @@ pub without : (id now : ℕ) (old new : State) (filed later : notaries.State) (v
     → StepsWithout (lines.Plain stmts.Validate) now result id old new filed later
 without id now old new filed later v result same only_now answer told held own =
     told_unchanged old.reads new.reads (λ bytes. WhereTold filed.lists later.lists (Validates id now filed.limits (stored bytes) v))
-        (λ before after. WhereTold filed.lists later.lists (λ lists later_lists. (w : World) → IsIn w held before lists → w.limits ≡ filed.limits → Steps (lines.Plain stmts.Validate) now w result held old new before after later_lists))
-        same.reads told
-        (λ bytes at. told_map filed.lists later.lists (Validates id now filed.limits (stored bytes) v)
-            (λ lists later_lists. (w : World) → IsIn w held bytes lists → w.limits ≡ filed.limits → Steps (lines.Plain stmts.Validate) now w result held old new bytes bytes later_lists)
-            at
-            (λ lists later_lists does w i within. validates now w held old new bytes lists later_lists i same only_now filed.limits within v result answer
-                (subst (λ (n : ℕ). Validates n now filed.limits (stored bytes) v lists later_lists) (sym own ∙ i.id) does)))
+    (λ before after. WhereTold filed.lists later.lists (λ lists later_lists. (w : World) → IsIn w held before lists → w.limits ≡ filed.limits → Steps (lines.Plain stmts.Validate) now w result held old new before after later_lists))
+    same.reads told
+    (λ bytes at. told_map filed.lists later.lists (Validates id now filed.limits (stored bytes) v)
+    (λ lists later_lists. (w : World) → IsIn w held bytes lists → w.limits ≡ filed.limits → Steps (lines.Plain stmts.Validate) now w result held old new bytes bytes later_lists)
+    at
+    (λ lists later_lists does w i within. validates now w held old new bytes lists later_lists i same only_now filed.limits within v result answer
+    (subst (λ (n : ℕ). Validates n now filed.limits (stored bytes) v lists later_lists) (sym own ∙ i.id) does)))

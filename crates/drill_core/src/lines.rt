@@ -1,6 +1,6 @@
 //! Lines, with a store and without one.
 
-ghost use Rattle.std.specs.Prelude.{◌≡◌, ⊤, false, OnOk};
+ghost use Rattle.std.specs.Prelude.{◌≡◌, ◌↔◌, ⊤, false, IsTrue, OnOk};
 ghost use Rattle.outside_words.specs.Faults.{HasCause};
 ghost use Rattle.disk_words.specs.Disk as disks;
 ghost use Rattle.notary_link.specs.Notary as notaries;
@@ -18,7 +18,7 @@ use crate::fail::LineFail;
 use crate::statements::answer_statement;
 use disk_model::Disk;
 use notary_link::Notary;
-use session_core::Sessions;
+use session_core::{Sessions, is_table_line};
 use std::alloc::Global;
 use stmt_text::{Line, Stmt};
 use store_engine::Store;
@@ -85,5 +85,17 @@ pub(crate) fn answer_without_store<D: Disk, N: Notary>(
             stmt: Stmt::Validate,
         } => answer_validation(alloc, disk, notary, id, now),
         _ => Ok(not_a_store(alloc)?),
+    }
+}
+
+/// Whether a world takes a line: a statement on tables, `notarize` or `validate`.
+pub fn is_world_line(line: &Line) -> bool
+    ensures value { IsTrue result ↔ IsWorldLine line.now }
+{
+    match line {
+        Line::Plain {
+            stmt: Stmt::Notarize | Stmt::Validate,
+        } => true,
+        _ => is_table_line(line),
     }
 }

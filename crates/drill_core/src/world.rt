@@ -100,8 +100,9 @@ impl World {
         match self.store.take() {
             Some(mut store) => {
                 let sessions = &mut self.sessions;
-                let answered =
-                    answer_with_store(alloc, sessions, &mut store, disk, notary, line, now)?;
+                let answered = answer_with_store(
+                    alloc, sessions, &mut store, disk, notary, line, now,
+                )?;
                 self.store = Some(store);
                 Ok(answered)
             }

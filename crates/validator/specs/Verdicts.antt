@@ -1,5 +1,5 @@
 -- What a validation finds, and the mark that it adds.
-use Rattle.std.specs.Prelude.{◌≡◌, ◌⊎◌, ◌<◌, ◌==◌, ℕ, ◌+◌, ◌-◌, nat_lt, nat_le, if◌then◌else◌, Bool, List, [], ◌∷◌, length, Option, Some, None, Result, Ok, Err}
+use Rattle.std.specs.Prelude.{◌≡◌, ◌⊎◌, ◌<◌, ◌==◌, ℕ, ◌+◌, ◌-◌, nat_lt, nat_le, if◌then◌else◌, Bool, true, false, List, [], ◌∷◌, length, Option, Some, None, Result, Ok, Err}
 use Rattle.outside_words.specs.Told.{WhereTold}
 use Rattle.tuple_bytes.specs.declared.header.Header.{Header}
 use Rattle.history_model.specs.declared.stored.Stored.{Stored}
@@ -43,11 +43,13 @@ IsFoundBy chain n (Ok (verdicts.Altered tiles first)) = (tiles ≡ n) × BeginsR
 IsFoundBy chain n (Err (fails.SealMissing name)) = (tile : ℕ) × (tile < n) × (name ≡ names.Cum tile) × (chain tile ≡ Absent)
 IsFoundBy chain n found = ⊥
 
--- tiles that end behind the last granule were never filed by this program
+-- where the tiles end at most behind the last granule; others were never filed by this program
+abbrev pub IsFoundWithin : Bool → List Batch → ℕ → History → Result Verdict AuditFail → Type 0
+IsFoundWithin true batches n s found = IsFoundBy (cums batches s) n found
+IsFoundWithin false batches n s found = found ≡ Err (fails.SealMissing (names.Cum (first_past (layout s))))
+
 abbrev pub IsFoundUnder : List Batch → ℕ → History → Result Verdict AuditFail → Type 0
-IsFoundUnder batches n s found =
-    if nat_le (first_granule (layout s) n) max_granules then IsFoundBy (cums batches s) n found
-    else found ≡ Err (fails.SealMissing (names.Cum (first_past (layout s))))
+IsFoundUnder batches n s found = IsFoundWithin (nat_le (first_granule (layout s) n) max_granules) batches n s found
 
 -- by the answer for the header
 abbrev pub IsFoundAt : Answer → List Batch → ℕ → History → Result Verdict AuditFail → Type 0
