@@ -108,14 +108,14 @@ module _ (id : ℕ) (old lists later : Lists) (keeps : Keeps old lists) where
         marks = λ any. past any (noted_between.marks any);
       }
         where
-          past : (any : ℕ) → IsBetween (old.marks any) ((with_mark id mark old).marks any) ((with_mark id mark old).marks any) (later.marks any) → IsBetween (old.marks any) (old.marks any) ((with_mark id mark old).marks any) (later.marks any)
-          past any b = record { len = length (later.marks any); least = omega (arith, long any); most = omega (arith, long any); front = noted_keeps.marks any ∙ sym (take-length ((with_mark id mark old).marks any)) ∙ ap (λ (n : ℕ). take n ((with_mark id mark old).marks any)) (ap length (sym (noted_keeps.marks any))) }
-
           long : (any : ℕ) → (length (old.marks any) ≤ length (later.marks any)) × (length (later.marks any) ≤ length (old.marks any) + 1)
           long any = ⊎_elim
               (λ is. let l = ap length (noted_at any is) in let m = length-append (old.marks any) (mark ∷ []) in (omega (arith, l, m), omega (arith, l, m)))
               (λ other. let l = ap length (noted_apart any other) in (omega (arith, l), omega (arith, l)))
               (cases_eq any id)
+
+          past : (any : ℕ) → IsBetween (old.marks any) ((with_mark id mark old).marks any) ((with_mark id mark old).marks any) (later.marks any) → IsBetween (old.marks any) (old.marks any) ((with_mark id mark old).marks any) (later.marks any)
+          past any b = record { len = length (later.marks any); least = omega (arith, long any); most = omega (arith, long any); front = noted_keeps.marks any ∙ sym (take-length ((with_mark id mark old).marks any)) ∙ ap (λ (n : ℕ). take n ((with_mark id mark old).marks any)) (ap length (sym (noted_keeps.marks any))) }
 
     -- a mark that is wished for, and is not there
     pub unmarked : Keeps lists later → AreBetween old old (with_mark id mark old) later
@@ -124,15 +124,15 @@ module _ (id : ℕ) (old lists later : Lists) (keeps : Keeps old lists) where
       marks = λ any. under any;
     }
       where
+        none_more : (any : ℕ) → take (length (old.marks any)) (old.marks any ++ mark ∷ []) ≡ take (length (old.marks any)) (old.marks any)
+        none_more any = take-append_seam (old.marks any) (mark ∷ []) ∙ sym (take-length (old.marks any))
+
         under : (any : ℕ) → IsBetween (old.marks any) (old.marks any) ((with_mark id mark old).marks any) (later.marks any)
         under any = ⊎_elim
             (λ is. subst (λ (x : List Mark). IsBetween (old.marks any) (old.marks any) x (later.marks any)) (sym (here id any (old.marks any ++ mark ∷ []) (old.marks any) is))
             (record { len = length (old.marks any); least = omega arith; most = omega arith; front = (keeps_then old lists later keeps same).marks any ∙ sym (take-length (old.marks any)) ∙ sym (none_more any) }))
             (λ other. subst (λ (x : List Mark). IsBetween (old.marks any) (old.marks any) x (later.marks any)) (sym (there id any (old.marks any ++ mark ∷ []) (old.marks any) other)) (same_between (old.marks any) (later.marks any) ((keeps_then old lists later keeps same).marks any)))
             (cases_eq any id)
-
-        none_more : (any : ℕ) → take (length (old.marks any)) (old.marks any ++ mark ∷ []) ≡ take (length (old.marks any)) (old.marks any)
-        none_more any = take-append_seam (old.marks any) (mark ∷ []) ∙ sym (take-length (old.marks any))
 
     -- with room for it
     pub unmarked_yet : Keeps lists later → AreBetween old (with_mark id mark old) (with_mark id mark old) later

@@ -1,9 +1,9 @@
 pub mod Between
 pub mod Left
-pub mod Kinds
-pub mod Found
+pub mod LineKinds
 pub mod Tables
 pub mod Sounds
 pub mod Validating
 pub mod Notarizing
-pub mod Lines
+pub mod Wherever
+pub mod Nowhere

@@ -41,7 +41,7 @@ use Rattle.drill_core.specs.Parts.{alone}
 use Rattle.drill_core.specs.Steps.{Step, says, refuses, is_full, filed, filed_for, reached, all_filed, sealed, unless, notarized}
 use Rattle.drill_core.specs.Stepping.{IsReply, Goes, Steps, StepsFor}
 use Rattle.drill_core.proofs.Between.{kept_between, keeps_then, filed_keeps, filed_between}
-use Rattle.drill_core.proofs.Kinds.{none_found, notarize_step}
+use Rattle.drill_core.proofs.LineKinds.{none_found, notarize_step}
 use Rattle.drill_core.proofs.Left.{left}
 use Rattle.drill_core.proofs.Tables.{HasStore, has_store}
 use Rattle.drill_core.proofs.Validating.{IsAnswer, replies_as, given}
@@ -59,12 +59,12 @@ keeps_none : (id : ℕ) (lists later : Lists) → Keeps lists later → FilesAll
 keeps_none id lists later keeps = record { filed = keeps.batches id ∙ sym (append-nil (lists.batches id)); others = λ other apart. keeps.batches other; marks = keeps.marks }
 
 -- some of the batches were filed, and at most one that had no room
-record FilesFew (id : ℕ) (batches : List Batch) (fit : ℕ) (lists later : Lists) : Type 0 where
+pub record FilesFew (id : ℕ) (batches : List Batch) (fit : ℕ) (lists later : Lists) : Type 0 where
   pub done : ℕ
   pub few : done ≤ fit + 1
   pub files : FilesAll id (take done batches) lists later
 
-few_filed : (id : ℕ) (limits : NotaryLimits) (batches : List Batch) (r : Result ℕ AuditFail) (lists later : Lists) → FilesFor id limits batches r lists later → FilesFew id batches (fitting (room_in limits lists) batches) lists later
+pub few_filed : (id : ℕ) (limits : NotaryLimits) (batches : List Batch) (r : Result ℕ AuditFail) (lists later : Lists) → FilesFor id limits batches r lists later → FilesFew id batches (fitting (room_in limits lists) batches) lists later
 few_filed id limits batches r lists later files = by r files
   where
     none : Keeps lists later → FilesFew id batches (fitting (room_in limits lists) batches) lists later
@@ -347,3 +347,18 @@ notarization now s later_s old new filed later is_open header only_now r result 
   where
     same_bytes : (b a : List ℕ) → Some a ≡ Some b → a ≡ b
     same_bytes b a e = cc
+
+-- whatever was answered, the header stays
+pub stays_header : (r : Result ℕ AuditFail) (s later_s : Opened) → reaching.StaysOpen r s later_s → later_s.header ≡ s.header
+stays_header (Ok n) s later_s stays = stays.0
+stays_header (Err fails.DiskFault) s later_s stays = stays
+stays_header (Err fails.NoMemory) s later_s stays = stays
+stays_header (Err fails.NotaryFault) s later_s stays = stays.0
+stays_header (Err (fails.ClockBack last)) s later_s stays = stays.0
+stays_header (Err fails.TooLate) s later_s stays = stays.0
+stays_header (Err fails.StoreFull) s later_s stays = stays.0
+stays_header (Err fails.Full) s later_s stays = stays.0
+stays_header (Err fails.Closed) s later_s stays = stays.0
+stays_header (Err fails.Broken) s later_s stays = stays.0
+stays_header (Err (fails.SealMissing name)) s later_s stays = stays.0
+stays_header (Err (fails.OutOfTurn count)) s later_s stays = stays.0

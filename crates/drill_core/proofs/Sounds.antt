@@ -95,7 +95,7 @@ told_with None n P Q R told given f = tt
 module _ (s later : Opened) (line : Line) (now : ℕ) (r : Result Reply StepFail) (old new : State) (fits : FitsHeader s.header)
     (counts_now : (c : List ℕ) → turn old ≤ turn new → new.is_image c → new.was_image (turn old) c) where
   module _ (b a : List ℕ) (image : old.is_image b) (does : StepsTo line now r s later old new b a) (only : Only b old) (stored_items : List Item) (open_on : IsOpenOn s stored_items b) where
-    w : World
+    abbrev w : World
     w = record { header = s.header; items = stored_items; end = s.at.end }
 
     stands : IsIn w s b

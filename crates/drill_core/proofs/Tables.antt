@@ -1,5 +1,5 @@
 -- A statement on tables does to the world what it does to the store's.
-use Rattle.std.proofs.Common.{◌≡◌, ◌⊎◌, ℕ, List, Option, Some, None, Result, Ok, Err, IfOk, inl, inr, refl, sym, ap, subst, ◌∙◌}
+use Rattle.std.proofs.Common.{◌≡◌, ◌⊎◌, ℕ, Bool, List, Option, Some, None, Result, Ok, Err, IfOk, inl, inr, refl, sym, ap, subst, ◌∙◌}
 use Rattle.outside_words.specs.Told.{WhereTold}
 use Rattle.outside_words.proofs.Told.{told_map, told_same}
 use Rattle.disk_words.specs.Disk as disks
@@ -10,19 +10,21 @@ use Rattle.store_engine.specs.Opened.{Opened}
 use Rattle.stmt_text.specs.declared.line.Line.{Line}
 use Rattle.session_core.specs.declared.reply.Reply.{Reply}
 use Rattle.session_core.specs.declared.sessions.StepFail.{StepFail}
+use Rattle.session_core.specs.declared.sessions.StepFail.TheVariants as steps_as
+use Rattle.session_core.specs.Replies.{reply_text, is_refusal}
 use Rattle.session_core.specs.World as statements
 use Rattle.session_core.specs.Steps as statement_steps
 use Rattle.session_core.specs.Stepping.{StepsIn, StepsTo}
 use Rattle.drill_core.specs.declared.answered.Answered.{Answered}
 use Rattle.drill_core.specs.declared.fail.LineFail.{LineFail}
 use Rattle.drill_core.specs.World.{World, IsIn, StoreIsIn, StoresOf, StoresEither}
-use Rattle.drill_core.specs.Answers.{replied}
+use Rattle.drill_core.specs.declared.fail.LineFail.TheVariants as fails
+use Rattle.drill_core.specs.Answers.{replied, fault_of}
 use Rattle.drill_core.specs.Parts.{alone, StepsBeside}
 use Rattle.drill_core.specs.Steps.{Step, on_tables, after_statement}
 use Rattle.drill_core.specs.Stepping.{IsReply, Goes, Steps}
-use Rattle.drill_core.specs.Steps as steps
 use Rattle.drill_core.proofs.Between.{kept_between}
-use Rattle.drill_core.proofs.Kinds.{none_found, table_step, table_may}
+use Rattle.drill_core.proofs.LineKinds.{none_found, table_step, table_may}
 use Rattle.session_core.specs.Steps.{IsTableLine}
 
 -- the world of an open store
@@ -44,6 +46,18 @@ abbrev pub Answers : Result Reply StepFail → Result Answered LineFail → Type
 Answers (Ok reply) result = IfOk result (λ answered. answered ≡ replied reply)
 Answers (Err fail) (Ok answered) = ⊥
 Answers (Err fail) (Err other) = Unit {0}
+
+-- a failure answers anything
+pub fails_anyhow : (r : Result Reply StepFail) (fail : LineFail) → Answers r (Err fail)
+fails_anyhow (Ok reply) fail = tt
+fails_anyhow (Err other) fail = tt
+
+pub answered_as : (refused : Bool) (text : List ℕ) (reply : Reply) → refused ≡ is_refusal reply → text ≡ reply_text reply → Answers (Ok reply) (Ok (record { refused = refused; text = text }))
+answered_as refused text reply is says = ap (λ (b : Bool). record { refused = b; text = text }) is ∙ ap (λ (t : List ℕ). record { refused = is_refusal reply; text = t }) says
+
+pub not_notary : (fail : StepFail) → fault_of fail ≡ fails.NotaryFault → ⊥
+not_notary steps_as.DiskFault is = absurd cc
+not_notary steps_as.NoMemory is = absurd cc
 
 module _ (s later : Opened) (header : later.header ≡ s.header) (old new : disks.State) where
   module _ (w : World) (lists : notaries.Lists) (b a : List ℕ) (i : IsIn w (alone s) b lists) (has : HasStore w s b) where

@@ -35,8 +35,8 @@ use Rattle.drill_core.specs.Parts.{StepsWithout}
 use Rattle.drill_core.specs.Steps.{Step, says, refuses, is_full, marked, validated, filed_for, history_of}
 use Rattle.drill_core.specs.Stepping.{IsReply, Goes, Steps}
 use Rattle.drill_core.proofs.Between.{kept_between, keeps_then, noted_keeps, noted_between, noted_past, unmarked, unmarked_yet}
-use Rattle.drill_core.proofs.Found.{something_is_found}
-use Rattle.drill_core.proofs.Kinds.{validate_step}
+use Rattle.validator.proofs.SomethingFound.{something_is_found}
+use Rattle.drill_core.proofs.LineKinds.{validate_step}
 use Rattle.drill_core.proofs.Left.{left}
 
 -- the answer to what an audit came to
@@ -194,7 +194,7 @@ module _ (now : ℕ) (w : World) (held : Held) (old new : State) (bytes : List �
 
 -- where the disk is unchanged
 told_unchanged : {A : Type 0} (o n : Option A) (P : A → Type 0) (Q : A → A → Type 0) → n ≡ o → IfSome o P → ((b : A) → P b → Q b b) → WhereTold o n Q
-told_unchanged o n P Q same told f = subst (λ (m : Option A). WhereTold o m Q) (sym same) (at o told)
+told_unchanged {A = A} o n P Q same told f = subst (λ (m : Option A). WhereTold o m Q) (sym same) (at o told)
   where
     at : (o : Option A) → IfSome o P → WhereTold o o Q
     at (Some b) told = f b told

@@ -67,10 +67,10 @@ IsEntered id bytes (Ok _) None = ⊥
 IsEntered id bytes (Err fail) store = IsNoStore id (stored bytes).header fail
 
 -- a machine over these bytes, beside a notary with these lists, stands for this world
-pub record IsIn (w : World) (held : Held) (bytes : List ℕ) (lists : Lists) : Type 0 where
+pub record IsIn (w : World) (held : Held) (bytes : List ℕ) (filed : Lists) : Type 0 where
   pub id : held.id ≡ w.id
   pub store : StoreIsIn w.id w.store held.store bytes
-  pub lists : Keeps w.lists lists
+  pub lists : Keeps w.lists filed
 
 -- ---- bytes and lists on the way from a world to another
 

@@ -1,16 +1,17 @@
 //! Lines, with a store and without one.
 
-ghost use Rattle.std.specs.Prelude.{◌≡◌, ◌↔◌, ⊤, false, IsTrue, OnOk};
+ghost use Rattle.std.specs.Prelude.{◌≡◌, ◌↔◌, ⊤, false, IsTrue, IfErr, IfOk, OnOk, codes};
 ghost use Rattle.outside_words.specs.Faults.{HasCause};
 ghost use Rattle.disk_words.specs.Disk as disks;
 ghost use Rattle.notary_link.specs.Notary as notaries;
 ghost use Rattle.stmt_text.specs.Fits.{FitsParts};
 ghost use Rattle.validator.specs.Safe.{KeepsSound};
-ghost use Rattle.drill_core.specs.declared.fail.LineFail.TheVariants.{DiskFault, NotaryFault};
+ghost use Rattle.drill_core.specs.declared.fail.LineFail.TheVariants.{DiskFault, NotaryFault, NoMemory};
+ghost use Rattle.drill_core.specs.Answers.{refusal};
 ghost use Rattle.drill_core.specs.World.{StandsFor};
 ghost use Rattle.drill_core.specs.Steps.{IsWorldLine};
 ghost use Rattle.drill_core.specs.Stepping.{StepsFor};
-ghost use Rattle.drill_core.specs.Parts.{alone, no_store};
+ghost use Rattle.drill_core.specs.Parts.{alone, no_store, NeedsStore};
 
 use crate::answered::{Answered, not_a_store};
 use crate::audits::{answer_notarization, answer_validation};
@@ -61,6 +62,17 @@ pub(crate) fn answer_with_store<D: Disk, N: Notary>(
     }
 }
 
+/// What is told where a store is needed, and there is none.
+fn no_answer(alloc: Global, line: &Line) -> Result<Answered, LineFail>
+    requires needs { NeedsStore line.now }
+    ensures needs { NeedsStore line.now }
+    ensures value { IfOk result (λ answered. answered ≡ refusal (codes "NotAStore")) }
+    ensures only_memory { IfErr result (λ fail. fail ≡ NoMemory) }
+{
+    let _line = line;
+    Ok(not_a_store(alloc)?)
+}
+
 /// Carries out a line where there is no store of this id.
 pub(crate) fn answer_without_store<D: Disk, N: Notary>(
     alloc: Global,
@@ -84,7 +96,7 @@ pub(crate) fn answer_without_store<D: Disk, N: Notary>(
         Line::Plain {
             stmt: Stmt::Validate,
         } => answer_validation(alloc, disk, notary, id, now),
-        _ => Ok(not_a_store(alloc)?),
+        _ => no_answer(alloc, line),
     }
 }
 

@@ -1,11 +1,11 @@
 //! Statements on tables, over an open store.
 
-ghost use Rattle.std.specs.Prelude.{◌≡◌, false, OnOk};
+ghost use Rattle.std.specs.Prelude.{◌≡◌, false, IsErrOf, OnOk};
 ghost use Rattle.outside_words.specs.Faults.{HasCause};
 ghost use Rattle.disk_words.specs.Disk as disks;
 ghost use Rattle.stmt_text.specs.Fits.{FitsParts};
 ghost use Rattle.session_core.specs.Steps.{IsTableLine};
-ghost use Rattle.drill_core.specs.declared.fail.LineFail.TheVariants.{DiskFault};
+ghost use Rattle.drill_core.specs.declared.fail.LineFail.TheVariants.{DiskFault, NotaryFault};
 ghost use Rattle.drill_core.specs.Parts.{StepsBeside, StaysSound};
 
 use crate::answered::Answered;
@@ -33,6 +33,7 @@ pub(crate) fn answer_statement<D: Disk>(
     ensures told { StepsBeside line.now now result store.old store.new (D.state disk.old) (D.state disk.new) }
     ensures sound { StaysSound store.old (D.state disk.old) (D.state disk.new) }
     ensures frame { disks.GoesOn (D.state disk.old) (D.state disk.new) }
+    ensures disk_only { IsErrOf result NotaryFault → ⊥ }
     ensures cause { HasCause DiskFault (D.state disk.old).faults (D.state disk.new).faults result }
 {
     // What it answers is no matter here: that it may be asked says that its fields fit.

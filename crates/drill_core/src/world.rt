@@ -1,6 +1,8 @@
 //! A store and its sessions, as lines find them.
 
+ghost use Rattle.std.proofs.Props.{props};
 ghost use Rattle.std.specs.Prelude.{◌≡◌, ◌≤◌, ◌+◌, ⊤, None, false, true, IfSome, IsSome, IfOk, IfErr, MatchOption, MatchResult, OnErr, OnOk, is_some};
+ghost use Rattle.std.specs.Option.{option_copied};
 ghost use Rattle.outside_words.specs.Faults.{HasCause};
 ghost use Rattle.disk_words.specs.Disk as disks;
 ghost use Rattle.notary_link.specs.Notary as notaries;
@@ -33,8 +35,8 @@ pub struct World {
     id: u64,
     sessions: Sessions,
     store: Option<Store>,
-    ghost open: { IfSome store (λ s. s.at.is_closed ≡ false) },
-    ghost own: { IfSome store (λ s. s.header.id ≡ id) },
+    ghost open: { IfSome store (λ s. s.at.is_closed ≡ false) } by { Prim.hlevel props },
+    ghost own: { IfSome store (λ s. s.header.id ≡ id) } by { Prim.hlevel props },
 }
 
 impl Model for World {
@@ -112,7 +114,7 @@ impl World {
 
     /// The store, where there is one.
     pub fn store(&self) -> Option<&Store>
-        ensures value { result.now ≡ self.now.store }
+        ensures value { option_copied result ≡ self.now.store }
     {
         self.store.as_ref()
     }
