@@ -5,5 +5,4 @@ pub mod Tables
 pub mod Sounds
 pub mod Validating
 pub mod Notarizing
-pub mod Wherever
 pub mod Nowhere
