@@ -1,3 +1,5 @@
 pub mod World
 pub mod Steps
 pub mod Stepping
+pub mod Answers
+pub mod Parts

@@ -1,5 +1,5 @@
 -- The world that lines run in: a stored history, and what a notary holds.
-use Rattle.std.specs.Prelude.{◌≡◌, ◌⊎◌, false, ℕ, ◌==◌, ◌≤◌, if◌then◌else◌, List, ◌++◌, ◌∷◌, [], length, take, Option, Some, None, IfSome, Result, Ok, Err}
+use Rattle.std.specs.Prelude.{◌≡◌, ◌⊎◌, false, ℕ, ◌==◌, ◌≤◌, ◌+◌, if◌then◌else◌, List, ◌++◌, ◌∷◌, [], length, take, Option, Some, None, IfSome, Result, Ok, Err}
 use Rattle.history_model.specs.Stored.{stored}
 use Rattle.notary_link.specs.declared.mark.Mark.{Mark}
 use Rattle.notary_link.specs.declared.notary.NotaryLimits.{NotaryLimits}
@@ -67,10 +67,10 @@ IsEntered id bytes (Ok _) None = ⊥
 IsEntered id bytes (Err fail) store = IsNoStore id (stored bytes).header fail
 
 -- a machine over these bytes, beside a notary with these lists, stands for this world
-pub record IsIn (w : World) (held : Held) (bytes : List ℕ) (lists : Lists) : Type 0 where
+pub record IsIn (w : World) (held : Held) (bytes : List ℕ) (filed : Lists) : Type 0 where
   pub id : held.id ≡ w.id
   pub store : StoreIsIn w.id w.store held.store bytes
-  pub lists : Keeps w.lists lists
+  pub lists : Keeps w.lists filed
 
 -- ---- bytes and lists on the way from a world to another
 
@@ -87,13 +87,14 @@ StoresWorld w bytes = StoresOf w.id w.store bytes
 abbrev pub StoresEither : World → World → List ℕ → Type 0
 StoresEither w x c = StoresWorld w c ⊎ StoresWorld x c
 
--- a list with some that are to come
-pub record IsBetween {A : Type 0} (old new middle : List A) : Type 0 where
+-- a list with some of those that are wished for, and at most one more than there will be room for
+pub record IsBetween {A : Type 0} (old new wished middle : List A) : Type 0 where
   pub len : ℕ
   pub least : length old ≤ len
-  pub front : middle ≡ take len new
+  pub most : len ≤ length new + 1
+  pub front : middle ≡ take len wished
 
 -- under each id the first batches and marks of those to come, and all that were there
-pub record AreBetween (old new middle : Lists) : Type 0 where
-  pub batches : (id : ℕ) → IsBetween (old.batches id) (new.batches id) (middle.batches id)
-  pub marks : (id : ℕ) → IsBetween (old.marks id) (new.marks id) (middle.marks id)
+pub record AreBetween (old new wished middle : Lists) : Type 0 where
+  pub batches : (id : ℕ) → IsBetween (old.batches id) (new.batches id) (wished.batches id) (middle.batches id)
+  pub marks : (id : ℕ) → IsBetween (old.marks id) (new.marks id) (wished.marks id) (middle.marks id)

@@ -1,7 +1,10 @@
 //! Why a line has no reply.
 
+ghost use Rattle.std.specs.Prelude.{◌≡◌};
 ghost use Rattle.drill_core.specs.declared.fail.LineFail.TheVariants.{NoMemory};
+ghost use Rattle.drill_core.specs.Answers.{fault_of};
 
+use session_core::StepFail;
 use std::alloc::AllocError;
 
 /// Why a line has no reply.
@@ -17,5 +20,16 @@ impl From<AllocError> for LineFail {
 
     fn from(_: AllocError) -> Self {
         LineFail::NoMemory
+    }
+}
+
+impl From<StepFail> for LineFail {
+    ghost from_gives = { λ fail e. e ≡ fault_of fail };
+
+    fn from(fail: StepFail) -> Self {
+        match fail {
+            StepFail::DiskFault => LineFail::DiskFault,
+            StepFail::NoMemory => LineFail::NoMemory,
+        }
     }
 }

@@ -1,10 +1,54 @@
 //! The world that lines run in: a store with its sessions, beside a notary.
+//!
+//! A `World` is the id of a store, what is stored under it, if anything, and what the notary holds.
+//! `step` says of every world and line the next world and the reply. A `World` of the code keeps the
+//! id and the open store, and is lent the disk and the notary at each call.
+//!
+//! | Line | World after it | Reply |
+//! |---|---|---|
+//! | a statement on tables | as `session_core` says | as `session_core` says |
+//! | `notarize` | a Frontier more, where one is needed, and a batch more for each tile that has ended | `sealed N`, the number of sealed tiles |
+//! | `validate` | a mark more, where something was filed | the verdict: `clean N`, `header altered N`, `altered N from M`, `unsealed` |
+//! | any that is refused | as before; after `Full` with what there was room for | `refused NAME` |
+//!
+//! Without a store all but `validate` are `refused NotAStore`. What a validation finds is no function of
+//! the world in odd cases, where no honest notary made the answers; so `step` is given what was found,
+//! and `MayFind` says what that may be.
+//!
+//! What the layers above may rely on:
+//!
+//! | Sentence | Clause |
+//! |---|---|
+//! | a line does to the store, the notary and the disk, and replies, what the definition says | `told` of `World::line`, by `StepsFor` |
+//! | a crash at any moment leaves the history before the line or the one after it | `images` and `kept` of `Goes` |
+//! | once a line is replied to, its world is the only one that a crash leaves, where that was so before | `settled` of `Goes` |
+//! | whatever was answered, the notary holds the first of what the line adds, and all that it held | `between` of `Goes` |
+//! | each image of a sound store is still what was filed | `sound` of `World::line` |
+//! | a store stays open, of the same header, until a failure; after one there is none | `store` of `World::line` |
+//! | a failure is a fault of the disk or of the notary, or want of memory | `disk_cause` and `notary_cause` |
+//! | the store of the id is opened, or there is none | `value` of `World::enter` |
+//!
+//! Only tested: that memory suffices. What is filed when a notary answers a fault may be one batch or one
+//! mark more than it has room for, since a notary that fails tells nothing of its room.
+//!
+//! ```rust
+//! world.enter(alloc, &mut disk)?;
+//! let answered = world.line(alloc, &mut disk, &mut notary, &line, now)?;
+//! out.write(answered.text.as_slice())?;
+//! ```
 #![tactic(auto)]
 
 mod answered;
+mod audits;
 mod fail;
+mod lines;
+mod statements;
 mod world;
 
 pub use answered::Answered;
 pub use fail::LineFail;
+pub use lines::is_world_line;
 pub use world::World;
+
+#[cfg(test)]
+mod tests;

@@ -1,6 +1,8 @@
 //! A store and its sessions, as lines find them.
 
+ghost use Rattle.std.proofs.Props.{props};
 ghost use Rattle.std.specs.Prelude.{◌≡◌, ◌≤◌, ◌+◌, ⊤, None, false, true, IfSome, IsSome, IfOk, IfErr, MatchOption, MatchResult, OnErr, OnOk, is_some};
+ghost use Rattle.std.specs.Option.{option_copied};
 ghost use Rattle.outside_words.specs.Faults.{HasCause};
 ghost use Rattle.disk_words.specs.Disk as disks;
 ghost use Rattle.notary_link.specs.Notary as notaries;
@@ -17,6 +19,7 @@ ghost use Rattle.drill_core.specs.Stepping.{StepsFor, KeepsStore};
 
 use crate::answered::Answered;
 use crate::fail::LineFail;
+use crate::lines::{answer_with_store, answer_without_store};
 use disk_model::Disk;
 use notary_link::Notary;
 use session_core::Sessions;
@@ -32,8 +35,8 @@ pub struct World {
     id: u64,
     sessions: Sessions,
     store: Option<Store>,
-    ghost open: { IfSome store (λ s. s.at.is_closed ≡ false) },
-    ghost own: { IfSome store (λ s. s.header.id ≡ id) },
+    ghost open: { IfSome store (λ s. s.at.is_closed ≡ false) } by { Prim.hlevel props },
+    ghost own: { IfSome store (λ s. s.header.id ≡ id) } by { Prim.hlevel props },
 }
 
 impl Model for World {
@@ -69,7 +72,9 @@ impl World {
         ensures cause { HasCause stores.DiskFault (D.state disk.old).faults (D.state disk.new).faults result }
     {
         self.store = None;
-        Err(StoreFail::NoMemory)
+        self.sessions = Sessions::new(alloc);
+        self.store = Some(Store::open_store(alloc, disk, self.id)?);
+        Ok(())
     }
 
     /// Carries out a line at these clock seconds. After a failure there is no store.
@@ -94,13 +99,22 @@ impl World {
         ensures disk_cause { HasCause DiskFault (D.state disk.old).faults (D.state disk.new).faults result }
         ensures notary_cause { HasCause NotaryFault (N.state notary.old).faults (N.state notary.new).faults result }
     {
-        self.store = None;
-        Err(LineFail::NoMemory)
+        match self.store.take() {
+            Some(mut store) => {
+                let sessions = &mut self.sessions;
+                let answered = answer_with_store(
+                    alloc, sessions, &mut store, disk, notary, line, now,
+                )?;
+                self.store = Some(store);
+                Ok(answered)
+            }
+            None => answer_without_store(alloc, disk, notary, self.id, line, now),
+        }
     }
 
     /// The store, where there is one.
     pub fn store(&self) -> Option<&Store>
-        ensures value { result.now ≡ self.now.store }
+        ensures value { option_copied result ≡ self.now.store }
     {
         self.store.as_ref()
     }

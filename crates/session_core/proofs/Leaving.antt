@@ -1,5 +1,5 @@
 -- What stores nothing leaves the store and its disk as they were.
-use Rattle.std.proofs.Common.{◌≡◌, ℕ, true, Option, Some, Result, Ok, Err, IsSome, inl, inr, refl, sym, ap, subst}
+use Rattle.std.proofs.Common.{◌≡◌, ℕ, true, Option, Some, Result, Ok, Err, IsSome, inl, inr, refl, sym, ap, subst, ◌∙◌}
 use Rattle.disk_words.specs.Disk.{State, Unchanged}
 use Rattle.store_engine.specs.declared.fail.StoreFail.{StoreFail}
 use Rattle.store_engine.specs.declared.fail.StoreFail.TheVariants as fails
@@ -23,6 +23,20 @@ leaves_same (Ok (replies.Scanned rows)) stand disk = (refl, unchanged_same disk)
 leaves_same (Ok (replies.Told versions)) stand disk = (refl, unchanged_same disk)
 leaves_same (Ok (replies.Refused refusal)) stand disk = (refl, unchanged_same disk)
 leaves_same (Err fail) stand disk = inr (refl, unchanged_same disk)
+
+-- the header stays, whatever was answered
+pub header_stays : (stand with_item new_stand : Opened) → with_item.header ≡ stand.header → (result : Result ℕ StoreFail) → StandsAfter result stand with_item new_stand → new_stand.header ≡ stand.header
+header_stays stand with_item new_stand same (Ok n) stands = ap (λ (s : Opened). s.header) stands ∙ same
+header_stays stand with_item new_stand same (Err fails.DiskFault) stands = ap (λ (s : Opened). s.header) stands
+header_stays stand with_item new_stand same (Err fails.NoMemory) (inl is) = ap (λ (s : Opened). s.header) is
+header_stays stand with_item new_stand same (Err fails.NoMemory) (inr (tables, is)) = ap (λ (s : Opened). s.header) is ∙ same
+header_stays stand with_item new_stand same (Err fails.NotAStore) stands = absurd stands
+header_stays stand with_item new_stand same (Err (fails.ClockBack last)) stands = ap (λ (s : Opened). s.header) stands
+header_stays stand with_item new_stand same (Err fails.TooLate) stands = ap (λ (s : Opened). s.header) stands
+header_stays stand with_item new_stand same (Err fails.TooManyOps) stands = ap (λ (s : Opened). s.header) stands
+header_stays stand with_item new_stand same (Err fails.TooLong) stands = ap (λ (s : Opened). s.header) stands
+header_stays stand with_item new_stand same (Err fails.StoreFull) stands = ap (λ (s : Opened). s.header) stands
+header_stays stand with_item new_stand same (Err fails.Closed) stands = ap (λ (s : Opened). s.header) stands
 
 module _ (fault : Option StoreFail) (stand with_item new_stand : Opened) (old new : State) (same : IsSome fault → Unchanged old new) where
   closed_by : (s : Opened) → new_stand ≡ shut s → new_stand.at.is_closed ≡ true

@@ -57,7 +57,8 @@ impl Sessions {
         requires on_tables { IsTableLine line.now }
         requires fits { FitsParts line.now }
         ensures open { OnOk result (store.new.at.is_closed ≡ false) }
-        ensures kept { OnErr result (IsLeft store.old store.new) }
+        ensures header { store.new.header ≡ store.old.header }
+    ensures kept { OnErr result (IsLeft store.old store.new) }
         ensures same { LeavesBoth result store.old store.new (D.state disk.old) (D.state disk.new) }
         ensures told { WhereTold (D.state disk.old).reads (D.state disk.new).reads
             (StepsTo line.now now result store.old store.new (D.state disk.old) (D.state disk.new)) }
@@ -112,6 +113,7 @@ fn write_or_read<D: Disk>(
     requires open { store.old.at.is_closed ≡ false }
     requires fits { FitsStmt stmt.now }
     ensures open { OnOk result (store.new.at.is_closed ≡ false) }
+    ensures header { store.new.header ≡ store.old.header }
     ensures kept { OnErr result (IsLeft store.old store.new) }
     ensures same { LeavesBoth result store.old store.new (D.state disk.old) (D.state disk.new) }
     ensures told { WhereTold (D.state disk.old).reads (D.state disk.new).reads

@@ -60,6 +60,7 @@ fn commit<D: Disk>(
     requires some { 0 < length ops.now }
     requires counted { All IsCountedOp ops.now }
     ensures open { OnOk result (store.new.at.is_closed ≡ false) }
+    ensures header { store.new.header ≡ store.old.header }
     ensures kept { OnErr result (IsLeft store.old store.new) }
     ensures same { LeavesBoth result store.old store.new (D.state disk.old) (D.state disk.new) }
     ensures told { WhereTold (D.state disk.old).reads (D.state disk.new).reads
@@ -81,6 +82,7 @@ pub(crate) fn write<D: Disk>(
     requires open { store.old.at.is_closed ≡ false }
     requires counted { IsCountedOp (op_of change) }
     ensures open { OnOk result (store.new.at.is_closed ≡ false) }
+    ensures header { store.new.header ≡ store.old.header }
     ensures kept { OnErr result (IsLeft store.old store.new) }
     ensures same { LeavesBoth result store.old store.new (D.state disk.old) (D.state disk.new) }
     ensures told { WhereTold (D.state disk.old).reads (D.state disk.new).reads

@@ -1,5 +1,5 @@
 -- What becomes of the store when a history is notarized: it is as it was, or has a Frontier more.
-use Rattle.std.specs.Prelude.{◌≡◌, ◌⊎◌, ℕ, List, [], ◌∷◌, ◌++◌, max, length, Option, Some, None, Result, Ok, Err, IfOk}
+use Rattle.std.specs.Prelude.{◌≡◌, ◌⊎◌, ℕ, List, [], ◌∷◌, ◌++◌, max, length, Option, Some, None, IsSome, Result, Ok, Err, IfOk}
 use Rattle.outside_words.specs.Told.{WhereTold}
 use Rattle.disk_words.specs.declared.DiskFail.TheVariants as disk_fails
 use Rattle.disk_words.specs.Disk as disks
@@ -86,6 +86,8 @@ AsksNothing filed later = later ≡ filed
 
 -- A notarization at these clock seconds of an open store that stands for these items and bytes.
 pub record Notarizes (now : ℕ) (stored_items : List Item) (result : Result ℕ AuditFail) (s later_s : Opened) (old new : disks.State) (before after : List ℕ) (filed later : notaries.State) (lists later_lists : notaries.Lists) : Type 0 where
+  -- where something speaks against it, nothing is stored and nothing is filed, whatever is answered
+  pub free : IsSome (notarize_fault (tail_of s) s.at.is_closed now stored_items (lists.batches s.header.id)) → disks.Unchanged old new × notaries.Keeps lists later_lists
   pub refused : IsRefusedBy (notarize_fault (tail_of s) s.at.is_closed now stored_items (lists.batches s.header.id)) result
   pub value : IfOk result (λ n. n ≡ sealed_after s.header now (lists.batches s.header.id))
   pub files : FilesFor s.header.id filed.limits (next_batches (history s.header stored_items) now (lists.batches s.header.id)) result lists later_lists

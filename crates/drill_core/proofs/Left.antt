@@ -1,0 +1,54 @@
+-- A line that leaves the store and its disk as they were.
+use Rattle.std.proofs.Common.{◌≡◌, ℕ, List, Option, Some, None, Result, Ok, Err, OnOk, IfOk, inl, refl, sym, ap, subst, ◌∙◌}
+use Rattle.disk_words.specs.Disk.{State, turn, Only, Unchanged}
+use Rattle.disk_model.specs.Moments.{EveryImage}
+use Rattle.disk_model.proofs.Moments.{started, stays}
+use Rattle.history_model.specs.Stored.{stored}
+use Rattle.notary_link.specs.Notary.{Lists, Keeps}
+use Rattle.store_engine.specs.Opened.{Opened, Stores}
+use Rattle.session_core.specs.World as statements
+use Rattle.drill_core.specs.declared.answered.Answered.{Answered}
+use Rattle.drill_core.specs.declared.fail.LineFail.{LineFail}
+use Rattle.drill_core.specs.World.{World, Held, IsIn, StoreIsIn, StoresOf, StoresWorld, StoresEither, AreBetween}
+use Rattle.drill_core.specs.Steps.{Step}
+use Rattle.drill_core.specs.Stepping.{IsReply, Goes}
+
+stores_of : (id : ℕ) (o : Option statements.World) (s : Option Opened) (bytes : List ℕ) → StoreIsIn id o s bytes → StoresOf id o bytes
+stores_of id (Some w) (Some s) bytes i = subst (λ h. Stores h w.items bytes) i.0.header i.0.open_on.stores
+stores_of id None None bytes i = i
+stores_of id (Some w) None bytes i = absurd i
+stores_of id None (Some s) bytes i = absurd i
+
+pub stores_world : (w : World) (held : Held) (bytes : List ℕ) (lists : Lists) → IsIn w held bytes lists → StoresWorld w bytes
+stores_world w held bytes lists i = stores_of w.id w.store held.store bytes i.store
+
+module _ (w : World) (held : Held) (old new : State) (bytes : List ℕ) (lists : Lists) (i : IsIn w held bytes lists)
+    (same : Unchanged old new) (only_now : (c : List ℕ) → old.was_image (turn old) c → old.is_image c) where
+  pub same_images : (next : Step) → Only bytes old → EveryImage old new (StoresEither w next.world)
+  same_images next only = stays old old new (StoresEither w next.world)
+      (started old (StoresEither w next.world) only_now (λ c now. inl (subst (λ b. StoresWorld w b) (sym (only c now)) (stores_world w held bytes lists i)))) same
+
+  -- the lists may have changed
+  pub left : (next : Step) (result : Result Answered LineFail) (later : Lists) → next.world.id ≡ w.id → next.world.store ≡ w.store
+      → IfOk result (IsReply next) → OnOk result (Keeps next.world.lists later) → AreBetween w.lists next.world.lists next.wished later
+      → Goes w next result held old new bytes bytes later
+  left next (Ok answered) later id store reply keeps between = record {
+    reply = reply;
+    stands = record {
+      id = i.id ∙ sym id;
+      store = subst (λ (o : Option statements.World). StoreIsIn next.world.id o held.store bytes) (sym store) (subst (λ (n : ℕ). StoreIsIn n w.store held.store bytes) (sym id) i.store);
+      lists = keeps;
+    };
+    settled = λ only c now. only c ((same.images c).0 now);
+    images = same_images next;
+    kept = λ only. inl (stores_world w held bytes lists i);
+    between = between;
+  }
+  left next (Err fail) later id store reply keeps between = record {
+    reply = tt;
+    stands = tt;
+    settled = λ only. tt;
+    images = same_images next;
+    kept = λ only. inl (stores_world w held bytes lists i);
+    between = between;
+  }

@@ -1,0 +1,70 @@
+-- What kind of line a line is.
+use Rattle.std.proofs.Common.{◌≡◌, ℕ, Option, Some, None, Result, Ok, refl}
+use Rattle.stmt_text.specs.declared.stmt.Stmt.{Stmt}
+use Rattle.stmt_text.specs.declared.stmt.Stmt.TheVariants as stmts
+use Rattle.stmt_text.specs.declared.line.Line.{Line}
+use Rattle.stmt_text.specs.declared.line.Line.TheVariants as lines
+use Rattle.session_core.specs.Steps.{IsTableLine, IsOnTables}
+use Rattle.validator.specs.declared.verdict.Verdict.{Verdict}
+use Rattle.validator.specs.declared.verdict.Verdict.TheVariants as verdicts
+use Rattle.validator.specs.declared.fail.AuditFail.{AuditFail}
+use Rattle.drill_core.specs.World.{World}
+use Rattle.drill_core.specs.Steps.{Step, step, on_tables, notarized, validated, MayFind}
+
+-- what stands for a find where nothing is looked for
+abbrev pub none_found : Result Verdict AuditFail
+none_found = Ok verdicts.Unsealed
+
+module _ (w : World) (now : ℕ) where
+  stmt_step : (stmt : Stmt) → IsOnTables stmt → step w (lines.Plain stmt) now none_found ≡ on_tables w w.store (lines.Plain stmt) now
+  unfolding step
+  stmt_step (stmts.Create table columns) on = refl
+  stmt_step (stmts.Insert table row) on = refl
+  stmt_step (stmts.Update table row) on = refl
+  stmt_step (stmts.Delete table key) on = refl
+  stmt_step (stmts.Get table key moment) on = refl
+  stmt_step (stmts.Scan table filter moment) on = refl
+  stmt_step (stmts.History table key) on = refl
+  stmt_step stmts.Begin on = absurd on
+  stmt_step stmts.Commit on = absurd on
+  stmt_step stmts.Abort on = absurd on
+  stmt_step stmts.Notarize on = absurd on
+  stmt_step stmts.Validate on = absurd on
+  stmt_step (stmts.Analyse algorithm) on = absurd on
+  stmt_step (stmts.Now moment) on = absurd on
+
+  pub table_step : (line : Line) → IsTableLine line → step w line now none_found ≡ on_tables w w.store line now
+  table_step (lines.Plain stmt) on = stmt_step stmt on
+  table_step lines.Blank on = absurd on
+  table_step (lines.InSession session stmt) on = absurd on
+  table_step (lines.Drill event) on = absurd on
+
+  stmt_may : (stmt : Stmt) → IsOnTables stmt → MayFind w (lines.Plain stmt) none_found
+  stmt_may (stmts.Create table columns) on = tt
+  stmt_may (stmts.Insert table row) on = tt
+  stmt_may (stmts.Update table row) on = tt
+  stmt_may (stmts.Delete table key) on = tt
+  stmt_may (stmts.Get table key moment) on = tt
+  stmt_may (stmts.Scan table filter moment) on = tt
+  stmt_may (stmts.History table key) on = tt
+  stmt_may stmts.Begin on = absurd on
+  stmt_may stmts.Commit on = absurd on
+  stmt_may stmts.Abort on = absurd on
+  stmt_may stmts.Notarize on = absurd on
+  stmt_may stmts.Validate on = absurd on
+  stmt_may (stmts.Analyse algorithm) on = absurd on
+  stmt_may (stmts.Now moment) on = absurd on
+
+  pub table_may : (line : Line) → IsTableLine line → MayFind w line none_found
+  table_may (lines.Plain stmt) on = stmt_may stmt on
+  table_may lines.Blank on = absurd on
+  table_may (lines.InSession session stmt) on = absurd on
+  table_may (lines.Drill event) on = absurd on
+
+  pub notarize_step : step w (lines.Plain stmts.Notarize) now none_found ≡ notarized w w.store now
+  unfolding step
+  notarize_step = refl
+
+  pub validate_step : (found : Result Verdict AuditFail) → step w (lines.Plain stmts.Validate) now found ≡ validated w now found
+  unfolding step
+  validate_step found = refl

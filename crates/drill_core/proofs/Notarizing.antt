@@ -1,0 +1,364 @@
+-- A notarization does to the world what the definition says.
+use Rattle.std.proofs.Common.{◌≡◌, ◌⊎◌, ℕ, ◌+◌, ◌-◌, ◌≤◌, ◌<◌, ◌==◌, Bool, true, false, List, [], ◌∷◌, ◌++◌, length, take, Option, Some, None, IsSome, Result, Ok, Err, OnOk, IfOk, inl, inr, refl, sym, ap, subst, ◌∙◌, arith}
+use Rattle.std.specs.Prelude.{if◌then◌else◌, codes}
+use Rattle.std.proofs.Math.Seq.{take-length}
+use Rattle.std.proofs.lemmas.Bool.{eq-eqb, ne_eqb}
+use Rattle.std.proofs.lemmas.Bool.Decides.{nat_tests}
+use Rattle.std.proofs.lemmas.List.{append-nil, length-take-le}
+use Rattle.outside_words.specs.Told.{WhereTold}
+use Rattle.outside_words.proofs.Told.{told_map}
+use Rattle.disk_words.specs.Disk.{State, turn, Only, Unchanged}
+use Rattle.disk_model.specs.Moments.{EveryImage}
+use Rattle.disk_model.proofs.Moments.{weaker}
+use Rattle.tuple_bytes.specs.declared.header.Header.{Header}
+use Rattle.tuple_bytes.specs.declared.item.Item.{Item}
+use Rattle.tuple_bytes.specs.Spelling.{spell_frontier}
+use Rattle.history_model.specs.History.{history}
+use Rattle.notary_link.specs.declared.notary.NotaryLimits.{NotaryLimits}
+use Rattle.notary_link.specs.Batches.{Batch}
+use Rattle.notary_link.specs.Filing.{fitting, room_in, FilesAll}
+use Rattle.notary_link.specs.Notary as notaries
+use Rattle.notary_link.specs.Notary.{Lists, Keeps}
+use Rattle.notary_link.proofs.Fitting.{fitting_few}
+use Rattle.notary_link.proofs.InAll.{kept_seals}
+use Rattle.store_engine.specs.Opened.{Opened, Stores, IsOpenOn}
+use Rattle.store_engine.specs.Refusals.{Tail, tail_of}
+use Rattle.stmt_text.specs.declared.stmt.Stmt.TheVariants as stmts
+use Rattle.stmt_text.specs.declared.line.Line.TheVariants as lines
+use Rattle.session_core.specs.World as statements
+use Rattle.validator.specs.declared.fail.AuditFail.{AuditFail}
+use Rattle.validator.specs.declared.fail.AuditFail.TheVariants as fails
+use Rattle.validator.specs.Texts.{refusal_text, numbered}
+use Rattle.validator.specs.Notarizing.{notarize_fault, next_batches, sealed_after, frontier_for, IsRefusedBy}
+use Rattle.validator.specs.Filing.{FilesFor}
+use Rattle.validator.specs.Reaching as reaching
+use Rattle.validator.specs.Reaching.{Notarizes, IsReached, StoresAround}
+use Rattle.drill_core.specs.declared.answered.Answered.{Answered}
+use Rattle.drill_core.specs.declared.fail.LineFail.{LineFail}
+use Rattle.drill_core.specs.World.{World, Held, IsIn, StoresOf, StoresEither, with_store, with_lists, with_batches, AreBetween}
+use Rattle.drill_core.specs.Answers.{said, refusal, IsAnswerTo}
+use Rattle.drill_core.specs.Parts.{alone}
+use Rattle.drill_core.specs.Steps.{Step, says, refuses, is_full, filed, filed_for, reached, all_filed, sealed, unless, notarized}
+use Rattle.drill_core.specs.Stepping.{IsReply, Goes, Steps, StepsFor}
+use Rattle.drill_core.proofs.Between.{kept_between, keeps_then, filed_keeps, filed_between}
+use Rattle.drill_core.proofs.LineKinds.{none_found, notarize_step}
+use Rattle.drill_core.proofs.Left.{left}
+use Rattle.drill_core.proofs.Tables.{HasStore, has_store}
+use Rattle.drill_core.proofs.Validating.{IsAnswer, replies_as, given}
+
+-- how many tiles are sealed
+abbrev pub sealed_text : ℕ → List ℕ
+sealed_text tiles = numbered (codes "sealed ") tiles
+
+-- after a failure it is no matter where the store stands
+pub wherever : (w : World) (next : Step) (fail : LineFail) (later other : Held) (old new : State) (before after : List ℕ) (lists : Lists)
+    → Goes w next (Err fail) later old new before after lists → Goes w next (Err fail) other old new before after lists
+wherever w next fail later other old new before after lists goes = record { reply = tt; stands = tt; settled = λ only. tt; images = goes.images; kept = goes.kept; between = goes.between }
+
+keeps_none : (id : ℕ) (lists later : Lists) → Keeps lists later → FilesAll id [] lists later
+keeps_none id lists later keeps = record { filed = keeps.batches id ∙ sym (append-nil (lists.batches id)); others = λ other apart. keeps.batches other; marks = keeps.marks }
+
+-- some of the batches were filed, and at most one that had no room
+pub record FilesFew (id : ℕ) (batches : List Batch) (fit : ℕ) (lists later : Lists) : Type 0 where
+  pub done : ℕ
+  pub few : done ≤ fit + 1
+  pub files : FilesAll id (take done batches) lists later
+
+pub few_filed : (id : ℕ) (limits : NotaryLimits) (batches : List Batch) (r : Result ℕ AuditFail) (lists later : Lists) → FilesFor id limits batches r lists later → FilesFew id batches (fitting (room_in limits lists) batches) lists later
+few_filed id limits batches r lists later files = by r files
+  where
+    none : Keeps lists later → FilesFew id batches (fitting (room_in limits lists) batches) lists later
+    none keeps = record { done = 0; few = omega arith; files = keeps_none id lists later keeps }
+
+    by : (r : Result ℕ AuditFail) → FilesFor id limits batches r lists later → FilesFew id batches (fitting (room_in limits lists) batches) lists later
+    by (Ok n) whole = record { done = length batches; few = omega (arith, whole.fit); files = subst (λ (l : List Batch). FilesAll id l lists later) (sym (take-length batches)) whole.filed }
+    by (Err fails.Full) part = record { done = fitting (room_in limits lists) batches; few = omega arith; files = part.filed }
+    by (Err fails.NotaryFault) part = record { done = part.done; few = part.fit; files = part.filed }
+    by (Err fails.NoMemory) part = record { done = part.done; few = part.fit; files = part.filed }
+    by (Err fails.DiskFault) keeps = none keeps
+    by (Err (fails.ClockBack last)) keeps = none keeps
+    by (Err fails.TooLate) keeps = none keeps
+    by (Err fails.StoreFull) keeps = none keeps
+    by (Err fails.Closed) keeps = none keeps
+    by (Err fails.Broken) keeps = none keeps
+    by (Err (fails.SealMissing name)) keeps = none keeps
+    by (Err (fails.OutOfTurn count)) keeps = none keeps
+
+module _ (now : ℕ) (s later_s : Opened) (old new : State) (before after : List ℕ) (lists later : Lists) (limits : NotaryLimits)
+    (is_open : s.at.is_closed ≡ false) (header : later_s.header ≡ s.header) (only_now : (c : List ℕ) → old.was_image (turn old) c → old.is_image c)
+    (reads : Unchanged old new → after ≡ before) (w : World) (i : IsIn w (alone s) before lists) (within : w.limits ≡ limits) (has : HasStore w s before) where
+  abbrev ws : statements.World
+  ws = has.world
+
+  abbrev To : Step → Result Answered LineFail → Type 0
+  To next result = Goes w next result (alone later_s) old new before after later
+
+  -- ---- the same, of the world
+
+  tail_is : tail_of s ≡ statements.tail_of_world ws
+  tail_is =
+      let h = has.stands.header in
+      let end = has.stands.end in
+      let count = has.stands.open_on.knows.count in
+      let last = has.stands.open_on.knows.last in
+      cc
+
+  abbrev mine : List Batch
+  mine = lists.batches s.header.id
+
+  mine_is : mine ≡ filed_for w
+  mine_is = ap lists.batches i.id ∙ i.lists.batches w.id
+
+  abbrev fault : Option AuditFail
+  fault = notarize_fault (statements.tail_of_world ws) false now ws.items (filed_for w)
+
+  fault_is : notarize_fault (tail_of s) s.at.is_closed now ws.items mine ≡ fault
+  fault_is =
+      ap (λ (t : Tail). notarize_fault t s.at.is_closed now ws.items mine) tail_is
+      ∙ ap (λ (b : Bool). notarize_fault (statements.tail_of_world ws) b now ws.items mine) is_open
+      ∙ ap (λ (l : List Batch). notarize_fault (statements.tail_of_world ws) false now ws.items l) mine_is
+
+  abbrev need : Option ℕ
+  need = frontier_for (statements.tail_of_world ws) now (filed_for w)
+
+  need_is : frontier_for (tail_of s) now mine ≡ need
+  need_is = ap (λ (t : Tail). frontier_for t now mine) tail_is ∙ ap (λ (l : List Batch). frontier_for (statements.tail_of_world ws) now l) mine_is
+
+  abbrev batches : List Batch
+  batches = next_batches (history ws.header ws.items) now (filed_for w)
+
+  batches_are : next_batches (history s.header ws.items) now mine ≡ batches
+  batches_are = ap (λ (h : Header). next_batches (history h ws.items) now mine) has.stands.header ∙ ap (λ (l : List Batch). next_batches (history ws.header ws.items) now l) mine_is
+
+  abbrev tiles : ℕ
+  tiles = sealed_after ws.header now (filed_for w)
+
+  tiles_are : sealed_after s.header now mine ≡ tiles
+  tiles_are = ap (λ (h : Header). sealed_after h now mine) has.stands.header ∙ ap (λ (l : List Batch). sealed_after ws.header now l) mine_is
+
+  abbrev fit : ℕ
+  fit = fitting (room_in w.limits w.lists) batches
+
+  fit_is : fitting (room_in limits lists) batches ≡ fit
+  fit_is = ap (λ (room : ℕ). fitting room batches)
+      (ap (λ (l : NotaryLimits). room_in l lists) (sym within) ∙ ap (λ (n : ℕ). w.limits.seals - n) (kept_seals w.lists lists i.lists))
+
+  -- ---- something speaks against it
+
+  module _ (fail : AuditFail) (is : fault ≡ Some fail) (same : Unchanged old new) (keeps : Keeps lists later) where
+    abbrev next : Step
+    next = refuses w (refusal_text fail)
+
+    stay : (result : Result Answered LineFail) → IfOk result (λ answered. answered ≡ refusal (refusal_text fail)) → Goes w next result (alone s) old new before after later
+    stay result reply = subst (λ (a : List ℕ). Goes w next result (alone s) old new before a later) (sym (reads same))
+        (left w (alone s) old new before lists i same only_now next result later refl refl
+        (replies_as next (refusal (refusal_text fail)) result refl refl reply)
+        (given result (keeps_then w.lists lists later i.lists keeps))
+        (kept_between w.lists later (keeps_then w.lists lists later i.lists keeps)))
+
+    faulty : (result : Result Answered LineFail) → OnOk result ⊥ → To next result
+    faulty (Ok answered) never = absurd never
+    faulty (Err other) never = wherever w next other (alone s) (alone later_s) old new before after later (stay (Err other) tt)
+
+    told : (told_fail : AuditFail) → fault ≡ Some told_fail → later_s ≡ s → (result : Result Answered LineFail) → IfOk result (λ answered. answered ≡ refusal (refusal_text told_fail)) → To next result
+    told told_fail told_is stands result reply =
+        let same_fail : told_fail ≡ fail = cc in
+        subst (λ (x : Opened). Goes w next result (alone x) old new before after later) (sym stands)
+        (stay result (subst (λ (f : AuditFail). IfOk result (λ answered. answered ≡ refusal (refusal_text f))) same_fail reply))
+
+    pub refused : (r : Result ℕ AuditFail) (result : Result Answered LineFail) → IsAnswer sealed_text r result → IsRefusedBy fault r → (reached_too : Type 0) → reaching.StandsAfter r reached_too (reaching.IsLeft s later_s old new) → To next result
+    refused (Ok n) result answer by R stands = let none : fault ≡ None = by in absurd cc
+    refused (Err fails.Full) result answer by R stands = let none : fault ≡ None = by in absurd cc
+    refused (Err fails.DiskFault) result answer by R stands = faulty result answer
+    refused (Err fails.NotaryFault) result answer by R stands = faulty result answer
+    refused (Err fails.NoMemory) result answer by R stands = faulty result answer
+    refused (Err fails.Closed) result answer by R stands = faulty result answer
+    refused (Err (fails.OutOfTurn count)) result answer by R stands = absurd by
+    refused (Err (fails.ClockBack last)) result answer by R stands = told (fails.ClockBack last) by stands.0 result answer
+    refused (Err fails.TooLate) result answer by R stands = told fails.TooLate by stands.0 result answer
+    refused (Err fails.StoreFull) result answer by R stands = told fails.StoreFull by stands.0 result answer
+    refused (Err fails.Broken) result answer by R stands = told fails.Broken by stands.0 result answer
+    refused (Err (fails.SealMissing name)) result answer by R stands = told (fails.SealMissing name) by stands.0 result answer
+
+  -- ---- nothing speaks against it
+
+  abbrev pub new_world : World
+  new_world = filed (with_store w (reached need ws)) batches
+
+  abbrev Around : List ℕ → Type 0
+  Around c = StoresAround s.header ws.items need c
+
+  of_ws : (c : List ℕ) → Stores s.header ws.items c → StoresOf w.id w.store c
+  of_ws c stores = subst (λ (o : Option statements.World). StoresOf w.id o c) (sym has.is) (subst (λ (h : Header). Stores h ws.items c) has.stands.header stores)
+
+  either_of : (o : Option ℕ) (c : List ℕ) → StoresAround s.header ws.items o c → StoresOf w.id w.store c ⊎ StoresOf w.id (Some (reached o ws)) c
+  either_of None c stores = inl (of_ws c stores)
+  either_of (Some moment) c (inl stores) = inl (of_ws c stores)
+  either_of (Some moment) c (inr stores) = inr (subst (λ (h : Header). Stores h (reached (Some moment) ws).items c) has.stands.header stores)
+
+  stands_in : (o : Option ℕ) → IsReached o s later_s ws.items old new before after → statements.IsIn (reached o ws) later_s after × ((reached o ws).header.id ≡ w.id)
+  stands_in None r = (record { header = header ∙ has.stands.header; end = ap (λ (x : Opened). x.at.end) r.store_is ∙ has.stands.end; open_on = r.open_on }, has.own)
+  stands_in (Some moment) r = (
+    record {
+      header = header ∙ has.stands.header;
+      end = ap (λ (x : Opened). x.at.end) r.store_is ∙ ap (λ (e : ℕ). e + 5 + length (spell_frontier moment)) has.stands.end;
+      open_on = r.open_on;
+    },
+    has.own,
+  )
+
+  module _ (images : Only before old → EveryImage old new Around) (kept : Only before old → Around after) (part : FilesFew w.id batches fit lists later) where
+    abbrev with_all : Lists
+    with_all = with_batches w.id batches w.lists
+
+    room_few : fit ≤ length batches
+    room_few = fitting_few (room_in w.limits w.lists) batches
+
+    between_all : AreBetween w.lists new_world.lists with_all later
+    between_all = filed_between w.id w.lists lists later i.lists (take fit batches) batches part.done (omega (arith, part.few, length-take-le fit batches room_few)) part.files
+
+    between_whole : fit ≡ length batches → AreBetween w.lists new_world.lists new_world.lists later
+    between_whole whole = subst (λ (l : List Batch). AreBetween w.lists new_world.lists (with_batches w.id l w.lists) later)
+        (sym (ap (λ (n : ℕ). take n batches) whole ∙ take-length batches)) between_all
+
+    -- where the store has reached what it needs, and what fits was filed
+    abbrev IsDone : Type 0
+    IsDone = IsReached need s later_s ws.items old new before after × FilesAll w.id (take fit batches) lists later
+
+    go : (text : List ℕ) (is_refused : Bool) (wished : Lists) (result : Result Answered LineFail) → OnOk result IsDone
+        → IfOk result (λ answered. answered ≡ record { refused = is_refused; text = text }) → AreBetween w.lists new_world.lists wished later
+        → To (record { world = new_world; text = text; is_refused = is_refused; wished = wished }) result
+    go text is_refused wished (Ok answered) done reply between = record {
+      reply = record { text = ap (λ (x : Answered). x.text) reply; refused = ap (λ (x : Answered). x.refused) reply };
+      stands = record {
+        id = ap (λ (h : Header). h.id) header ∙ i.id;
+        store = stands_in need done.0;
+        lists = filed_keeps w.id w.lists lists later i.lists (take fit batches) done.1;
+      };
+      settled = done.0.settled;
+      images = λ only. weaker (images only) (either_of need);
+      kept = λ only. either_of need after (kept only);
+      between = between;
+    }
+    go text is_refused wished (Err fail) done reply between = record {
+      reply = tt;
+      stands = tt;
+      settled = λ only. tt;
+      images = λ only. weaker (images only) (either_of need);
+      kept = λ only. either_of need after (kept only);
+      between = between;
+    }
+
+    abbrev after_filing : Bool → Step
+    after_filing b = if b then says new_world (sealed_text tiles) else is_full new_world with_all
+
+    failed : (b : Bool) → (fit == length batches) ≡ b → (result : Result Answered LineFail) → OnOk result ⊥ → To (after_filing b) result
+    failed b is (Ok answered) never = absurd never
+    failed true is (Err fail) never = go (sealed_text tiles ++ 10 ∷ []) false new_world.lists (Err fail) tt tt (between_whole (grind (arith, nat_tests, is)))
+    failed false is (Err fail) never = go (codes "refused " ++ refusal_text fails.Full ++ 10 ∷ []) true with_all (Err fail) tt tt between_all
+
+    sealed_all : (b : Bool) → (fit == length batches) ≡ b → fit ≡ length batches → (result : Result Answered LineFail) → IsReached need s later_s ws.items old new before after → FilesAll w.id batches lists later
+        → IfOk result (λ answered. answered ≡ said (sealed_text tiles)) → To (after_filing b) result
+    sealed_all true is whole result at files reply = go (sealed_text tiles ++ 10 ∷ []) false new_world.lists result
+        (given result (at, subst (λ (l : List Batch). FilesAll w.id l lists later) (sym (ap (λ (n : ℕ). take n batches) whole ∙ take-length batches)) files)) reply (between_whole whole)
+    sealed_all false is whole result at files reply = let yes = eq-eqb fit (length batches) whole in absurd cc
+
+    sealed_some : (b : Bool) → (fit == length batches) ≡ b → fit < length batches → (result : Result Answered LineFail) → IsReached need s later_s ws.items old new before after → FilesAll w.id (take fit batches) lists later
+        → IfOk result (λ answered. answered ≡ refusal (refusal_text fails.Full)) → To (after_filing b) result
+    sealed_some false is less result at files reply = go (codes "refused " ++ refusal_text fails.Full ++ 10 ∷ []) true with_all result (given result (at, files)) reply between_all
+    sealed_some true is less result at files reply = let no = ne_eqb fit (length batches) (λ e. omega (arith, e, less)) in absurd cc
+
+    pub made : fault ≡ None → (r : Result ℕ AuditFail) (result : Result Answered LineFail) → IsAnswer sealed_text r result → IsRefusedBy fault r → IfOk r (λ n. n ≡ tiles)
+        → FilesFor w.id limits batches r lists later → (left_too : Type 0) → reaching.StandsAfter r (IsReached need s later_s ws.items old new before after) left_too
+        → To (all_filed w new_world batches tiles) result
+    made free (Ok n) result answer by value files L stands = sealed_all (fit == length batches) refl (sym fit_is ∙ files.fit) result stands files.filed
+        (subst (λ (m : ℕ). IfOk result (λ answered. answered ≡ said (sealed_text m))) value answer)
+    made free (Err fails.Full) result answer by value files L stands = sealed_some (fit == length batches) refl (omega (arith, fit_is, files.left)) result stands
+        (subst (λ (n : ℕ). FilesAll w.id (take n batches) lists later) fit_is files.filed) answer
+    made free (Err fails.DiskFault) result answer by value files L stands = failed (fit == length batches) refl result answer
+    made free (Err fails.NotaryFault) result answer by value files L stands = failed (fit == length batches) refl result answer
+    made free (Err fails.NoMemory) result answer by value files L stands = failed (fit == length batches) refl result answer
+    made free (Err (fails.OutOfTurn count)) result answer by value files L stands = absurd by
+    made free (Err fails.Closed) result answer by value files L stands = let some : fault ≡ Some fails.Closed = by in absurd cc
+    made free (Err (fails.ClockBack last)) result answer by value files L stands = let some : fault ≡ Some (fails.ClockBack last) = by in absurd cc
+    made free (Err fails.TooLate) result answer by value files L stands = let some : fault ≡ Some fails.TooLate = by in absurd cc
+    made free (Err fails.StoreFull) result answer by value files L stands = let some : fault ≡ Some fails.StoreFull = by in absurd cc
+    made free (Err fails.Broken) result answer by value files L stands = let some : fault ≡ Some fails.Broken = by in absurd cc
+    made free (Err (fails.SealMissing name)) result answer by value files L stands = let some : fault ≡ Some (fails.SealMissing name) = by in absurd cc
+
+  -- ---- either way
+
+  module _ (filed_state later_state : notaries.State) (limits_are : filed_state.limits ≡ limits) (r : Result ℕ AuditFail) (result : Result Answered LineFail) (answer : IsAnswer sealed_text r result)
+      (n : Notarizes now ws.items r s later_s old new before after filed_state later_state lists later) where
+    by_world : IsRefusedBy fault r
+    by_world = subst (λ (f : Option AuditFail). IsRefusedBy f r) fault_is n.refused
+
+    files_world : FilesFor w.id limits batches r lists later
+    files_world = subst (λ (id : ℕ). FilesFor id limits batches r lists later) i.id
+        (subst (λ (l : NotaryLimits). FilesFor s.header.id l batches r lists later) limits_are
+        (subst (λ (b : List Batch). FilesFor s.header.id filed_state.limits b r lists later) batches_are n.files))
+
+    value_world : IfOk r (λ m. m ≡ tiles)
+    value_world = subst (λ (t : ℕ). IfOk r (λ m. m ≡ t)) tiles_are n.value
+
+    stands_world : reaching.StandsAfter r (IsReached need s later_s ws.items old new before after) (reaching.IsLeft s later_s old new)
+    stands_world = subst (λ (o : Option ℕ). reaching.StandsAfter r (IsReached o s later_s ws.items old new before after) (reaching.IsLeft s later_s old new)) need_is n.stands
+
+    goes_by : (f : Option AuditFail) → fault ≡ f → To (unless f w (sealed w ws now)) result
+    goes_by (Some fail) is =
+        let stay = n.free (subst (λ (o : Option AuditFail). IsSome o) (sym (fault_is ∙ is)) refl) in
+        refused fail is stay.0 stay.1 r result answer by_world (IsReached need s later_s ws.items old new before after) stands_world
+    goes_by None is = made
+        (λ only. subst (λ (o : Option ℕ). EveryImage old new (StoresAround s.header ws.items o)) need_is (n.images only))
+        (λ only. subst (λ (o : Option ℕ). StoresAround s.header ws.items o after) need_is (n.kept only))
+        (subst (λ (k : ℕ). FilesFew w.id batches k lists later) fit_is (few_filed w.id limits batches r lists later files_world))
+        is r result answer by_world value_world files_world (reaching.IsLeft s later_s old new) stands_world
+
+    pub notarizes : Steps (lines.Plain stmts.Notarize) now w result (alone later_s) old new before after later
+    notarizes = record {
+      found = none_found;
+      may = tt;
+      goes = subst (λ (x : Step). To x result) (sym (notarize_step w now ∙ ap (λ (o : Option statements.World). notarized w o now) has.is)) (goes_by fault refl);
+    }
+
+told_known : {A : Type 0} (o n : Option A) (P Q : A → A → Type 0) → WhereTold o n P → ((b a : A) → o ≡ Some b → n ≡ Some a → P b a → Q b a) → WhereTold o n Q
+told_known (Some b) (Some a) P Q told f = f b a refl refl told
+told_known (Some b) None P Q told f = tt
+told_known None n P Q told f = tt
+
+pub notarization : (now : ℕ) (s later_s : Opened) (old new : State) (filed later : notaries.State) → s.at.is_closed ≡ false → later_s.header ≡ s.header
+    → ((c : List ℕ) → old.was_image (turn old) c → old.is_image c) → (r : Result ℕ AuditFail) (result : Result Answered LineFail) → IsAnswer sealed_text r result
+    → WhereTold old.reads new.reads (λ before after. WhereTold filed.lists later.lists (λ lists later_lists.
+    (items : List Item) → IsOpenOn s items before → Notarizes now items r s later_s old new before after filed later lists later_lists))
+    → StepsFor (lines.Plain stmts.Notarize) now result (alone s) (alone later_s) old new filed later
+notarization now s later_s old new filed later is_open header only_now r result answer told =
+    told_known old.reads new.reads
+    (λ before after. WhereTold filed.lists later.lists (λ lists later_lists. (items : List Item) → IsOpenOn s items before → Notarizes now items r s later_s old new before after filed later lists later_lists))
+    (λ before after. WhereTold filed.lists later.lists (λ lists later_lists. (w : World) → IsIn w (alone s) before lists → w.limits ≡ filed.limits → Steps (lines.Plain stmts.Notarize) now w result (alone later_s) old new before after later_lists))
+    told
+    (λ before after was is at. told_map filed.lists later.lists
+    (λ lists later_lists. (items : List Item) → IsOpenOn s items before → Notarizes now items r s later_s old new before after filed later lists later_lists)
+    (λ lists later_lists. (w : World) → IsIn w (alone s) before lists → w.limits ≡ filed.limits → Steps (lines.Plain stmts.Notarize) now w result (alone later_s) old new before after later_lists)
+    at
+    (λ lists later_lists does w i within.
+    let has = has_store w s before lists i in
+    notarizes now s later_s old new before after lists later_lists filed.limits is_open header only_now (λ same. same_bytes before after (sym is ∙ same.reads ∙ was)) w i within has
+    filed later refl r result answer (does has.world.items has.stands.open_on)))
+  where
+    same_bytes : (b a : List ℕ) → Some a ≡ Some b → a ≡ b
+    same_bytes b a e = cc
+
+-- whatever was answered, the header stays
+pub stays_header : (r : Result ℕ AuditFail) (s later_s : Opened) → reaching.StaysOpen r s later_s → later_s.header ≡ s.header
+stays_header (Ok n) s later_s stays = stays.0
+stays_header (Err fails.DiskFault) s later_s stays = stays
+stays_header (Err fails.NoMemory) s later_s stays = stays
+stays_header (Err fails.NotaryFault) s later_s stays = stays.0
+stays_header (Err (fails.ClockBack last)) s later_s stays = stays.0
+stays_header (Err fails.TooLate) s later_s stays = stays.0
+stays_header (Err fails.StoreFull) s later_s stays = stays.0
+stays_header (Err fails.Full) s later_s stays = stays.0
+stays_header (Err fails.Closed) s later_s stays = stays.0
+stays_header (Err fails.Broken) s later_s stays = stays.0
+stays_header (Err (fails.SealMissing name)) s later_s stays = stays.0
+stays_header (Err (fails.OutOfTurn count)) s later_s stays = stays.0

@@ -1,0 +1,109 @@
+-- A statement on tables does to the world what it does to the store's.
+use Rattle.std.proofs.Common.{◌≡◌, ◌⊎◌, ℕ, Bool, List, Option, Some, None, Result, Ok, Err, IfOk, inl, inr, refl, sym, ap, subst, ◌∙◌}
+use Rattle.outside_words.specs.Told.{WhereTold}
+use Rattle.outside_words.proofs.Told.{told_map, told_same}
+use Rattle.disk_words.specs.Disk as disks
+use Rattle.disk_model.proofs.Moments.{weaker}
+use Rattle.tuple_bytes.specs.declared.header.Header.{Header}
+use Rattle.notary_link.specs.Notary as notaries
+use Rattle.store_engine.specs.Opened.{Opened}
+use Rattle.stmt_text.specs.declared.line.Line.{Line}
+use Rattle.session_core.specs.declared.reply.Reply.{Reply}
+use Rattle.session_core.specs.declared.sessions.StepFail.{StepFail}
+use Rattle.session_core.specs.declared.sessions.StepFail.TheVariants as steps_as
+use Rattle.session_core.specs.Replies.{reply_text, is_refusal}
+use Rattle.session_core.specs.World as statements
+use Rattle.session_core.specs.Steps as statement_steps
+use Rattle.session_core.specs.Stepping.{StepsIn, StepsTo}
+use Rattle.drill_core.specs.declared.answered.Answered.{Answered}
+use Rattle.drill_core.specs.declared.fail.LineFail.{LineFail}
+use Rattle.drill_core.specs.World.{World, IsIn, StoreIsIn, StoresOf, StoresEither}
+use Rattle.drill_core.specs.declared.fail.LineFail.TheVariants as fails
+use Rattle.drill_core.specs.Answers.{replied, fault_of}
+use Rattle.drill_core.specs.Parts.{alone, StepsBeside}
+use Rattle.drill_core.specs.Steps.{Step, on_tables, after_statement}
+use Rattle.drill_core.specs.Stepping.{IsReply, Goes, Steps}
+use Rattle.drill_core.proofs.Between.{kept_between}
+use Rattle.drill_core.proofs.LineKinds.{none_found, table_step, table_may}
+use Rattle.session_core.specs.Steps.{IsTableLine}
+
+-- the world of an open store
+pub record HasStore (w : World) (s : Opened) (bytes : List ℕ) : Type 0 where
+  pub world : statements.World
+  pub is : w.store ≡ Some world
+  pub stands : statements.IsIn world s bytes
+  pub own : world.header.id ≡ w.id
+
+pub has_store : (w : World) (s : Opened) (bytes : List ℕ) (lists : notaries.Lists) → IsIn w (alone s) bytes lists → HasStore w s bytes
+has_store w s bytes lists i = by w.store refl i.store
+  where
+    by : (o : Option statements.World) → w.store ≡ o → StoreIsIn w.id o (Some s) bytes → HasStore w s bytes
+    by (Some world) is stands = record { world = world; is = is; stands = stands.0; own = stands.1 }
+    by None is stands = absurd stands
+
+-- the answer to what was replied
+abbrev pub Answers : Result Reply StepFail → Result Answered LineFail → Type 0
+Answers (Ok reply) result = IfOk result (λ answered. answered ≡ replied reply)
+Answers (Err fail) (Ok answered) = ⊥
+Answers (Err fail) (Err other) = Unit {0}
+
+-- a failure answers anything
+pub fails_anyhow : (r : Result Reply StepFail) (fail : LineFail) → Answers r (Err fail)
+fails_anyhow (Ok reply) fail = tt
+fails_anyhow (Err other) fail = tt
+
+pub answered_as : (refused : Bool) (text : List ℕ) (reply : Reply) → refused ≡ is_refusal reply → text ≡ reply_text reply → Answers (Ok reply) (Ok (record { refused = refused; text = text }))
+answered_as refused text reply is says = ap (λ (b : Bool). record { refused = b; text = text }) is ∙ ap (λ (t : List ℕ). record { refused = is_refusal reply; text = t }) says
+
+pub not_notary : (fail : StepFail) → fault_of fail ≡ fails.NotaryFault → ⊥
+not_notary steps_as.DiskFault is = absurd cc
+not_notary steps_as.NoMemory is = absurd cc
+
+module _ (s later : Opened) (header : later.header ≡ s.header) (old new : disks.State) where
+  module _ (w : World) (lists : notaries.Lists) (b a : List ℕ) (i : IsIn w (alone s) b lists) (has : HasStore w s b) where
+    either : (next : statement_steps.Step) (c : List ℕ) → statements.StoresEither has.world next.world c → StoresEither w (after_statement w next).world c
+    either next c (inl stores) = inl (subst (λ (o : Option statements.World). StoresOf w.id o c) (sym has.is) stores)
+    either next c (inr stores) = inr stores
+
+    goes : (next : statement_steps.Step) (r : Result Reply StepFail) (result : Result Answered LineFail) → StepsIn has.world next r s later old new b a → Answers r result
+        → Goes w (after_statement w next) result (alone later) old new b a lists
+    goes next (Ok reply) (Ok answered) steps is = record {
+      reply = record { text = ap (λ (x : Answered). x.text) is ∙ ap (λ (x : Reply). (replied x).text) steps.reply; refused = ap (λ (x : Answered). x.refused) is ∙ ap (λ (x : Reply). (replied x).refused) steps.reply };
+      stands = record {
+        id = ap (λ (h : Header). h.id) header ∙ i.id;
+        store = (steps.stands, ap (λ (h : Header). h.id) (sym steps.stands.header ∙ header) ∙ i.id);
+        lists = i.lists;
+      };
+      settled = steps.settled;
+      images = λ only. weaker (steps.images only) (either next);
+      kept = λ only. either next a (steps.kept only);
+      between = kept_between w.lists lists i.lists;
+    }
+    goes next r (Err fail) steps is = record {
+      reply = tt;
+      stands = tt;
+      settled = λ only. tt;
+      images = λ only. weaker (steps.images only) (either next);
+      kept = λ only. either next a (steps.kept only);
+      between = kept_between w.lists lists i.lists;
+    }
+    goes next (Err fail) (Ok answered) steps is = absurd is
+
+  module _ (line : Line) (now : ℕ) (on : IsTableLine line) (r : Result Reply StepFail) (result : Result Answered LineFail) (answers : Answers r result) where
+    steps : (w : World) (lists : notaries.Lists) (b a : List ℕ) → IsIn w (alone s) b lists → StepsTo line now r s later old new b a → Steps line now w result (alone later) old new b a lists
+    steps w lists b a i does =
+        let has = has_store w s b lists i in
+        let next = statement_steps.step has.world line now in
+        record {
+          found = none_found;
+          may = table_may w now line on;
+          goes = subst (λ (x : Step). Goes w x result (alone later) old new b a lists) (sym (table_step w now line on ∙ ap (λ (o : Option statements.World). on_tables w o line now) has.is))
+              (goes w lists b a i has next r result (does has.world has.stands) answers);
+        }
+
+    pub beside : WhereTold old.reads new.reads (StepsTo line now r s later old new) → StepsBeside line now result s later old new
+    beside told filed = told_map old.reads new.reads (StepsTo line now r s later old new)
+        (λ before after. WhereTold filed.lists filed.lists (λ lists later_lists. (w : World) → IsIn w (alone s) before lists → w.limits ≡ filed.limits → Steps line now w result (alone later) old new before after later_lists))
+        told
+        (λ b a does. told_same filed.lists filed.lists (λ lists later_lists. (w : World) → IsIn w (alone s) b lists → w.limits ≡ filed.limits → Steps line now w result (alone later) old new b a later_lists) refl
+        (λ lists w i limits. steps w lists b a i does))

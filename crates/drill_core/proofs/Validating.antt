@@ -1,0 +1,215 @@
+-- A validation does to the world what the definition says.
+use Rattle.std.proofs.Common.{◌≡◌, ◌⊎◌, ℕ, ◌<◌, ◌==◌, Bool, true, false, List, Option, Some, None, IfSome, Result, Ok, Err, OnOk, IfOk, inl, inr, refl, sym, ap, subst, ◌∙◌, arith}
+use Rattle.std.specs.Prelude.{nat_lt, if◌then◌else◌}
+use Rattle.std.proofs.lemmas.Bool.{eq-eqb, ne_eqb}
+use Rattle.std.proofs.lemmas.Bool.Decides.{nat_tests}
+use Rattle.outside_words.specs.Told.{WhereTold}
+use Rattle.outside_words.proofs.Told.{told_map}
+use Rattle.disk_words.specs.Disk.{State, turn, Unchanged}
+use Rattle.tuple_bytes.specs.declared.header.Header.{Header}
+use Rattle.tuple_bytes.specs.declared.item.Item.{Item}
+use Rattle.history_model.specs.declared.stored.Stored.{Stored}
+use Rattle.history_model.specs.History.{History, history}
+use Rattle.history_model.specs.Stored.{stored}
+use Rattle.notary_link.specs.declared.mark.Mark.{Mark}
+use Rattle.notary_link.specs.declared.notary.NotaryLimits.{NotaryLimits}
+use Rattle.notary_link.specs.Batches.{Batch}
+use Rattle.notary_link.specs.Notary as notaries
+use Rattle.notary_link.specs.Notary.{Lists, Keeps, Notes, marks_in_all}
+use Rattle.notary_link.proofs.InAll.{kept_marks}
+use Rattle.store_engine.specs.Opened.{Opened}
+use Rattle.store_engine.specs.Refusals.{IsOfAnother}
+use Rattle.stmt_text.specs.declared.stmt.Stmt.TheVariants as stmts
+use Rattle.stmt_text.specs.declared.line.Line.TheVariants as lines
+use Rattle.session_core.specs.World as statements
+use Rattle.validator.specs.declared.verdict.Verdict.{Verdict}
+use Rattle.validator.specs.declared.fail.AuditFail.{AuditFail}
+use Rattle.validator.specs.declared.fail.AuditFail.TheVariants as fails
+use Rattle.validator.specs.Texts.{verdict_text, refusal_text}
+use Rattle.validator.specs.Verdicts.{IsFound, IsFoundIn, mark_of, history_with, under_id, IsMarked, IsNotMarked, MayBeMarked, Validates}
+use Rattle.drill_core.specs.declared.answered.Answered.{Answered}
+use Rattle.drill_core.specs.declared.fail.LineFail.{LineFail}
+use Rattle.drill_core.specs.World.{World, Held, IsIn, StoreIsIn, with_mark, AreBetween}
+use Rattle.drill_core.specs.Answers.{said, refusal, IsAnswerTo}
+use Rattle.drill_core.specs.Parts.{StepsWithout}
+use Rattle.drill_core.specs.Steps.{Step, says, refuses, is_full, marked, validated, filed_for, history_of}
+use Rattle.drill_core.specs.Stepping.{IsReply, Goes, Steps}
+use Rattle.drill_core.proofs.Between.{kept_between, keeps_then, noted_keeps, noted_between, noted_past, unmarked, unmarked_yet}
+use Rattle.validator.proofs.SomethingFound.{something_is_found}
+use Rattle.drill_core.proofs.LineKinds.{validate_step}
+use Rattle.drill_core.proofs.Left.{left}
+
+-- the answer to what an audit came to
+abbrev pub IsAnswer : {A : Type 0} → (A → List ℕ) → Result A AuditFail → Result Answered LineFail → Type 0
+IsAnswer text (Ok a) result = IfOk result (λ answered. answered ≡ said (text a))
+IsAnswer text (Err fail) result = IsAnswerTo fail result
+
+pub replies_as : (next : Step) (x : Answered) (result : Result Answered LineFail) → x.text ≡ next.text → x.refused ≡ next.is_refused → IfOk result (λ answered. answered ≡ x) → IfOk result (IsReply next)
+replies_as next x (Ok answered) text refused is = record { text = ap (λ (y : Answered). y.text) is ∙ text; refused = ap (λ (y : Answered). y.refused) is ∙ refused }
+replies_as next x (Err fail) text refused is = tt
+
+pub given : {P : Type 0} (result : Result Answered LineFail) → P → OnOk result P
+given (Ok answered) p = p
+given (Err fail) p = tt
+
+-- ---- the history
+
+module _ (id : ℕ) where
+  of_header : (header : Header) (items : List Item) (bytes : List ℕ) → (stored bytes).header ≡ Some header → (stored bytes).items ≡ items → header.id ≡ id → history_with id (stored bytes) ≡ Some (history header items)
+  of_header header items bytes h is own =
+      ap (λ (o : Option Header). under_id id o (stored bytes)) h
+      ∙ ap (λ (b : Bool). if b then Some (history header (stored bytes).items) else None) (eq-eqb header.id id own)
+      ∙ ap (λ (l : List Item). Some (history header l)) is
+
+  none_of : (o : Option Header) (s : Stored) → IsOfAnother id o → under_id id o s ≡ None
+  none_of None s other = refl
+  none_of (Some header) s other = ap (λ (b : Bool). if b then Some (history header s.items) else None) (ne_eqb header.id id other)
+
+  pub history_is : (o : Option statements.World) (s : Option Opened) (bytes : List ℕ) → StoreIsIn id o s bytes → history_with id (stored bytes) ≡ history_of o
+  history_is (Some ws) (Some s) bytes i =
+      of_header s.header ws.items bytes i.0.open_on.stores.header_is i.0.open_on.stores.items_are (ap (λ (h : Header). h.id) i.0.header ∙ i.1)
+      ∙ ap (λ (h : Header). Some (history h ws.items)) i.0.header
+  history_is None None bytes i = none_of (stored bytes).header (stored bytes) i
+  history_is (Some ws) None bytes i = absurd i
+  history_is None (Some s) bytes i = absurd i
+
+-- ---- the world
+
+module _ (now : ℕ) (w : World) (held : Held) (old new : State) (bytes : List ℕ) (lists later : Lists) (i : IsIn w held bytes lists)
+    (same : Unchanged old new) (only_now : (c : List ℕ) → old.was_image (turn old) c → old.is_image c) where
+  abbrev To : Step → Result Answered LineFail → Type 0
+  To next result = Goes w next result held old new bytes bytes later
+
+  found_in : (f : Result Verdict AuditFail) → IsFound w.id (lists.batches w.id) (stored bytes) f → IsFoundIn (filed_for w) (history_of w.store) f
+  found_in f is = subst (λ (b : List Batch). IsFoundIn b (history_of w.store) f) (i.lists.batches w.id)
+      (subst (λ (h : Option History). IsFoundIn (lists.batches w.id) h f) (history_is w.id w.store held.store bytes i.store) is)
+
+  -- the lists stand as they stood
+  keep : (next : Step) (result : Result Answered LineFail) → next.world ≡ w → next.wished ≡ w.lists → Keeps lists later → IfOk result (IsReply next) → To next result
+  keep next result stays wished keeps reply =
+      let all = keeps_then w.lists lists later i.lists keeps in
+      left w held old new bytes lists i same only_now next result later (ap (λ (x : World). x.id) stays) (ap (λ (x : World). x.store) stays) reply
+      (given result (subst (λ (x : World). Keeps x.lists later) (sym stays) all))
+      (subst (λ (x : World). AreBetween w.lists x.lists next.wished later) (sym stays) (subst (λ (l : Lists). AreBetween w.lists w.lists l later) (sym wished) (kept_between w.lists later all)))
+
+  module _ (mark : Mark) (text : List ℕ) where
+    abbrev after_mark : Bool → Step
+    after_mark b = if b then says (record { id = w.id; store = w.store; lists = with_mark w.id mark w.lists; limits = w.limits }) text else is_full w (with_mark w.id mark w.lists)
+
+    has_room : Bool
+    has_room = nat_lt (marks_in_all w.lists) w.limits.marks
+
+    one_marked : (result : Result Answered LineFail) → IfOk result (λ answered. answered ≡ said text) → Notes w.id mark lists later → (b : Bool) → (b ≡ false → OnOk result ⊥) → To (after_mark b) result
+    one_marked result reply notes true room = left w held old new bytes lists i same only_now (after_mark true) result later refl refl
+        (replies_as (after_mark true) (said text) result refl refl reply)
+        (given result (noted_keeps w.id w.lists lists later i.lists mark notes))
+        (noted_between w.id w.lists lists later i.lists mark notes)
+    one_marked (Ok answered) reply notes false room = absurd (room refl)
+    one_marked (Err fail) reply notes false room = left w held old new bytes lists i same only_now (after_mark false) (Err fail) later refl refl tt tt
+        (noted_past w.id w.lists lists later i.lists mark notes)
+
+    not_marked : (result : Result Answered LineFail) → IfOk result (λ answered. answered ≡ refusal (refusal_text fails.Full)) → Keeps lists later → (b : Bool) → (b ≡ true → OnOk result ⊥) → To (after_mark b) result
+    not_marked result reply keeps false room = left w held old new bytes lists i same only_now (after_mark false) result later refl refl
+        (replies_as (after_mark false) (refusal (refusal_text fails.Full)) result refl refl reply)
+        (given result (keeps_then w.lists lists later i.lists keeps))
+        (unmarked w.id w.lists lists later i.lists mark keeps)
+    not_marked (Ok answered) reply keeps true room = absurd (room refl)
+    not_marked (Err fail) reply keeps true room = left w held old new bytes lists i same only_now (after_mark true) (Err fail) later refl refl tt tt
+        (unmarked_yet w.id w.lists lists later i.lists mark keeps)
+
+  module _ (limits : NotaryLimits) (within : w.limits ≡ limits) where
+    as_many : marks_in_all lists ≡ marks_in_all w.lists
+    as_many = kept_marks w.lists lists i.lists
+
+    -- a mark was added
+    is_marked : (m : Option Mark) (text : List ℕ) (result : Result Answered LineFail) → IfOk result (λ answered. answered ≡ said text) → IsMarked m w.id limits lists later → To (marked w m text) result
+    is_marked None text result reply keeps = keep (says w text) result refl refl keeps (replies_as (says w text) (said text) result refl refl reply)
+    is_marked (Some mark) text result reply (room, notes) = one_marked mark text result reply notes (nat_lt (marks_in_all w.lists) w.limits.marks) roomy
+      where
+        fits : marks_in_all w.lists < w.limits.marks
+        fits = omega (arith, room, as_many, ap (λ (l : NotaryLimits). l.marks) within)
+
+        roomy : nat_lt (marks_in_all w.lists) w.limits.marks ≡ false → OnOk result ⊥
+        roomy none = absurd (grind (arith, nat_tests, none, fits))
+
+    -- there was no room for it
+    is_not_marked : (m : Option Mark) (text : List ℕ) (result : Result Answered LineFail) → IfOk result (λ answered. answered ≡ refusal (refusal_text fails.Full)) → IsNotMarked m w.id limits lists later → To (marked w m text) result
+    is_not_marked None text result reply never = absurd never
+    is_not_marked (Some mark) text result reply (no_room, keeps) = not_marked mark text result reply keeps (nat_lt (marks_in_all w.lists) w.limits.marks) full
+      where
+        full : nat_lt (marks_in_all w.lists) w.limits.marks ≡ true → OnOk result ⊥
+        full room =
+            let fits : marks_in_all w.lists < w.limits.marks = grind (arith, nat_tests, room) in
+            absurd (no_room (omega (arith, fits, as_many, ap (λ (l : NotaryLimits). l.marks) within)))
+
+    -- it may be there
+    may_be_marked : (m : Option Mark) (text : List ℕ) (fail : LineFail) → MayBeMarked m w.id lists later → To (marked w m text) (Err fail)
+    may_be_marked None text fail keeps = keep (says w text) (Err fail) refl refl keeps tt
+    may_be_marked (Some mark) text fail (inl notes) = one_marked mark text (Err fail) tt notes (nat_lt (marks_in_all w.lists) w.limits.marks) (λ none. tt)
+    may_be_marked (Some mark) text fail (inr keeps) = not_marked mark text (Err fail) tt keeps (nat_lt (marks_in_all w.lists) w.limits.marks) (λ some. tt)
+
+    keeps_may : (m : Option Mark) → Keeps lists later → MayBeMarked m w.id lists later
+    keeps_may None keeps = keeps
+    keeps_may (Some mark) keeps = inr keeps
+
+    -- nothing was added
+    fails_so : (f : Result Verdict AuditFail) (fail : LineFail) → Keeps lists later → To (validated w now f) (Err fail)
+    fails_so (Ok verdict) fail keeps = may_be_marked (mark_of verdict now) (verdict_text verdict) fail (keeps_may (mark_of verdict now) keeps)
+    fails_so (Err other) fail keeps = keep (refuses w (refusal_text other)) (Err fail) refl refl keeps tt
+
+    steps : (result : Result Answered LineFail) (f : Result Verdict AuditFail) → IsFoundIn (filed_for w) (history_of w.store) f → To (validated w now f) result → Steps (lines.Plain stmts.Validate) now w result held old new bytes bytes later
+    steps result f is goes = record { found = f; may = is; goes = subst (λ (x : Step). To x result) (sym (validate_step w now f)) goes }
+
+    -- before anything is found
+    early : (result : Result Answered LineFail) → OnOk result ⊥ → Keeps lists later → Steps (lines.Plain stmts.Validate) now w result held old new bytes bytes later
+    early (Ok answered) never keeps = absurd never
+    early (Err fail) never keeps =
+        let some = something_is_found (filed_for w) (history_of w.store) in
+        steps (Err fail) some.0 some.1 (fails_so some.0 fail keeps)
+
+    -- after that
+    late : (result : Result Answered LineFail) (verdict : Verdict) → OnOk result ⊥ → IsFound w.id (lists.batches w.id) (stored bytes) (Ok verdict) → MayBeMarked (mark_of verdict now) w.id lists later → Steps (lines.Plain stmts.Validate) now w result held old new bytes bytes later
+    late (Ok answered) verdict never is may = absurd never
+    late (Err fail) verdict never is may = steps (Err fail) (Ok verdict) (found_in (Ok verdict) is) (may_be_marked (mark_of verdict now) (verdict_text verdict) fail may)
+
+    pub validates : (v : Result Verdict AuditFail) (result : Result Answered LineFail) → IsAnswer verdict_text v result → Validates w.id now limits (stored bytes) v lists later
+        → Steps (lines.Plain stmts.Validate) now w result held old new bytes bytes later
+    validates (Ok verdict) result answer (is, made) = steps result (Ok verdict) (found_in (Ok verdict) is) (is_marked (mark_of verdict now) (verdict_text verdict) result answer made)
+    validates (Err (fails.SealMissing name)) result answer (is, keeps) =
+        let next = refuses w (refusal_text (fails.SealMissing name)) in
+        steps result (Err (fails.SealMissing name)) (found_in (Err (fails.SealMissing name)) is)
+        (keep next result refl refl keeps (replies_as next (refusal (refusal_text (fails.SealMissing name))) result refl refl answer))
+    validates (Err fails.Full) result answer (verdict, is, none) = steps result (Ok verdict) (found_in (Ok verdict) is) (is_not_marked (mark_of verdict now) (verdict_text verdict) result answer none)
+    validates (Err fails.NotaryFault) result answer (inl keeps) = early result answer keeps
+    validates (Err fails.NotaryFault) result answer (inr (verdict, is, may)) = late result verdict answer is may
+    validates (Err fails.NoMemory) result answer (inl keeps) = early result answer keeps
+    validates (Err fails.NoMemory) result answer (inr (verdict, is, may)) = late result verdict answer is may
+    validates (Err fails.DiskFault) result answer keeps = early result answer keeps
+    validates (Err (fails.ClockBack last)) result answer never = absurd never
+    validates (Err fails.TooLate) result answer never = absurd never
+    validates (Err fails.StoreFull) result answer never = absurd never
+    validates (Err fails.Closed) result answer never = absurd never
+    validates (Err fails.Broken) result answer never = absurd never
+    validates (Err (fails.OutOfTurn count)) result answer never = absurd never
+
+-- where the disk is unchanged
+told_unchanged : {A : Type 0} (o n : Option A) (P : A → Type 0) (Q : A → A → Type 0) → n ≡ o → IfSome o P → ((b : A) → P b → Q b b) → WhereTold o n Q
+told_unchanged {A = A} o n P Q same told f = subst (λ (m : Option A). WhereTold o m Q) (sym same) (at o told)
+  where
+    at : (o : Option A) → IfSome o P → WhereTold o o Q
+    at (Some b) told = f b told
+    at None told = tt
+
+pub without : (id now : ℕ) (old new : State) (filed later : notaries.State) (v : Result Verdict AuditFail) (result : Result Answered LineFail) → Unchanged old new
+    → ((c : List ℕ) → old.was_image (turn old) c → old.is_image c) → IsAnswer verdict_text v result
+    → IfSome old.reads (λ bytes. WhereTold filed.lists later.lists (Validates id now filed.limits (stored bytes) v))
+    → StepsWithout (lines.Plain stmts.Validate) now result id old new filed later
+without id now old new filed later v result same only_now answer told held own =
+    told_unchanged old.reads new.reads (λ bytes. WhereTold filed.lists later.lists (Validates id now filed.limits (stored bytes) v))
+    (λ before after. WhereTold filed.lists later.lists (λ lists later_lists. (w : World) → IsIn w held before lists → w.limits ≡ filed.limits → Steps (lines.Plain stmts.Validate) now w result held old new before after later_lists))
+    same.reads told
+    (λ bytes at. told_map filed.lists later.lists (Validates id now filed.limits (stored bytes) v)
+    (λ lists later_lists. (w : World) → IsIn w held bytes lists → w.limits ≡ filed.limits → Steps (lines.Plain stmts.Validate) now w result held old new bytes bytes later_lists)
+    at
+    (λ lists later_lists does w i within. validates now w held old new bytes lists later_lists i same only_now filed.limits within v result answer
+    (subst (λ (n : ℕ). Validates n now filed.limits (stored bytes) v lists later_lists) (sym own ∙ i.id) does)))

@@ -1,0 +1,13 @@
+use Rattle.disk_words.proofs.Frame.{goes_on_same}
+use Rattle.notary_link.proofs.Frame as notary_frames
+use Rattle.drill_core.proofs.Nowhere.{nowhere}
+use Rattle.drill_core.proofs.lines.answer_without_store.Goals as goal
+
+pub returns-in_default-clause-told : goal.returns-in_default-clause-told
+returns-in_default-clause-told g c = nowhere c.args.line.now c.no_answer.ensures.needs c.args.id c.args.now (g.D.Disk.state c.args.disk.now) (g.met.D.Disk.only_now c.args.disk.now) (g.N.Notary.state c.args.notary.now) c.no_answer.result c.no_answer.ensures.value
+
+pub returns-in_default-clause-disk_frame : goal.returns-in_default-clause-disk_frame
+returns-in_default-clause-disk_frame g c = goes_on_same _
+
+pub returns-in_default-clause-notary_frame : goal.returns-in_default-clause-notary_frame
+returns-in_default-clause-notary_frame g c = notary_frames.goes_on_same _

@@ -1,0 +1,38 @@
+-- What is answered, as a text and whether it is a refusal.
+use Rattle.std.specs.Prelude.{◌≡◌, true, false, List, ℕ, ◌++◌, ◌∷◌, [], codes, Result, Ok, Err, OnOk, IfOk}
+use Rattle.session_core.specs.declared.reply.Reply.{Reply}
+use Rattle.session_core.specs.declared.sessions.StepFail.{StepFail}
+use Rattle.session_core.specs.declared.sessions.StepFail.TheVariants as steps
+use Rattle.session_core.specs.Replies.{reply_text, is_refusal}
+use Rattle.validator.specs.declared.fail.AuditFail.{AuditFail}
+use Rattle.validator.specs.declared.fail.AuditFail.TheVariants as audits
+use Rattle.validator.specs.Texts.{refusal_text}
+use Rattle.drill_core.specs.declared.answered.Answered.{Answered}
+use Rattle.drill_core.specs.declared.fail.LineFail.{LineFail}
+use Rattle.drill_core.specs.declared.fail.LineFail.TheVariants as fails
+
+-- a failure of a statement
+abbrev pub fault_of : StepFail → LineFail
+fault_of steps.DiskFault = fails.DiskFault
+fault_of steps.NoMemory = fails.NoMemory
+
+-- a line of these words
+abbrev pub said : List ℕ → Answered
+said words = record { refused = false; text = words ++ 10 ∷ [] }
+
+-- a refusal of this name
+abbrev pub refusal : List ℕ → Answered
+refusal name = record { refused = true; text = codes "refused " ++ name ++ 10 ∷ [] }
+
+-- the reply to a statement on tables
+abbrev pub replied : Reply → Answered
+replied reply = record { refused = is_refusal reply; text = reply_text reply }
+
+-- The answer where an audit came to no end: its refusals are told, and its faults have no reply. An open store is not refused
+-- as closed.
+abbrev pub IsAnswerTo : AuditFail → Result Answered LineFail → Type 0
+IsAnswerTo audits.DiskFault result = OnOk result ⊥
+IsAnswerTo audits.NotaryFault result = OnOk result ⊥
+IsAnswerTo audits.NoMemory result = OnOk result ⊥
+IsAnswerTo audits.Closed result = OnOk result ⊥
+IsAnswerTo fail result = IfOk result (λ answered. answered ≡ refusal (refusal_text fail))

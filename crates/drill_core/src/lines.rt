@@ -1,0 +1,113 @@
+//! Lines, with a store and without one.
+
+ghost use Rattle.std.specs.Prelude.{◌≡◌, ◌↔◌, ⊤, false, IsTrue, IfErr, IfOk, OnOk, codes};
+ghost use Rattle.outside_words.specs.Faults.{HasCause};
+ghost use Rattle.disk_words.specs.Disk as disks;
+ghost use Rattle.notary_link.specs.Notary as notaries;
+ghost use Rattle.stmt_text.specs.Fits.{FitsParts};
+ghost use Rattle.validator.specs.Safe.{KeepsSound};
+ghost use Rattle.drill_core.specs.declared.fail.LineFail.TheVariants.{DiskFault, NotaryFault, NoMemory};
+ghost use Rattle.drill_core.specs.Answers.{refusal};
+ghost use Rattle.drill_core.specs.World.{StandsFor};
+ghost use Rattle.drill_core.specs.Steps.{IsWorldLine};
+ghost use Rattle.drill_core.specs.Stepping.{StepsFor};
+ghost use Rattle.drill_core.specs.Parts.{alone, no_store, NeedsStore};
+
+use crate::answered::{Answered, not_a_store};
+use crate::audits::{answer_notarization, answer_validation};
+use crate::fail::LineFail;
+use crate::statements::answer_statement;
+use disk_model::Disk;
+use notary_link::Notary;
+use session_core::{Sessions, is_table_line};
+use std::alloc::Global;
+use stmt_text::{Line, Stmt};
+use store_engine::Store;
+
+/// Carries out a line over an open store, at these clock seconds.
+pub(crate) fn answer_with_store<D: Disk, N: Notary>(
+    alloc: Global,
+    sessions: &mut Sessions,
+    store: &mut Store,
+    disk: &mut D,
+    notary: &mut N,
+    line: &Line,
+    now: u64,
+) -> Result<Answered, LineFail>
+    requires open { store.old.at.is_closed ≡ false }
+    requires is_line { IsWorldLine line.now }
+    requires fits { FitsParts line.now }
+    ensures open { OnOk result (store.new.at.is_closed ≡ false) }
+    ensures header { store.new.header ≡ store.old.header }
+    ensures told { StepsFor line.now now result (alone store.old) (alone store.new)
+        (D.state disk.old) (D.state disk.new) (N.state notary.old) (N.state notary.new) }
+    ensures sound { KeepsSound (StandsFor (alone store.old))
+        (D.state disk.old) (D.state disk.new) (N.state notary.old) (N.state notary.new) }
+    ensures disk_frame { disks.GoesOn (D.state disk.old) (D.state disk.new) }
+    ensures notary_frame { notaries.GoesOn (N.state notary.old) (N.state notary.new) }
+    ensures disk_cause { HasCause DiskFault (D.state disk.old).faults (D.state disk.new).faults result }
+    ensures notary_cause { HasCause NotaryFault (N.state notary.old).faults (N.state notary.new).faults result }
+{
+    match line {
+        Line::Plain {
+            stmt: Stmt::Notarize,
+        } => answer_notarization(alloc, store, disk, notary, now),
+        Line::Plain {
+            stmt: Stmt::Validate,
+        } => {
+            let id = store.header().id;
+            answer_validation(alloc, disk, notary, id, now)
+        }
+        _ => answer_statement(alloc, sessions, store, disk, line, now),
+    }
+}
+
+/// What is told where a store is needed, and there is none.
+fn no_answer(alloc: Global, line: &Line) -> Result<Answered, LineFail>
+    requires needs { NeedsStore line.now }
+    ensures needs { NeedsStore line.now }
+    ensures value { IfOk result (λ answered. answered ≡ refusal (codes "NotAStore")) }
+    ensures only_memory { IfErr result (λ fail. fail ≡ NoMemory) }
+{
+    let _line = line;
+    Ok(not_a_store(alloc)?)
+}
+
+/// Carries out a line where there is no store of this id.
+pub(crate) fn answer_without_store<D: Disk, N: Notary>(
+    alloc: Global,
+    disk: &mut D,
+    notary: &mut N,
+    id: u64,
+    line: &Line,
+    now: u64,
+) -> Result<Answered, LineFail>
+    requires is_line { IsWorldLine line.now }
+    ensures told { StepsFor line.now now result (no_store id) (no_store id)
+        (D.state disk.old) (D.state disk.new) (N.state notary.old) (N.state notary.new) }
+    ensures sound { KeepsSound (λ before. ⊤)
+        (D.state disk.old) (D.state disk.new) (N.state notary.old) (N.state notary.new) }
+    ensures disk_frame { disks.GoesOn (D.state disk.old) (D.state disk.new) }
+    ensures notary_frame { notaries.GoesOn (N.state notary.old) (N.state notary.new) }
+    ensures disk_cause { HasCause DiskFault (D.state disk.old).faults (D.state disk.new).faults result }
+    ensures notary_cause { HasCause NotaryFault (N.state notary.old).faults (N.state notary.new).faults result }
+{
+    match line {
+        Line::Plain {
+            stmt: Stmt::Validate,
+        } => answer_validation(alloc, disk, notary, id, now),
+        _ => no_answer(alloc, line),
+    }
+}
+
+/// Whether a world takes a line: a statement on tables, `notarize` or `validate`.
+pub fn is_world_line(line: &Line) -> bool
+    ensures value { IsTrue result ↔ IsWorldLine line.now }
+{
+    match line {
+        Line::Plain {
+            stmt: Stmt::Notarize | Stmt::Validate,
+        } => true,
+        _ => is_table_line(line),
+    }
+}
