@@ -1,8 +1,8 @@
 -- Lists on the way from a world to the next one.
 use Rattle.std.proofs.Common.{◌≡◌, ◌≢◌, ◌⊎◌, inl, inr, ℕ, ◌+◌, ◌≤◌, ◌==◌, if◌then◌else◌, List, [], ◌∷◌, ◌++◌, length, take, refl, sym, ap, subst, ◌∙◌, arith, ⊎_elim}
-use Rattle.std.proofs.Math.Seq.{take-length, take-append-add, take-append_seam}
+use Rattle.std.proofs.Math.Seq.{take-length, take-append-add}
 use Rattle.std.proofs.lemmas.Bool.{cases_eq, eq-eqb, ne_eqb}
-use Rattle.std.proofs.lemmas.List.{length-append, length-take-le, append-nil}
+use Rattle.std.proofs.lemmas.List.{append-nil}
 use Rattle.notary_link.specs.declared.mark.Mark.{Mark}
 use Rattle.notary_link.specs.Batches.{Batch}
 use Rattle.notary_link.specs.Notary.{Lists, Keeps, Notes}
@@ -10,17 +10,12 @@ use Rattle.notary_link.specs.Filing.{FilesAll}
 use Rattle.drill_core.specs.World.{with_batches, with_mark, IsBetween, AreBetween}
 
 module _ {A : Type 0} where
-  same_between : (l middle : List A) → middle ≡ l → IsBetween l l l middle
-  same_between l middle is = record { len = length l; least = omega arith; most = omega arith; front = is ∙ sym (take-length l) }
+  same_between : (l middle : List A) → middle ≡ l → IsBetween l l middle
+  same_between l middle is = record { len = length l; least = omega arith; front = is ∙ sym (take-length l) }
 
-  -- some of those that are wished for
-  more_between : (l news wishes middle : List A) (done : ℕ) → done ≤ length news + 1 → middle ≡ l ++ take done wishes → IsBetween l (l ++ news) (l ++ wishes) middle
-  more_between l news wishes middle done few is = record {
-    len = length l + done;
-    least = omega arith;
-    most = omega (arith, few, length-append l news);
-    front = is ∙ sym (take-append-add l wishes done);
-  }
+  -- some of those that are to come
+  more_between : (l news middle : List A) (done : ℕ) → middle ≡ l ++ take done news → IsBetween l (l ++ news) middle
+  more_between l news middle done is = record { len = length l + done; least = omega arith; front = is ∙ sym (take-append-add l news done) }
 
   -- under the id, and under any other
   here : (id any : ℕ) (a b : List A) → any ≡ id → (if any == id then a else b) ≡ a
@@ -29,13 +24,11 @@ module _ {A : Type 0} where
   there : (id any : ℕ) (a b : List A) → any ≢ id → (if any == id then a else b) ≡ b
   there id any a b apart = ap (λ t. if t then a else b) (ne_eqb any id apart)
 
-  between_at : (id any : ℕ) (l news wishes middle : List A) → (any ≡ id → IsBetween l (l ++ news) (l ++ wishes) middle) → (any ≢ id → IsBetween l l l middle)
-      → IsBetween l (if any == id then l ++ news else l) (if any == id then l ++ wishes else l) middle
-  between_at id any l news wishes middle at others = ⊎_elim
-      (λ is. subst (λ (x : List A). IsBetween l x (if any == id then l ++ wishes else l) middle) (sym (here id any (l ++ news) l is))
-      (subst (λ (x : List A). IsBetween l (l ++ news) x middle) (sym (here id any (l ++ wishes) l is)) (at is)))
-      (λ apart. subst (λ (x : List A). IsBetween l x (if any == id then l ++ wishes else l) middle) (sym (there id any (l ++ news) l apart))
-      (subst (λ (x : List A). IsBetween l l x middle) (sym (there id any (l ++ wishes) l apart)) (others apart)))
+  between_at : (id any : ℕ) (l news middle : List A) → (any ≡ id → IsBetween l (l ++ news) middle) → (any ≢ id → IsBetween l l middle)
+      → IsBetween l (if any == id then l ++ news else l) middle
+  between_at id any l news middle at others = ⊎_elim
+      (λ is. subst (λ (x : List A). IsBetween l x middle) (sym (here id any (l ++ news) l is)) (at is))
+      (λ apart. subst (λ (x : List A). IsBetween l x middle) (sym (there id any (l ++ news) l apart)) (others apart))
       (cases_eq any id)
 
   keeps_at : (id any : ℕ) (l news later : List A) → (any ≡ id → later ≡ l ++ news) → (any ≢ id → later ≡ l) → later ≡ (if any == id then l ++ news else l)
@@ -45,7 +38,7 @@ module _ {A : Type 0} where
       (cases_eq any id)
 
 -- all stands as it stood
-pub kept_between : (lists later : Lists) → Keeps lists later → AreBetween lists lists lists later
+pub kept_between : (lists later : Lists) → Keeps lists later → AreBetween lists lists later
 kept_between lists later keeps = record {
   batches = λ id. same_between (lists.batches id) (later.batches id) (keeps.batches id);
   marks = λ id. same_between (lists.marks id) (later.marks id) (keeps.marks id);
@@ -69,12 +62,11 @@ module _ (id : ℕ) (old lists later : Lists) (keeps : Keeps old lists) where
     }
 
   -- some of the batches were filed
-  pub filed_between : (room wishes : List Batch) (done : ℕ) → done ≤ length room + 1 → FilesAll id (take done wishes) lists later
-      → AreBetween old (with_batches id room old) (with_batches id wishes old) later
-  filed_between room wishes done few files = record {
-    batches = λ any. between_at id any (old.batches any) room wishes (later.batches any)
-        (λ is. more_between (old.batches any) room wishes (later.batches any) done few (at (take done wishes) files any is))
-        (λ other. same_between (old.batches any) (later.batches any) (apart (take done wishes) files any other));
+  pub filed_between : (news : List Batch) (done : ℕ) → FilesAll id (take done news) lists later → AreBetween old (with_batches id news old) later
+  filed_between news done files = record {
+    batches = λ any. between_at id any (old.batches any) news (later.batches any)
+        (λ is. more_between (old.batches any) news (later.batches any) done (at (take done news) files any is))
+        (λ other. same_between (old.batches any) (later.batches any) (apart (take done news) files any other));
     marks = λ any. same_between (old.marks any) (later.marks any) (files.marks any ∙ keeps.marks any);
   }
 
@@ -92,57 +84,22 @@ module _ (id : ℕ) (old lists later : Lists) (keeps : Keeps old lists) where
         marks = λ any. keeps_at id any (old.marks any) (mark ∷ []) (later.marks any) (noted_at any) (noted_apart any);
       }
 
-      -- with room for it
-      pub noted_between : AreBetween old (with_mark id mark old) (with_mark id mark old) later
+      pub noted_between : AreBetween old (with_mark id mark old) later
       noted_between = record {
         batches = λ any. same_between (old.batches any) (later.batches any) (notes.batches any ∙ keeps.batches any);
-        marks = λ any. between_at id any (old.marks any) (mark ∷ []) (mark ∷ []) (later.marks any)
-            (λ is. more_between (old.marks any) (mark ∷ []) (mark ∷ []) (later.marks any) 1 (omega arith) (noted_at any is))
+        marks = λ any. between_at id any (old.marks any) (mark ∷ []) (later.marks any)
+            (λ is. more_between (old.marks any) (mark ∷ []) (later.marks any) 1 (noted_at any is))
             (λ other. same_between (old.marks any) (later.marks any) (noted_apart any other));
       }
 
-      -- and without
-      pub noted_past : AreBetween old old (with_mark id mark old) later
-      noted_past = record {
-        batches = λ any. same_between (old.batches any) (later.batches any) (notes.batches any ∙ keeps.batches any);
-        marks = λ any. past any (noted_between.marks any);
-      }
-        where
-          long : (any : ℕ) → (length (old.marks any) ≤ length (later.marks any)) × (length (later.marks any) ≤ length (old.marks any) + 1)
-          long any = ⊎_elim
-              (λ is. let l = ap length (noted_at any is) in let m = length-append (old.marks any) (mark ∷ []) in (omega (arith, l, m), omega (arith, l, m)))
-              (λ other. let l = ap length (noted_apart any other) in (omega (arith, l), omega (arith, l)))
-              (cases_eq any id)
-
-          past : (any : ℕ) → IsBetween (old.marks any) ((with_mark id mark old).marks any) ((with_mark id mark old).marks any) (later.marks any) → IsBetween (old.marks any) (old.marks any) ((with_mark id mark old).marks any) (later.marks any)
-          past any b = record { len = length (later.marks any); least = omega (arith, long any); most = omega (arith, long any); front = noted_keeps.marks any ∙ sym (take-length ((with_mark id mark old).marks any)) ∙ ap (λ (n : ℕ). take n ((with_mark id mark old).marks any)) (ap length (sym (noted_keeps.marks any))) }
-
-    -- a mark that is wished for, and is not there
-    pub unmarked : Keeps lists later → AreBetween old old (with_mark id mark old) later
-    unmarked same = record {
-      batches = λ any. same_between (old.batches any) (later.batches any) ((keeps_then old lists later keeps same).batches any);
-      marks = λ any. under any;
+    -- a mark that is to come, and is not there
+    pub unmarked_yet : Keeps lists later → AreBetween old (with_mark id mark old) later
+    unmarked_yet same = record {
+      batches = λ any. same_between (old.batches any) (later.batches any) (all.batches any);
+      marks = λ any. between_at id any (old.marks any) (mark ∷ []) (later.marks any)
+          (λ is. more_between (old.marks any) (mark ∷ []) (later.marks any) 0 (all.marks any ∙ sym (append-nil (old.marks any))))
+          (λ other. same_between (old.marks any) (later.marks any) (all.marks any));
     }
       where
-        none_more : (any : ℕ) → take (length (old.marks any)) (old.marks any ++ mark ∷ []) ≡ take (length (old.marks any)) (old.marks any)
-        none_more any = take-append_seam (old.marks any) (mark ∷ []) ∙ sym (take-length (old.marks any))
-
-        under : (any : ℕ) → IsBetween (old.marks any) (old.marks any) ((with_mark id mark old).marks any) (later.marks any)
-        under any = ⊎_elim
-            (λ is. subst (λ (x : List Mark). IsBetween (old.marks any) (old.marks any) x (later.marks any)) (sym (here id any (old.marks any ++ mark ∷ []) (old.marks any) is))
-            (record { len = length (old.marks any); least = omega arith; most = omega arith; front = (keeps_then old lists later keeps same).marks any ∙ sym (take-length (old.marks any)) ∙ sym (none_more any) }))
-            (λ other. subst (λ (x : List Mark). IsBetween (old.marks any) (old.marks any) x (later.marks any)) (sym (there id any (old.marks any ++ mark ∷ []) (old.marks any) other)) (same_between (old.marks any) (later.marks any) ((keeps_then old lists later keeps same).marks any)))
-            (cases_eq any id)
-
-    -- with room for it
-    pub unmarked_yet : Keeps lists later → AreBetween old (with_mark id mark old) (with_mark id mark old) later
-    unmarked_yet same = record { batches = (unmarked same).batches; marks = by }
-      where
-        longer : (any : ℕ) → length (old.marks any) ≤ length ((with_mark id mark old).marks any)
-        longer any = ⊎_elim
-            (λ is. omega (arith, ap length (here id any (old.marks any ++ mark ∷ []) (old.marks any) is), length-append (old.marks any) (mark ∷ [])))
-            (λ other. omega (arith, ap length (there id any (old.marks any ++ mark ∷ []) (old.marks any) other)))
-            (cases_eq any id)
-
-        by : (any : ℕ) → IsBetween (old.marks any) ((with_mark id mark old).marks any) ((with_mark id mark old).marks any) (later.marks any)
-        by any = let u = (unmarked same).marks any in record { len = u.len; least = u.least; most = omega (arith, u.most, longer any); front = u.front }
+        all : Keeps old later
+        all = keeps_then old lists later keeps same

@@ -30,7 +30,7 @@ module _ (w : World) (held : Held) (old new : State) (bytes : List ℕ) (lists :
 
   -- the lists may have changed
   pub left : (next : Step) (result : Result Answered LineFail) (later : Lists) → next.world.id ≡ w.id → next.world.store ≡ w.store
-      → IfOk result (IsReply next) → OnOk result (Keeps next.world.lists later) → AreBetween w.lists next.world.lists next.wished later
+      → IfOk result (IsReply next) → OnOk result (Keeps next.world.lists later) → AreBetween w.lists next.world.lists later
       → Goes w next result held old new bytes bytes later
   left next (Ok answered) later id store reply keeps between = record {
     reply = reply;

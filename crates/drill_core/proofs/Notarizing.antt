@@ -4,7 +4,7 @@ use Rattle.std.specs.Prelude.{if◌then◌else◌, codes}
 use Rattle.std.proofs.Math.Seq.{take-length}
 use Rattle.std.proofs.lemmas.Bool.{eq-eqb, ne_eqb}
 use Rattle.std.proofs.lemmas.Bool.Decides.{nat_tests}
-use Rattle.std.proofs.lemmas.List.{append-nil, length-take-le}
+use Rattle.std.proofs.lemmas.List.{append-nil, take-take}
 use Rattle.outside_words.specs.Told.{WhereTold}
 use Rattle.outside_words.proofs.Told.{told_map}
 use Rattle.disk_words.specs.Disk.{State, turn, Only, Unchanged}
@@ -38,7 +38,7 @@ use Rattle.drill_core.specs.declared.fail.LineFail.{LineFail}
 use Rattle.drill_core.specs.World.{World, Held, IsIn, StoresOf, StoresEither, with_store, with_lists, with_batches, AreBetween}
 use Rattle.drill_core.specs.Answers.{said, refusal, IsAnswerTo}
 use Rattle.drill_core.specs.Parts.{alone}
-use Rattle.drill_core.specs.Steps.{Step, says, refuses, is_full, filed, filed_for, reached, all_filed, sealed, unless, notarized}
+use Rattle.drill_core.specs.Steps.{Step, says, refuses, filed, filed_for, reached, all_filed, sealed, unless, notarized}
 use Rattle.drill_core.specs.Stepping.{IsReply, Goes, Steps, StepsFor}
 use Rattle.drill_core.proofs.Between.{kept_between, keeps_then, filed_keeps, filed_between}
 use Rattle.drill_core.proofs.LineKinds.{none_found, notarize_step}
@@ -58,10 +58,10 @@ wherever w next fail later other old new before after lists goes = record { repl
 keeps_none : (id : ℕ) (lists later : Lists) → Keeps lists later → FilesAll id [] lists later
 keeps_none id lists later keeps = record { filed = keeps.batches id ∙ sym (append-nil (lists.batches id)); others = λ other apart. keeps.batches other; marks = keeps.marks }
 
--- some of the batches were filed, and at most one that had no room
+-- some of the batches that fit were filed
 pub record FilesFew (id : ℕ) (batches : List Batch) (fit : ℕ) (lists later : Lists) : Type 0 where
   pub done : ℕ
-  pub few : done ≤ fit + 1
+  pub few : done ≤ fit
   pub files : FilesAll id (take done batches) lists later
 
 pub few_filed : (id : ℕ) (limits : NotaryLimits) (batches : List Batch) (r : Result ℕ AuditFail) (lists later : Lists) → FilesFor id limits batches r lists later → FilesFew id batches (fitting (room_in limits lists) batches) lists later
@@ -208,27 +208,18 @@ module _ (now : ℕ) (s later_s : Opened) (old new : State) (before after : List
   )
 
   module _ (images : Only before old → EveryImage old new Around) (kept : Only before old → Around after) (part : FilesFew w.id batches fit lists later) where
-    abbrev with_all : Lists
-    with_all = with_batches w.id batches w.lists
-
-    room_few : fit ≤ length batches
-    room_few = fitting_few (room_in w.limits w.lists) batches
-
-    between_all : AreBetween w.lists new_world.lists with_all later
-    between_all = filed_between w.id w.lists lists later i.lists (take fit batches) batches part.done (omega (arith, part.few, length-take-le fit batches room_few)) part.files
-
-    between_whole : fit ≡ length batches → AreBetween w.lists new_world.lists new_world.lists later
-    between_whole whole = subst (λ (l : List Batch). AreBetween w.lists new_world.lists (with_batches w.id l w.lists) later)
-        (sym (ap (λ (n : ℕ). take n batches) whole ∙ take-length batches)) between_all
+    between : AreBetween w.lists new_world.lists later
+    between = filed_between w.id w.lists lists later i.lists (take fit batches) part.done
+        (subst (λ (l : List Batch). FilesAll w.id l lists later) (sym (take-take part.done fit batches part.few)) part.files)
 
     -- where the store has reached what it needs, and what fits was filed
     abbrev IsDone : Type 0
     IsDone = IsReached need s later_s ws.items old new before after × FilesAll w.id (take fit batches) lists later
 
-    go : (text : List ℕ) (is_refused : Bool) (wished : Lists) (result : Result Answered LineFail) → OnOk result IsDone
-        → IfOk result (λ answered. answered ≡ record { refused = is_refused; text = text }) → AreBetween w.lists new_world.lists wished later
-        → To (record { world = new_world; text = text; is_refused = is_refused; wished = wished }) result
-    go text is_refused wished (Ok answered) done reply between = record {
+    go : (text : List ℕ) (is_refused : Bool) (result : Result Answered LineFail) → OnOk result IsDone
+        → IfOk result (λ answered. answered ≡ record { refused = is_refused; text = text })
+        → To (record { world = new_world; text = text; is_refused = is_refused }) result
+    go text is_refused (Ok answered) done reply = record {
       reply = record { text = ap (λ (x : Answered). x.text) reply; refused = ap (λ (x : Answered). x.refused) reply };
       stands = record {
         id = ap (λ (h : Header). h.id) header ∙ i.id;
@@ -240,7 +231,7 @@ module _ (now : ℕ) (s later_s : Opened) (old new : State) (before after : List
       kept = λ only. either_of need after (kept only);
       between = between;
     }
-    go text is_refused wished (Err fail) done reply between = record {
+    go text is_refused (Err fail) done reply = record {
       reply = tt;
       stands = tt;
       settled = λ only. tt;
@@ -250,22 +241,22 @@ module _ (now : ℕ) (s later_s : Opened) (old new : State) (before after : List
     }
 
     abbrev after_filing : Bool → Step
-    after_filing b = if b then says new_world (sealed_text tiles) else is_full new_world with_all
+    after_filing b = if b then says new_world (sealed_text tiles) else refuses new_world (refusal_text fails.Full)
 
     failed : (b : Bool) → (fit == length batches) ≡ b → (result : Result Answered LineFail) → OnOk result ⊥ → To (after_filing b) result
     failed b is (Ok answered) never = absurd never
-    failed true is (Err fail) never = go (sealed_text tiles ++ 10 ∷ []) false new_world.lists (Err fail) tt tt (between_whole (grind (arith, nat_tests, is)))
-    failed false is (Err fail) never = go (codes "refused " ++ refusal_text fails.Full ++ 10 ∷ []) true with_all (Err fail) tt tt between_all
+    failed true is (Err fail) never = go (sealed_text tiles ++ 10 ∷ []) false (Err fail) tt tt
+    failed false is (Err fail) never = go (codes "refused " ++ refusal_text fails.Full ++ 10 ∷ []) true (Err fail) tt tt
 
     sealed_all : (b : Bool) → (fit == length batches) ≡ b → fit ≡ length batches → (result : Result Answered LineFail) → IsReached need s later_s ws.items old new before after → FilesAll w.id batches lists later
         → IfOk result (λ answered. answered ≡ said (sealed_text tiles)) → To (after_filing b) result
-    sealed_all true is whole result at files reply = go (sealed_text tiles ++ 10 ∷ []) false new_world.lists result
-        (given result (at, subst (λ (l : List Batch). FilesAll w.id l lists later) (sym (ap (λ (n : ℕ). take n batches) whole ∙ take-length batches)) files)) reply (between_whole whole)
+    sealed_all true is whole result at files reply = go (sealed_text tiles ++ 10 ∷ []) false result
+        (given result (at, subst (λ (l : List Batch). FilesAll w.id l lists later) (sym (ap (λ (n : ℕ). take n batches) whole ∙ take-length batches)) files)) reply
     sealed_all false is whole result at files reply = let yes = eq-eqb fit (length batches) whole in absurd cc
 
     sealed_some : (b : Bool) → (fit == length batches) ≡ b → fit < length batches → (result : Result Answered LineFail) → IsReached need s later_s ws.items old new before after → FilesAll w.id (take fit batches) lists later
         → IfOk result (λ answered. answered ≡ refusal (refusal_text fails.Full)) → To (after_filing b) result
-    sealed_some false is less result at files reply = go (codes "refused " ++ refusal_text fails.Full ++ 10 ∷ []) true with_all result (given result (at, files)) reply between_all
+    sealed_some false is less result at files reply = go (codes "refused " ++ refusal_text fails.Full ++ 10 ∷ []) true result (given result (at, files)) reply
     sealed_some true is less result at files reply = let no = ne_eqb fit (length batches) (λ e. omega (arith, e, less)) in absurd cc
 
     pub made : fault ≡ None → (r : Result ℕ AuditFail) (result : Result Answered LineFail) → IsAnswer sealed_text r result → IsRefusedBy fault r → IfOk r (λ n. n ≡ tiles)

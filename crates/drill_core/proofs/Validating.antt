@@ -32,9 +32,9 @@ use Rattle.drill_core.specs.declared.fail.LineFail.{LineFail}
 use Rattle.drill_core.specs.World.{World, Held, IsIn, StoreIsIn, with_mark, AreBetween}
 use Rattle.drill_core.specs.Answers.{said, refusal, IsAnswerTo}
 use Rattle.drill_core.specs.Parts.{StepsWithout}
-use Rattle.drill_core.specs.Steps.{Step, says, refuses, is_full, marked, validated, filed_for, history_of}
+use Rattle.drill_core.specs.Steps.{Step, says, refuses, marked, validated, filed_for, history_of}
 use Rattle.drill_core.specs.Stepping.{IsReply, Goes, Steps}
-use Rattle.drill_core.proofs.Between.{kept_between, keeps_then, noted_keeps, noted_between, noted_past, unmarked, unmarked_yet}
+use Rattle.drill_core.proofs.Between.{kept_between, keeps_then, noted_keeps, noted_between, unmarked_yet}
 use Rattle.validator.proofs.SomethingFound.{something_is_found}
 use Rattle.drill_core.proofs.LineKinds.{validate_step}
 use Rattle.drill_core.proofs.Left.{left}
@@ -85,34 +85,32 @@ module _ (now : ℕ) (w : World) (held : Held) (old new : State) (bytes : List �
       (subst (λ (h : Option History). IsFoundIn (lists.batches w.id) h f) (history_is w.id w.store held.store bytes i.store) is)
 
   -- the lists stand as they stood
-  keep : (next : Step) (result : Result Answered LineFail) → next.world ≡ w → next.wished ≡ w.lists → Keeps lists later → IfOk result (IsReply next) → To next result
-  keep next result stays wished keeps reply =
+  keep : (next : Step) (result : Result Answered LineFail) → next.world ≡ w → Keeps lists later → IfOk result (IsReply next) → To next result
+  keep next result stays keeps reply =
       let all = keeps_then w.lists lists later i.lists keeps in
       left w held old new bytes lists i same only_now next result later (ap (λ (x : World). x.id) stays) (ap (λ (x : World). x.store) stays) reply
       (given result (subst (λ (x : World). Keeps x.lists later) (sym stays) all))
-      (subst (λ (x : World). AreBetween w.lists x.lists next.wished later) (sym stays) (subst (λ (l : Lists). AreBetween w.lists w.lists l later) (sym wished) (kept_between w.lists later all)))
+      (subst (λ (x : World). AreBetween w.lists x.lists later) (sym stays) (kept_between w.lists later all))
 
   module _ (mark : Mark) (text : List ℕ) where
     abbrev after_mark : Bool → Step
-    after_mark b = if b then says (record { id = w.id; store = w.store; lists = with_mark w.id mark w.lists; limits = w.limits }) text else is_full w (with_mark w.id mark w.lists)
+    after_mark b = if b then says (record { id = w.id; store = w.store; lists = with_mark w.id mark w.lists; limits = w.limits }) text else refuses w (refusal_text fails.Full)
 
     has_room : Bool
     has_room = nat_lt (marks_in_all w.lists) w.limits.marks
 
-    one_marked : (result : Result Answered LineFail) → IfOk result (λ answered. answered ≡ said text) → Notes w.id mark lists later → (b : Bool) → (b ≡ false → OnOk result ⊥) → To (after_mark b) result
+    one_marked : (result : Result Answered LineFail) → IfOk result (λ answered. answered ≡ said text) → Notes w.id mark lists later → (b : Bool) → (b ≡ false → ⊥) → To (after_mark b) result
     one_marked result reply notes true room = left w held old new bytes lists i same only_now (after_mark true) result later refl refl
         (replies_as (after_mark true) (said text) result refl refl reply)
         (given result (noted_keeps w.id w.lists lists later i.lists mark notes))
         (noted_between w.id w.lists lists later i.lists mark notes)
-    one_marked (Ok answered) reply notes false room = absurd (room refl)
-    one_marked (Err fail) reply notes false room = left w held old new bytes lists i same only_now (after_mark false) (Err fail) later refl refl tt tt
-        (noted_past w.id w.lists lists later i.lists mark notes)
+    one_marked result reply notes false room = absurd (room refl)
 
     not_marked : (result : Result Answered LineFail) → IfOk result (λ answered. answered ≡ refusal (refusal_text fails.Full)) → Keeps lists later → (b : Bool) → (b ≡ true → OnOk result ⊥) → To (after_mark b) result
     not_marked result reply keeps false room = left w held old new bytes lists i same only_now (after_mark false) result later refl refl
         (replies_as (after_mark false) (refusal (refusal_text fails.Full)) result refl refl reply)
         (given result (keeps_then w.lists lists later i.lists keeps))
-        (unmarked w.id w.lists lists later i.lists mark keeps)
+        (kept_between w.lists later (keeps_then w.lists lists later i.lists keeps))
     not_marked (Ok answered) reply keeps true room = absurd (room refl)
     not_marked (Err fail) reply keeps true room = left w held old new bytes lists i same only_now (after_mark true) (Err fail) later refl refl tt tt
         (unmarked_yet w.id w.lists lists later i.lists mark keeps)
@@ -123,14 +121,14 @@ module _ (now : ℕ) (w : World) (held : Held) (old new : State) (bytes : List �
 
     -- a mark was added
     is_marked : (m : Option Mark) (text : List ℕ) (result : Result Answered LineFail) → IfOk result (λ answered. answered ≡ said text) → IsMarked m w.id limits lists later → To (marked w m text) result
-    is_marked None text result reply keeps = keep (says w text) result refl refl keeps (replies_as (says w text) (said text) result refl refl reply)
+    is_marked None text result reply keeps = keep (says w text) result refl keeps (replies_as (says w text) (said text) result refl refl reply)
     is_marked (Some mark) text result reply (room, notes) = one_marked mark text result reply notes (nat_lt (marks_in_all w.lists) w.limits.marks) roomy
       where
         fits : marks_in_all w.lists < w.limits.marks
         fits = omega (arith, room, as_many, ap (λ (l : NotaryLimits). l.marks) within)
 
-        roomy : nat_lt (marks_in_all w.lists) w.limits.marks ≡ false → OnOk result ⊥
-        roomy none = absurd (grind (arith, nat_tests, none, fits))
+        roomy : nat_lt (marks_in_all w.lists) w.limits.marks ≡ false → ⊥
+        roomy none = grind (arith, nat_tests, none, fits)
 
     -- there was no room for it
     is_not_marked : (m : Option Mark) (text : List ℕ) (result : Result Answered LineFail) → IfOk result (λ answered. answered ≡ refusal (refusal_text fails.Full)) → IsNotMarked m w.id limits lists later → To (marked w m text) result
@@ -143,19 +141,19 @@ module _ (now : ℕ) (w : World) (held : Held) (old new : State) (bytes : List �
             absurd (no_room (omega (arith, fits, as_many, ap (λ (l : NotaryLimits). l.marks) within)))
 
     -- it may be there
-    may_be_marked : (m : Option Mark) (text : List ℕ) (fail : LineFail) → MayBeMarked m w.id lists later → To (marked w m text) (Err fail)
-    may_be_marked None text fail keeps = keep (says w text) (Err fail) refl refl keeps tt
-    may_be_marked (Some mark) text fail (inl notes) = one_marked mark text (Err fail) tt notes (nat_lt (marks_in_all w.lists) w.limits.marks) (λ none. tt)
+    may_be_marked : (m : Option Mark) (text : List ℕ) (fail : LineFail) → MayBeMarked m w.id limits lists later → To (marked w m text) (Err fail)
+    may_be_marked None text fail keeps = keep (says w text) (Err fail) refl keeps tt
+    may_be_marked (Some mark) text fail (inl adds) = is_marked (Some mark) text (Err fail) tt (adds.1, adds.2)
     may_be_marked (Some mark) text fail (inr keeps) = not_marked mark text (Err fail) tt keeps (nat_lt (marks_in_all w.lists) w.limits.marks) (λ some. tt)
 
-    keeps_may : (m : Option Mark) → Keeps lists later → MayBeMarked m w.id lists later
+    keeps_may : (m : Option Mark) → Keeps lists later → MayBeMarked m w.id limits lists later
     keeps_may None keeps = keeps
     keeps_may (Some mark) keeps = inr keeps
 
     -- nothing was added
     fails_so : (f : Result Verdict AuditFail) (fail : LineFail) → Keeps lists later → To (validated w now f) (Err fail)
     fails_so (Ok verdict) fail keeps = may_be_marked (mark_of verdict now) (verdict_text verdict) fail (keeps_may (mark_of verdict now) keeps)
-    fails_so (Err other) fail keeps = keep (refuses w (refusal_text other)) (Err fail) refl refl keeps tt
+    fails_so (Err other) fail keeps = keep (refuses w (refusal_text other)) (Err fail) refl keeps tt
 
     steps : (result : Result Answered LineFail) (f : Result Verdict AuditFail) → IsFoundIn (filed_for w) (history_of w.store) f → To (validated w now f) result → Steps (lines.Plain stmts.Validate) now w result held old new bytes bytes later
     steps result f is goes = record { found = f; may = is; goes = subst (λ (x : Step). To x result) (sym (validate_step w now f)) goes }
@@ -168,7 +166,7 @@ module _ (now : ℕ) (w : World) (held : Held) (old new : State) (bytes : List �
         steps (Err fail) some.0 some.1 (fails_so some.0 fail keeps)
 
     -- after that
-    late : (result : Result Answered LineFail) (verdict : Verdict) → OnOk result ⊥ → IsFound w.id (lists.batches w.id) (stored bytes) (Ok verdict) → MayBeMarked (mark_of verdict now) w.id lists later → Steps (lines.Plain stmts.Validate) now w result held old new bytes bytes later
+    late : (result : Result Answered LineFail) (verdict : Verdict) → OnOk result ⊥ → IsFound w.id (lists.batches w.id) (stored bytes) (Ok verdict) → MayBeMarked (mark_of verdict now) w.id limits lists later → Steps (lines.Plain stmts.Validate) now w result held old new bytes bytes later
     late (Ok answered) verdict never is may = absurd never
     late (Err fail) verdict never is may = steps (Err fail) (Ok verdict) (found_in (Ok verdict) is) (may_be_marked (mark_of verdict now) (verdict_text verdict) fail may)
 
@@ -178,7 +176,7 @@ module _ (now : ℕ) (w : World) (held : Held) (old new : State) (bytes : List �
     validates (Err (fails.SealMissing name)) result answer (is, keeps) =
         let next = refuses w (refusal_text (fails.SealMissing name)) in
         steps result (Err (fails.SealMissing name)) (found_in (Err (fails.SealMissing name)) is)
-        (keep next result refl refl keeps (replies_as next (refusal (refusal_text (fails.SealMissing name))) result refl refl answer))
+        (keep next result refl keeps (replies_as next (refusal (refusal_text (fails.SealMissing name))) result refl refl answer))
     validates (Err fails.Full) result answer (verdict, is, none) = steps result (Ok verdict) (found_in (Ok verdict) is) (is_not_marked (mark_of verdict now) (verdict_text verdict) result answer none)
     validates (Err fails.NotaryFault) result answer (inl keeps) = early result answer keeps
     validates (Err fails.NotaryFault) result answer (inr (verdict, is, may)) = late result verdict answer is may

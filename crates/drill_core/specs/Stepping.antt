@@ -27,7 +27,7 @@ pub record Goes (w : World) (next : Step) (result : Result Answered LineFail) (l
   pub images : disks.Only before old → EveryImage old new (StoresEither w next.world)
   -- whatever was answered
   pub kept : disks.Only before old → StoresEither w next.world after
-  pub between : AreBetween w.lists next.world.lists next.wished lists
+  pub between : AreBetween w.lists next.world.lists lists
 
 -- what a line does to a world, where this was found
 pub record Steps (line : Line) (now : ℕ) (w : World) (result : Result Answered LineFail) (later : Held) (old new : disks.State) (before after : List ℕ) (lists : notaries.Lists) : Type 0 where

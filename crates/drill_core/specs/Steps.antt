@@ -6,7 +6,7 @@ use Rattle.history_model.specs.History.{History, history}
 use Rattle.notary_link.specs.declared.mark.Mark.{Mark}
 use Rattle.notary_link.specs.Batches.{Batch}
 use Rattle.notary_link.specs.Filing.{fitting, room_in}
-use Rattle.notary_link.specs.Notary.{Lists, marks_in_all}
+use Rattle.notary_link.specs.Notary.{marks_in_all}
 use Rattle.stmt_text.specs.declared.stmt.Stmt.{Stmt}
 use Rattle.stmt_text.specs.declared.stmt.Stmt.TheVariants as stmts
 use Rattle.stmt_text.specs.declared.line.Line.{Line}
@@ -29,20 +29,14 @@ pub record Step : Type 0 where
   pub world : World
   pub text : List ℕ
   pub is_refused : Bool
-  -- the notary's lists with all that is to be added, were there room for it
-  pub wished : Lists
 
 -- a reply of one line
 abbrev pub says : World → List ℕ → Step
-says w words = record { world = w; text = words ++ 10 ∷ []; is_refused = false; wished = w.lists }
+says w words = record { world = w; text = words ++ 10 ∷ []; is_refused = false }
 
 -- a refusal
 abbrev pub refuses : World → List ℕ → Step
-refuses w name = record { world = w; text = codes "refused " ++ name ++ 10 ∷ []; is_refused = true; wished = w.lists }
-
--- there is no room for all of these
-abbrev pub is_full : World → Lists → Step
-is_full w lists = record { world = w; text = codes "refused " ++ refusal_text fails.Full ++ 10 ∷ []; is_refused = true; wished = lists }
+refuses w name = record { world = w; text = codes "refused " ++ name ++ 10 ∷ []; is_refused = true }
 
 -- without a store
 abbrev pub has_no_store : World → Step
@@ -51,7 +45,7 @@ has_no_store w = refuses w (codes "NotAStore")
 -- ---- a statement on tables
 
 abbrev pub after_statement : World → statement_steps.Step → Step
-after_statement w s = record { world = with_store w s.world; text = replies.reply_text s.reply; is_refused = replies.is_refusal s.reply; wished = w.lists }
+after_statement w s = record { world = with_store w s.world; text = replies.reply_text s.reply; is_refused = replies.is_refusal s.reply }
 
 abbrev pub on_tables : World → Option statements.World → Line → ℕ → Step
 on_tables w None line now = has_no_store w
@@ -76,7 +70,7 @@ filed w batches = with_lists w (with_batches w.id (take (fitting (room_in w.limi
 abbrev pub all_filed : World → World → List Batch → ℕ → Step
 all_filed w new batches tiles =
     if fitting (room_in w.limits w.lists) batches == length batches then says new (numbered (codes "sealed ") tiles)
-    else is_full new (with_batches w.id batches w.lists)
+    else refuses new (refusal_text fails.Full)
 
 -- what is filed where nothing speaks against it
 abbrev pub sealed : World → statements.World → ℕ → Step
@@ -102,7 +96,7 @@ abbrev pub marked : World → Option Mark → List ℕ → Step
 marked w None text = says w text
 marked w (Some mark) text =
     if nat_lt (marks_in_all w.lists) w.limits.marks then says (with_lists w (with_mark w.id mark w.lists)) text
-    else is_full w (with_mark w.id mark w.lists)
+    else refuses w (refusal_text fails.Full)
 
 -- what was found is told and marked
 abbrev pub validated : World → ℕ → Result Verdict AuditFail → Step

@@ -87,14 +87,13 @@ StoresWorld w bytes = StoresOf w.id w.store bytes
 abbrev pub StoresEither : World → World → List ℕ → Type 0
 StoresEither w x c = StoresWorld w c ⊎ StoresWorld x c
 
--- a list with some of those that are wished for, and at most one more than there will be room for
-pub record IsBetween {A : Type 0} (old new wished middle : List A) : Type 0 where
+-- a list, and some first ones of those that are to come
+pub record IsBetween {A : Type 0} (old new middle : List A) : Type 0 where
   pub len : ℕ
   pub least : length old ≤ len
-  pub most : len ≤ length new + 1
-  pub front : middle ≡ take len wished
+  pub front : middle ≡ take len new
 
--- under each id the first batches and marks of those to come, and all that were there
-pub record AreBetween (old new wished middle : Lists) : Type 0 where
-  pub batches : (id : ℕ) → IsBetween (old.batches id) (new.batches id) (wished.batches id) (middle.batches id)
-  pub marks : (id : ℕ) → IsBetween (old.marks id) (new.marks id) (wished.marks id) (middle.marks id)
+-- under each id all batches and marks that were there, and some first ones of those to come
+pub record AreBetween (old new middle : Lists) : Type 0 where
+  pub batches : (id : ℕ) → IsBetween (old.batches id) (new.batches id) (middle.batches id)
+  pub marks : (id : ℕ) → IsBetween (old.marks id) (new.marks id) (middle.marks id)
