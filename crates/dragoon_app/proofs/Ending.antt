@@ -40,7 +40,7 @@ Ended = Result (Unit {0}) RunFail
 module _ (result : Status) (r : Ended) (first last : Runner) (old new : disks.State) (filed later : notaries.State) (clock ahead : clocks.State) (input left : sources.State) (out mid written : State) where
   -- the lines that were carried out, wherever the run began
   ran : ((begin : Running) (before after : List ℕ) (lists later_lists : notaries.Lists) (c : Carries first.is_scripted r last filed.limits old new clock ahead input left out mid begin before after lists later_lists)
-          → (x : Running) (before : List ℕ) → (IsBetween r → last.is_refused ≡ x.is_refused) → IsWritten before x.text r out mid → Writes (IsToTell c.done c.next old new filed later input left) before x result out written)
+      → (x : Running) (before : List ℕ) → (IsBetween r → last.is_refused ≡ x.is_refused) → IsWritten before x.text r out mid → Writes (IsToTell c.done c.next old new filed later input left) before x result out written)
       → ((done : List Timed) (next : Timed) (all others : List ℕ) → AreFirst (lines_in done) all → Reads (ending r) done next all others → Reads result done next all others)
       → (IsSettled result old new filed later → IsBetween r)
       → CarriesFrom r first last old new filed later clock ahead input left out mid
@@ -303,7 +303,7 @@ module _ (id : ℕ) (runner : Runner) (first old new : disks.State) (filed later
   ran_opened result clock ahead input left out written le runs = inr (inr (told_from first.reads old.reads new.reads _ _ _ same.reads ready runs (λ before after r from.
       let h : Header = r.header in
       let over = told_map filed.lists later.lists _ _ from (λ lists later_lists begins.
-          runs_from runner.is_scripted (start (world_of h before) lists filed.limits) result first old new before after filed later later_lists clock ahead input left out written same le (begins (start (world_of h before) lists filed.limits) (r.at lists filed.limits) refl)) in
+      runs_from runner.is_scripted (start (world_of h before) lists filed.limits) result first old new before after filed later later_lists clock ahead input left out written same le (begins (start (world_of h before) lists filed.limits) (r.at lists filed.limits) refl)) in
       subst (λ (o : Option Header). RunsUnder runner.is_scripted id o result first new before after filed later clock ahead input left out written) (sym r.is) ((λ e. over), (λ ne. absurd (ne (r.id ∙ is)))))))
 
   pub opened_sound : SoundFrom runner old new filed later → KeepsSound (λ before. ⊤) first new filed later

@@ -53,22 +53,22 @@ module _ (runner later : Runner) (s : State) (filed : notaries.State) (still : I
   pub refuses_goes : (name text : List ℕ) → text ≡ refused_text name → later ≡ refusing runner → Still (λ r. refused_line r name) (Ok text)
   refuses_goes name text spelled is = wherever_same filed.limits runner s filed (GoesTo (λ r. refused_line r name) (Ok text) later filed.limits s s)
       (λ r bytes lists at. goes_still r (refused_line r name) (Ok text) runner later s bytes filed.limits lists still at refl (ap (λ (x : List ℕ). r.text ++ x) (sym spelled)) (record {
-      stands = subst (λ (held : Held). IsIn r.world held bytes lists) (sym (ap (λ (x : Runner). x.world) is)) at.stands;
-      within = at.within;
-      epoch = ap (λ (x : Runner). x.epoch) is ∙ at.epoch;
-      moment = ap (λ (x : Runner). x.moment) is ∙ at.moment;
-      refused = ap (λ (x : Runner). x.is_refused) is ∙ or_true r.is_refused;
+        stands = subst (λ (held : Held). IsIn r.world held bytes lists) (sym (ap (λ (x : Runner). x.world) is)) at.stands;
+        within = at.within;
+        epoch = ap (λ (x : Runner). x.epoch) is ∙ at.epoch;
+        moment = ap (λ (x : Runner). x.moment) is ∙ at.moment;
+        refused = ap (λ (x : Runner). x.is_refused) is ∙ or_true r.is_refused;
       }))
 
   -- the moment is set
   pub sets_goes : (E : Type 0) (scripted : Bool) (moment : ℕ) (text : List ℕ) → SetsMoment {E = E} scripted moment (Ok text) runner later → Still (λ r. set_moment scripted r moment) (Ok text)
   sets_goes E true moment text sets = wherever_same filed.limits runner s filed (GoesTo (λ r. set_moment true r moment) (Ok text) later filed.limits s s)
       (λ r bytes lists at. goes_still r (set_moment true r moment) (Ok text) runner later s bytes filed.limits lists still at refl (ap (λ (x : List ℕ). r.text ++ x) (sym sets.text)) (record {
-      stands = subst (λ (held : Held). IsIn r.world held bytes lists) (sym (ap (λ (x : Runner). x.world) sets.later_is)) at.stands;
-      within = at.within;
-      epoch = ap (λ (x : Runner). x.epoch) sets.later_is ∙ at.epoch;
-      moment = ap (λ (x : Runner). x.moment) sets.later_is;
-      refused = ap (λ (x : Runner). x.is_refused) sets.later_is ∙ at.refused;
+        stands = subst (λ (held : Held). IsIn r.world held bytes lists) (sym (ap (λ (x : Runner). x.world) sets.later_is)) at.stands;
+        within = at.within;
+        epoch = ap (λ (x : Runner). x.epoch) sets.later_is ∙ at.epoch;
+        moment = ap (λ (x : Runner). x.moment) sets.later_is;
+        refused = ap (λ (x : Runner). x.is_refused) sets.later_is ∙ at.refused;
       }))
   sets_goes E false moment text sets = refuses_goes (codes "NotScripted") text sets.text sets.later_is
 

@@ -32,7 +32,7 @@ module _ (limits : NotaryLimits) where
   pub wherever_then : (first runner : Runner) (old mid new : disks.State) (filed half later : notaries.State) (P Q R : Saying) → TellsAlike old.reads mid.reads → (is_some half.lists ≡ false → is_some later.lists ≡ false)
       → Wherever limits first old mid filed half P → Wherever limits runner mid new half later Q
       → ((begin : Running) (before here after : List ℕ) (lists here_lists later_lists : notaries.Lists) → P begin before here lists here_lists
-          → ((r : Running) → IsAt r runner here limits here_lists → Q r here after here_lists later_lists) → R begin before after lists later_lists)
+      → ((r : Running) → IsAt r runner here limits here_lists → Q r here after here_lists later_lists) → R begin before after lists later_lists)
       → Wherever limits first old new filed later R
   wherever_then first runner old mid new filed half later P Q R alike stays one two f =
       told_then old.reads mid.reads new.reads _ _ _ alike one two (λ before here after p q.

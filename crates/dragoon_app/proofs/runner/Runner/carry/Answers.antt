@@ -71,3 +71,8 @@ returns-in_err-refuse-in-Unbuilt-clause-told g c =
     rw same (goes_by c.args.line.now kinds.Unbuilt c.seconds-in-Unbuilt.result (Err lines.NoMemory) c.args.self.now c.refuse.new.self (g.D.Disk.state c.args.disk.now) (g.D.Disk.state c.args.disk.now) (g.N.Notary.state c.args.notary.now) (g.N.Notary.state c.args.notary.now) (g.C.Clock.state c.args.clock.now) (g.C.Clock.state c.seconds-in-Unbuilt.new.clock)
     (sym c.kind_of.ensures.value ∙ c.in-Unbuilt.is) (λ e. cc) (takes_for kinds.Unbuilt c.args.self.now.is_scripted c.args.self.now c.seconds-in-Unbuilt.result (g.C.Clock.state c.args.clock.now) (g.C.Clock.state c.seconds-in-Unbuilt.new.clock) (λ e. cc) c.seconds-in-Unbuilt.ensures.value)
     (fails_goes c.args.self.now c.refuse.new.self (g.D.Disk.state c.args.disk.now) (g.N.Notary.state c.args.notary.now) (g.met.D.Disk.only_now c.args.disk.now) (λ r. refused_line r (codes "Syntax")) lines.NoMemory (λ r. refl)))
+
+pub returns-in-InWorld-clause-told : goal.returns-in-InWorld-clause-told
+returns-in-InWorld-clause-told g c =
+    steps_by c.args.line.now c.seconds-now.result c.step.result c.args.self.now c.step.new.self (g.D.Disk.state c.args.disk.now) (g.D.Disk.state c.step.new.disk) (g.N.Notary.state c.args.notary.now) (g.N.Notary.state c.step.new.notary) (g.C.Clock.state c.args.clock.now) (g.C.Clock.state c.seconds-now.new.clock)
+    (sym c.kind_of.ensures.value ∙ c.in-InWorld.is) c.seconds-now.ensures.value c.step.ensures.told
