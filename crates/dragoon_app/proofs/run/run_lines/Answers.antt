@@ -1,5 +1,6 @@
 use Rattle.std.proofs.Common.{sym}
-use Rattle.dragoon_app.proofs.Ending.{ran_opened, opened_sound, unopened_sound}
+use Rattle.notary_link.proofs.Frame as notary_frames
+use Rattle.dragoon_app.proofs.Ending.{ran_opened, ran_wanting, opened_sound, unopened_sound}
 use Rattle.dragoon_app.proofs.run.run_lines.Goals as goal
 
 pub returns-in-Ok-clause-told : goal.returns-in-Ok-clause-told
@@ -14,3 +15,12 @@ pub returns-in-Ok-clause-sound : goal.returns-in-Ok-clause-sound
 returns-in-Ok-clause-sound g c =
     opened_sound c.args.id c.in-Ok.runner (g.D.Disk.state c.args.disk.now) (g.D.Disk.state c.open.new.disk) (g.D.Disk.state c.run_opened.new.disk) (g.N.Notary.state c.args.notary.now) (g.N.Notary.state c.run_opened.new.notary)
     c.in-Ok.ensures.value c.in-Ok.ensures.id c.open.ensures.same c.run_opened.ensures.sound
+
+pub returns-in-Err-NotAStore-clause-notary_frame : goal.returns-in-Err-NotAStore-clause-notary_frame
+returns-in-Err-NotAStore-clause-notary_frame g c = notary_frames.goes_on_same _
+
+pub returns-in-Err-DiskFault-clause-notary_frame : goal.returns-in-Err-DiskFault-clause-notary_frame
+returns-in-Err-DiskFault-clause-notary_frame g c = notary_frames.goes_on_same _
+
+pub returns-in-Err-clause-notary_frame : goal.returns-in-Err-clause-notary_frame
+returns-in-Err-clause-notary_frame g c = notary_frames.goes_on_same _
