@@ -15,22 +15,15 @@ use Rattle.dragoon_app.specs.Linked.{says_link, link_under, link_outcome, IsLink
 -- what was said of an outcome that is no fault of the disk
 pub said_answers : (d : Outcome) → d.status ≢ statuses.DiskFault → (s : Status) (old new : State) → Said d s old new → Answers d s old new
 said_answers d ne statuses.Ok old new h = h
-said_answers d ne statuses.Altered old new h = h
 said_answers d ne statuses.Usage old new h = h
 said_answers d ne statuses.Refused old new h = h
 said_answers d ne statuses.NotAStore old new h = h
 said_answers d ne statuses.DiskFault old new h = absurd (ne (sym h.0))
-said_answers d ne statuses.NotaryFault old new h = h
 said_answers d ne statuses.ReadFault old new h = h
 said_answers d ne statuses.WriteFault old new h = inl h
 said_answers d ne statuses.NoMemory old new h = inl h
-said_answers d ne statuses.Broken old new h = h
-said_answers d ne (statuses.SealMissing name) old new h = h
-said_answers d ne (statuses.OutOfTurn count) old new h = h
 said_answers d ne statuses.AlreadyThere old new h = h
-said_answers d ne (statuses.ClockBack last) old new h = h
 said_answers d ne statuses.TooLate old new h = h
-said_answers d ne statuses.Full old new h = h
 said_answers d ne statuses.InputLimit old new h = h
 
 found_under : (o : Option Header) (items : List Item) (l : Linked) (s : Status) (old new : State) → IsLinkUnder o items (Some l) → Said (says_link l.count l.link) s old new → Answers (link_under o (txns items)) s old new

@@ -12,7 +12,6 @@ pub mod Written
 pub mod Nothing
 pub mod Worlds
 pub mod Wherever
-pub mod Opening
 pub mod Standing
 pub mod CarriedLines
 pub mod Replying
