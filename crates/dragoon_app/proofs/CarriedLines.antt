@@ -4,6 +4,9 @@ use Rattle.std.specs.Prelude.{IsErrOf}
 use Rattle.std.proofs.lemmas.List.{map-append}
 use Rattle.outside_words.specs.Told.{WhereTold, TellsAlike}
 use Rattle.outside_words.proofs.Told.{told_map, told_then, told_same}
+use Rattle.notary_link.specs.declared.notary.NotaryLimits.{NotaryLimits}
+use Rattle.notary_link.specs.Notary as notaries
+use Rattle.notary_link.proofs.Frame as notary_frames
 use Rattle.disk_words.specs.Disk as disks
 use Rattle.disk_words.proofs.Frame as disk_frames
 use Rattle.disk_model.proofs.Moments.{weaker}
@@ -19,20 +22,23 @@ use Rattle.line_input.specs.Lines.{IsFeedless, lines_of}
 use Rattle.line_input.specs.Limits.{input_limit, piece_limit}
 use Rattle.line_input.specs.Reader as readers
 use Rattle.line_input.specs.Reader.{Reading, Gives, IsAtEnd, IsAtLimit, Tells}
-use Rattle.session_core.specs.declared.sessions.StepFail.{StepFail}
-use Rattle.session_core.specs.declared.sessions.StepFail.TheVariants as steps
-use Rattle.session_core.specs.World.{World}
-use Rattle.stmt_text.specs.Lines.{is_blank, without_return}
+use Rattle.drill_core.specs.declared.fail.LineFail.{LineFail}
+use Rattle.drill_core.specs.declared.fail.LineFail.TheVariants as lines
+use Rattle.drill_core.specs.World.{StoresWorld, AreBetween}
+use Rattle.dragoon_app.specs.declared.status.Status.{Status}
 use Rattle.dragoon_app.specs.declared.status.Status.TheVariants as statuses
 use Rattle.dragoon_app.specs.declared.run_fail.RunFail.{RunFail}
 use Rattle.dragoon_app.specs.declared.runner.Runner.{Runner}
-use Rattle.dragoon_app.specs.Running.{Running, Timed, start, carry, carried}
-use Rattle.dragoon_app.specs.Ran.{AreFirst, Reads, TakesLittle, IsOutBut, lines_in, text_before, StoresWorld, Takes}
-use Rattle.dragoon_app.specs.Carrying.{IsAt, Goes, IsLineOf, Replies, Carries, CarriesOver, IsWritten, IsBetween, ending, of_step, of_input, of_output}
+use Rattle.dragoon_app.specs.Running.{Running, Timed, carry, carried}
+use Rattle.dragoon_app.specs.Ran.{AreFirst, Ends, IsNext, IsUnderWay, Reads, TakesLittle, TakesNoMore, IsOutBut, lines_in, text_before, Takes}
+use Rattle.dragoon_app.specs.Carrying.{IsAt, Wherever, Goes, IsLineOf, Replies, RepliesFrom, Carries, CarriesFrom, IsWritten, IsBetween, ending, of_line, of_input, of_output}
 use Rattle.dragoon_app.proofs.Seconds.{takes_none, takes_then, takes_blank}
 use Rattle.dragoon_app.proofs.Reading.{take_front, take_first, IsRead, read_none, read_more, read_same, first_of, takes_front, takes_little, all_read, ended_at, complete_at}
 use Rattle.dragoon_app.proofs.Written.{before_shorter, before_more, out_but_none}
-use Rattle.dragoon_app.proofs.Standing.{Stands, stands_first, stands_more, images_on, kept_on, front_of_more, stores_in, carried_more}
+use Rattle.dragoon_app.proofs.Nothing.{nothing, blank_nothing, carry_nothing, nothing_found}
+use Rattle.dragoon_app.proofs.Worlds.{all_between}
+use Rattle.dragoon_app.proofs.Wherever.{told_both, wherever_map, wherever_same, wherever_then}
+use Rattle.dragoon_app.proofs.Standing.{Stands, stands_first, stands_more, images_on, kept_on, between_on, sound_on, front_of_more, found_more, stores_in, carried_more}
 
 -- ---- frames
 
@@ -48,43 +54,46 @@ clock_then old mid new first next = record { told = next.told ∙ first.told }
 pub clock_same : (s : clocks.State) → clocks.GoesOn s s
 clock_same s = record { told = refl }
 
-pub told_both : {A : Type 0} → (o n : Option A) (P Q : A → A → Type 0) → WhereTold o n P → WhereTold o n Q → WhereTold o n (λ b a. P b a × Q b a)
-told_both (Some b) (Some a) P Q p q = (p, q)
-told_both (Some b) None P Q p q = tt
-told_both None n P Q p q = tt
-
 -- ---- between two lines
 
--- what a turn of the loop keeps; Written is what is said of the text before the last reply, and of all
-pub record IsGoing (first runner : Runner) (old now : disks.State) (clock ahead : clocks.State) (input left : sources.State) (reader : Reading) (Written : List ℕ → List ℕ → Type 0) : Type 0 where
+-- These lines were carried out from this beginning on. Written is what is said of the text before the last reply, and of all.
+pub record Along (scripted : Bool) (runner : Runner) (limits : NotaryLimits) (old now : disks.State) (clock ahead : clocks.State) (input left : sources.State) (reader : Reading) (Written : List ℕ → List ℕ → Type 0) (begin : Running) (before after : List ℕ) (lists later_lists : notaries.Lists) : Type 0 where
   pub done : List Timed
-  pub within : reader.taken ≤ input_limit
   pub read : WhereTold input.rest left.rest (IsRead (lines_in done) reader)
-  pub takes : Takes first.is_scripted done clock ahead
+  pub takes : Takes scripted done clock ahead
+  pub stands : Stands scripted begin done runner old now before after limits lists later_lists
+  pub said : begin.text ≡ [] → Written (text_before scripted begin done) (carried scripted begin done).text
+
+-- what a turn of the loop keeps
+pub record IsGoing (first runner : Runner) (old now : disks.State) (filed later : notaries.State) (clock ahead : clocks.State) (input left : sources.State) (reader : Reading) (Written : List ℕ → List ℕ → Type 0) : Type 0 where
+  pub within : reader.taken ≤ input_limit
   pub scripted : runner.is_scripted ≡ first.is_scripted
-  pub stays_open : runner.store.at.is_closed ≡ false
-  pub told : WhereTold old.reads now.reads (λ before after. (w : World) → IsAt (start w) first before → Stands first.is_scripted w done runner old now before after × Written (text_before first.is_scripted w done) (carried first.is_scripted (start w) done).text)
+  pub told : Wherever filed.limits first old now filed later (Along first.is_scripted runner filed.limits old now clock ahead input left reader Written)
   pub disk_frame : disks.GoesOn old now
+  pub notary_frame : notaries.GoesOn filed later
   pub clock_frame : clocks.GoesOn clock ahead
   pub input_frame : sources.GoesOn input left
 
 -- the same, with what every call of the output keeps
-pub record IsCarrying (first runner : Runner) (old now : disks.State) (clock ahead : clocks.State) (input left : sources.State) (reader : Reading) (out later : sinks.State) : Type 0 where
-  pub going : IsGoing first runner old now clock ahead input left reader (λ before text. sinks.IsOut text out later)
-  pub out_frame : sinks.GoesOn out later
+pub record IsCarrying (first runner : Runner) (old now : disks.State) (filed later : notaries.State) (clock ahead : clocks.State) (input left : sources.State) (reader : Reading) (out written : sinks.State) : Type 0 where
+  pub going : IsGoing first runner old now filed later clock ahead input left reader (λ before text. sinks.IsOut text out written)
+  pub out_frame : sinks.GoesOn out written
 
-pub begins : (runner : Runner) (s : disks.State) (clock : clocks.State) (input : sources.State) (reader : Reading) (out : sinks.State)
-    → ((c : List ℕ) → s.was_image (disks.turn s) c → s.is_image c) → reader ≡ record { line = []; pending = []; taken = 0 } → runner.store.at.is_closed ≡ false
-    → IsGoing runner runner s s clock clock input input reader (λ before text. sinks.IsOut text out out)
-begins runner s clock input reader out only_now fresh is_open = record {
-  done = [];
+pub begins : (runner : Runner) (s : disks.State) (filed : notaries.State) (clock : clocks.State) (input : sources.State) (reader : Reading) (out : sinks.State)
+    → ((c : List ℕ) → s.was_image (disks.turn s) c → s.is_image c) → reader ≡ record { line = []; pending = []; taken = 0 }
+    → IsGoing runner runner s s filed filed clock clock input input reader (λ before text. sinks.IsOut text out out)
+begins runner s filed clock input reader out only_now fresh = record {
   within = omega (arith, ap (λ (r : Reading). r.taken) fresh);
-  read = told_same input.rest input.rest _ refl (λ all. read_none reader all (ap (λ (r : Reading). r.pending) fresh) (ap (λ (r : Reading). r.taken) fresh));
-  takes = takes_none runner.is_scripted clock;
   scripted = refl;
-  stays_open = is_open;
-  told = told_same s.reads s.reads _ refl (λ bytes w at. (stands_first runner.is_scripted w runner s bytes only_now at, nothing_out out out refl));
+  told = wherever_same filed.limits runner s filed _ (λ begin bytes lists at. record {
+    done = [];
+    read = told_same input.rest input.rest _ refl (λ all. read_none reader all (ap (λ (r : Reading). r.pending) fresh) (ap (λ (r : Reading). r.taken) fresh));
+    takes = takes_none runner.is_scripted clock;
+    stands = stands_first runner.is_scripted begin runner s bytes filed.limits lists only_now at;
+    said = λ silent. subst (λ (text : List ℕ). sinks.IsOut text out out) (sym silent) (nothing_out out out refl);
+  });
   disk_frame = disk_frames.goes_on_same s;
+  notary_frame = notary_frames.goes_on_same filed;
   clock_frame = clock_same clock;
   input_frame = source_same input;
 }
@@ -99,93 +108,113 @@ read_on done reader later input left rest alike read tells clear takes =
     told_then input.rest left.rest rest.rest _ _ _ alike read (told_both left.rest rest.rest _ _ tells takes.as_lost)
     (λ all others left so_far next. read_more (lines_in done) reader later all others left so_far next.0 clear next.1 takes.within)
 
+-- what is said of a reply within the limits, and of a run that is scripted so
+abbrev Within : NotaryLimits → Bool → List ℕ → Result (List ℕ) LineFail → Runner → Runner → disks.State → disks.State → notaries.State → notaries.State → clocks.State → clocks.State → Type 0
+Within limits scripted line result runner last old new filed later clock ahead = Wherever limits runner old new filed later (Replies line scripted result last limits old new clock ahead)
+
 -- one line
-pub goes_on : (first runner later : Runner) (old mid new : disks.State) (clock tick tock : clocks.State) (input left rest : sources.State) (reader next : Reading) (text : List ℕ) (Written After : List ℕ → List ℕ → Type 0)
-    → IsGoing first runner old mid clock tick input left reader Written
-    → Tells (Ok true) reader next left rest → IsFeedless next.line → readers.Takes reader next left rest → sources.GoesOn left rest
-    → Replies next.line (Ok text) runner later mid new tick tock → later.store.at.is_closed ≡ false → later.is_scripted ≡ runner.is_scripted → disks.GoesOn mid new → clocks.GoesOn tick tock
-    → ((before xs : List ℕ) → Written before xs → After xs (xs ++ text))
-    → IsGoing first later old new clock tock input rest next After
-goes_on first runner later old mid new clock tick tock input left rest reader next text Written After g tells clear takes input_on replies is_open scripted disk_on clock_on writes = record {
-  done = g.done ++ replies.timed ∷ [];
-  within = takes.within;
-  read = subst (λ (ls : List (List ℕ)). WhereTold input.rest rest.rest (IsRead ls next)) (sym (lines_more g.done replies.timed next.line replies.line_is)) (read_on g.done reader next input left rest g.input_frame.told g.read tells clear takes);
-  takes = takes_then first.is_scripted g.done (replies.timed ∷ []) clock tick tock g.clock_frame.told g.takes (subst (λ (s : Bool). Takes s (replies.timed ∷ []) tick tock) g.scripted replies.seconds);
-  scripted = scripted ∙ g.scripted;
-  stays_open = is_open;
-  told = told_then old.reads mid.reads new.reads _ _ _ g.disk_frame.told g.told replies.told (λ before here after so_far goes w at.
-      let s = so_far w at in
-      let r : Running = carried first.is_scripted (start w) g.done in
-      let step : Goes r (carry first.is_scripted r replies.timed) (Ok text) later mid new here after = subst (λ (b : Bool). Goes r (carry b r replies.timed) (Ok text) later mid new here after) g.scripted (goes r s.0.at) in
-      let said : (carried first.is_scripted (start w) (g.done ++ replies.timed ∷ [])).text ≡ r.text ++ text = ap (λ (x : Running). x.text) (carried_more first.is_scripted w g.done replies.timed) ∙ step.reply in
-      (stands_more first.is_scripted w g.done replies.timed text runner later old mid new before here after s.0 step, subst (λ (b : List ℕ). After b (carried first.is_scripted (start w) (g.done ++ replies.timed ∷ [])).text) (sym (before_more first.is_scripted w g.done replies.timed)) (subst (After r.text) (sym said) (writes (text_before first.is_scripted w g.done) r.text s.1))));
-  disk_frame = disk_frames.goes_on_then old mid new g.disk_frame disk_on;
-  clock_frame = clock_then clock tick tock g.clock_frame clock_on;
-  input_frame = source_then input left rest g.input_frame input_on;
-}
+module _ (first runner last : Runner) (old mid new : disks.State) (filed half later : notaries.State) (clock tick tock : clocks.State) (input left rest : sources.State) (reader next : Reading) where
+  -- a reply as the first runner sees it
+  as_first : (result : Result (List ℕ) LineFail) → runner.is_scripted ≡ first.is_scripted → notaries.GoesOn filed half → RepliesFrom next.line result runner last mid new half later tick tock
+      → Within filed.limits first.is_scripted next.line result runner last mid new half later tick tock
+  as_first result scripted frame replies = subst (λ (b : Bool). Within filed.limits b next.line result runner last mid new half later tick tock) scripted
+      (subst (λ (l : NotaryLimits). Within l runner.is_scripted next.line result runner last mid new half later tick tock) frame.limits replies)
+
+  pub goes_on : (text : List ℕ) (Written After : List ℕ → List ℕ → Type 0)
+      → IsGoing first runner old mid filed half clock tick input left reader Written
+      → Tells (Ok true) reader next left rest → IsFeedless next.line → readers.Takes reader next left rest → sources.GoesOn left rest
+      → RepliesFrom next.line (Ok text) runner last mid new half later tick tock → last.is_scripted ≡ runner.is_scripted → disks.GoesOn mid new → notaries.GoesOn half later → clocks.GoesOn tick tock
+      → ((before xs : List ℕ) → Written before xs → After xs (xs ++ text))
+      → IsGoing first last old new filed later clock tock input rest next After
+  goes_on text Written After g tells clear takes input_on replies scripted disk_on notary_on clock_on writes = record {
+    within = takes.within;
+    scripted = scripted ∙ g.scripted;
+    told = wherever_then filed.limits first runner old mid new filed half later _ _ _ g.disk_frame.told notary_on.told.untold g.told (as_first (Ok text) g.scripted g.notary_frame replies)
+        (λ begin before here after lists here_lists later_lists a from.
+        let r : Running = carried first.is_scripted begin a.done in
+        let x = from r a.stands.at in
+        let said : (carried first.is_scripted begin (a.done ++ x.timed ∷ [])).text ≡ r.text ++ text = ap (λ (y : Running). y.text) (carried_more first.is_scripted begin a.done x.timed) ∙ x.goes.reply in
+        record {
+          done = a.done ++ x.timed ∷ [];
+          read = subst (λ (ls : List (List ℕ)). WhereTold input.rest rest.rest (IsRead ls next)) (sym (lines_more a.done x.timed next.line x.line_is)) (read_on a.done reader next input left rest g.input_frame.told a.read tells clear takes);
+          takes = takes_then first.is_scripted a.done (x.timed ∷ []) clock tick tock g.clock_frame.told a.takes x.seconds;
+          stands = stands_more first.is_scripted begin a.done x.timed runner last old mid new before here after filed.limits lists here_lists later_lists text a.stands x.may x.goes;
+          said = λ silent. subst (λ (b : List ℕ). After b (carried first.is_scripted begin (a.done ++ x.timed ∷ [])).text) (sym (before_more first.is_scripted begin a.done x.timed))
+              (subst (After r.text) (sym said) (writes (text_before first.is_scripted begin a.done) r.text (a.said silent)));
+        });
+    disk_frame = disk_frames.goes_on_then old mid new g.disk_frame disk_on;
+    notary_frame = notary_frames.goes_on_then filed half later g.notary_frame notary_on;
+    clock_frame = clock_then clock tick tock g.clock_frame clock_on;
+    input_frame = source_then input left rest g.input_frame input_on;
+  }
 
 -- no line
-pub goes_no_further : (first runner : Runner) (old now : disks.State) (clock ahead : clocks.State) (input left rest : sources.State) (reader next : Reading) (Written : List ℕ → List ℕ → Type 0)
-    → IsGoing first runner old now clock ahead input left reader Written
-    → WhereTold left.rest rest.rest (λ before after. next.pending ++ after ≡ reader.pending ++ before) → readers.Takes reader next left rest → sources.GoesOn left rest
-    → IsGoing first runner old now clock ahead input rest next Written
-goes_no_further first runner old now clock ahead input left rest reader next Written g same takes input_on = record {
-  done = g.done;
-  within = takes.within;
-  read = told_then input.rest left.rest rest.rest _ _ _ g.input_frame.told g.read (told_both left.rest rest.rest _ _ same takes.as_lost)
-      (λ all others left so_far n. read_same (lines_in g.done) reader next all others left so_far n.0 n.1 takes.within);
-  takes = g.takes;
-  scripted = g.scripted;
-  stays_open = g.stays_open;
-  told = g.told;
-  disk_frame = g.disk_frame;
-  clock_frame = g.clock_frame;
-  input_frame = source_then input left rest g.input_frame input_on;
-}
+module _ (runner : Runner) (old now : disks.State) (clock ahead : clocks.State) (input left rest : sources.State) (reader next : Reading) (Written : List ℕ → List ℕ → Type 0) where
+  along_rest : (scripted : Bool) (limits : NotaryLimits) (begin : Running) (before after : List ℕ) (lists later_lists : notaries.Lists) → TellsAlike input.rest left.rest
+      → WhereTold left.rest rest.rest (λ before after. next.pending ++ after ≡ reader.pending ++ before) → readers.Takes reader next left rest
+      → Along scripted runner limits old now clock ahead input left reader Written begin before after lists later_lists → Along scripted runner limits old now clock ahead input rest next Written begin before after lists later_lists
+  along_rest scripted limits begin before after lists later_lists alike same takes a = record {
+    done = a.done;
+    read = told_then input.rest left.rest rest.rest _ _ _ alike a.read (told_both left.rest rest.rest _ _ same takes.as_lost)
+        (λ all others behind so_far n. read_same (lines_in a.done) reader next all others behind so_far n.0 n.1 takes.within);
+    takes = a.takes;
+    stands = a.stands;
+    said = a.said;
+  }
+
+  pub goes_no_further : (first : Runner) (filed later : notaries.State) → IsGoing first runner old now filed later clock ahead input left reader Written
+      → WhereTold left.rest rest.rest (λ before after. next.pending ++ after ≡ reader.pending ++ before) → readers.Takes reader next left rest → sources.GoesOn left rest
+      → IsGoing first runner old now filed later clock ahead input rest next Written
+  goes_no_further first filed later g same takes input_on = record {
+    within = takes.within;
+    scripted = g.scripted;
+    told = wherever_map filed.limits first old now filed later _ _ g.told (λ begin before after lists later_lists at a. along_rest first.is_scripted filed.limits begin before after lists later_lists g.input_frame.told same takes a);
+    disk_frame = g.disk_frame;
+    notary_frame = g.notary_frame;
+    clock_frame = g.clock_frame;
+    input_frame = source_then input left rest g.input_frame input_on;
+  }
 
 -- ---- exits
 
-abbrev nothing : Timed
-nothing = record { line = []; second = 0 }
+nothing_more : (scripted : Bool) (begin : Running) (done : List Timed) → carried scripted begin (done ++ nothing ∷ []) ≡ carried scripted begin done
+nothing_more scripted begin done = carried_more scripted begin done nothing ∙ carry_nothing scripted (carried scripted begin done)
 
-blank_nothing : is_blank (without_return []) ≡ true
-unfolding without_return
-blank_nothing = refl
+-- between two lines
+pub between_with : (result : Result (Unit {0}) RunFail) (scripted : Bool) (runner : Runner) (limits : NotaryLimits) (old now : disks.State) (clock ahead : clocks.State) (input left : sources.State) (reader : Reading) (Written : List ℕ → List ℕ → Type 0) (out written : sinks.State)
+    (begin : Running) (before after : List ℕ) (lists later_lists : notaries.Lists) → clocks.GoesOn clock ahead
+    → (a : Along scripted runner limits old now clock ahead input left reader Written begin before after lists later_lists)
+    → WhereTold input.rest left.rest (Reads (ending result) a.done nothing)
+    → ((before text : List ℕ) → length before ≤ length text → Written before text → IsWritten before text result out written)
+    → Carries scripted result runner limits old now clock ahead input left out written begin before after lists later_lists
+between_with result scripted runner limits old now clock ahead input left reader Written out written begin before after lists later_lists clock_frame a read writes =
+    let s = a.stands in
+    let r : Running = carried scripted begin a.done in
+    record {
+      done = a.done;
+      next = nothing;
+      first = told_map input.rest left.rest _ _ a.read (λ all others x. first_of (lines_in a.done) reader all others x);
+      read = read;
+      none = λ b. refl;
+      found = found_more scripted begin a.done nothing s.found (nothing_found r.world);
+      seconds = takes_then scripted a.done (nothing ∷ []) clock ahead ahead clock_frame.told a.takes (takes_blank scripted nothing ahead ahead blank_nothing refl);
+      images = λ only. weaker (s.images only) (front_of_more scripted begin a.done (nothing ∷ []));
+      kept = λ only c is. inl (subst (StoresWorld r.world) (sym (s.settled only c is)) (stores_in r runner after limits later_lists s.at));
+      settled = λ between only. s.settled only;
+      stands = λ between. s.at;
+      between = subst (λ (x : Running). AreBetween r.world.lists x.world.lists later_lists) (sym (nothing_more scripted begin a.done)) (all_between r.world.lists later_lists s.at.stands.lists);
+      sound = s.sound;
+      said = λ silent. writes (text_before scripted begin a.done) r.text (before_shorter scripted begin a.done) (a.said silent);
+    }
 
--- the store between two lines
-over_between : (scripted : Bool) (w : World) (done : List Timed) (result : Result (Unit {0}) RunFail) (runner : Runner) (old now : disks.State) (before after : List ℕ) (out later : sinks.State)
-    → Stands scripted w done runner old now before after → IsWritten (text_before scripted w done) (carried scripted (start w) done).text result out later → CarriesOver scripted w done nothing result runner old now before after out later
-over_between scripted w done result runner old now before after out later s written = record {
-  images = λ only. weaker (s.images only) (front_of_more scripted w done (nothing ∷ []));
-  kept = λ only c is. inl (subst (StoresWorld (carried scripted (start w) done).world) (sym (s.settled only c is)) (stores_in (carried scripted (start w) done) runner after s.at));
-  settled = λ between only. s.settled only;
-  stands = λ between. s.at;
-  written = written;
-}
-
-between_with : (first runner : Runner) (old now : disks.State) (clock ahead : clocks.State) (input left : sources.State) (reader : Reading) (out later : sinks.State) (Written : List ℕ → List ℕ → Type 0) (result : Result (Unit {0}) RunFail)
-    → (g : IsGoing first runner old now clock ahead input left reader Written)
-    → WhereTold input.rest left.rest (Reads (ending result) g.done nothing)
-    → ((before text : List ℕ) → length before ≤ length text → Written before text → IsWritten before text result out later)
-    → Carries result first runner old now clock ahead input left out later
-between_with first runner old now clock ahead input left reader out later Written result g read writes = record {
-  done = g.done;
-  next = nothing;
-  first = told_map input.rest left.rest _ _ g.read (λ all others r. first_of (lines_in g.done) reader all others r);
-  read = read;
-  none = λ b. refl;
-  seconds = takes_then first.is_scripted g.done (nothing ∷ []) clock ahead ahead g.clock_frame.told g.takes (takes_blank first.is_scripted nothing ahead ahead blank_nothing refl);
-  told = told_map old.reads now.reads _ _ g.told (λ before after so_far w at. let s = so_far w at in
-      over_between first.is_scripted w g.done result runner old now before after out later s.0 (writes (text_before first.is_scripted w g.done) (carried first.is_scripted (start w) g.done).text (before_shorter first.is_scripted w g.done) s.1));
-}
-
-pub between : (first runner : Runner) (old now : disks.State) (clock ahead : clocks.State) (input left : sources.State) (reader : Reading) (out later : sinks.State) (Written : List ℕ → List ℕ → Type 0) (result : Result (Unit {0}) RunFail)
-    → IsGoing first runner old now clock ahead input left reader Written
+pub between : (first runner : Runner) (old now : disks.State) (filed later : notaries.State) (clock ahead : clocks.State) (input left : sources.State) (reader : Reading) (out written : sinks.State) (Written : List ℕ → List ℕ → Type 0) (result : Result (Unit {0}) RunFail)
+    → IsGoing first runner old now filed later clock ahead input left reader Written
     → ((done : List Timed) (all others : List ℕ) → IsRead (lines_in done) reader all others → Reads (ending result) done nothing all others)
-    → ((before text : List ℕ) → length before ≤ length text → Written before text → IsWritten before text result out later)
-    → Carries result first runner old now clock ahead input left out later
-between first runner old now clock ahead input left reader out later Written result g reads writes =
-    between_with first runner old now clock ahead input left reader out later Written result g (told_map input.rest left.rest _ _ g.read (λ all others r. reads g.done all others r)) writes
+    → ((before text : List ℕ) → length before ≤ length text → Written before text → IsWritten before text result out written)
+    → CarriesFrom result first runner old now filed later clock ahead input left out written
+between first runner old now filed later clock ahead input left reader out written Written result g reads writes = wherever_map filed.limits first old now filed later _ _ g.told (λ begin before after lists later_lists at a.
+    between_with result first.is_scripted runner filed.limits old now clock ahead input left reader Written out written begin before after lists later_lists g.clock_frame a
+    (told_map input.rest left.rest _ _ a.read (λ all others r. reads a.done all others r)) writes)
 
 -- the input ended
 pub at_end : {reader : Reading} (before after : List ℕ) → IsAtEnd reader before after → after ≡ before
@@ -196,17 +225,20 @@ reads_all reader left done all r none below =
     let h = all_read (lines_in done) reader all left r none in
     record { lines = (h.0, h.1, omega (arith, r.count, ap length h.1, below)); under_way = inl refl; little = tt; front = takes_front (lines_in done) reader all left r }
 
-pub ended : (first runner : Runner) (old now : disks.State) (clock ahead : clocks.State) (input left rest : sources.State) (reader next : Reading) (out later : sinks.State)
-    → IsGoing first runner old now clock ahead input left reader (λ before text. sinks.IsOut text out later)
-    → Tells (Ok false) reader next left rest → readers.Takes reader next left rest → sources.GoesOn left rest → next.taken < input_limit
-    → Carries (Ok tt) first runner old now clock ahead input rest out later
-unfolding goes_no_further
-ended first runner old now clock ahead input left rest reader next out later g tells takes input_on below =
-    between_with first runner old now clock ahead input rest next out later (λ before text. sinks.IsOut text out later) (Ok tt)
-    (goes_no_further first runner old now clock ahead input left rest reader next (λ before text. sinks.IsOut text out later) g (told_map left.rest rest.rest _ _ tells (λ before after h. at_end (reader.pending ++ before) (next.pending ++ after) h)) takes input_on)
-    (told_then input.rest left.rest rest.rest _ _ _ g.input_frame.told g.read (told_both left.rest rest.rest _ _ tells takes.as_lost) (λ all others behind so_far n.
-    reads_all next behind g.done all (read_same (lines_in g.done) reader next all others behind so_far (at_end (reader.pending ++ others) (next.pending ++ behind) n.0) n.1 takes.within) n.0.end below))
-    (λ before text shorter is. is)
+pub ended : (first runner : Runner) (old now : disks.State) (filed later : notaries.State) (clock ahead : clocks.State) (input left rest : sources.State) (reader next : Reading) (out written : sinks.State)
+    → IsGoing first runner old now filed later clock ahead input left reader (λ before text. sinks.IsOut text out written)
+    → Tells (Ok false) reader next left rest → readers.Takes reader next left rest → next.taken < input_limit
+    → CarriesFrom (Ok tt) first runner old now filed later clock ahead input rest out written
+unfolding along_rest
+ended first runner old now filed later clock ahead input left rest reader next out written g tells takes below =
+    let Out : List ℕ → List ℕ → Type 0 = λ before text. sinks.IsOut text out written in
+    let same = told_map left.rest rest.rest _ (λ before after. next.pending ++ after ≡ reader.pending ++ before) tells (λ before after h. at_end (reader.pending ++ before) (next.pending ++ after) h) in
+    wherever_map filed.limits first old now filed later _ _ g.told (λ begin before after lists later_lists at a.
+    between_with (Ok tt) first.is_scripted runner filed.limits old now clock ahead input rest next Out out written begin before after lists later_lists g.clock_frame
+    (along_rest runner old now clock ahead input left rest reader next Out first.is_scripted filed.limits begin before after lists later_lists g.input_frame.told same takes a)
+    (told_then input.rest left.rest rest.rest _ _ _ g.input_frame.told a.read (told_both left.rest rest.rest _ _ tells takes.as_lost) (λ all others behind so_far n.
+    reads_all next behind a.done all (read_same (lines_in a.done) reader next all others behind so_far (at_end (reader.pending ++ others) (next.pending ++ behind) n.0) n.1 takes.within) n.0.end below))
+    (λ before text shorter is. is))
 
 -- the input failed
 pub reads_failed : (fail : InputFail) (reader : Reading) (done : List Timed) (all others : List ℕ) → (IsErrOf {T = Bool} (Err fail) inputs.InputLimit → IsAtLimit reader) → (IsErrOf {T = Bool} (Err fail) inputs.ReadFault → IsFeedless reader.pending)
@@ -235,64 +267,74 @@ pub written_front : (fail : StreamFail) (before text : List ℕ) (out later : si
 written_front streams.Failed before text out later is = is
 written_front streams.NoMemory before text out later is = is
 
--- the step failed
-not_between : (fail : StepFail) → IsBetween (Err (of_step fail)) → ⊥
-not_between steps.DiskFault h = h
-not_between steps.NoMemory h = h
+-- the line failed
+not_between : (fail : LineFail) → IsBetween (Err (of_line fail)) → ⊥
+not_between lines.DiskFault h = h
+not_between lines.NotaryFault h = h
+not_between lines.NoMemory h = h
 
-written_under_way : (fail : StepFail) (before text : List ℕ) (out later : sinks.State) → length before ≤ length text → sinks.IsOut text out later → IsWritten before text (Err (of_step fail)) out later
-written_under_way steps.DiskFault before text out later shorter is = is
-written_under_way steps.NoMemory before text out later shorter is = out_but_none before text out later shorter is
+written_under_way : (fail : LineFail) (before text : List ℕ) (out written : sinks.State) → length before ≤ length text → sinks.IsOut text out written → IsWritten before text (Err (of_line fail)) out written
+written_under_way lines.DiskFault before text out written shorter is = is
+written_under_way lines.NotaryFault before text out written shorter is = is
+written_under_way lines.NoMemory before text out written shorter is = out_but_none before text out written shorter is
 
 first_before : (done : List (List ℕ)) (line : List ℕ) (all : List ℕ) → AreFirst (done ++ line ∷ []) all → AreFirst done all
 first_before done line all h =
     let e : take (length done) (take (length (done ++ line ∷ [])) (lines_of all)) ≡ take (length done) (lines_of all) = take_front (length done) (length (done ++ line ∷ [])) (lines_of all) (omega (arith, length-append done (line ∷ []))) in
     sym (sym e ∙ ap (take (length done)) (sym h) ∙ take_first done (line ∷ []))
 
-reads_under_way : (fail : StepFail) (done : List Timed) (t : Timed) (line : List ℕ) (reader : Reading) (all others : List ℕ) → IsLineOf {A = List ℕ} line (Err fail) t.line → length reader.pending < piece_limit
-    → IsRead (lines_in done ++ line ∷ []) reader all others → Reads (ending (Err (of_step fail))) done t all others
-reads_under_way steps.DiskFault done t line reader all others is less r =
-    let first = first_of (lines_in done ++ line ∷ []) reader all others r in
-    let same = lines_more done t line is in
-    record {
-      lines = first_before (lines_in done) line all first;
-      under_way = subst (λ (ls : List (List ℕ)). AreFirst ls all) (sym same) first;
-      little = subst (λ (ls : List (List ℕ)). TakesLittle ls all others) (sym same) (takes_little (lines_in done ++ line ∷ []) reader all others r less);
-      front = takes_front (lines_in done ++ line ∷ []) reader all others r;
-    }
-reads_under_way steps.NoMemory done t line reader all others is less r =
-    let first = first_of (lines_in done ++ line ∷ []) reader all others r in
-    record {
-      lines = first_before (lines_in done) line all first;
-      under_way = ⊎_elim (λ (e : t.line ≡ []). inl e) (λ (e : t.line ≡ line). inr (subst (λ (ls : List (List ℕ)). AreFirst ls all) (sym (lines_more done t line e)) first)) is;
-      little = tt;
-      front = takes_front (lines_in done ++ line ∷ []) reader all others r;
-    }
+module _ (done : List Timed) (t : Timed) (line : List ℕ) (reader : Reading) (all others : List ℕ) (less : length reader.pending < piece_limit) (r : IsRead (lines_in done ++ line ∷ []) reader all others) where
+  first_read : AreFirst (lines_in done ++ line ∷ []) all
+  first_read = first_of (lines_in done ++ line ∷ []) reader all others r
 
-pub under_way : (first runner later : Runner) (old mid new : disks.State) (clock tick tock : clocks.State) (input left rest : sources.State) (reader next : Reading) (fail : StepFail) (out now : sinks.State)
-    → IsGoing first runner old mid clock tick input left reader (λ before text. sinks.IsOut text out now)
-    → ((n : ℕ) (c : List ℕ) → n ≤ disks.turn new → new.is_image c → new.was_image n c)
-    → Tells (Ok true) reader next left rest → IsFeedless next.line → readers.Takes reader next left rest → length next.pending < piece_limit
-    → Replies next.line (Err fail) runner later mid new tick tock
-    → Carries (Err (of_step fail)) first later old new clock tock input rest out now
-under_way first runner later old mid new clock tick tock input left rest reader next fail out now g counts tells clear takes less replies =
-    let read = read_on g.done reader next input left rest g.input_frame.told g.read tells clear takes in
-    record {
-      done = g.done;
-      next = replies.timed;
-      first = told_map input.rest rest.rest _ _ read (λ all others r. first_before (lines_in g.done) next.line all (first_of (lines_in g.done ++ next.line ∷ []) next all others r));
-      read = told_map input.rest rest.rest _ _ read (λ all others r. reads_under_way fail g.done replies.timed next.line next all others replies.line_is less r);
-      none = λ between. absurd (not_between fail between);
-      seconds = takes_then first.is_scripted g.done (replies.timed ∷ []) clock tick tock g.clock_frame.told g.takes (subst (λ (s : Bool). Takes s (replies.timed ∷ []) tick tock) g.scripted replies.seconds);
-      told = told_then old.reads mid.reads new.reads _ _ _ g.disk_frame.told g.told replies.told (λ before here after so_far goes w at.
-          let s = so_far w at in
-          let r : Running = carried first.is_scripted (start w) g.done in
-          let step : Goes r (carry first.is_scripted r replies.timed) (Err fail) later mid new here after = subst (λ (b : Bool). Goes r (carry b r replies.timed) (Err fail) later mid new here after) g.scripted (goes r s.0.at) in
-          record {
-            images = λ only. images_on first.is_scripted w g.done replies.timed fail runner later old mid new before here after s.0 step only;
-            kept = λ only c is. kept_on first.is_scripted w g.done replies.timed fail runner later old mid new before here after counts s.0 step only c is;
-            settled = λ between only. absurd (not_between fail between);
-            stands = λ between. absurd (not_between fail between);
-            written = written_under_way fail (text_before first.is_scripted w g.done) r.text out now (before_shorter first.is_scripted w g.done) s.1;
-          });
-    }
+  -- what was read where a device failed
+  reads_begun : (s : Status) → t.line ≡ line → (AreFirst (lines_in done) all → Ends (lines_in done) s all others) → (IsNext done t all → IsUnderWay s done t all) → (TakesLittle (lines_in (done ++ t ∷ [])) all others → TakesNoMore s done t all others) → Reads s done t all others
+  reads_begun s is ends under little =
+      let same = lines_more done t line is in
+      record {
+        lines = ends (first_before (lines_in done) line all first_read);
+        under_way = under (subst (λ (ls : List (List ℕ)). AreFirst ls all) (sym same) first_read);
+        little = little (subst (λ (ls : List (List ℕ)). TakesLittle ls all others) (sym same) (takes_little (lines_in done ++ line ∷ []) reader all others r less));
+        front = takes_front (lines_in done ++ line ∷ []) reader all others r;
+      }
+
+  reads_under_way : (fail : LineFail) → IsLineOf {A = List ℕ} line (Err fail) t.line → Reads (ending (Err (of_line fail))) done t all others
+  reads_under_way lines.DiskFault is = reads_begun statuses.DiskFault is (λ f. f) (λ n. n) (λ l. l)
+  reads_under_way lines.NotaryFault is = reads_begun statuses.NotaryFault is (λ f. f) (λ n. n) (λ l. l)
+  reads_under_way lines.NoMemory is = record {
+    lines = first_before (lines_in done) line all first_read;
+    under_way = ⊎_elim (λ (e : t.line ≡ []). inl e) (λ (e : t.line ≡ line). inr (subst (λ (ls : List (List ℕ)). AreFirst ls all) (sym (lines_more done t line e)) first_read)) is;
+    little = tt;
+    front = takes_front (lines_in done ++ line ∷ []) reader all others r;
+  }
+
+module _ (first runner last : Runner) (old mid new : disks.State) (filed half later : notaries.State) (clock tick tock : clocks.State) (input left rest : sources.State) (reader next : Reading) where
+  pub under_way : (fail : LineFail) (out now : sinks.State)
+      → IsGoing first runner old mid filed half clock tick input left reader (λ before text. sinks.IsOut text out now)
+      → ((n : ℕ) (c : List ℕ) → n ≤ disks.turn new → new.is_image c → new.was_image n c)
+      → Tells (Ok true) reader next left rest → IsFeedless next.line → readers.Takes reader next left rest → length next.pending < piece_limit
+      → RepliesFrom next.line (Err fail) runner last mid new half later tick tock → notaries.GoesOn half later
+      → CarriesFrom (Err (of_line fail)) first last old new filed later clock tock input rest out now
+  under_way fail out now g counts tells clear takes less replies notary_on =
+      wherever_then filed.limits first runner old mid new filed half later _ _ _ g.disk_frame.told notary_on.told.untold g.told (as_first first runner last old mid new filed half later clock tick tock input left rest reader next (Err fail) g.scripted g.notary_frame replies)
+      (λ begin before here after lists here_lists later_lists a from.
+      let s = a.stands in
+      let r : Running = carried first.is_scripted begin a.done in
+      let x = from r s.at in
+      let read = read_on a.done reader next input left rest g.input_frame.told a.read tells clear takes in
+      record {
+        done = a.done;
+        next = x.timed;
+        first = told_map input.rest rest.rest _ _ read (λ all others h. first_before (lines_in a.done) next.line all (first_of (lines_in a.done ++ next.line ∷ []) next all others h));
+        read = told_map input.rest rest.rest _ _ read (λ all others h. reads_under_way a.done x.timed next.line next all others less h fail x.line_is);
+        none = λ between. absurd (not_between fail between);
+        found = found_more first.is_scripted begin a.done x.timed s.found x.may;
+        seconds = takes_then first.is_scripted a.done (x.timed ∷ []) clock tick tock g.clock_frame.told a.takes x.seconds;
+        images = λ only. images_on first.is_scripted begin a.done x.timed runner last old mid new before here after filed.limits lists here_lists later_lists fail s x.goes only;
+        kept = λ only c is. kept_on first.is_scripted begin a.done x.timed runner last old mid new before here after filed.limits lists here_lists later_lists fail counts s x.goes only c is;
+        settled = λ between only. absurd (not_between fail between);
+        stands = λ between. absurd (not_between fail between);
+        between = between_on first.is_scripted begin a.done x.timed runner last old mid new before here after filed.limits lists here_lists later_lists fail x.goes;
+        sound = sound_on first.is_scripted begin a.done x.timed runner last old mid new before here after filed.limits lists here_lists later_lists (Err fail) s x.goes;
+        said = λ silent. written_under_way fail (text_before first.is_scripted begin a.done) r.text out now (before_shorter first.is_scripted begin a.done) (a.said silent);
+      })

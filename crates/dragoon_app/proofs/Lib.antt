@@ -9,6 +9,9 @@ pub mod Defined
 pub mod Seconds
 pub mod Reading
 pub mod Written
+pub mod Nothing
+pub mod Worlds
+pub mod Wherever
 pub mod Standing
 pub mod CarriedLines
 pub mod Replying

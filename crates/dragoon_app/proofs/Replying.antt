@@ -1,163 +1,212 @@
 -- A line is carried out and replied to.
 use Rattle.std.proofs.Common.{◌≡◌, ◌∙◌, ◌+◌, ℕ, Bool, true, false, List, [], ◌∷◌, ◌++◌, refl, sym, ap, subst, inl, inr, Result, Ok, Err}
-use Rattle.std.specs.Prelude.{◌||◌, min, codes, IsErr}
+use Rattle.std.specs.Prelude.{◌||◌, min, codes}
 use Rattle.std.proofs.lemmas.List.{append-nil}
-use Rattle.outside_words.specs.Told.{WhereTold}
-use Rattle.outside_words.proofs.Told.{told_map, told_same}
-use Rattle.disk_words.specs.Disk.{State, turn}
+use Rattle.outside_words.proofs.Told.{told_map}
+use Rattle.disk_words.specs.Disk.{State}
 use Rattle.outside_io.specs.Clock as clocks
-use Rattle.tuple_bytes.specs.declared.header.Header.{Header}
+use Rattle.notary_link.specs.Notary as notaries
 use Rattle.stmt_text.specs.declared.error.ParseFail.{ParseFail}
 use Rattle.stmt_text.specs.declared.line.Line.{Line}
 use Rattle.stmt_text.specs.declared.line.Line.TheVariants as lines
 use Rattle.stmt_text.specs.declared.stmt.Stmt.{Stmt}
 use Rattle.stmt_text.specs.declared.stmt.Stmt.TheVariants as stmts
-use Rattle.stmt_text.specs.Lines.{answer, content_line, is_blank, without_return}
+use Rattle.stmt_text.specs.Lines.{answer, is_blank, without_return}
 use Rattle.stmt_text.specs.Grammar.{SaysLine}
-use Rattle.session_core.specs.declared.reply.Reply.{Reply}
-use Rattle.session_core.specs.declared.sessions.StepFail.{StepFail}
-use Rattle.session_core.specs.Replies.{reply_text, is_refusal}
-use Rattle.session_core.specs.Steps.{step, IsTableLine}
-use Rattle.session_core.specs.Stepping.{StepsTo}
-use Rattle.session_core.specs.World.{IsIn}
-use Rattle.store_engine.specs.Opened.{Opened}
+use Rattle.validator.specs.Safe.{KeepsSound}
+use Rattle.drill_core.specs.declared.answered.Answered.{Answered}
+use Rattle.drill_core.specs.declared.fail.LineFail.{LineFail}
+use Rattle.drill_core.specs.declared.fail.LineFail.TheVariants as line_fails
+use Rattle.drill_core.specs.World.{World, Held, IsIn, StandsFor}
+use Rattle.drill_core.specs.Steps.{step, MayFind, IsWorldLine}
+use Rattle.drill_core.specs.Stepping.{StepsFor}
 use Rattle.dragoon_app.specs.declared.runner.Runner.{Runner}
-use Rattle.session_core.specs.declared.sessions.StepFail.TheVariants as step_fails
 use Rattle.dragoon_app.specs.declared.line_kind.LineKind.{LineKind}
 use Rattle.dragoon_app.specs.declared.line_kind.LineKind.TheVariants as kinds
 use Rattle.dragoon_app.specs.Numbers.{max_u64}
-use Rattle.dragoon_app.specs.Running.{Running, Timed, carry, answered, said_by, stmt_kind, kind_of, seconds_of, stepped, set_moment, refused_line, refused_text}
+use Rattle.dragoon_app.specs.Running.{Running, Timed, carry, answered, said_by, stmt_kind, kind_of, seconds_of, stepped, set_moment, refused_line, refused_text, MayFindBy}
 use Rattle.dragoon_app.specs.Ran.{Takes}
-use Rattle.dragoon_app.specs.Carrying.{IsAt, Goes, GoesTo, GoesBy, Replies, IsLineOf, TakesFor, GivesSeconds, refusing, SetsMoment}
+use Rattle.dragoon_app.specs.Carrying.{IsAt, Wherever, Goes, GoesTo, Steps, StepsFrom, GoesBy, LineFrom, Replies, RepliesFrom, IsLineOf, TakesFor, GivesSeconds, refusing, SetsMoment}
 use Rattle.dragoon_app.proofs.Seconds.{takes_blank, takes_second}
-use Rattle.dragoon_app.proofs.Standing.{goes_still}
+use Rattle.dragoon_app.proofs.Nothing.{no_finding, nothing, blank_nothing, blank_answer, carry_is, carry_nothing, nothing_found}
+use Rattle.dragoon_app.proofs.Worlds.{step_limits, stands_of}
+use Rattle.dragoon_app.proofs.Wherever.{told_both, wherever_map, wherever_same}
+use Rattle.dragoon_app.proofs.Standing.{IsStill, goes_still}
 
--- since this turn there was no other moment than now
-abbrev pub IsStill : State → Type 0
-IsStill s = (c : List ℕ) → s.was_image (turn s) c → s.is_image c
-
--- ---- where the disk is left alone
-
--- nothing came of it
-pub fails_goes : (next : Running → Running) (fail : StepFail) (runner later : Runner) (s : State) → IsStill s → WhereTold s.reads s.reads (GoesTo next (Err fail) runner later s s)
-fails_goes next fail runner later s still = told_same s.reads s.reads _ refl (λ bytes r at. goes_still r (next r) (Err fail) runner later s bytes still at tt tt)
+-- ---- where the disk and the notary are left alone
 
 or_true : (b : Bool) → true ≡ (b || true)
 or_true true = refl
 or_true false = refl
 
-or_false : (b : Bool) → b ≡ (b || false)
-or_false true = refl
-or_false false = refl
+module _ (runner later : Runner) (s : State) (filed : notaries.State) (still : IsStill s) where
+  -- what is said, and where the run stands then
+  abbrev pub Still : (Running → Running) → Result (List ℕ) LineFail → Type 0
+  Still next result = Wherever filed.limits runner s s filed filed (GoesTo next result later filed.limits s s)
 
-refused_at : (r : Running) (name bytes : List ℕ) (runner later : Runner) → IsAt r runner bytes → later ≡ refusing runner → IsAt (refused_line r name) later bytes
-refused_at r name bytes runner later at is = record {
-  stands = subst (λ (o : Opened). IsIn r.world o bytes) (sym (ap (λ (x : Runner). x.store) is)) at.stands;
-  moment = ap (λ (x : Runner). x.moment) is ∙ at.moment;
-  refused = ap (λ (x : Runner). x.is_refused) is ∙ or_true r.is_refused;
-}
+  -- nothing came of it
+  pub fails_goes : (next : Running → Running) (fail : LineFail) → ((r : Running) → (next r).world ≡ r.world) → Still next (Err fail)
+  fails_goes next fail same = wherever_same filed.limits runner s filed (GoesTo next (Err fail) later filed.limits s s)
+      (λ r bytes lists at. goes_still r (next r) (Err fail) runner later s bytes filed.limits lists still at (same r) tt tt)
 
--- a line is refused
-pub refuses_goes : (name text : List ℕ) (runner later : Runner) (s : State) → IsStill s → text ≡ refused_text name → later ≡ refusing runner → WhereTold s.reads s.reads (GoesTo (λ r. refused_line r name) (Ok text) runner later s s)
-refuses_goes name text runner later s still spelled is = told_same s.reads s.reads _ refl (λ bytes r at.
-    goes_still r (refused_line r name) (Ok text) runner later s bytes still at (ap (λ (x : List ℕ). r.text ++ x) (sym spelled)) (refused_at r name bytes runner later at is))
+  -- a line is refused
+  pub refuses_goes : (name text : List ℕ) → text ≡ refused_text name → later ≡ refusing runner → Still (λ r. refused_line r name) (Ok text)
+  refuses_goes name text spelled is = wherever_same filed.limits runner s filed (GoesTo (λ r. refused_line r name) (Ok text) later filed.limits s s)
+      (λ r bytes lists at. goes_still r (refused_line r name) (Ok text) runner later s bytes filed.limits lists still at refl (ap (λ (x : List ℕ). r.text ++ x) (sym spelled)) (record {
+        stands = subst (λ (held : Held). IsIn r.world held bytes lists) (sym (ap (λ (x : Runner). x.world) is)) at.stands;
+        within = at.within;
+        epoch = ap (λ (x : Runner). x.epoch) is ∙ at.epoch;
+        moment = ap (λ (x : Runner). x.moment) is ∙ at.moment;
+        refused = ap (λ (x : Runner). x.is_refused) is ∙ or_true r.is_refused;
+      }))
 
--- the moment is set
-pub sets_goes : (E : Type 0) (scripted : Bool) (moment : ℕ) (text : List ℕ) (runner later : Runner) (s : State) → IsStill s → SetsMoment {E = E} scripted moment (Ok text) runner later → WhereTold s.reads s.reads (GoesTo (λ r. set_moment scripted r moment) (Ok text) runner later s s)
-sets_goes E true moment text runner later s still sets = told_same s.reads s.reads _ refl (λ bytes r at.
-    goes_still r (set_moment true r moment) (Ok text) runner later s bytes still at (ap (λ (x : List ℕ). r.text ++ x) (sym sets.text)) (record {
-      stands = subst (λ (o : Opened). IsIn r.world o bytes) (sym (ap (λ (x : Runner). x.store) sets.later_is)) at.stands;
-      moment = ap (λ (x : Runner). x.moment) sets.later_is;
-      refused = ap (λ (x : Runner). x.is_refused) sets.later_is ∙ at.refused;
-    }))
-sets_goes E false moment text runner later s still sets = refuses_goes (codes "NotScripted") text runner later s still sets.text sets.later_is
+  -- the moment is set
+  pub sets_goes : (E : Type 0) (scripted : Bool) (moment : ℕ) (text : List ℕ) → SetsMoment {E = E} scripted moment (Ok text) runner later → Still (λ r. set_moment scripted r moment) (Ok text)
+  sets_goes E true moment text sets = wherever_same filed.limits runner s filed (GoesTo (λ r. set_moment true r moment) (Ok text) later filed.limits s s)
+      (λ r bytes lists at. goes_still r (set_moment true r moment) (Ok text) runner later s bytes filed.limits lists still at refl (ap (λ (x : List ℕ). r.text ++ x) (sym sets.text)) (record {
+        stands = subst (λ (held : Held). IsIn r.world held bytes lists) (sym (ap (λ (x : Runner). x.world) sets.later_is)) at.stands;
+        within = at.within;
+        epoch = ap (λ (x : Runner). x.epoch) sets.later_is ∙ at.epoch;
+        moment = ap (λ (x : Runner). x.moment) sets.later_is;
+        refused = ap (λ (x : Runner). x.is_refused) sets.later_is ∙ at.refused;
+      }))
+  sets_goes E false moment text sets = refuses_goes (codes "NotScripted") text sets.text sets.later_is
+
+pub moment_same : (scripted : Bool) (moment : ℕ) (r : Running) → (set_moment scripted r moment).world ≡ r.world
+moment_same true moment r = refl
+moment_same false moment r = refl
 
 -- nothing is said
-pub blank_goes : (text : List ℕ) (runner : Runner) (s : State) → IsStill s → text ≡ [] → WhereTold s.reads s.reads (GoesTo (λ r. r) (Ok text) runner runner s s)
-blank_goes text runner s still none = told_same s.reads s.reads _ refl (λ bytes r at.
-    goes_still r r (Ok text) runner runner s bytes still at (sym (ap (λ (x : List ℕ). r.text ++ x) none ∙ append-nil r.text)) at)
+pub blank_goes : (text : List ℕ) (runner : Runner) (s : State) (filed : notaries.State) → IsStill s → text ≡ [] → Wherever filed.limits runner s s filed filed (GoesTo (λ r. r) (Ok text) runner filed.limits s s)
+blank_goes text runner s filed still none = wherever_same filed.limits runner s filed (GoesTo (λ r. r) (Ok text) runner filed.limits s s)
+    (λ r bytes lists at. goes_still r r (Ok text) runner runner s bytes filed.limits lists still at refl (sym (ap (λ (x : List ℕ). r.text ++ x) none ∙ append-nil r.text)) at)
 
--- ---- a step
+-- ---- a line of the world
 
-pub steps_on : (line : Line) (now : ℕ) (reply : Reply) (text : List ℕ) (runner later : Runner) (old new : State) → WhereTold old.reads new.reads (StepsTo line now (Ok reply) runner.store later.store old new)
-    → text ≡ reply_text reply → later.moment ≡ runner.moment → later.is_refused ≡ (runner.is_refused || is_refusal reply)
-    → WhereTold old.reads new.reads (GoesTo (λ r. stepped r (step r.world line now)) (Ok text) runner later old new)
-steps_on line now reply text runner later old new told spelled moment refused = told_map old.reads new.reads _ _ told (λ before after steps r at.
-    let s = steps r.world at.stands in
-    record {
-      reply = ap (λ (x : Reply). r.text ++ reply_text x) (sym s.reply) ∙ ap (λ (x : List ℕ). r.text ++ x) (sym spelled);
-      stands = record {
-        stands = s.stands;
-        moment = moment ∙ at.moment;
-        refused = refused ∙ ap (λ (b : Bool). b || is_refusal reply) at.refused ∙ ap (λ (x : Reply). r.is_refused || is_refusal x) s.reply;
-      };
-      settled = s.settled;
-      images = s.images;
-    })
+module _ (line : Line) (now : ℕ) (runner last : Runner) (old new : State) (filed later : notaries.State) where
+  pub steps_on : (answered : Answered) → StepsFor line now (Ok answered) runner.world last.world old new filed later → KeepsSound (StandsFor runner.world) old new filed later
+      → last.epoch ≡ runner.epoch → last.moment ≡ runner.moment → last.is_refused ≡ (runner.is_refused || answered.refused) → StepsFrom line now (Ok answered.text) runner last old new filed later
+  steps_on answered steps sound epoch moment refused = told_map old.reads new.reads _ _ (told_both old.reads new.reads _ _ steps sound) (λ before after h.
+      told_map filed.lists later.lists _ _ (told_both filed.lists later.lists _ _ h.0 h.1) (λ lists later_lists p r at.
+      let s = p.0 r.world at.stands at.within in
+      record {
+        found = s.found;
+        may = s.may;
+        goes = record {
+          reply = ap (λ (x : List ℕ). r.text ++ x) (sym s.goes.reply.text);
+          stands = record {
+            stands = s.goes.stands;
+            within = step_limits r.world line now s.found ∙ at.within;
+            epoch = epoch ∙ at.epoch;
+            moment = moment ∙ at.moment;
+            refused = refused ∙ ap (λ (b : Bool). b || answered.refused) at.refused ∙ ap (λ (b : Bool). r.is_refused || b) s.goes.reply.refused;
+          };
+          settled = s.goes.settled;
+          images = s.goes.images;
+          between = s.goes.between;
+          sound = λ id only was. p.1 id (stands_of r.world.id r.world.store runner.world.store before at.stands.store) only was;
+        };
+      }))
 
-pub steps_off : (line : Line) (now : ℕ) (result : Result Reply StepFail) (fail : StepFail) (runner later : Runner) (old new : State) → WhereTold old.reads new.reads (StepsTo line now result runner.store later.store old new)
-    → WhereTold old.reads new.reads (GoesTo (λ r. stepped r (step r.world line now)) (Err fail) runner later old new)
-steps_off line now result fail runner later old new told = told_map old.reads new.reads _ _ told (λ before after steps r at.
-    record { reply = tt; stands = tt; settled = λ only. tt; images = (steps r.world at.stands).images })
-
--- the reply was not told in words
-pub steps_cut : (line : Line) (now : ℕ) (result : Result Reply StepFail) (cut : Result (List ℕ) StepFail) (runner later : Runner) (old new : State) → IsErr cut → WhereTold old.reads new.reads (StepsTo line now result runner.store later.store old new)
-    → WhereTold old.reads new.reads (GoesTo (λ r. stepped r (step r.world line now)) cut runner later old new)
-steps_cut line now result (Ok text) runner later old new is told = absurd cc
-steps_cut line now result (Err fail) runner later old new is told = steps_off line now result fail runner later old new told
+  pub steps_off : (fail : LineFail) → StepsFor line now (Err fail) runner.world last.world old new filed later → KeepsSound (StandsFor runner.world) old new filed later → StepsFrom line now (Err fail) runner last old new filed later
+  steps_off fail steps sound = told_map old.reads new.reads _ _ (told_both old.reads new.reads _ _ steps sound) (λ before after h.
+      told_map filed.lists later.lists _ _ (told_both filed.lists later.lists _ _ h.0 h.1) (λ lists later_lists p r at.
+      let s = p.0 r.world at.stands at.within in
+      record {
+        found = s.found;
+        may = s.may;
+        goes = record {
+          reply = tt;
+          stands = tt;
+          settled = λ only. tt;
+          images = s.goes.images;
+          between = s.goes.between;
+          sound = λ id only was. p.1 id (stands_of r.world.id r.world.store runner.world.store before at.stands.store) only was;
+        };
+      }))
 
 -- ---- by what the line asks for
 
 -- the seconds are those of the moment where the runner stands
-pub seconds_are : (scripted : Bool) (r : Running) (runner : Runner) (bytes : List ℕ) (now : ℕ) (clock ahead : clocks.State) → IsAt r runner bytes → GivesSeconds scripted runner now clock ahead → seconds_of scripted r now ≡ now
-seconds_are true r runner bytes now clock ahead at gives =
-    ap (λ (h : Header). min (h.epoch + r.moment) max_u64) (sym at.stands.header) ∙ ap (λ (m : ℕ). min (runner.store.header.epoch + m) max_u64) (sym at.moment) ∙ sym gives.0
-seconds_are false r runner bytes now clock ahead at gives = refl
+pub seconds_are : (scripted : Bool) (r : Running) (runner : Runner) (epoch_is : runner.epoch ≡ r.epoch) (moment_is : runner.moment ≡ r.moment) (now : ℕ) (clock ahead : clocks.State) → GivesSeconds scripted runner now clock ahead → seconds_of scripted r now ≡ now
+seconds_are true r runner epoch_is moment_is now clock ahead gives =
+    ap (λ (e : ℕ). min (e + r.moment) max_u64) (sym epoch_is) ∙ ap (λ (m : ℕ). min (runner.epoch + m) max_u64) (sym moment_is) ∙ sym gives.0
+seconds_are false r runner epoch_is moment_is now clock ahead gives = refl
 
 pub takes_for : (kind : LineKind) (scripted : Bool) (runner : Runner) (now : ℕ) (clock ahead : clocks.State) → (kind ≡ kinds.Blank → ⊥) → GivesSeconds scripted runner now clock ahead → TakesFor kind scripted now clock ahead
 takes_for kinds.Blank scripted runner now clock ahead ne gives = absurd (ne refl)
-takes_for kinds.OnTables true runner now clock ahead ne gives = gives.1
-takes_for kinds.OnTables false runner now clock ahead ne gives = gives
+takes_for kinds.InWorld true runner now clock ahead ne gives = gives.1
+takes_for kinds.InWorld false runner now clock ahead ne gives = gives
 takes_for (kinds.SetsMoment m) true runner now clock ahead ne gives = gives.1
 takes_for (kinds.SetsMoment m) false runner now clock ahead ne gives = gives
 takes_for kinds.Unbuilt true runner now clock ahead ne gives = gives.1
 takes_for kinds.Unbuilt false runner now clock ahead ne gives = gives
 
-pub goes_by : (line : Line) (kind : LineKind) (second : ℕ) (result : Result (List ℕ) StepFail) (runner later : Runner) (old new : State) (clock ahead : clocks.State) → kind_of line ≡ kind → TakesFor kind runner.is_scripted second clock ahead
-    → WhereTold old.reads new.reads (GoesTo (λ r. said_by kind runner.is_scripted (seconds_of runner.is_scripted r second) r line) result runner later old new) → GoesBy line result runner later old new clock ahead
-goes_by line kind second result runner later old new clock ahead is takes told = record {
+-- a line that isn't of the world finds nothing
+finds_nothing : (line : Line) → (kind_of line ≡ kinds.InWorld → ⊥) → (w : World) → MayFind w line no_finding
+finds_nothing lines.Blank ne w = tt
+finds_nothing (lines.Plain (stmts.Create table columns)) ne w = tt
+finds_nothing (lines.Plain (stmts.Insert table row)) ne w = tt
+finds_nothing (lines.Plain (stmts.Update table row)) ne w = tt
+finds_nothing (lines.Plain (stmts.Delete table key)) ne w = tt
+finds_nothing (lines.Plain (stmts.Get table key moment)) ne w = tt
+finds_nothing (lines.Plain (stmts.Scan table filter moment)) ne w = tt
+finds_nothing (lines.Plain (stmts.History table key)) ne w = tt
+finds_nothing (lines.Plain stmts.Begin) ne w = tt
+finds_nothing (lines.Plain stmts.Commit) ne w = tt
+finds_nothing (lines.Plain stmts.Abort) ne w = tt
+finds_nothing (lines.Plain stmts.Notarize) ne w = tt
+finds_nothing (lines.Plain stmts.Validate) ne w = absurd (ne refl)
+finds_nothing (lines.Plain (stmts.Analyse algorithm)) ne w = tt
+finds_nothing (lines.Plain (stmts.Now moment)) ne w = tt
+finds_nothing (lines.InSession n stmt) ne w = tt
+finds_nothing (lines.Drill event) ne w = tt
+
+pub goes_by : (line : Line) (kind : LineKind) (second : ℕ) (result : Result (List ℕ) LineFail) (runner last : Runner) (old new : State) (filed later : notaries.State) (clock ahead : clocks.State)
+    → kind_of line ≡ kind → (kind ≡ kinds.InWorld → ⊥) → TakesFor kind runner.is_scripted second clock ahead
+    → Wherever filed.limits runner old new filed later (GoesTo (λ r. said_by kind runner.is_scripted (seconds_of runner.is_scripted r second) no_finding r line) result last filed.limits old new)
+    → LineFrom line result runner last old new filed later clock ahead
+goes_by line kind second result runner last old new filed later clock ahead is ne takes told = wherever_map filed.limits runner old new filed later _ _ told (λ r before after lists later_lists at goes. record {
   second = second;
+  found = no_finding;
   seconds = subst (λ (k : LineKind). TakesFor k runner.is_scripted second clock ahead) (sym is) takes;
-  told = subst (λ (k : LineKind). WhereTold old.reads new.reads (GoesTo (λ r. said_by k runner.is_scripted (seconds_of runner.is_scripted r second) r line) result runner later old new)) (sym is) told;
-}
+  may = finds_nothing line (λ e. ne (sym is ∙ e)) r.world;
+  goes = subst (λ (k : LineKind). Goes r (said_by k runner.is_scripted (seconds_of runner.is_scripted r second) no_finding r line) result last old new before after filed.limits lists later_lists) (sym is) goes;
+})
 
 -- a step at the seconds that were given
-pub steps_by : (line : Line) (now : ℕ) (result : Result (List ℕ) StepFail) (runner later : Runner) (old new : State) (clock ahead : clocks.State) → kind_of line ≡ kinds.OnTables → GivesSeconds runner.is_scripted runner now clock ahead
-    → WhereTold old.reads new.reads (GoesTo (λ r. stepped r (step r.world line now)) result runner later old new) → GoesBy line result runner later old new clock ahead
-steps_by line now result runner later old new clock ahead is gives told =
-    goes_by line kinds.OnTables now result runner later old new clock ahead is (takes_for kinds.OnTables runner.is_scripted runner now clock ahead (λ e. cc) gives)
-    (told_map old.reads new.reads _ _ told (λ before after goes r at.
-    subst (λ (n : ℕ). Goes r (stepped r (step r.world line n)) result later old new before after) (sym (seconds_are runner.is_scripted r runner before now clock ahead at gives)) (goes r at)))
+pub steps_by : (line : Line) (now : ℕ) (result : Result (List ℕ) LineFail) (runner last : Runner) (old new : State) (filed later : notaries.State) (clock ahead : clocks.State)
+    → kind_of line ≡ kinds.InWorld → GivesSeconds runner.is_scripted runner now clock ahead → StepsFrom line now result runner last old new filed later → LineFrom line result runner last old new filed later clock ahead
+steps_by line now result runner last old new filed later clock ahead is gives told = wherever_map filed.limits runner old new filed later _ _ told (λ r before after lists later_lists at s.
+    let seconds = seconds_are runner.is_scripted r runner at.epoch at.moment now clock ahead gives in
+    record {
+      second = now;
+      found = s.found;
+      seconds = subst (λ (k : LineKind). TakesFor k runner.is_scripted now clock ahead) (sym is) (takes_for kinds.InWorld runner.is_scripted runner now clock ahead (λ e. cc) gives);
+      may = s.may;
+      goes = subst (λ (k : LineKind). Goes r (said_by k runner.is_scripted (seconds_of runner.is_scripted r now) s.found r line) result last old new before after filed.limits lists later_lists) (sym is)
+          (subst (λ (n : ℕ). Goes r (stepped r (step r.world line n s.found)) result last old new before after filed.limits lists later_lists) (sym seconds) s.goes);
+    })
 
--- a statement on tables outside sessions
-pub table_line : (line : Line) → kind_of line ≡ kinds.OnTables → IsTableLine line
-table_line lines.Blank e = absurd cc
-table_line (lines.Plain (stmts.Create table columns)) e = tt
-table_line (lines.Plain (stmts.Insert table row)) e = tt
-table_line (lines.Plain (stmts.Update table row)) e = tt
-table_line (lines.Plain (stmts.Delete table key)) e = tt
-table_line (lines.Plain (stmts.Get table key moment)) e = tt
-table_line (lines.Plain (stmts.Scan table filter moment)) e = tt
-table_line (lines.Plain (stmts.History table key)) e = tt
-table_line (lines.Plain stmts.Begin) e = absurd cc
-table_line (lines.Plain stmts.Commit) e = absurd cc
-table_line (lines.Plain stmts.Abort) e = absurd cc
-table_line (lines.Plain stmts.Notarize) e = absurd cc
-table_line (lines.Plain stmts.Validate) e = absurd cc
-table_line (lines.Plain (stmts.Analyse algorithm)) e = absurd cc
-table_line (lines.Plain (stmts.Now moment)) e = absurd cc
-table_line (lines.InSession n stmt) e = absurd cc
-table_line (lines.Drill event) e = absurd cc
+-- a line of the world, outside sessions
+pub world_line : (line : Line) → kind_of line ≡ kinds.InWorld → IsWorldLine line
+world_line lines.Blank e = absurd cc
+world_line (lines.Plain (stmts.Create table columns)) e = tt
+world_line (lines.Plain (stmts.Insert table row)) e = tt
+world_line (lines.Plain (stmts.Update table row)) e = tt
+world_line (lines.Plain (stmts.Delete table key)) e = tt
+world_line (lines.Plain (stmts.Get table key moment)) e = tt
+world_line (lines.Plain (stmts.Scan table filter moment)) e = tt
+world_line (lines.Plain (stmts.History table key)) e = tt
+world_line (lines.Plain stmts.Begin) e = absurd cc
+world_line (lines.Plain stmts.Commit) e = absurd cc
+world_line (lines.Plain stmts.Abort) e = absurd cc
+world_line (lines.Plain stmts.Notarize) e = tt
+world_line (lines.Plain stmts.Validate) e = tt
+world_line (lines.Plain (stmts.Analyse algorithm)) e = absurd cc
+world_line (lines.Plain (stmts.Now moment)) e = absurd cc
+world_line (lines.InSession n stmt) e = absurd cc
+world_line (lines.Drill event) e = absurd cc
 
 -- ---- as bytes
 
@@ -179,8 +228,8 @@ filled_stmt (stmts.Now moment) e = cc
 
 takes_filled : (kind : LineKind) (scripted : Bool) (t : Timed) (clock ahead : clocks.State) → (kind ≡ kinds.Blank → ⊥) → is_blank (without_return t.line) ≡ false → TakesFor kind scripted t.second clock ahead → Takes scripted (t ∷ []) clock ahead
 takes_filled kinds.Blank scripted t clock ahead ne filled takes = absurd (ne refl)
-takes_filled kinds.OnTables true t clock ahead ne filled takes = takes
-takes_filled kinds.OnTables false t clock ahead ne filled takes = takes_second t clock ahead filled takes
+takes_filled kinds.InWorld true t clock ahead ne filled takes = takes
+takes_filled kinds.InWorld false t clock ahead ne filled takes = takes_second t clock ahead filled takes
 takes_filled (kinds.SetsMoment m) true t clock ahead ne filled takes = takes
 takes_filled (kinds.SetsMoment m) false t clock ahead ne filled takes = takes_second t clock ahead filled takes
 takes_filled kinds.Unbuilt true t clock ahead ne filled takes = takes
@@ -192,58 +241,49 @@ takes_line scripted t (lines.Plain stmt) clock ahead said takes = takes_filled (
 takes_line scripted t (lines.InSession n stmt) clock ahead said takes = takes_filled kinds.Unbuilt scripted t clock ahead (λ e. cc) said.filled takes
 takes_line scripted t (lines.Drill event) clock ahead said takes = takes_filled kinds.Unbuilt scripted t clock ahead (λ e. cc) said.filled takes
 
-carry_is : (scripted : Bool) (r : Running) (t : Timed) (x : Result Line ParseFail) → answer t.line ≡ x → carry scripted r t ≡ answered scripted (seconds_of scripted r t.second) r x
-unfolding carry
-carry_is scripted r t x e = ap (answered scripted (seconds_of scripted r t.second) r) e
-
-line_of : (bytes : List ℕ) (result : Result (List ℕ) StepFail) → IsLineOf bytes result bytes
+line_of : (bytes : List ℕ) (result : Result (List ℕ) LineFail) → IsLineOf bytes result bytes
 line_of bytes (Ok text) = refl
-line_of bytes (Err step_fails.DiskFault) = refl
-line_of bytes (Err step_fails.NoMemory) = inr refl
+line_of bytes (Err line_fails.DiskFault) = refl
+line_of bytes (Err line_fails.NotaryFault) = refl
+line_of bytes (Err line_fails.NoMemory) = inr refl
 
 -- a line of the grammar
-pub replies_by : (bytes : List ℕ) (l : Line) (result : Result (List ℕ) StepFail) (runner later : Runner) (old new : State) (clock ahead : clocks.State) → answer bytes ≡ Ok l → SaysLine bytes l → GoesBy l result runner later old new clock ahead → Replies bytes result runner later old new clock ahead
-replies_by bytes l result runner later old new clock ahead is said g =
-    let t : Timed = record { line = bytes; second = g.second } in
+pub replies_by : (bytes : List ℕ) (l : Line) (result : Result (List ℕ) LineFail) (runner last : Runner) (old new : State) (filed later : notaries.State) (clock ahead : clocks.State) → answer bytes ≡ Ok l → SaysLine bytes l
+    → LineFrom l result runner last old new filed later clock ahead → RepliesFrom bytes result runner last old new filed later clock ahead
+replies_by bytes l result runner last old new filed later clock ahead is said told = wherever_map filed.limits runner old new filed later _ _ told (λ r before after lists later_lists at g.
+    let t : Timed = record { line = bytes; second = g.second; found = g.found } in
     record {
       timed = t;
       line_is = line_of bytes result;
       seconds = takes_line runner.is_scripted t l clock ahead said g.seconds;
-      told = told_map old.reads new.reads _ _ g.told (λ before after goes r at. subst (λ (n : Running). Goes r n result later old new before after) (sym (carry_is runner.is_scripted r t (Ok l) is)) (goes r at));
-    }
-
-blank_answer : (bytes : List ℕ) → is_blank (without_return bytes) ≡ true → answer bytes ≡ Ok lines.Blank
-unfolding answer content_line
-blank_answer bytes e = rw e refl
+      may = subst (λ (x : Result Line ParseFail). MayFindBy r.world x g.found) (sym is) g.may;
+      goes = subst (λ (n : Running). Goes r n result last old new before after filed.limits lists later_lists) (sym (carry_is runner.is_scripted r t (Ok l) is)) g.goes;
+    })
 
 filled_answer : (bytes : List ℕ) (b : Bool) (fail : ParseFail) → is_blank (without_return bytes) ≡ b → answer bytes ≡ Err fail → is_blank (without_return bytes) ≡ false
 filled_answer bytes true fail e is = let no = sym (blank_answer bytes e) ∙ is in absurd cc
 filled_answer bytes false fail e is = e
 
 -- one that is refused
-pub replies_refused : (bytes name : List ℕ) (fail : ParseFail) (second : ℕ) (result : Result (List ℕ) StepFail) (runner later : Runner) (s : State) (clock ahead : clocks.State) → answer bytes ≡ Err fail
-    → ((scripted : Bool) (now : ℕ) (r : Running) → answered scripted now r (Err fail) ≡ refused_line r name) → GivesSeconds runner.is_scripted runner second clock ahead
-    → WhereTold s.reads s.reads (GoesTo (λ r. refused_line r name) result runner later s s) → Replies bytes result runner later s s clock ahead
-replies_refused bytes name fail second result runner later s clock ahead is names gives told =
-    let t : Timed = record { line = bytes; second = second } in
+pub replies_refused : (bytes name : List ℕ) (fail : ParseFail) (second : ℕ) (result : Result (List ℕ) LineFail) (runner last : Runner) (s : State) (filed : notaries.State) (clock ahead : clocks.State) → answer bytes ≡ Err fail
+    → ((scripted : Bool) (now : ℕ) (r : Running) → answered scripted now no_finding r (Err fail) ≡ refused_line r name) → GivesSeconds runner.is_scripted runner second clock ahead
+    → Wherever filed.limits runner s s filed filed (GoesTo (λ r. refused_line r name) result last filed.limits s s) → RepliesFrom bytes result runner last s s filed filed clock ahead
+replies_refused bytes name fail second result runner last s filed clock ahead is names gives told = wherever_map filed.limits runner s s filed filed _ _ told (λ r before after lists later_lists at goes.
+    let t : Timed = record { line = bytes; second = second; found = no_finding } in
     record {
       timed = t;
       line_is = line_of bytes result;
       seconds = takes_filled kinds.Unbuilt runner.is_scripted t clock ahead (λ e. cc) (filled_answer bytes (is_blank (without_return bytes)) fail refl is) (takes_for kinds.Unbuilt runner.is_scripted runner second clock ahead (λ e. cc) gives);
-      told = told_map s.reads s.reads _ _ told (λ before after goes r at. subst (λ (n : Running). Goes r n result later s s before after) (sym (carry_is runner.is_scripted r t (Err fail) is ∙ names runner.is_scripted (seconds_of runner.is_scripted r second) r)) (goes r at));
-    }
-
-blank_nothing : is_blank (without_return []) ≡ true
-unfolding without_return
-blank_nothing = refl
+      may = subst (λ (x : Result Line ParseFail). MayFindBy r.world x no_finding) (sym is) tt;
+      goes = subst (λ (n : Running). Goes r n result last s s before after filed.limits lists later_lists) (sym (carry_is runner.is_scripted r t (Err fail) is ∙ names runner.is_scripted (seconds_of runner.is_scripted r second) r)) goes;
+    })
 
 -- none was begun
-pub replies_none : (bytes : List ℕ) (runner later : Runner) (s : State) (clock : clocks.State) → IsStill s → Replies bytes (Err step_fails.NoMemory) runner later s s clock clock
-replies_none bytes runner later s clock still =
-    let t : Timed = record { line = []; second = 0 } in
-    record {
-      timed = t;
-      line_is = inl refl;
-      seconds = takes_blank runner.is_scripted t clock clock blank_nothing refl;
-      told = fails_goes (λ r. carry runner.is_scripted r t) step_fails.NoMemory runner later s still;
-    }
+pub replies_none : (bytes : List ℕ) (runner last : Runner) (s : State) (filed : notaries.State) (clock : clocks.State) → IsStill s → RepliesFrom bytes (Err line_fails.NoMemory) runner last s s filed filed clock clock
+replies_none bytes runner last s filed clock still = wherever_same filed.limits runner s filed _ (λ r all lists at. record {
+  timed = nothing;
+  line_is = inl refl;
+  seconds = takes_blank runner.is_scripted nothing clock clock blank_nothing refl;
+  may = nothing_found r.world;
+  goes = goes_still r (carry runner.is_scripted r nothing) (Err line_fails.NoMemory) runner last s all filed.limits lists still at (ap (λ (x : Running). x.world) (carry_nothing runner.is_scripted r)) tt tt;
+})

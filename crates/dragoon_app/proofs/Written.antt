@@ -9,12 +9,12 @@ use Rattle.stmt_text.specs.declared.error.ParseFail.{ParseFail}
 use Rattle.stmt_text.specs.declared.error.ParseFail.TheVariants as parses
 use Rattle.stmt_text.specs.declared.line.Line.{Line}
 use Rattle.stmt_text.specs.Lines.{answer}
-use Rattle.session_core.specs.World.{World}
-use Rattle.session_core.specs.Steps.{step}
-use Rattle.session_core.specs.Replies.{reply_text}
+use Rattle.validator.specs.declared.verdict.Verdict.{Verdict}
+use Rattle.validator.specs.declared.fail.AuditFail.{AuditFail}
+use Rattle.drill_core.specs.Steps.{step}
 use Rattle.dragoon_app.specs.declared.line_kind.LineKind.{LineKind}
 use Rattle.dragoon_app.specs.declared.line_kind.LineKind.TheVariants as kinds
-use Rattle.dragoon_app.specs.Running.{Running, Timed, start, carry, carried, seconds_of, said_by, answered, kind_of, set_moment, refused_text}
+use Rattle.dragoon_app.specs.Running.{Running, Timed, carry, carried, seconds_of, said_by, answered, kind_of, set_moment, refused_text}
 use Rattle.dragoon_app.specs.Ran.{IsOutBut, text_before}
 use Rattle.dragoon_app.proofs.Reading.{take_first}
 
@@ -24,36 +24,36 @@ moment_grows : (scripted : Bool) (r : Running) (moment : ℕ) → length r.text 
 moment_grows true r moment = omega (arith, length-append r.text (codes "ok\n"))
 moment_grows false r moment = omega (arith, length-append r.text (refused_text (codes "NotScripted")))
 
-said_grows : (kind : LineKind) (scripted : Bool) (now : ℕ) (r : Running) (line : Line) → length r.text ≤ length (said_by kind scripted now r line).text
-said_grows kinds.Blank scripted now r line = omega arith
-said_grows kinds.OnTables scripted now r line = omega (arith, length-append r.text (reply_text (step r.world line now).reply))
-said_grows (kinds.SetsMoment moment) scripted now r line = moment_grows scripted r moment
-said_grows kinds.Unbuilt scripted now r line = omega (arith, length-append r.text (refused_text (codes "Syntax")))
+said_grows : (kind : LineKind) (scripted : Bool) (now : ℕ) (found : Result Verdict AuditFail) (r : Running) (line : Line) → length r.text ≤ length (said_by kind scripted now found r line).text
+said_grows kinds.Blank scripted now found r line = omega arith
+said_grows kinds.InWorld scripted now found r line = omega (arith, length-append r.text (step r.world line now found).text)
+said_grows (kinds.SetsMoment moment) scripted now found r line = moment_grows scripted r moment
+said_grows kinds.Unbuilt scripted now found r line = omega (arith, length-append r.text (refused_text (codes "Syntax")))
 
-answer_grows : (scripted : Bool) (now : ℕ) (r : Running) (x : Result Line ParseFail) → length r.text ≤ length (answered scripted now r x).text
-answer_grows scripted now r (Ok line) = said_grows (kind_of line) scripted now r line
-answer_grows scripted now r (Err parses.Syntax) = omega (arith, length-append r.text (refused_text (codes "Syntax")))
-answer_grows scripted now r (Err parses.NumberTooWide) = omega (arith, length-append r.text (refused_text (codes "NumberTooWide")))
-answer_grows scripted now r (Err parses.NoMemory) = omega arith
+answer_grows : (scripted : Bool) (now : ℕ) (found : Result Verdict AuditFail) (r : Running) (x : Result Line ParseFail) → length r.text ≤ length (answered scripted now found r x).text
+answer_grows scripted now found r (Ok line) = said_grows (kind_of line) scripted now found r line
+answer_grows scripted now found r (Err parses.Syntax) = omega (arith, length-append r.text (refused_text (codes "Syntax")))
+answer_grows scripted now found r (Err parses.NumberTooWide) = omega (arith, length-append r.text (refused_text (codes "NumberTooWide")))
+answer_grows scripted now found r (Err parses.NoMemory) = omega arith
 
 carry_grows : (scripted : Bool) (r : Running) (t : Timed) → length r.text ≤ length (carry scripted r t).text
 unfolding carry
-carry_grows scripted r t = answer_grows scripted (seconds_of scripted r t.second) r (answer t.line)
+carry_grows scripted r t = answer_grows scripted (seconds_of scripted r t.second) t.found r (answer t.line)
 
 carried_grows : (scripted : Bool) (r : Running) (ts : List Timed) → length r.text ≤ length (carried scripted r ts).text
 carried_grows scripted r [] = omega arith
 carried_grows scripted r (t ∷ ts) = omega (arith, carry_grows scripted r t, carried_grows scripted (carry scripted r t) ts)
 
-pub before_shorter : (scripted : Bool) (w : World) (done : List Timed) → length (text_before scripted w done) ≤ length (carried scripted (start w) done).text
-before_shorter scripted w done =
+pub before_shorter : (scripted : Bool) (begin : Running) (done : List Timed) → length (text_before scripted begin done) ≤ length (carried scripted begin done).text
+before_shorter scripted begin done =
     let n : ℕ = length done - 1 in
-    let parts : carried scripted (start w) done ≡ carried scripted (carried scripted (start w) (take n done)) (drop n done) = ap (carried scripted (start w)) (sym (take-append-drop n done)) ∙ fold-append (carry scripted) (start w) (take n done) (drop n done) in
-    subst (λ (r : Running). length (text_before scripted w done) ≤ length r.text) (sym parts) (carried_grows scripted (carried scripted (start w) (take n done)) (drop n done))
+    let parts : carried scripted begin done ≡ carried scripted (carried scripted begin (take n done)) (drop n done) = ap (carried scripted begin) (sym (take-append-drop n done)) ∙ fold-append (carry scripted) begin (take n done) (drop n done) in
+    subst (λ (r : Running). length (text_before scripted begin done) ≤ length r.text) (sym parts) (carried_grows scripted (carried scripted begin (take n done)) (drop n done))
 
-pub before_more : (scripted : Bool) (w : World) (done : List Timed) (t : Timed) → text_before scripted w (done ++ t ∷ []) ≡ (carried scripted (start w) done).text
-before_more scripted w done t =
+pub before_more : (scripted : Bool) (begin : Running) (done : List Timed) (t : Timed) → text_before scripted begin (done ++ t ∷ []) ≡ (carried scripted begin done).text
+before_more scripted begin done t =
     let n : length (done ++ t ∷ []) - 1 ≡ length done = omega (arith, length-append done (t ∷ [])) in
-    ap (λ (ts : List Timed). (carried scripted (start w) ts).text) (ap (λ (k : ℕ). take k (done ++ t ∷ [])) n ∙ take_first done (t ∷ []))
+    ap (λ (ts : List Timed). (carried scripted begin ts).text) (ap (λ (k : ℕ). take k (done ++ t ∷ [])) n ∙ take_first done (t ∷ []))
 
 -- ---- what is out
 

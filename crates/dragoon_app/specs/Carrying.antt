@@ -8,13 +8,21 @@ use Rattle.outside_io.specs.declared.sink.StreamFail.TheVariants as streams
 use Rattle.outside_io.specs.Sink as sinks
 use Rattle.outside_io.specs.Source as sources
 use Rattle.outside_io.specs.Clock as clocks
+use Rattle.notary_link.specs.declared.notary.NotaryLimits.{NotaryLimits}
+use Rattle.notary_link.specs.Notary as notaries
 use Rattle.line_input.specs.declared.fail.InputFail.{InputFail}
 use Rattle.line_input.specs.declared.fail.InputFail.TheVariants as inputs
+use Rattle.tuple_bytes.specs.declared.header.Header.{Header}
 use Rattle.history_model.specs.Stored.{stored}
+use Rattle.audit_model.specs.Sound.{IsSound}
 use Rattle.stmt_text.specs.declared.line.Line.{Line}
-use Rattle.session_core.specs.declared.sessions.StepFail.{StepFail}
-use Rattle.session_core.specs.declared.sessions.StepFail.TheVariants as steps
-use Rattle.session_core.specs.World.{World, IsIn, StoresEither}
+use Rattle.stmt_text.specs.Lines.{answer}
+use Rattle.validator.specs.declared.verdict.Verdict.{Verdict}
+use Rattle.validator.specs.declared.fail.AuditFail.{AuditFail}
+use Rattle.drill_core.specs.declared.fail.LineFail.{LineFail}
+use Rattle.drill_core.specs.declared.fail.LineFail.TheVariants as lines
+use Rattle.drill_core.specs.World.{IsIn, StoresWorld, StoresEither, AreBetween}
+use Rattle.drill_core.specs.Steps.{step, MayFind}
 use Rattle.dragoon_app.specs.declared.status.Status.{Status}
 use Rattle.dragoon_app.specs.declared.status.Status.TheVariants as statuses
 use Rattle.dragoon_app.specs.declared.run_fail.RunFail.{RunFail}
@@ -24,14 +32,15 @@ use Rattle.dragoon_app.specs.declared.line_kind.LineKind.{LineKind}
 use Rattle.dragoon_app.specs.declared.line_kind.LineKind.TheVariants as kinds
 use Rattle.dragoon_app.specs.Numbers.{max_u64}
 use Rattle.dragoon_app.specs.Outcome.{Said, refused}
-use Rattle.dragoon_app.specs.Running.{Running, Timed, start, carry, carried, world_of, seconds_of, said_by, kind_of, refused_text}
-use Rattle.dragoon_app.specs.Ran.{Runs, Reads, AreFirst, IsOutBut, lines_in, text_before, StoresFront, StoresWorld, Takes}
+use Rattle.dragoon_app.specs.Running.{Running, Timed, start, carry, carried, stepped, world_of, seconds_of, said_by, kind_of, refused_text, MayFindBy, AllMayFind}
+use Rattle.dragoon_app.specs.Ran.{Runs, Reads, AreFirst, IsOutBut, lines_in, text_before, StoresFront, Takes}
 
 -- ---- failures
 
-abbrev pub of_step : StepFail → RunFail
-of_step steps.DiskFault = fails.DiskFault
-of_step steps.NoMemory = fails.NoMemory
+abbrev pub of_line : LineFail → RunFail
+of_line lines.DiskFault = fails.DiskFault
+of_line lines.NotaryFault = fails.NotaryFault
+of_line lines.NoMemory = fails.NoMemory
 
 abbrev pub of_input : InputFail → RunFail
 of_input inputs.ReadFault = fails.ReadFault
@@ -45,6 +54,7 @@ of_output streams.NoMemory = fails.NoMemory
 -- how a run ends that stops so, where its last line is out
 abbrev pub status_of : RunFail → Status
 status_of fails.DiskFault = statuses.DiskFault
+status_of fails.NotaryFault = statuses.NotaryFault
 status_of fails.ReadFault = statuses.ReadFault
 status_of fails.InputLimit = statuses.InputLimit
 status_of fails.WriteFault = statuses.WriteFault
@@ -52,36 +62,57 @@ status_of fails.NoMemory = statuses.NoMemory
 
 -- the fault line is out, but for a fault of the output and want of memory, which are not told
 abbrev pub EndsWith : RunFail → Status → sinks.State → sinks.State → Type 0
-EndsWith fails.WriteFault result out later = (result ≡ statuses.WriteFault) × (later ≡ out)
-EndsWith fails.NoMemory result out later = (result ≡ statuses.NoMemory) × (later ≡ out)
-EndsWith fail result out later = Said (refused (status_of fail)) result out later
+EndsWith fails.WriteFault result out written = (result ≡ statuses.WriteFault) × (written ≡ out)
+EndsWith fails.NoMemory result out written = (result ≡ statuses.NoMemory) × (written ≡ out)
+EndsWith fail result out written = Said (refused (status_of fail)) result out written
 
 -- ---- where a runner stands
 
-pub record IsAt (r : Running) (runner : Runner) (bytes : List ℕ) : Type 0 where
-  pub stands : IsIn r.world runner.store bytes
+-- a run is where this runner stands, over these bytes, and beside a notary with these limits and lists
+pub record IsAt (r : Running) (runner : Runner) (bytes : List ℕ) (limits : NotaryLimits) (lists : notaries.Lists) : Type 0 where
+  pub stands : IsIn r.world runner.world bytes lists
+  pub within : r.world.limits ≡ limits
+  pub epoch : runner.epoch ≡ r.epoch
   pub moment : runner.moment ≡ r.moment
   pub refused : runner.is_refused ≡ r.is_refused
 
--- just opened
+-- just opened: where a run begins over a header with the world's id, whatever the notary holds
 pub record IsReady (runner : Runner) (bytes : List ℕ) : Type 0 where
-  pub header : (stored bytes).header ≡ Some runner.store.header
-  pub at : IsAt (start (world_of runner.store.header bytes)) runner bytes
+  pub header : Header
+  pub is : (stored bytes).header ≡ Some header
+  pub id : header.id ≡ runner.world.id
+  pub at : (lists : notaries.Lists) (limits : NotaryLimits) → IsAt (start (world_of header bytes) lists limits) runner bytes limits lists
 
 -- the clock seconds of a line, which a scripted run has without the clock
 abbrev pub GivesSeconds : Bool → Runner → ℕ → clocks.State → clocks.State → Type 0
-GivesSeconds true runner now clock ahead = (now ≡ min (runner.store.header.epoch + runner.moment) max_u64) × (ahead ≡ clock)
+GivesSeconds true runner now clock ahead = (now ≡ min (runner.epoch + runner.moment) max_u64) × (ahead ≡ clock)
 GivesSeconds false runner now clock ahead = clocks.Tells now clock ahead
+
+-- ---- what is said of a run wherever the runner stands
+
+-- of where the run stands, of the bytes before and after, and of the lists before and after
+abbrev pub Saying : Type 1
+Saying = Running → List ℕ → List ℕ → notaries.Lists → notaries.Lists → Type 0
+
+-- where the disk and the notary tell what they hold, and this runner stands for the run
+abbrev pub Wherever : NotaryLimits → Runner → disks.State → disks.State → notaries.State → notaries.State → Saying → Type 0
+Wherever limits runner old new filed later P = WhereTold old.reads new.reads (λ before after. WhereTold filed.lists later.lists (λ lists later_lists.
+    (r : Running) → IsAt r runner before limits lists → P r before after lists later_lists))
+
+-- Under each id a store that was sound is sound, where the disk was settled.
+abbrev pub StaysSound : disks.State → disks.State → List ℕ → notaries.Lists → notaries.Lists → Type 0
+StaysSound old new before lists later_lists =
+    (id : ℕ) → disks.Only before old → IsSound old.is_image (lists.batches id) id → IsSound new.is_image (later_lists.batches id) id
 
 -- ---- a runner alone
 
 -- with one more refusal
 abbrev pub refusing : Runner → Runner
-refusing runner = record { store = runner.store; sessions = runner.sessions; moment = runner.moment; is_scripted = runner.is_scripted; is_refused = true }
+refusing runner = record { world = runner.world; epoch = runner.epoch; moment = runner.moment; is_scripted = runner.is_scripted; is_refused = true }
 
 -- at another moment
 abbrev pub moved : Runner → ℕ → Runner
-moved runner moment = record { store = runner.store; sessions = runner.sessions; moment = moment; is_scripted = runner.is_scripted; is_refused = runner.is_refused }
+moved runner moment = record { world = runner.world; epoch = runner.epoch; moment = moment; is_scripted = runner.is_scripted; is_refused = runner.is_refused }
 
 -- a line is refused by this name
 pub record Refuses {E : Type 0} (name : List ℕ) (result : Result (List ℕ) E) (runner later : Runner) : Type 0 where
@@ -99,16 +130,27 @@ SetsMoment false moment result runner later = Refuses (codes "NotScripted") resu
 
 -- ---- one line
 
--- On the way from r to next: what is replied, where the runner stands then, and the store.
-pub record Goes (r next : Running) (result : Result (List ℕ) StepFail) (runner : Runner) (old new : disks.State) (before after : List ℕ) : Type 0 where
+-- On the way from r to next: what is replied, where the last runner stands then, and the store and the lists.
+pub record Goes (r next : Running) (result : Result (List ℕ) LineFail) (last : Runner) (old new : disks.State) (before after : List ℕ) (limits : NotaryLimits) (lists later_lists : notaries.Lists) : Type 0 where
   pub reply : IfOk result (λ text. next.text ≡ r.text ++ text)
-  pub stands : OnOk result (IsAt next runner after)
+  pub stands : OnOk result (IsAt next last after limits later_lists)
   pub settled : disks.Only before old → OnOk result (disks.Only after new)
+  -- whatever was answered
   pub images : disks.Only before old → EveryImage old new (StoresEither r.world next.world)
+  pub between : AreBetween r.world.lists next.world.lists later_lists
+  pub sound : StaysSound old new before lists later_lists
 
--- from wherever the runner stands
-abbrev pub GoesTo : (Running → Running) → Result (List ℕ) StepFail → Runner → Runner → disks.State → disks.State → List ℕ → List ℕ → Type 0
-GoesTo next result runner later old new before after = (r : Running) → IsAt r runner before → Goes r (next r) result later old new before after
+abbrev pub GoesTo : (Running → Running) → Result (List ℕ) LineFail → Runner → NotaryLimits → disks.State → disks.State → Saying
+GoesTo next result last limits old new r before after lists later_lists = Goes r (next r) result last old new before after limits lists later_lists
+
+-- a line of the world was carried out, and this was found
+pub record Steps (line : Line) (now : ℕ) (result : Result (List ℕ) LineFail) (last : Runner) (limits : NotaryLimits) (old new : disks.State) (r : Running) (before after : List ℕ) (lists later_lists : notaries.Lists) : Type 0 where
+  pub found : Result Verdict AuditFail
+  pub may : MayFind r.world line found
+  pub goes : Goes r (stepped r (step r.world line now found)) result last old new before after limits lists later_lists
+
+abbrev pub StepsFrom : Line → ℕ → Result (List ℕ) LineFail → Runner → Runner → disks.State → disks.State → notaries.State → notaries.State → Type 0
+StepsFrom line now result runner last old new filed later = Wherever filed.limits runner old new filed later (Steps line now result last filed.limits old new)
 
 -- a line that is not blank takes the clock's second, unless the run is scripted
 abbrev pub TakesFor : LineKind → Bool → ℕ → clocks.State → clocks.State → Type 0
@@ -117,23 +159,33 @@ TakesFor kind true second clock ahead = ahead ≡ clock
 TakesFor kind false second clock ahead = clocks.Tells second clock ahead
 
 -- a line of the grammar was carried out
-pub record GoesBy (line : Line) (result : Result (List ℕ) StepFail) (runner later : Runner) (old new : disks.State) (clock ahead : clocks.State) : Type 0 where
+pub record GoesBy (line : Line) (scripted : Bool) (result : Result (List ℕ) LineFail) (last : Runner) (limits : NotaryLimits) (old new : disks.State) (clock ahead : clocks.State) (r : Running) (before after : List ℕ) (lists later_lists : notaries.Lists) : Type 0 where
   pub second : ℕ
-  pub seconds : TakesFor (kind_of line) runner.is_scripted second clock ahead
-  pub told : WhereTold old.reads new.reads (GoesTo (λ r. said_by (kind_of line) runner.is_scripted (seconds_of runner.is_scripted r second) r line) result runner later old new)
+  pub found : Result Verdict AuditFail
+  pub seconds : TakesFor (kind_of line) scripted second clock ahead
+  pub may : MayFind r.world line found
+  pub goes : Goes r (said_by (kind_of line) scripted (seconds_of scripted r second) found r line) result last old new before after limits lists later_lists
+
+abbrev pub LineFrom : Line → Result (List ℕ) LineFail → Runner → Runner → disks.State → disks.State → notaries.State → notaries.State → clocks.State → clocks.State → Type 0
+LineFrom line result runner last old new filed later clock ahead = Wherever filed.limits runner old new filed later (GoesBy line runner.is_scripted result last filed.limits old new clock ahead)
 
 -- a line was carried out, or begun; where memory was wanting it may not have been, which an empty one stands for
-abbrev pub IsLineOf : {A : Type 0} → List ℕ → Result A StepFail → List ℕ → Type 0
+abbrev pub IsLineOf : {A : Type 0} → List ℕ → Result A LineFail → List ℕ → Type 0
 IsLineOf line (Ok text) taken = taken ≡ line
-IsLineOf line (Err steps.DiskFault) taken = taken ≡ line
-IsLineOf line (Err steps.NoMemory) taken = (taken ≡ []) ⊎ (taken ≡ line)
+IsLineOf line (Err lines.DiskFault) taken = taken ≡ line
+IsLineOf line (Err lines.NotaryFault) taken = taken ≡ line
+IsLineOf line (Err lines.NoMemory) taken = (taken ≡ []) ⊎ (taken ≡ line)
 
 -- a line was read, its second taken, and it was carried out
-pub record Replies (line : List ℕ) (result : Result (List ℕ) StepFail) (runner later : Runner) (old new : disks.State) (clock ahead : clocks.State) : Type 0 where
+pub record Replies (line : List ℕ) (scripted : Bool) (result : Result (List ℕ) LineFail) (last : Runner) (limits : NotaryLimits) (old new : disks.State) (clock ahead : clocks.State) (r : Running) (before after : List ℕ) (lists later_lists : notaries.Lists) : Type 0 where
   pub timed : Timed
   pub line_is : IsLineOf line result timed.line
-  pub seconds : Takes runner.is_scripted (timed ∷ []) clock ahead
-  pub told : WhereTold old.reads new.reads (GoesTo (λ r. carry runner.is_scripted r timed) result runner later old new)
+  pub seconds : Takes scripted (timed ∷ []) clock ahead
+  pub may : MayFindBy r.world (answer timed.line) timed.found
+  pub goes : Goes r (carry scripted r timed) result last old new before after limits lists later_lists
+
+abbrev pub RepliesFrom : List ℕ → Result (List ℕ) LineFail → Runner → Runner → disks.State → disks.State → notaries.State → notaries.State → clocks.State → clocks.State → Type 0
+RepliesFrom line result runner last old new filed later clock ahead = Wherever filed.limits runner old new filed later (Replies line runner.is_scripted result last filed.limits old new clock ahead)
 
 -- ---- all lines
 
@@ -144,35 +196,43 @@ ending (Err fail) = status_of fail
 
 -- What was written before the fault line: all replies. The last is cut short where the output failed or memory was wanting.
 abbrev pub IsWritten : List ℕ → List ℕ → Result (Unit {0}) RunFail → sinks.State → sinks.State → Type 0
-IsWritten before text (Err fails.WriteFault) out later = IsOutBut before text out later
-IsWritten before text (Err fails.NoMemory) out later = IsOutBut before text out later
-IsWritten before text result out later = sinks.IsOut text out later
+IsWritten before text (Err fails.WriteFault) out written = IsOutBut before text out written
+IsWritten before text (Err fails.NoMemory) out written = IsOutBut before text out written
+IsWritten before text result out written = sinks.IsOut text out written
 
 -- no line was under way
 abbrev pub IsBetween : Result (Unit {0}) RunFail → Type 0
 IsBetween (Err fails.DiskFault) = ⊥
+IsBetween (Err fails.NotaryFault) = ⊥
 IsBetween (Err fails.NoMemory) = ⊥
 IsBetween result = Unit {0}
 
--- over the world w, with these lines carried out and this one perhaps under way
-pub record CarriesOver (scripted : Bool) (w : World) (done : List Timed) (next : Timed) (result : Result (Unit {0}) RunFail) (runner : Runner) (old new : disks.State) (before after : List ℕ) (out later : sinks.State) : Type 0 where
-  pub images : disks.Only before old → EveryImage old new (StoresFront scripted w (done ++ next ∷ []))
-  pub kept : disks.Only before old → (c : List ℕ) → new.is_image c → StoresWorld (carried scripted (start w) done).world c ⊎ StoresWorld (carried scripted (start w) (done ++ next ∷ [])).world c
-  pub settled : IsBetween result → disks.Only before old → disks.Only after new
-  pub stands : IsBetween result → IsAt (carried scripted (start w) done) runner after
-  pub written : IsWritten (text_before scripted w done) (carried scripted (start w) done).text result out later
-
--- the lines of an input were carried out, up to its end or a failure
-pub record Carries (result : Result (Unit {0}) RunFail) (runner last : Runner) (old new : disks.State) (clock ahead : clocks.State) (input left : sources.State) (out later : sinks.State) : Type 0 where
+-- The lines of an input were carried out from this beginning on, up to its end or a failure.
+pub record Carries (scripted : Bool) (result : Result (Unit {0}) RunFail) (last : Runner) (limits : NotaryLimits) (old new : disks.State) (clock ahead : clocks.State) (input left : sources.State) (out written : sinks.State) (begin : Running) (before after : List ℕ) (lists later_lists : notaries.Lists) : Type 0 where
+  -- these lines were, and this one was perhaps under way
   pub done : List Timed
   pub next : Timed
   pub first : WhereTold input.rest left.rest (λ all others. AreFirst (lines_in done) all)
   pub read : WhereTold input.rest left.rest (Reads (ending result) done next)
   pub none : IsBetween result → next.line ≡ []
-  pub seconds : Takes runner.is_scripted (done ++ next ∷ []) clock ahead
-  pub told : WhereTold old.reads new.reads (λ before after. (w : World) → IsAt (start w) runner before → CarriesOver runner.is_scripted w done next result last old new before after out later)
+  pub found : AllMayFind scripted begin (done ++ next ∷ [])
+  pub seconds : Takes scripted (done ++ next ∷ []) clock ahead
+  pub images : disks.Only before old → EveryImage old new (StoresFront scripted begin (done ++ next ∷ []))
+  pub kept : disks.Only before old → (c : List ℕ) → new.is_image c → StoresWorld (carried scripted begin done).world c ⊎ StoresWorld (carried scripted begin (done ++ next ∷ [])).world c
+  pub settled : IsBetween result → disks.Only before old → disks.Only after new
+  pub stands : IsBetween result → IsAt (carried scripted begin done) last after limits later_lists
+  pub between : AreBetween (carried scripted begin done).world.lists (carried scripted begin (done ++ next ∷ [])).world.lists later_lists
+  pub sound : StaysSound old new before lists later_lists
+  pub said : begin.text ≡ [] → IsWritten (text_before scripted begin done) (carried scripted begin done).text result out written
 
--- a run from where the runner stands, at the first line of a world
-abbrev pub RunsFrom : Status → Runner → disks.State → disks.State → clocks.State → clocks.State → sources.State → sources.State → sinks.State → sinks.State → Type 0
-RunsFrom result runner old new clock ahead input left out later = WhereTold old.reads new.reads (λ before after.
-    (w : World) → IsAt (start w) runner before → Runs runner.is_scripted w result old new before after clock ahead input left out later)
+abbrev pub CarriesFrom : Result (Unit {0}) RunFail → Runner → Runner → disks.State → disks.State → notaries.State → notaries.State → clocks.State → clocks.State → sources.State → sources.State → sinks.State → sinks.State → Type 0
+CarriesFrom result runner last old new filed later clock ahead input left out written =
+    Wherever filed.limits runner old new filed later (Carries runner.is_scripted result last filed.limits old new clock ahead input left out written)
+
+-- a run from where the runner stands, before its first reply
+abbrev pub RunsFrom : Status → Runner → disks.State → disks.State → notaries.State → notaries.State → clocks.State → clocks.State → sources.State → sources.State → sinks.State → sinks.State → Type 0
+RunsFrom result runner old new filed later clock ahead input left out written = Wherever filed.limits runner old new filed later (λ begin before after lists later_lists.
+    begin.text ≡ [] → Runs runner.is_scripted begin result old new before after filed later later_lists clock ahead input left out written)
+
+abbrev pub SoundFrom : Runner → disks.State → disks.State → notaries.State → notaries.State → Type 0
+SoundFrom runner old new filed later = Wherever filed.limits runner old new filed later (λ begin before after lists later_lists. StaysSound old new before lists later_lists)

@@ -18,7 +18,7 @@ use Rattle.dragoon_app.specs.declared.status.Status.{Status}
 use Rattle.dragoon_app.specs.declared.status.Status.TheVariants as statuses
 use Rattle.dragoon_app.specs.Outcome.{Said, refused}
 use Rattle.dragoon_app.specs.Texts.{fault_line}
-use Rattle.dragoon_app.specs.Running.{Running, Timed, start, carried, world_of, seconds_taken}
+use Rattle.dragoon_app.specs.Running.{Running, Timed, start, carried, world_of, seconds_taken, AllMayFind}
 
 -- ---- which lines were carried out, of an input that told its bytes before and after
 

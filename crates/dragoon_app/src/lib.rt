@@ -17,17 +17,19 @@
 //! | a taken device, and each device where it is too late, is left as it was | `kept`, `late` there |
 //! | on a settled device a crash during `init` leaves no item, and no header but the new one or one whose bytes stood there | `images` there |
 //!
-//! What `run` does is `RunsOn` in `leaves`, where the store tells its bytes:
+//! What `run` does is `RunsOn` in `leaves`, where the store tells its bytes and the notary its lists:
 //!
 //! | The layer above may rely on | Field of `Runs` |
 //! |---|---|
 //! | `NotAStore` comes exactly where the bytes have no header of this id; a fault of the disk while the store is opened, and want of memory, end a run before its first line | `RunsOn` |
-//! | after `Ok` and `Refused` all lines of the input were carried out, and exactly their replies are out | `lines` of `read`, `written` |
-//! | where the output fails or memory is wanting at most the last reply is cut short; or all are out, and a front of a fault line that has its cause | `written` |
-//! | at a fault of the disk the line under way is the next of the input; at one of the disk or the output less than a piece was taken beyond the lines that were begun | `under_way`, `little` of `read` |
-//! | a scripted run asks no clock, and others take one second for each line that isn't blank, the one under way too; none is under way unless the disk failed or memory was wanting | `seconds`, `none` |
+//! | after `Ok` and `Refused` all lines of the input were carried out, and exactly their replies are out | `lines` of `read`, `said` |
+//! | where the output fails or memory is wanting at most the last reply is cut short; or all are out, and a front of a fault line that has its cause | `said` |
+//! | at a fault of the disk or the notary the line under way is the next of the input; at one of these or of the output less than a piece was taken beyond the lines that were begun | `under_way`, `little` of `read` |
+//! | a scripted run asks no clock, and others take one second for each line that isn't blank, the one under way too; none is under way unless the disk or the notary failed or memory was wanting | `seconds`, `none` |
+//! | a validation tells what is found in the world that its line finds | `found` |
 //! | on a settled store a crash at any moment leaves what stood there after some first lines | `images` of `store` |
-//! | each reply that is out stands for good: every image has what the lines say that were carried out | `kept` there |
+//! | each reply that is out stands for good: every image has what the lines say that were carried out, and the notary all that they filed and marked | `kept`, `between` there |
+//! | the notary holds no more than that, unless a line was under way | `holds` there |
 //!
 //! `leading` says how many words in front of the command name devices. A further device is one more
 //! prefix there, and one more parameter of `dragoon`. A further command is a case of `command_of`, of
@@ -59,5 +61,7 @@ pub use leading_words::leading;
 pub use status::Status;
 pub use top::dragoon;
 
+#[cfg(test)]
+mod run_tests;
 #[cfg(test)]
 mod tests;

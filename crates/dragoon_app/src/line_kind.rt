@@ -9,8 +9,8 @@ use stmt_text::{Line, Stmt};
 #[derive(Clone, Copy, Debug, PartialEq, Eq)]
 pub enum LineKind {
     Blank,
-    /// A statement on tables, outside sessions.
-    OnTables,
+    /// A line of the world: a statement on tables, `notarize` or `validate`, outside sessions.
+    InWorld,
     SetsMoment { moment: u64 },
     /// What no layer carries out yet.
     Unbuilt,
@@ -20,19 +20,19 @@ fn stmt_kind(stmt: &Stmt) -> LineKind
     ensures value { result ≡ stmt_kind stmt.now }
 {
     match stmt {
-        Stmt::Create { .. } => LineKind::OnTables,
-        Stmt::Insert { .. } => LineKind::OnTables,
-        Stmt::Update { .. } => LineKind::OnTables,
-        Stmt::Delete { .. } => LineKind::OnTables,
-        Stmt::Get { .. } => LineKind::OnTables,
-        Stmt::Scan { .. } => LineKind::OnTables,
-        Stmt::History { .. } => LineKind::OnTables,
+        Stmt::Create { .. } => LineKind::InWorld,
+        Stmt::Insert { .. } => LineKind::InWorld,
+        Stmt::Update { .. } => LineKind::InWorld,
+        Stmt::Delete { .. } => LineKind::InWorld,
+        Stmt::Get { .. } => LineKind::InWorld,
+        Stmt::Scan { .. } => LineKind::InWorld,
+        Stmt::History { .. } => LineKind::InWorld,
         Stmt::Now { moment } => LineKind::SetsMoment { moment: *moment },
         Stmt::Begin => LineKind::Unbuilt,
         Stmt::Commit => LineKind::Unbuilt,
         Stmt::Abort => LineKind::Unbuilt,
-        Stmt::Notarize => LineKind::Unbuilt,
-        Stmt::Validate => LineKind::Unbuilt,
+        Stmt::Notarize => LineKind::InWorld,
+        Stmt::Validate => LineKind::InWorld,
         Stmt::Analyse { .. } => LineKind::Unbuilt,
     }
 }

@@ -1,33 +1,35 @@
 //! Why a run stopped before the end of its input.
 
 ghost use Rattle.std.specs.Prelude.{◌≡◌, ◌≢◌};
-ghost use Rattle.dragoon_app.specs.Carrying.{of_step, of_input, of_output, EndsWith};
+ghost use Rattle.dragoon_app.specs.Carrying.{of_line, of_input, of_output, EndsWith};
 ghost use Rattle.dragoon_app.specs.Outcome.{WriteCause};
 ghost use Rattle.outside_io.specs.Sink.{GoesOn};
 
 use crate::Status;
 use crate::saying::refuse;
+use drill_core::LineFail;
 use line_input::InputFail;
 use outside_io::{Sink, StreamFail};
-use session_core::StepFail;
 
 /// Why a run stopped before the end of its input.
 #[derive(Clone, Copy, Debug, PartialEq, Eq)]
 pub enum RunFail {
     DiskFault,
+    NotaryFault,
     ReadFault,
     InputLimit,
     WriteFault,
     NoMemory,
 }
 
-impl From<StepFail> for RunFail {
-    ghost from_gives = { λ d e. e ≡ of_step d };
+impl From<LineFail> for RunFail {
+    ghost from_gives = { λ d e. e ≡ of_line d };
 
-    fn from(fail: StepFail) -> Self {
+    fn from(fail: LineFail) -> Self {
         match fail {
-            StepFail::DiskFault => RunFail::DiskFault,
-            StepFail::NoMemory => RunFail::NoMemory,
+            LineFail::DiskFault => RunFail::DiskFault,
+            LineFail::NotaryFault => RunFail::NotaryFault,
+            LineFail::NoMemory => RunFail::NoMemory,
         }
     }
 }
@@ -63,6 +65,7 @@ pub fn end<O: Sink>(out: &mut O, fail: RunFail) -> Status
 {
     match fail {
         RunFail::DiskFault => refuse(out, Status::DiskFault),
+        RunFail::NotaryFault => refuse(out, Status::NotaryFault),
         RunFail::ReadFault => refuse(out, Status::ReadFault),
         RunFail::InputLimit => refuse(out, Status::InputLimit),
         RunFail::WriteFault => Status::WriteFault,

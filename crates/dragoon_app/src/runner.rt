@@ -1,35 +1,35 @@
 //! A run over an open store, one line at a time.
 
-ghost use Rattle.std.specs.Prelude.{◌≡◌, false, IfOk, IfErr, IfSome, MatchResult};
+ghost use Rattle.std.specs.Prelude.{◌≡◌, IfOk, IfErr, IfSome, MatchResult};
 ghost use Rattle.outside_words.specs.Faults.{HasCause};
-ghost use Rattle.outside_words.specs.Told.{WhereTold};
 ghost use Rattle.disk_words.specs.Disk as disks;
+ghost use Rattle.notary_link.specs.Notary as notaries;
 ghost use Rattle.outside_io.specs.Clock as clocks;
 ghost use Rattle.history_model.specs.Stored.{stored};
 ghost use Rattle.stmt_text.specs.Fits.{FitsParts};
-ghost use Rattle.session_core.specs.declared.sessions.StepFail.TheVariants as steps;
-ghost use Rattle.session_core.specs.Steps.{IsTableLine, step};
 ghost use Rattle.store_engine.specs.declared.fail.StoreFail.TheVariants as stores;
 ghost use Rattle.store_engine.specs.Refusals.{IsOfOpening, IsNoStore};
-ghost use Rattle.dragoon_app.specs.Running.{stepped};
-ghost use Rattle.dragoon_app.specs.Carrying.{IsReady, GivesSeconds, GoesTo, GoesBy, Replies};
+ghost use Rattle.drill_core.specs.declared.fail.LineFail.TheVariants as lines;
+ghost use Rattle.drill_core.specs.Steps.{IsWorldLine};
+ghost use Rattle.dragoon_app.specs.Carrying.{IsReady, GivesSeconds, StepsFrom, LineFrom, RepliesFrom};
 ghost use Rattle.dragoon_app.specs.Carrying.{refusing, SetsMoment};
 
 use crate::line_kind::{LineKind, kind_of};
 use disk_model::Disk;
+use drill_core::{LineFail, World};
+use notary_link::Notary;
 use outside_io::Clock;
-use session_core::{Sessions, StepFail, print_reply};
 use std::alloc::{AllocError, Global};
 use stmt_text::{Line, ParseFail, parse_line};
-use store_engine::{Store, StoreFail};
+use store_engine::StoreFail;
 use tuple_bytes::Blob;
 
-/// A run over an open store: its sessions, the moment of a scripted run, and whether a reply was a
-/// refusal.
+/// A run over an open store: the world that its lines change, the store's first second, the moment of
+/// a scripted run, and whether a reply was a refusal.
 #[derive(Drop)]
 pub struct Runner {
-    pub store: Store,
-    pub sessions: Sessions,
+    pub world: World,
+    pub epoch: u64,
     pub moment: u64,
     pub is_scripted: bool,
     pub is_refused: bool,
@@ -46,19 +46,21 @@ impl Runner {
         ensures value { IfSome (D.state disk.old).reads (λ bytes. MatchResult result
             (λ r. IsReady r bytes)
             (IsNoStore id (stored bytes).header)) }
-        ensures fresh { IfOk result (λ r. r.store.at.is_closed ≡ false) }
-        ensures id { IfOk result (λ r. r.store.header.id ≡ id) }
+        ensures id { IfOk result (λ r. r.world.id ≡ id) }
         ensures scripted { IfOk result (λ r. r.is_scripted ≡ is_scripted) }
         ensures none_other { IfErr result IsOfOpening }
         ensures same { disks.Unchanged (D.state disk.old) (D.state disk.new) }
         ensures frame { disks.GoesOn (D.state disk.old) (D.state disk.new) }
         ensures cause { HasCause stores.DiskFault (D.state disk.old).faults (D.state disk.new).faults result }
     {
-        let store = Store::open_store(alloc, disk, id)?;
+        let mut world = World::new(alloc, id);
+        world.enter(alloc, disk)?;
+        let store = world.store().unwrap();
+        let epoch = store.header().epoch;
         let moment = store.last_moment();
         Ok(Runner {
-            store,
-            sessions: Sessions::new(alloc),
+            world,
+            epoch,
             moment,
             is_scripted,
             is_refused: false,
@@ -71,7 +73,7 @@ impl Runner {
         ensures frame { clocks.GoesOn (C.state clock.old) (C.state clock.new) }
     {
         if self.is_scripted {
-            self.store.header().epoch.saturating_add(self.moment)
+            self.epoch.saturating_add(self.moment)
         } else {
             clock.now()
         }
@@ -97,52 +99,54 @@ impl Runner {
         Ok(Blob::from_vec(b"ok\n".to_vec(alloc)?))
     }
 
-    /// Carries out a statement on tables.
-    fn step<D: Disk>(
+    /// Carries out a line of the world.
+    fn step<D: Disk, N: Notary>(
         &mut self,
         alloc: Global,
         disk: &mut D,
+        notary: &mut N,
         line: &Line,
         now: u64,
-    ) -> Result<Blob, StepFail>
-        requires open { self.old.store.at.is_closed ≡ false }
-        requires on_tables { IsTableLine line.now }
+    ) -> Result<Blob, LineFail>
+        requires is_line { IsWorldLine line.now }
         requires fits { FitsParts line.now }
-        ensures open { IfOk result (λ b. self.new.store.at.is_closed ≡ false) }
         ensures scripted { self.new.is_scripted ≡ self.old.is_scripted }
-        ensures told { WhereTold (D.state disk.old).reads (D.state disk.new).reads
-            (GoesTo (λ r. stepped r (step r.world line.now now)) result self.old self.new (D.state disk.old) (D.state disk.new)) }
-        ensures frame { disks.GoesOn (D.state disk.old) (D.state disk.new) }
-        ensures cause { HasCause steps.DiskFault (D.state disk.old).faults (D.state disk.new).faults result }
+        ensures told { StepsFrom line.now now result self.old self.new (D.state disk.old) (D.state disk.new)
+            (N.state notary.old) (N.state notary.new) }
+        ensures disk_frame { disks.GoesOn (D.state disk.old) (D.state disk.new) }
+        ensures notary_frame { notaries.GoesOn (N.state notary.old) (N.state notary.new) }
+        ensures disk_cause { HasCause lines.DiskFault (D.state disk.old).faults (D.state disk.new).faults result }
+        ensures notary_cause { HasCause lines.NotaryFault (N.state notary.old).faults (N.state notary.new).faults result }
     {
-        let reply = self.sessions.step(alloc, &mut self.store, disk, line, now)?;
-        self.is_refused |= reply.is_refusal();
-        Ok(print_reply(alloc, &reply)?)
+        let answered = self.world.line(alloc, disk, notary, line, now)?;
+        self.is_refused |= answered.refused;
+        Ok(answered.text)
     }
 
     /// Carries out a line of the grammar, and gives the text of its reply: nothing for a blank one.
-    fn carry<D: Disk, C: Clock>(
+    fn carry<D: Disk, N: Notary, C: Clock>(
         &mut self,
         alloc: Global,
         disk: &mut D,
+        notary: &mut N,
         clock: &mut C,
         line: &Line,
-    ) -> Result<Blob, StepFail>
-        requires open { self.old.store.at.is_closed ≡ false }
+    ) -> Result<Blob, LineFail>
         requires fits { FitsParts line.now }
-        ensures open { IfOk result (λ b. self.new.store.at.is_closed ≡ false) }
         ensures scripted { self.new.is_scripted ≡ self.old.is_scripted }
-        ensures told { GoesBy line.now result self.old self.new (D.state disk.old) (D.state disk.new)
-            (C.state clock.old) (C.state clock.new) }
+        ensures told { LineFrom line.now result self.old self.new (D.state disk.old) (D.state disk.new)
+            (N.state notary.old) (N.state notary.new) (C.state clock.old) (C.state clock.new) }
         ensures disk_frame { disks.GoesOn (D.state disk.old) (D.state disk.new) }
+        ensures notary_frame { notaries.GoesOn (N.state notary.old) (N.state notary.new) }
         ensures clock_frame { clocks.GoesOn (C.state clock.old) (C.state clock.new) }
-        ensures cause { HasCause steps.DiskFault (D.state disk.old).faults (D.state disk.new).faults result }
+        ensures disk_cause { HasCause lines.DiskFault (D.state disk.old).faults (D.state disk.new).faults result }
+        ensures notary_cause { HasCause lines.NotaryFault (N.state notary.old).faults (N.state notary.new).faults result }
     {
         match kind_of(line) {
             LineKind::Blank => Ok(Blob::new(alloc)),
-            LineKind::OnTables => {
+            LineKind::InWorld => {
                 let now = self.seconds(clock);
-                self.step(alloc, disk, line, now)
+                self.step(alloc, disk, notary, line, now)
             }
             LineKind::SetsMoment { moment } => {
                 let _ = self.seconds(clock);
@@ -156,24 +160,25 @@ impl Runner {
     }
 
     /// Carries out a line, and gives the text of its reply: nothing for a blank one.
-    pub fn reply<D: Disk, C: Clock>(
+    pub fn reply<D: Disk, N: Notary, C: Clock>(
         &mut self,
         alloc: Global,
         disk: &mut D,
+        notary: &mut N,
         clock: &mut C,
         line: &[u8],
-    ) -> Result<Blob, StepFail>
-        requires open { self.old.store.at.is_closed ≡ false }
-        ensures open { IfOk result (λ b. self.new.store.at.is_closed ≡ false) }
+    ) -> Result<Blob, LineFail>
         ensures scripted { self.new.is_scripted ≡ self.old.is_scripted }
-        ensures told { Replies line.now result self.old self.new (D.state disk.old) (D.state disk.new)
-            (C.state clock.old) (C.state clock.new) }
+        ensures told { RepliesFrom line.now result self.old self.new (D.state disk.old) (D.state disk.new)
+            (N.state notary.old) (N.state notary.new) (C.state clock.old) (C.state clock.new) }
         ensures disk_frame { disks.GoesOn (D.state disk.old) (D.state disk.new) }
+        ensures notary_frame { notaries.GoesOn (N.state notary.old) (N.state notary.new) }
         ensures clock_frame { clocks.GoesOn (C.state clock.old) (C.state clock.new) }
-        ensures cause { HasCause steps.DiskFault (D.state disk.old).faults (D.state disk.new).faults result }
+        ensures disk_cause { HasCause lines.DiskFault (D.state disk.old).faults (D.state disk.new).faults result }
+        ensures notary_cause { HasCause lines.NotaryFault (N.state notary.old).faults (N.state notary.new).faults result }
     {
         match parse_line(alloc, line) {
-            Ok(line) => self.carry(alloc, disk, clock, &line),
+            Ok(line) => self.carry(alloc, disk, notary, clock, &line),
             Err(ParseFail::Syntax) => {
                 let _ = self.seconds(clock);
                 Ok(self.refuse(alloc, "refused Syntax\n")?)
@@ -182,7 +187,7 @@ impl Runner {
                 let _ = self.seconds(clock);
                 Ok(self.refuse(alloc, "refused NumberTooWide\n")?)
             }
-            Err(ParseFail::NoMemory) => Err(StepFail::NoMemory),
+            Err(ParseFail::NoMemory) => Err(LineFail::NoMemory),
         }
     }
 }

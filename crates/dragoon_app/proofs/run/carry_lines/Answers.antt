@@ -1,22 +1,20 @@
 use Rattle.std.proofs.Common.{◌≡◌, List, ℕ, subst, refl, rules, arith, Ok, Err}
 use Rattle.disk_words.proofs.Frame as disk_frames
+use Rattle.notary_link.proofs.Frame as notary_frames
 use Rattle.outside_io.specs.Sink as sinks
 use Rattle.outside_io.proofs.Frame as sink_frames
 use Rattle.outside_io.proofs.Out.{out_then}
-use Rattle.dragoon_app.specs.Carrying.{Replies, of_input, of_output, of_step}
-use Rattle.dragoon_app.proofs.CarriedLines.{begins, goes_on, goes_no_further, between, under_way, ended, reads_failed, reads_unwritten, written_failed, written_front}
+use Rattle.dragoon_app.specs.Carrying.{RepliesFrom, of_input, of_output, of_line}
 use Rattle.dragoon_app.specs.Ran.{IsOutBut}
+use Rattle.dragoon_app.proofs.CarriedLines.{begins, goes_on, goes_no_further, between, under_way, ended, reads_failed, reads_unwritten, written_failed, written_front}
 use Rattle.dragoon_app.proofs.Written.{out_but_end}
 use Rattle.dragoon_app.proofs.run.carry_lines.Goals as goal
 
 pub lines-init : goal.lines-init
 lines-init g c = record {
-  going = begins c.args.runner.now (g.D.Disk.state c.args.disk.now) (g.C.Clock.state c.args.clock.now) (g.I.Source.state c.args.input.now) c.new-reader.result (g.O.Sink.state c.args.out.now) (g.met.D.Disk.only_now c.args.disk.now) c.new-reader.ensures.fresh c.requires.open;
+  going = begins c.args.runner.now (g.D.Disk.state c.args.disk.now) (g.N.Notary.state c.args.notary.now) (g.C.Clock.state c.args.clock.now) (g.I.Source.state c.args.input.now) c.new-reader.result (g.O.Sink.state c.args.out.now) (g.met.D.Disk.only_now c.args.disk.now) c.new-reader.ensures.fresh;
   out_frame = sink_frames.goes_on_same _;
 }
-
-pub reply-requires : goal.reply-requires
-reply-requires g c = record { «open» = c.lines.invariant.going.stays_open }
 
 pub lines-smaller : goal.lines-smaller
 lines-smaller g c =
@@ -26,18 +24,18 @@ lines-smaller g c =
 pub lines-preserved : goal.lines-preserved
 lines-preserved g c =
     let D = g.D.Disk.state in
+    let N = g.N.Notary.state in
     let C = g.C.Clock.state in
     let I = g.I.Source.state in
     let O = g.O.Sink.state in
-    let reader = c.read_line.new.self in
     let text = c.in_ok-text.text in
-    let replies = subst (λ (l : List ℕ). Replies l (Ok text) c.lines.runner c.reply.new.self (D c.lines.disk) (D c.reply.new.disk) (C c.lines.clock) (C c.reply.new.clock)) c.line.ensures.value c.in_ok-text.ensures.told in
+    let replies = subst (λ (l : List ℕ). RepliesFrom l (Ok text) c.lines.runner c.reply.new.self (D c.lines.disk) (D c.reply.new.disk) (N c.lines.notary) (N c.reply.new.notary) (C c.lines.clock) (C c.reply.new.clock)) c.line.ensures.value c.in_ok-text.ensures.told in
     let wrote : sinks.IsOut text (O c.lines.out) (O c.write_whole.new.out) = subst (λ (l : List ℕ). sinks.IsOut l (O c.lines.out) (O c.write_whole.new.out)) c.as_slice.ensures.value c.in_ok-write_whole.ensures.ok in
     record {
-      going = goes_on c.args.runner.now c.lines.runner c.reply.new.self (D c.args.disk.now) (D c.lines.disk) (D c.reply.new.disk) (C c.args.clock.now) (C c.lines.clock) (C c.reply.new.clock) (I c.args.input.now) (I c.lines.input) (I c.read_line.new.input) c.lines.reader reader text
+      going = goes_on c.args.runner.now c.lines.runner c.reply.new.self (D c.args.disk.now) (D c.lines.disk) (D c.reply.new.disk) (N c.args.notary.now) (N c.lines.notary) (N c.reply.new.notary) (C c.args.clock.now) (C c.lines.clock) (C c.reply.new.clock) (I c.args.input.now) (I c.lines.input) (I c.read_line.new.input) c.lines.reader c.read_line.new.self text
           (λ before xs. sinks.IsOut xs (O c.args.out.now) (O c.lines.out)) (λ before xs. sinks.IsOut xs (O c.args.out.now) (O c.write_whole.new.out))
           c.lines.invariant.going (rw c.if-branch.true at c.in_ok-read_line.ensures.told) c.read_line.ensures.feedless c.read_line.ensures.taken c.read_line.ensures.frame
-          replies c.in_ok-text.ensures.open c.reply.ensures.scripted c.reply.ensures.disk_frame c.reply.ensures.clock_frame
+          replies c.reply.ensures.scripted c.reply.ensures.disk_frame c.reply.ensures.notary_frame c.reply.ensures.clock_frame
           (λ before xs out. out_then xs text (O c.args.out.now) (O c.lines.out) (O c.write_whole.new.out) out wrote);
       out_frame = sink_frames.goes_on_then (O c.args.out.now) (O c.lines.out) (O c.write_whole.new.out) c.lines.invariant.out_frame c.write_whole.ensures.frame;
     }
@@ -45,14 +43,15 @@ lines-preserved g c =
 pub returns-in_err-read_line-clause-told : goal.returns-in_err-read_line-clause-told
 returns-in_err-read_line-clause-told g c =
     let D = g.D.Disk.state in
+    let N = g.N.Notary.state in
     let C = g.C.Clock.state in
     let I = g.I.Source.state in
     let O = g.O.Sink.state in
     let fail = c.in_err-read_line.field-0.0 in
     let same : c.from_residual.result ≡ Err (of_input fail) = search rules in
-    let going = goes_no_further c.args.runner.now c.lines.runner (D c.args.disk.now) (D c.lines.disk) (C c.args.clock.now) (C c.lines.clock) (I c.args.input.now) (I c.lines.input) (I c.read_line.new.input) c.lines.reader c.read_line.new.self
-    (λ before xs. sinks.IsOut xs (O c.args.out.now) (O c.lines.out)) c.lines.invariant.going c.in_err-read_line.ensures.told c.read_line.ensures.taken c.read_line.ensures.frame in
-    rw same (between c.args.runner.now c.lines.runner (D c.args.disk.now) (D c.lines.disk) (C c.args.clock.now) (C c.lines.clock) (I c.args.input.now) (I c.read_line.new.input) c.read_line.new.self (O c.args.out.now) (O c.lines.out)
+    let going = goes_no_further c.lines.runner (D c.args.disk.now) (D c.lines.disk) (C c.args.clock.now) (C c.lines.clock) (I c.args.input.now) (I c.lines.input) (I c.read_line.new.input) c.lines.reader c.read_line.new.self
+    (λ before xs. sinks.IsOut xs (O c.args.out.now) (O c.lines.out)) c.args.runner.now (N c.args.notary.now) (N c.lines.notary) c.lines.invariant.going c.in_err-read_line.ensures.told c.read_line.ensures.taken c.read_line.ensures.frame in
+    rw same (between c.args.runner.now c.lines.runner (D c.args.disk.now) (D c.lines.disk) (N c.args.notary.now) (N c.lines.notary) (C c.args.clock.now) (C c.lines.clock) (I c.args.input.now) (I c.read_line.new.input) c.read_line.new.self (O c.args.out.now) (O c.lines.out)
     (λ before xs. sinks.IsOut xs (O c.args.out.now) (O c.lines.out)) (Err (of_input fail)) going
     (λ done all others r. reads_failed fail c.read_line.new.self done all others c.in_err-read_line.ensures.input_limit c.in_err-read_line.ensures.read_fault r)
     (λ before text shorter is. written_failed fail before text (O c.args.out.now) (O c.lines.out) shorter is))
@@ -60,43 +59,51 @@ returns-in_err-read_line-clause-told g c =
 pub returns-in_err-text-clause-told : goal.returns-in_err-text-clause-told
 returns-in_err-text-clause-told g c =
     let D = g.D.Disk.state in
+    let N = g.N.Notary.state in
     let C = g.C.Clock.state in
     let I = g.I.Source.state in
     let O = g.O.Sink.state in
     let fail = c.in_err-text.field-0.0 in
-    let same : c.from_residual-in_err-text.result ≡ Err (of_step fail) = search rules in
-    let replies = subst (λ (l : List ℕ). Replies l (Err fail) c.lines.runner c.reply.new.self (D c.lines.disk) (D c.reply.new.disk) (C c.lines.clock) (C c.reply.new.clock)) c.line.ensures.value c.in_err-text.ensures.told in
-    rw same (under_way c.args.runner.now c.lines.runner c.reply.new.self (D c.args.disk.now) (D c.lines.disk) (D c.reply.new.disk) (C c.args.clock.now) (C c.lines.clock) (C c.reply.new.clock) (I c.args.input.now) (I c.lines.input) (I c.read_line.new.input) c.lines.reader c.read_line.new.self fail (O c.args.out.now) (O c.lines.out)
-    c.lines.invariant.going (g.met.D.Disk.counts_now c.reply.new.disk) (rw c.if-branch.true at c.in_ok-read_line.ensures.told) c.read_line.ensures.feedless c.read_line.ensures.taken c.in_ok-read_line.ensures.at_once.little_more replies)
+    let same : c.from_residual-in_err-text.result ≡ Err (of_line fail) = search rules in
+    let replies = subst (λ (l : List ℕ). RepliesFrom l (Err fail) c.lines.runner c.reply.new.self (D c.lines.disk) (D c.reply.new.disk) (N c.lines.notary) (N c.reply.new.notary) (C c.lines.clock) (C c.reply.new.clock)) c.line.ensures.value c.in_err-text.ensures.told in
+    rw same (under_way c.args.runner.now c.lines.runner c.reply.new.self (D c.args.disk.now) (D c.lines.disk) (D c.reply.new.disk) (N c.args.notary.now) (N c.lines.notary) (N c.reply.new.notary) (C c.args.clock.now) (C c.lines.clock) (C c.reply.new.clock) (I c.args.input.now) (I c.lines.input) (I c.read_line.new.input) c.lines.reader c.read_line.new.self fail (O c.args.out.now) (O c.lines.out)
+    c.lines.invariant.going (g.met.D.Disk.counts_now c.reply.new.disk) (rw c.if-branch.true at c.in_ok-read_line.ensures.told) c.read_line.ensures.feedless c.read_line.ensures.taken c.in_ok-read_line.ensures.at_once.little_more replies c.reply.ensures.notary_frame)
 
 pub returns-in_err-write_whole-clause-told : goal.returns-in_err-write_whole-clause-told
 returns-in_err-write_whole-clause-told g c =
     let D = g.D.Disk.state in
+    let N = g.N.Notary.state in
     let C = g.C.Clock.state in
     let I = g.I.Source.state in
     let O = g.O.Sink.state in
     let fail = c.in_err-write_whole.field-0.0 in
     let text = c.in_ok-text.text in
     let same : c.from_residual-in_err-write_whole.result ≡ Err (of_output fail) = search rules in
-    let replies = subst (λ (l : List ℕ). Replies l (Ok text) c.lines.runner c.reply.new.self (D c.lines.disk) (D c.reply.new.disk) (C c.lines.clock) (C c.reply.new.clock)) c.line.ensures.value c.in_ok-text.ensures.told in
+    let replies = subst (λ (l : List ℕ). RepliesFrom l (Ok text) c.lines.runner c.reply.new.self (D c.lines.disk) (D c.reply.new.disk) (N c.lines.notary) (N c.reply.new.notary) (C c.lines.clock) (C c.reply.new.clock)) c.line.ensures.value c.in_ok-text.ensures.told in
     let front : sinks.FrontIsOut text (O c.lines.out) (O c.write_whole.new.out) = subst (λ (l : List ℕ). sinks.FrontIsOut l (O c.lines.out) (O c.write_whole.new.out)) c.as_slice.ensures.value c.in_err-write_whole.ensures.err in
-    let going = goes_on c.args.runner.now c.lines.runner c.reply.new.self (D c.args.disk.now) (D c.lines.disk) (D c.reply.new.disk) (C c.args.clock.now) (C c.lines.clock) (C c.reply.new.clock) (I c.args.input.now) (I c.lines.input) (I c.read_line.new.input) c.lines.reader c.read_line.new.self text
+    let going = goes_on c.args.runner.now c.lines.runner c.reply.new.self (D c.args.disk.now) (D c.lines.disk) (D c.reply.new.disk) (N c.args.notary.now) (N c.lines.notary) (N c.reply.new.notary) (C c.args.clock.now) (C c.lines.clock) (C c.reply.new.clock) (I c.args.input.now) (I c.lines.input) (I c.read_line.new.input) c.lines.reader c.read_line.new.self text
     (λ before xs. sinks.IsOut xs (O c.args.out.now) (O c.lines.out)) (λ before xs. IsOutBut before xs (O c.args.out.now) (O c.write_whole.new.out))
     c.lines.invariant.going (rw c.if-branch.true at c.in_ok-read_line.ensures.told) c.read_line.ensures.feedless c.read_line.ensures.taken c.read_line.ensures.frame
-    replies c.in_ok-text.ensures.open c.reply.ensures.scripted c.reply.ensures.disk_frame c.reply.ensures.clock_frame
+    replies c.reply.ensures.scripted c.reply.ensures.disk_frame c.reply.ensures.notary_frame c.reply.ensures.clock_frame
     (λ before xs out. out_but_end xs text (O c.args.out.now) (O c.lines.out) (O c.write_whole.new.out) out front) in
-    rw same (between c.args.runner.now c.reply.new.self (D c.args.disk.now) (D c.reply.new.disk) (C c.args.clock.now) (C c.reply.new.clock) (I c.args.input.now) (I c.read_line.new.input) c.read_line.new.self (O c.args.out.now) (O c.write_whole.new.out)
+    rw same (between c.args.runner.now c.reply.new.self (D c.args.disk.now) (D c.reply.new.disk) (N c.args.notary.now) (N c.reply.new.notary) (C c.args.clock.now) (C c.reply.new.clock) (I c.args.input.now) (I c.read_line.new.input) c.read_line.new.self (O c.args.out.now) (O c.write_whole.new.out)
     (λ before xs. IsOutBut before xs (O c.args.out.now) (O c.write_whole.new.out)) (Err (of_output fail)) going
     (λ done all others r. reads_unwritten fail c.read_line.new.self done all others c.in_ok-read_line.ensures.at_once.little_more r)
     (λ before text shorter is. written_front fail before text (O c.args.out.now) (O c.write_whole.new.out) is))
 
 pub returns-clause-told : goal.returns-clause-told
 returns-clause-told g c =
-    ended c.args.runner.now c.lines.runner (g.D.Disk.state c.args.disk.now) (g.D.Disk.state c.lines.disk) (g.C.Clock.state c.args.clock.now) (g.C.Clock.state c.lines.clock) (g.I.Source.state c.args.input.now) (g.I.Source.state c.lines.input) (g.I.Source.state c.read_line.new.input) c.lines.reader c.read_line.new.self (g.O.Sink.state c.args.out.now) (g.O.Sink.state c.lines.out)
-    c.lines.invariant.going (rw c.if-branch.false at c.in_ok-read_line.ensures.told) c.read_line.ensures.taken c.read_line.ensures.frame (rw c.if-branch.false at c.in_ok-read_line.ensures.end refl)
+    ended c.args.runner.now c.lines.runner (g.D.Disk.state c.args.disk.now) (g.D.Disk.state c.lines.disk) (g.N.Notary.state c.args.notary.now) (g.N.Notary.state c.lines.notary) (g.C.Clock.state c.args.clock.now) (g.C.Clock.state c.lines.clock) (g.I.Source.state c.args.input.now) (g.I.Source.state c.lines.input) (g.I.Source.state c.read_line.new.input) c.lines.reader c.read_line.new.self (g.O.Sink.state c.args.out.now) (g.O.Sink.state c.lines.out)
+    c.lines.invariant.going (rw c.if-branch.false at c.in_ok-read_line.ensures.told) c.read_line.ensures.taken (rw c.if-branch.false at c.in_ok-read_line.ensures.end refl)
 
 pub returns-in_err-text-clause-disk_frame : goal.returns-in_err-text-clause-disk_frame
 returns-in_err-text-clause-disk_frame g c = disk_frames.goes_on_then _ _ _ c.lines.invariant.going.disk_frame c.reply.ensures.disk_frame
 
 pub returns-in_err-write_whole-clause-disk_frame : goal.returns-in_err-write_whole-clause-disk_frame
 returns-in_err-write_whole-clause-disk_frame g c = disk_frames.goes_on_then _ _ _ c.lines.invariant.going.disk_frame c.reply.ensures.disk_frame
+
+pub returns-in_err-text-clause-notary_frame : goal.returns-in_err-text-clause-notary_frame
+returns-in_err-text-clause-notary_frame g c = notary_frames.goes_on_then _ _ _ c.lines.invariant.going.notary_frame c.reply.ensures.notary_frame
+
+pub returns-in_err-write_whole-clause-notary_frame : goal.returns-in_err-write_whole-clause-notary_frame
+returns-in_err-write_whole-clause-notary_frame g c = notary_frames.goes_on_then _ _ _ c.lines.invariant.going.notary_frame c.reply.ensures.notary_frame
