@@ -12,7 +12,7 @@ use Rattle.notary_book.specs.Books.{lists_of, all_next, calls_in, told_by}
 use Rattle.notary_book.specs.Kept.{IsFileOf, IsSettled}
 use Rattle.notary_book.specs.Moments.{LeavesNone, SaysOf, LeavesOf}
 use Rattle.notary_book.proofs.Lists.{adds, keeps}
-use Rattle.notary_book.proofs.Telling.{if_map, after_is, every}
+use Rattle.notary_book.proofs.Telling.{if_map, if_any, after_is, every}
 
 says_either : (calls : List Call) (call : Call) (c : List ℕ) → TellsEither calls (calls ++ call ∷ []) c → SaysOf call (lists_of calls) c
 says_either calls call c (inl e) = (lists_of calls, e, inr (keeps calls))
@@ -21,17 +21,13 @@ says_either calls call c (inr e) = (lists_of (calls ++ call ∷ []), e, inl (add
 told_lists : (b : List ℕ) (calls : List Call) → Tells calls b → (P : Lists → Type 0) → P (lists_of calls) → IfSome (told_by b) P
 told_lists b calls e P p = subst (λ (o : Option Lists). IfSome o P) (sym e) p
 
-if_any : (o : Option Lists) (P : Lists → Type 0) → ((lists : Lists) → P lists) → IfSome o P
-if_any None P f = tt
-if_any (Some lists) P f = f lists
-
 -- nothing was done
 pub leaves_same : (call : Call) (s : State) → ((c : List ℕ) → s.was_image (turn s) c → s.is_image c) → WhereTold s.reads s.reads (LeavesOf call s s)
 leaves_same call s only_now = by s.reads
   where
     by : (o : Option (List ℕ)) → WhereTold o o (LeavesOf call s s)
     by None = tt
-    by (Some b) = if_any (told_by b) _ (λ lists. started s (λ c. s.is_image c ⊎ SaysOf call lists c) only_now (λ c now. inl now))
+    by (Some b) = if_any (told_by b) (λ lists. started s (λ c. s.is_image c ⊎ SaysOf call lists c) only_now (λ c now. inl now))
 
 -- only reading was
 pub leaves_read : (call : Call) (s m : State) → WhereTold s.reads m.reads (LeavesNone s m) → WhereTold s.reads m.reads (LeavesOf call s m)
@@ -40,7 +36,7 @@ leaves_read call s m told = by s.reads m.reads told
     by : (o n : Option (List ℕ)) → WhereTold o n (LeavesNone s m) → WhereTold o n (LeavesOf call s m)
     by None n t = tt
     by (Some b) None t = tt
-    by (Some b) (Some a) t = if_any (told_by b) _ (λ lists. weaker t (λ c was. inl was))
+    by (Some b) (Some a) t = if_any (told_by b) (λ lists. weaker t (λ c was. inl was))
 
 -- a payload was added, or not
 pub leaves_added : {E : Type 0} (calls : List Call) (call : Call) (at : Option Standing) (payload : List ℕ) (result : Result Standing E) (s s' : State) → GoesOn s s' → calls_in (payload ∷ []) ≡ call ∷ [] → IfSome s.reads (λ b. all_next [] (calls ++ call ∷ []) ≡ true) → IfSome s.reads (IsFileOf calls at) → IsSettled s → IfSome s.reads (Tells calls) → WhereTold s.reads s'.reads (Adds at payload result s s') → WhereTold s.reads s'.reads (LeavesOf call s s')

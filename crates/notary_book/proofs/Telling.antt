@@ -11,7 +11,7 @@ use Rattle.notary_link.specs.declared.fail.NotaryFail.TheVariants.{Failed, OutOf
 use Rattle.notary_link.specs.declared.mark.Mark.{Mark}
 use Rattle.notary_link.specs.Batches.{Batch}
 use Rattle.notary_link.specs.Shelves.{moments_on, shelf_of}
-use Rattle.notary_link.specs.Notary.{Call, file, note, IsAsked, Lists, Keeps, Grows, Changes, IsInTurn, HasRoom, GoesOn, Unchanged, Answers}
+use Rattle.notary_link.specs.Notary.{Call, file, note, IsAsked, Lists, Keeps, Grows, AddsWithin, Changes, HasReason, GoesOn, Unchanged, Answers}
 use Rattle.notary_link.proofs.Frame.{grows_same}
 use Rattle.txn_journal.specs.Held.{Standing}
 use Rattle.notary_book.specs.declared.kept.Kept.{Kept}
@@ -27,6 +27,10 @@ use Rattle.notary_book.proofs.Lists.{adds, grows, keeps, next_is, count_is, file
 pub if_map : {A : Type 0} (o : Option A) {P Q : A → Type 0} → IfSome o P → ((x : A) → P x → Q x) → IfSome o Q
 if_map None p f = tt
 if_map (Some x) p f = f x p
+
+pub if_any : {A : Type 0} (o : Option A) {P : A → Type 0} → ((x : A) → P x) → IfSome o P
+if_any None f = tt
+if_any (Some x) f = f x
 
 pub if_both : {A : Type 0} (o : Option A) {P Q R : A → Type 0} → IfSome o P → IfSome o Q → ((x : A) → P x → Q x → R x) → IfSome o R
 if_both None p q f = tt
@@ -70,6 +74,7 @@ module _ (s s' : DiskState) (a a' u u' : ℕ) (same : s'.reads ≡ s.reads) wher
 pub answers_behind : (call : Call) (result : Result (Unit {0}) NotaryFail) (s m s' : DiskState) (a u u' a' u'' : ℕ) → m.reads ≡ s.reads → Answers call result (book_state m a u') (book_state s' a' u'') → Answers call result (book_state s a u) (book_state s' a' u'')
 answers_behind call result s m s' a u u' a' u'' same answers = record {
   lists = subst (λ (o : Option (List ℕ)). WhereTold (lists_told o) (lists_told s'.reads) (Changes call book_limits result)) same answers.lists;
+  reason = subst (λ (o : Option (List ℕ)). IfSome (lists_told o) (HasReason call book_limits result)) same answers.reason;
   trace = tt;
   asked = answers.asked;
 }
@@ -77,8 +82,18 @@ answers_behind call result s m s' a u u' a' u'' same answers = record {
 -- ---- a call that is refused
 
 pub refused : (call : Call) (e : NotaryFail) (s : DiskState) (a u : ℕ) (calls : List Call) → IfSome s.reads (Tells calls) → IfSome s.reads (λ b. Changes call book_limits (Err e) (lists_of calls) (lists_of calls)) → Answers call (Err e) (book_state s a u) (book_state s a u)
-refused call e s a u calls tells changes = record { lists = by s.reads tells changes; trace = tt; asked = refl }
+refused call e s a u calls tells changes = record { lists = by s.reads tells changes; reason = why s.reads tells changes; trace = tt; asked = refl }
   where
+    caused : (e : NotaryFail) → Changes call book_limits (Err e) (lists_of calls) (lists_of calls) → HasReason call book_limits (Err e) (lists_of calls)
+    caused (OutOfTurn count) changes = changes.0
+    caused Full changes = changes.0
+    caused Failed changes = tt
+    caused NoMemory changes = tt
+
+    why : (o : Option (List ℕ)) → IfSome o (Tells calls) → IfSome o (λ b. Changes call book_limits (Err e) (lists_of calls) (lists_of calls)) → IfSome (lists_told o) (HasReason call book_limits (Err e))
+    why None t changes = tt
+    why (Some b) t changes = subst (λ (l : Option Lists). IfSome l (HasReason call book_limits (Err e))) (sym t) (caused e changes)
+
     by : (o : Option (List ℕ)) → IfSome o (Tells calls) → IfSome o (λ b. Changes call book_limits (Err e) (lists_of calls) (lists_of calls)) → WhereTold (lists_told o) (lists_told o) (Changes call book_limits (Err e))
     by None t changes = tt
     by (Some b) t changes = subst (λ (l : Option Lists). WhereTold l l (Changes call book_limits (Err e))) (sym t) changes
@@ -93,7 +108,7 @@ module _ (calls : List Call) (call : Call) where
   abbrev more : List Call
   more = calls ++ call ∷ []
 
-  lists_step : (reads reads' : Option (List ℕ)) (P : Lists → Lists → Type 0) → IfSome reads (Tells calls) → IfSome reads' (TellsEither calls more) → P (lists_of calls) (lists_of calls) → P (lists_of calls) (lists_of more) → WhereTold (lists_told reads) (lists_told reads') P
+  lists_step : (reads reads' : Option (List ℕ)) (P : Lists → Lists → Type 0) → IfSome reads (Tells calls) → IfSome reads' (TellsEither calls more) → P (lists_of calls) (lists_of calls) → IfSome reads (λ b. P (lists_of calls) (lists_of more)) → WhereTold (lists_told reads) (lists_told reads') P
   lists_step None reads' P t e p q = tt
   lists_step (Some b) None P t e p q = subst (λ (o : Option Lists). WhereTold o None P) (sym t) tt
   lists_step (Some b) (Some a) P t (inl e) p q = subst (λ (o : Option Lists). WhereTold o (told_by a) P) (sym t) (subst (λ (o : Option Lists). WhereTold (Some (lists_of calls)) o P) (sym e) p)
@@ -123,7 +138,7 @@ module _ (calls : List Call) (call : Call) where
         untold = λ none. by s'.reads (on.told ∙ sym (told_first s.reads before) ∙ none);
         ends = λ told none. absurd (yes_no _ (told_last (on.told ∙ sym (told_first s.reads before) ∙ told)) none);
       };
-      lists = lists_step s.reads s'.reads Grows before after (grows_same (lists_of calls)) (grows calls call);
+      lists = lists_step s.reads s'.reads Grows before after (grows_same (lists_of calls)) (if_any s.reads (λ b. grows calls call));
       traced = refl;
       trace = tt;
       limits = refl;
@@ -136,18 +151,19 @@ module _ (calls : List Call) (call : Call) where
         by None none = refl
         by (Some b) none = absurd cc
 
-    pub adds_failed : Answers call (Err Failed) (book_state s a u) (book_state s' a u')
-    adds_failed = record { lists = lists_step s.reads s'.reads (Changes call book_limits (Err Failed)) before after (inr (keeps calls)) (inl (adds calls call)); trace = tt; asked = refl }
+    module _ (within : IfSome s.reads (λ b. AddsWithin call book_limits (lists_of calls) (lists_of more))) where
+      pub adds_failed : Answers call (Err Failed) (book_state s a u) (book_state s' a u')
+      adds_failed = record { lists = lists_step s.reads s'.reads (Changes call book_limits (Err Failed)) before after (inr (keeps calls)) (if_map s.reads within (λ b adds. inl adds)); reason = if_any (lists_told s.reads) (λ lists. tt); trace = tt; asked = refl }
 
-    pub adds_unknown : Answers call (Err NoMemory) (book_state s a u) (book_state s' a u')
-    adds_unknown = record { lists = lists_step s.reads s'.reads (Changes call book_limits (Err NoMemory)) before after (inr (keeps calls)) (inl (adds calls call)); trace = tt; asked = refl }
+      pub adds_unknown : Answers call (Err NoMemory) (book_state s a u) (book_state s' a u')
+      adds_unknown = record { lists = lists_step s.reads s'.reads (Changes call book_limits (Err NoMemory)) before after (inr (keeps calls)) (if_map s.reads within (λ b adds. inl adds)); reason = if_any (lists_told s.reads) (λ lists. tt); trace = tt; asked = refl }
 
-    pub adds_stopped : (e : NotaryFail) → (e ≡ Failed) ⊎ (e ≡ NoMemory) → Answers call (Err e) (book_state s a u) (book_state s' a u')
-    adds_stopped e (inl is) = subst (λ (x : NotaryFail). Answers call (Err x) (book_state s a u) (book_state s' a u')) (sym is) adds_failed
-    adds_stopped e (inr is) = subst (λ (x : NotaryFail). Answers call (Err x) (book_state s a u) (book_state s' a u')) (sym is) adds_unknown
+      pub adds_stopped : (e : NotaryFail) → (e ≡ Failed) ⊎ (e ≡ NoMemory) → Answers call (Err e) (book_state s a u) (book_state s' a u')
+      adds_stopped e (inl is) = subst (λ (x : NotaryFail). Answers call (Err x) (book_state s a u) (book_state s' a u')) (sym is) adds_failed
+      adds_stopped e (inr is) = subst (λ (x : NotaryFail). Answers call (Err x) (book_state s a u) (book_state s' a u')) (sym is) adds_unknown
 
-  pub adds_done : (s s' : DiskState) (a u u' : ℕ) → IfSome s.reads (Tells calls) → IfSome s'.reads (Tells more) → IfSome s.reads (λ b. IsInTurn call (lists_of calls) × HasRoom call book_limits (lists_of calls)) → Answers call (Ok tt) (book_state s a u) (book_state s' a u')
-  adds_done s s' a u u' before after right = record { lists = lists_done s.reads s'.reads (Changes call book_limits (Ok tt)) before after (if_map s.reads right (λ b r. (r.0, r.1, adds calls call))); trace = tt; asked = refl }
+  pub adds_done : (s s' : DiskState) (a u u' : ℕ) → IfSome s.reads (Tells calls) → IfSome s'.reads (Tells more) → IfSome s.reads (λ b. AddsWithin call book_limits (lists_of calls) (lists_of more)) → Answers call (Ok tt) (book_state s a u) (book_state s' a u')
+  adds_done s s' a u u' before after within = record { lists = lists_done s.reads s'.reads (Changes call book_limits (Ok tt)) before after within; reason = if_any (lists_told s.reads) (λ lists. tt); trace = tt; asked = refl }
 
   -- ---- over the disk
 
@@ -216,8 +232,8 @@ module _ (reads : Option (List ℕ)) (kept : Kept) (k : Knows reads kept) where
       pub full : leb (kept.pages.seals + length batch.seals) max_seals ≡ false → IfSome reads (λ b. Changes (file id index batch) book_limits (Err Full) (lists_of k.calls) (lists_of k.calls))
       full no_room = if_map reads k.stands (λ b stands. ((turn ∙ count_is k.calls kept.pages stands id, λ room. omega (arith, room, leb-false _ _ no_room, stands.seals_are)), keeps k.calls))
 
-      pub batch_right : leb (kept.pages.seals + length batch.seals) max_seals ≡ true → IfSome reads (λ b. IsInTurn (file id index batch) (lists_of k.calls) × HasRoom (file id index batch) book_limits (lists_of k.calls))
-      batch_right room = if_map reads k.stands (λ b stands. (turn ∙ count_is k.calls kept.pages stands id, omega (arith, leb-true _ _ room, stands.seals_are)))
+      pub batch_within : leb (kept.pages.seals + length batch.seals) max_seals ≡ true → IfSome reads (λ b. AddsWithin (file id index batch) book_limits (lists_of k.calls) (lists_of (k.calls ++ file id index batch ∷ [])))
+      batch_within room = if_map reads k.stands (λ b stands. (turn ∙ count_is k.calls kept.pages stands id, omega (arith, leb-true _ _ room, stands.seals_are), adds k.calls (file id index batch)))
 
       pub batch_next : leb (kept.pages.seals + length batch.seals) max_seals ≡ true → IfSome reads (λ b. all_next [] (k.calls ++ file id index batch ∷ []) ≡ true)
       batch_next room = if_both reads k.stands k.in_file (λ b stands f. next_is k.calls (file id index batch) (file_is_next k.calls kept.journal b f) ∙ file_next k.calls kept.pages stands id index batch turn room)
@@ -226,8 +242,8 @@ module _ (reads : Option (List ℕ)) (kept : Kept) (k : Knows reads kept) where
     pub marks_full : ltb kept.pages.marks max_marks ≡ false → IfSome reads (λ b. Changes (note id mark) book_limits (Err Full) (lists_of k.calls) (lists_of k.calls))
     marks_full no_room = if_map reads k.stands (λ b stands. ((tt, λ room. omega (arith, room, ltb-false _ _ no_room, stands.marks_are)), keeps k.calls))
 
-    pub mark_right : ltb kept.pages.marks max_marks ≡ true → IfSome reads (λ b. IsInTurn (note id mark) (lists_of k.calls) × HasRoom (note id mark) book_limits (lists_of k.calls))
-    mark_right room = if_map reads k.stands (λ b stands. (tt, omega (arith, ltb-true _ _ room, stands.marks_are)))
+    pub mark_within : ltb kept.pages.marks max_marks ≡ true → IfSome reads (λ b. AddsWithin (note id mark) book_limits (lists_of k.calls) (lists_of (k.calls ++ note id mark ∷ [])))
+    mark_within room = if_map reads k.stands (λ b stands. (tt, omega (arith, ltb-true _ _ room, stands.marks_are), adds k.calls (note id mark)))
 
     pub mark_next : ltb kept.pages.marks max_marks ≡ true → IfSome reads (λ b. all_next [] (k.calls ++ note id mark ∷ []) ≡ true)
     mark_next room = if_both reads k.stands k.in_file (λ b stands f. next_is k.calls (note id mark) (file_is_next k.calls kept.journal b f) ∙ note_is k.calls kept.pages stands id mark true room)

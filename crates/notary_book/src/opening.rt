@@ -22,10 +22,7 @@ const OPEN: u8 = 0xA7;
 
 /// Syncs, so that what is read is the only image, and reads. Nothing comes back where the bytes are no
 /// book and no device on which one may be made.
-pub(crate) fn open_book<D: Disk>(
-    alloc: Global,
-    disk: &mut D,
-) -> Result<Option<Kept>, DiskFail>
+pub(crate) fn open_book<D: Disk>(alloc: Global, disk: &mut D) -> Result<Option<Kept>, DiskFail>
     ensures value { IfOk result (IsReadFrom (D.state disk.new).reads) }
     ensures settled { OnOk result (IsSettled (D.state disk.new)) }
     ensures reads { (D.state disk.new).reads ≡ (D.state disk.old).reads }

@@ -14,7 +14,7 @@ use Rattle.notary_link.specs.declared.fail.NotaryFail.{NotaryFail}
 use Rattle.notary_link.specs.declared.fail.NotaryFail.TheVariants.{Failed, OutOfTurn, Full, NoMemory}
 use Rattle.notary_link.specs.Batches.{Batch}
 use Rattle.notary_link.specs.declared.seal.Seal.{Seal}
-use Rattle.notary_link.specs.Notary.{Entry, file, batch_of, seals_in_all, Keeps, Files, Notes, Grows, IsRefusal, Changes, Traces, Answers, is_failed, GoesOn}
+use Rattle.notary_link.specs.Notary.{Entry, file, batch_of, seals_in_all, Keeps, Files, Notes, Grows, IsRefusal, HasReason, Changes, Traces, Answers, is_failed, GoesOn}
 use Rattle.notary_link.specs.Calls.{filed_of, call_of, made_of, trace_of, batches_by, marks_by, lists_of}
 use Rattle.notary_link.specs.Memory.{memory_state}
 use Rattle.notary_link.proofs.Frame.{grows_same}
@@ -103,13 +103,13 @@ module _ (limits : NotaryLimits) (made : List Made) (fails : ℕ → Bool) where
       faults = later;
     }
 
-    pub entered : Traces (call_of m.change) m.answer (trace_of made) (made_of m ∷ trace_of made) → Changes (call_of m.change) limits m.answer (lists_of made) (lists_of (made ++ m ∷ [])) → Answers (call_of m.change) m.answer (memory_state limits made fails asked before) (memory_state limits (made ++ m ∷ []) fails asked after)
-    entered traces changes = record { lists = changes; trace = subst (λ (l : List Entry). Traces (call_of m.change) m.answer (trace_of made) l) (sym (trace_more made m)) traces; asked = refl }
+    pub entered : Traces (call_of m.change) m.answer (trace_of made) (made_of m ∷ trace_of made) → Changes (call_of m.change) limits m.answer (lists_of made) (lists_of (made ++ m ∷ [])) → HasReason (call_of m.change) limits m.answer (lists_of made) → Answers (call_of m.change) m.answer (memory_state limits made fails asked before) (memory_state limits (made ++ m ∷ []) fails asked after)
+    entered traces changes reason = record { lists = changes; reason = reason; trace = subst (λ (l : List Entry). Traces (call_of m.change) m.answer (trace_of made) l) (sym (trace_more made m)) traces; asked = refl }
 
 -- a call that is refused
 pub refused : (limits : NotaryLimits) (made : List Made) (fails : ℕ → Bool) (asked before after : ℕ) (change : Change) (e : NotaryFail) → IsRefusal (call_of change) limits e (lists_of made) → Answers (call_of change) (Err e) (memory_state limits made fails asked before) (memory_state limits (made ++ one change (Err e)) fails asked after)
-refused limits made fails asked before after change (OutOfTurn count) refusal = entered limits made fails (record { change = change; answer = Err (OutOfTurn count) }) asked before after refl (refusal, keeps made change (OutOfTurn count))
-refused limits made fails asked before after change Full refusal = entered limits made fails (record { change = change; answer = Err Full }) asked before after refl (refusal, keeps made change Full)
+refused limits made fails asked before after change (OutOfTurn count) refusal = entered limits made fails (record { change = change; answer = Err (OutOfTurn count) }) asked before after refl (refusal, keeps made change (OutOfTurn count)) refusal
+refused limits made fails asked before after change Full refusal = entered limits made fails (record { change = change; answer = Err Full }) asked before after refl (refusal, keeps made change Full) refusal
 refused limits made fails asked before after change Failed refusal = absurd refusal
 refused limits made fails asked before after change NoMemory refusal = absurd refusal
 
@@ -122,7 +122,7 @@ refused_passes limits made change NoMemory refusal = absurd refusal
 
 -- a call that fails
 pub failed : (limits : NotaryLimits) (made : List Made) (fails : ℕ → Bool) (asked before after : ℕ) (change : Change) → Answers (call_of change) (Err Failed) (memory_state limits made fails asked before) (memory_state limits (made ++ one change (Err Failed)) fails asked after)
-failed limits made fails asked before after change = entered limits made fails (record { change = change; answer = Err Failed }) asked before after refl (inr (keeps made change Failed))
+failed limits made fails asked before after change = entered limits made fails (record { change = change; answer = Err Failed }) asked before after refl (inr (keeps made change Failed)) tt
 
 -- the same, of a record that is known by an equation
 pub quiet : (limits : NotaryLimits) (made made' : List Made) (fails : ℕ → Bool) (asked before after : ℕ) → made' ≡ made → before ≤ after → GoesOn (memory_state limits made fails asked before) (memory_state limits made' fails asked after)
@@ -140,4 +140,4 @@ pub filed_ok : (limits : NotaryLimits) (made made' : List Made) (fails : ℕ →
 filed_ok limits made made' fails asked faults id index moment copied seals adds same turn room =
     subst (λ (l : List Made). Answers (file id index (batch_of moment seals)) (Ok tt) (memory_state limits made fails asked faults) (memory_state limits l fails asked faults)) (sym adds)
     (subst (λ (b : Batch). Answers (file id index b) (Ok tt) (memory_state limits made fails asked faults) (memory_state limits (made ++ one (File id index copied) (Ok tt)) fails asked faults)) same
-    (entered limits made fails (record { change = File id index copied; answer = Ok tt }) asked faults faults refl (turn, subst (λ (b : Batch). seals_in_all (lists_of made) + length b.seals ≤ limits.seals) (sym same) room, files made id index copied)))
+    (entered limits made fails (record { change = File id index copied; answer = Ok tt }) asked faults faults refl (turn, subst (λ (b : Batch). seals_in_all (lists_of made) + length b.seals ≤ limits.seals) (sym same) room, files made id index copied) tt))

@@ -11,7 +11,7 @@ use Rattle.notary_link.specs.declared.notary.NotaryLimits.{NotaryLimits}
 use Rattle.notary_link.specs.declared.seal.Seal.{Seal}
 use Rattle.notary_link.specs.Batches.{Batch, IsBatch}
 use Rattle.notary_link.specs.Filing.{planned, FilesAll, fitting, room_in, FilesInTurn, FilesSome}
-use Rattle.notary_link.specs.Notary.{file, Lists, State, batch_of, seals_of, seals_in_all, Keeps, Files, Changes, Answers, GoesOn}
+use Rattle.notary_link.specs.Notary.{file, Lists, State, batch_of, seals_of, seals_in_all, Keeps, Files, AddsWithin, Changes, Answers, GoesOn}
 use Rattle.notary_link.proofs.Fitting.{fitting_few, fitting_most, fitting_fits}
 use Rattle.notary_link.proofs.FiledEach.{one_more, grows}
 use Rattle.notary_link.proofs.Sums.{more_below}
@@ -90,12 +90,12 @@ module _ (id from moment : ℕ) (batches : List (List Seal)) where
             by (inr le) = omega (arith, le, enough)
 
         -- one that failed is there or isn't
-        some_filed : Files id batch mid new ⊎ Keeps mid new → FilesSome id limits all old new
-        some_filed (inl files) = record {
+        some_filed : AddsWithin (file id (from + i) batch) limits mid new ⊎ Keeps mid new → FilesSome id limits all old new
+        some_filed (inl adds) = let more = room_left adds.1 adds.2 in record {
           done = i + 1;
           some = omega (arith, short);
-          fit = omega (arith, enough);
-          filed = grows id from moment batches i seals within is old mid new front files;
+          fit = fitting_most (room_in limits old) (i + 1) all (omega (arith, short)) more.1;
+          filed = more.0;
         }
         some_filed (inr keeps) = record {
           done = i;

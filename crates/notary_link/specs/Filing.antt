@@ -58,11 +58,11 @@ pub record FilesFitting (id : ℕ) (limits : NotaryLimits) (batches : List Batch
   pub left : fitting (room_in limits old) batches < length batches
   pub filed : FilesAll id (take (fitting (room_in limits old) batches) batches) old new
 
--- so many were filed, and there was room for all but perhaps the last, which failed
+-- so many were filed, and there was room for all of these
 pub record FilesSome (id : ℕ) (limits : NotaryLimits) (batches : List Batch) (old new : Lists) : Type 0 where
   pub done : ℕ
   pub some : done ≤ length batches
-  pub fit : done ≤ fitting (room_in limits old) batches + 1
+  pub fit : done ≤ fitting (room_in limits old) batches
   pub filed : FilesAll id (take done batches) old new
 
 -- what was filed from the next index of an id on

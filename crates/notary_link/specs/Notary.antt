@@ -135,13 +135,23 @@ IsRefusal call limits Full lists = IsInTurn call lists × (HasRoom call limits l
 IsRefusal call limits Failed lists = ⊥
 IsRefusal call limits NoMemory lists = ⊥
 
+-- a refusal has its cause in the lists, also where their telling ends in the call
+abbrev pub HasReason : Call → NotaryLimits → Result (Unit {0}) NotaryFail → Lists → Type 0
+HasReason call limits (Err (OutOfTurn count)) lists = IsRefusal call limits (OutOfTurn count) lists
+HasReason call limits (Err Full) lists = IsRefusal call limits Full lists
+HasReason call limits result lists = Unit {0}
+
+-- a changing call adds what it is for, in its turn and within the limits
+abbrev pub AddsWithin : Call → NotaryLimits → Lists → Lists → Type 0
+AddsWithin call limits old new = IsInTurn call old × HasRoom call limits old × Adds call old new
+
 -- what a changing call does to the lists, by its answer
 abbrev pub Changes : Call → NotaryLimits → Result (Unit {0}) NotaryFail → Lists → Lists → Type 0
-Changes call limits (Ok _) old new = IsInTurn call old × HasRoom call limits old × Adds call old new
+Changes call limits (Ok _) old new = AddsWithin call limits old new
 Changes call limits (Err (OutOfTurn count)) old new = IsRefusal call limits (OutOfTurn count) old × Keeps old new
 Changes call limits (Err Full) old new = IsRefusal call limits Full old × Keeps old new
-Changes call limits (Err Failed) old new = Adds call old new ⊎ Keeps old new
-Changes call limits (Err NoMemory) old new = Adds call old new ⊎ Keeps old new
+Changes call limits (Err Failed) old new = AddsWithin call limits old new ⊎ Keeps old new
+Changes call limits (Err NoMemory) old new = AddsWithin call limits old new ⊎ Keeps old new
 
 -- ---- What a call does, by its answer
 
@@ -153,6 +163,7 @@ Traces call result old new = new ≡ (call, result) ∷ old
 -- a changing call was made, and answered so
 pub record Answers (call : Call) (result : Result (Unit {0}) NotaryFail) (old new : State) : Type 0 where
   pub lists : WhereTold old.lists new.lists (Changes call old.limits result)
+  pub reason : IfSome old.lists (HasReason call old.limits result)
   pub trace : WhereTold old.trace new.trace (Traces call result)
   pub asked : new.asked ≡ old.asked
 

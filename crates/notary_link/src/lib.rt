@@ -11,7 +11,7 @@
 //! | | Ok, `Failed` or `NoMemory`, and nothing else | `only` |
 //! | | nothing has changed | `same` |
 //! | | only `ask` raises the number of questions, by at most one | `asked` |
-//! | `file`, `mark` | after Ok one batch or mark more; OutOfTurn exactly where the index is not the count; then Full exactly where there is no room; after `Failed` or `NoMemory` it is there or isn't; nothing else changes | `change` |
+//! | `file`, `mark` | after Ok one batch or mark more; OutOfTurn exactly where the index is not the count; then Full exactly where there is no room; both have their cause also where the telling of lists ends in the call; after `Failed` or `NoMemory` it is there, in its turn and within the limits, or isn't; nothing else changes | `change` |
 //! | all of them | lists only grow; their telling ends only where faults rose, and for good; the changing calls are added to the trace as planned; the limits stay | `frame` |
 //! | | `Failed` comes only where the notary counted a fault in that call | `cause` |
 //!
@@ -32,6 +32,7 @@
 //! | A call above | After it | Clause |
 //! |---|---|---|
 //! | [`file_each`] | all batches are filed, or those up to one that was not | `told` |
+//! | | from the next index on, those that fit are filed, or after a failure the first of these | `in_turn` |
 //! | | these calls were made in order, and none after one that was not done | `trace` |
 //!
 //! `proofs/Runs` joins such runs of calls, and says which of them failed, where one is planned to;

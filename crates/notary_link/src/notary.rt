@@ -22,7 +22,8 @@ pub struct NotaryLimits {
 /// Keeps, under each id, batches of sealed digests and marks, and answers for them.
 ///
 /// `Failed` comes only where the notary counted a fault. After `Failed` or `NoMemory` of a changing
-/// call, what it would add is there or isn't; after any other refusal all is as it was.
+/// call, what it would add is there, in its turn and within the limits, or isn't; after any other
+/// refusal all is as it was.
 pub trait Notary {
     /// What is filed and marked, the limits, the changing calls so far and which are to fail, and
     /// the counts of questions and of faults.

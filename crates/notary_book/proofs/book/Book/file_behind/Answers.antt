@@ -6,7 +6,7 @@ use Rattle.notary_book.proofs.Bytes.{told_file}
 use Rattle.notary_book.proofs.Leaving.{leaves_same, leaves_added}
 use Rattle.notary_book.proofs.Keeping.{knows_of, settled_of, open_of, keeps_some, settled_some, opens_some}
 use Rattle.notary_book.proofs.Sizes.{fits_record, spelled_in}
-use Rattle.notary_book.proofs.Telling.{if_map, if_alike, told_calls, quiet, refused, adds_on, adds_stopped, adds_unknown, adds_done, either, stored, stays_settled, asked_is, out_of_turn, full, batch_right, batch_next}
+use Rattle.notary_book.proofs.Telling.{if_map, if_alike, told_calls, quiet, refused, adds_on, adds_stopped, adds_unknown, adds_done, either, stored, stays_settled, asked_is, out_of_turn, full, batch_within, batch_next}
 use Rattle.notary_book.proofs.book.Book.file_behind.Goals as goal
 
 pub returns-then-index-count-clause-change : goal.returns-then-index-count-clause-change
@@ -92,7 +92,8 @@ returns-in_err-journal-clause-change g c =
     let same : c.from_residual-in_err-journal.result ≡ Err e = search rules in
     let told = rw c.deref.ensures.value at c.in_err-journal.ensures.told in
     let after = either k.calls call kept.journal c.in_ok-payload.payload.items (Err e) s s' c.in_err-journal.ensures.frame spelled next k.in_file settled told (g.met.D.Disk.reads_image n.disk) (g.met.D.Disk.counts_now n.disk) in
-    rw (same, c.in_err-journal.ensures.asked) (adds_stopped k.calls call s s' self.asked self.unreadable n.unreadable c.in_err-journal.ensures.frame c.in_err-journal.ensures.unreadable before after e (asked_is e c.in_err-journal.ensures.only))
+    let within = batch_within s.reads kept k c.args.id c.args.index (batch_of c.args.moment c.args.seals.now) (let t = c.if-index-count.false in let turn : c.args.index ≡ c.count-count.result = grind (arith, t) in turn ∙ c.count-count.ensures.value) (sym c.has_room.ensures.value ∙ room) in
+    rw (same, c.in_err-journal.ensures.asked) (adds_stopped k.calls call s s' self.asked self.unreadable n.unreadable c.in_err-journal.ensures.frame c.in_err-journal.ensures.unreadable before after within e (asked_is e c.in_err-journal.ensures.only))
 
 pub returns-in_err-journal-clause-frame : goal.returns-in_err-journal-clause-frame
 returns-in_err-journal-clause-frame g c =
@@ -134,7 +135,8 @@ returns-in_err-add_batch-clause-change g c =
     let told = rw c.deref.ensures.value at c.in_ok-journal.ensures.told in
     let after = either k.calls call kept.journal c.in_ok-payload.payload.items (Ok c.in_ok-journal.journal) s s' c.in_ok-journal.ensures.frame spelled next k.in_file settled told (g.met.D.Disk.reads_image n.disk) (g.met.D.Disk.counts_now n.disk) in
     let same : c.from_residual-in_err-add_batch.result ≡ Err NoMemory = search rules in
-    rw (same, c.in_ok-journal.ensures.asked) (adds_unknown k.calls call s s' self.asked self.unreadable n.unreadable c.in_ok-journal.ensures.frame c.in_ok-journal.ensures.unreadable before after)
+    let within = batch_within s.reads kept k c.args.id c.args.index (batch_of c.args.moment c.args.seals.now) (let t = c.if-index-count.false in let turn : c.args.index ≡ c.count-count.result = grind (arith, t) in turn ∙ c.count-count.ensures.value) (sym c.has_room.ensures.value ∙ room) in
+    rw (same, c.in_ok-journal.ensures.asked) (adds_unknown k.calls call s s' self.asked self.unreadable n.unreadable c.in_ok-journal.ensures.frame c.in_ok-journal.ensures.unreadable before after within)
 
 pub returns-in_err-add_batch-clause-frame : goal.returns-in_err-add_batch-clause-frame
 returns-in_err-add_batch-clause-frame g c =
@@ -217,7 +219,8 @@ returns-clause-change g c =
     let told = rw c.deref.ensures.value at c.in_ok-journal.ensures.told in
     let after = either k.calls call kept.journal c.in_ok-payload.payload.items (Ok c.in_ok-journal.journal) s s' c.in_ok-journal.ensures.frame spelled next k.in_file settled told (g.met.D.Disk.reads_image n.disk) (g.met.D.Disk.counts_now n.disk) in
     let in_file = stored k.calls call NotaryFail kept.journal c.in_ok-payload.payload.items c.in_ok-journal.journal s s' c.in_ok-journal.ensures.frame spelled next k.in_file settled told in
-    rw c.in_ok-journal.ensures.asked (adds_done k.calls call s s' self.asked self.unreadable n.unreadable before (if_map s'.reads in_file (λ b f. told_file (k.calls ++ call ∷ []) (Some c.in_ok-journal.journal) b f)) (batch_right s.reads kept k c.args.id c.args.index (batch_of c.args.moment c.args.seals.now) (let t = c.if-index-count.false in let turn : c.args.index ≡ c.count-count.result = grind (arith, t) in turn ∙ c.count-count.ensures.value) (sym c.has_room.ensures.value ∙ room)))
+    let within = batch_within s.reads kept k c.args.id c.args.index (batch_of c.args.moment c.args.seals.now) (let t = c.if-index-count.false in let turn : c.args.index ≡ c.count-count.result = grind (arith, t) in turn ∙ c.count-count.ensures.value) (sym c.has_room.ensures.value ∙ room) in
+    rw c.in_ok-journal.ensures.asked (adds_done k.calls call s s' self.asked self.unreadable n.unreadable before (if_map s'.reads in_file (λ b f. told_file (k.calls ++ call ∷ []) (Some c.in_ok-journal.journal) b f)) within)
 
 pub returns-clause-frame : goal.returns-clause-frame
 returns-clause-frame g c =
