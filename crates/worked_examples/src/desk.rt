@@ -1,7 +1,8 @@
-//! A store in memory with what a call of the program needs beside it.
+//! A store and a notary in memory, with what a call of the program needs beside them.
 
 use disk_model::{Disk, MemDisk};
 use dragoon_app::dragoon;
+use notary_link::{MemNotary, Notary, NotaryLimits};
 use outside_io::{MemClock, MemSink, MemSource};
 use std::alloc::{AllocError, Global};
 
@@ -14,11 +15,23 @@ pub fn words(alloc: Global, text: &str) -> Result<Vec<String>, AllocError> {
     Ok(words)
 }
 
-/// How a call over this store ends that finds all its devices whole, and what it writes. The clock
-/// gives these seconds.
-pub fn call<D: Disk>(
+/// An empty notary that holds as much as the program's.
+pub fn notary(alloc: Global) -> MemNotary {
+    MemNotary::new(
+        alloc,
+        NotaryLimits {
+            seals: 16_777_216,
+            marks: 65_536,
+        },
+    )
+}
+
+/// How a call over this store and this notary ends that finds all its devices whole, and what it
+/// writes. The clock gives these seconds.
+pub fn audit<D: Disk, N: Notary>(
     alloc: Global,
     store: &mut D,
+    notary: &mut N,
     text: &str,
     script: &[u8],
     seconds: &[u64],
@@ -27,8 +40,21 @@ pub fn call<D: Disk>(
     let mut clock = MemClock::new(seconds.to_vec(alloc)?);
     let mut input = MemSource::new(script.to_vec(alloc)?, 4096, Vec::new(alloc));
     let mut out = MemSink::new(alloc, Vec::new(alloc));
-    let status = dragoon(alloc, &words, store, &mut clock, &mut input, &mut out);
+    let status = dragoon(
+        alloc, &words, store, notary, &mut clock, &mut input, &mut out,
+    );
     Ok((status.code(), out.bytes().to_vec(alloc)?))
+}
+
+/// The same beside a notary to which nothing was filed.
+pub fn call<D: Disk>(
+    alloc: Global,
+    store: &mut D,
+    text: &str,
+    script: &[u8],
+    seconds: &[u64],
+) -> Result<(u8, Vec<u8>), AllocError> {
+    audit(alloc, store, &mut notary(alloc), text, script, seconds)
 }
 
 /// A new store in memory, made by these words at second 0 of the clock.

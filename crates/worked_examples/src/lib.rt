@@ -11,4 +11,8 @@ mod desk;
 #[cfg(test)]
 mod limits;
 #[cfg(test)]
+mod notarized;
+#[cfg(test)]
 mod scripts;
+#[cfg(test)]
+mod stops;

@@ -1,6 +1,6 @@
 //! What is as large as it may be, and a little larger.
 
-use crate::desk::{call, made, words};
+use crate::desk::{call, made, notary, words};
 use disk_model::MemDisk;
 use dragoon_app::dragoon;
 use outside_io::{MemClock, MemSink, MemSource};
@@ -60,7 +60,10 @@ fn failing(
     let mut clock = MemClock::new(Vec::new(alloc));
     let mut input = MemSource::new(script, piece, reads.to_vec(alloc)?);
     let mut out = MemSink::new(alloc, writes.to_vec(alloc)?);
-    let status = dragoon(alloc, &words, &mut store, &mut clock, &mut input, &mut out);
+    let mut notary = notary(alloc);
+    let status = dragoon(
+        alloc, &words, &mut store, &mut notary, &mut clock, &mut input, &mut out,
+    );
     Ok((status.code(), out.bytes().to_vec(alloc)?))
 }
 

@@ -1,0 +1,185 @@
+//! A disk or a notary that fails at each of its calls in turn, a crash after it, and the retry.
+
+use crate::desk::{audit, made, notary};
+use disk_model::MemDisk;
+use notary_book::Book;
+use notary_link::MemNotary;
+use sha2::{Digest, Sha256};
+use std::alloc::{AllocError, Global};
+use std::test::Fail;
+
+const SCRIPT: &[u8] = b"create t k int\ninsert t 1\nnow 240\ninsert t 2\nnotarize\nvalidate\n";
+
+const REPLIES: &[u8] = b"ok 1\nok 2\nok\nok 3\nsealed 1\nclean 1\n";
+
+/// The text of the replies, and behind it the fault line.
+fn stopped(alloc: Global, replies: &[u8], fault: &[u8]) -> Result<Vec<u8>, AllocError> {
+    let mut text = replies.to_vec(alloc)?;
+    text.extend_from_slice(fault)?;
+    Ok(text)
+}
+
+#[test]
+fn a_disk_that_fails_keeps_what_was_acknowledged(rt: HostRuntime) -> Result<(), Fail> {
+    let alloc = rt.alloc();
+    for call in 1u64..14 {
+        for choice in [0, 1, 200] {
+            let mut store = made(alloc, "init 9 60 2 m")?;
+            store.failing(Vec::new(alloc), vec![in alloc; call]?);
+            let mut filed = notary(alloc);
+            let answered = audit(alloc, &mut store, &mut filed, "run 9 scripted", SCRIPT, &[])?;
+            let (wanted, count) = match call {
+                1..=4 => (stopped(alloc, b"", b"fault DiskFault\n")?, 0),
+                5..=8 => (stopped(alloc, b"ok 1\n", b"fault DiskFault\n")?, 1),
+                9..=12 => (stopped(alloc, b"ok 1\nok 2\nok\n", b"fault DiskFault\n")?, 2),
+                _ => (REPLIES.to_vec(alloc)?, 3),
+            };
+            assert_eq!(rt; answered.1.as_slice(), wanted.as_slice());
+            store.crash(choice)?;
+            let opened = store_engine::Store::open_store(alloc, &mut store, 9);
+            let stored = opened.map_or(0, |store| store.txn_count());
+            assert!(rt; stored == count || stored == count + 1);
+        }
+    }
+    Ok(())
+}
+
+/// What a run says whose notary fails at this question or at this changing call, and what the run
+/// after it says.
+fn with_failing_notary(
+    alloc: Global,
+    question: u64,
+    change: u64,
+) -> Result<(Vec<u8>, Vec<u8>), AllocError> {
+    let mut store = made(alloc, "init 9 60 2 m")?;
+    let mut filed: MemNotary = notary(alloc);
+    filed.failing(vec![in alloc; question]?, vec![in alloc; change]?);
+    let (_, text) = audit(alloc, &mut store, &mut filed, "run 9 scripted", SCRIPT, &[])?;
+    filed.failing(Vec::new(alloc), Vec::new(alloc));
+    let retry = b"now 240\nnotarize\nvalidate\n";
+    let (_, again) = audit(alloc, &mut store, &mut filed, "run 9 scripted", retry, &[])?;
+    Ok((text, again))
+}
+
+#[test]
+fn a_notary_that_fails_is_asked_again(rt: HostRuntime) -> Result<(), Fail> {
+    let alloc = rt.alloc();
+    let before_filing = stopped(alloc, b"ok 1\nok 2\nok\nok 3\n", b"fault NotaryFault\n")?;
+    let before_verdict = stopped(
+        alloc,
+        b"ok 1\nok 2\nok\nok 3\nsealed 1\n",
+        b"fault NotaryFault\n",
+    )?;
+    // the count; then the count, the header and the last link; and the header's batch, that of the tile, and the mark
+    for (question, change, wanted) in [
+        (1, 0, before_filing.as_slice()),
+        (2, 0, before_verdict.as_slice()),
+        (3, 0, before_verdict.as_slice()),
+        (4, 0, before_verdict.as_slice()),
+        (5, 0, REPLIES),
+        (0, 1, before_filing.as_slice()),
+        (0, 2, before_filing.as_slice()),
+        (0, 3, before_verdict.as_slice()),
+        (0, 4, REPLIES),
+    ] {
+        let (text, again) = with_failing_notary(alloc, question, change)?;
+        assert_eq!(rt; text.as_slice(), wanted);
+        assert_eq!(rt; again.as_slice(), b"ok\nsealed 1\nclean 1\n".as_slice());
+    }
+    Ok(())
+}
+
+/// A store whose clock is at the end of its first tile, with a book in memory that is empty.
+fn filled(alloc: Global) -> Result<MemDisk, AllocError> {
+    let mut store = made(alloc, "init 9 60 2 ta")?;
+    let script = b"create t k int\ninsert t 1\n";
+    let _filled = audit(alloc, &mut store, &mut notary(alloc), "run 9 scripted", script, &[])?;
+    Ok(store)
+}
+
+/// A notarization at the end of the first tile that is stopped by a failing call, with the store and
+/// the book as a crash leaves them.
+fn crash_in_notarize(
+    alloc: Global,
+    of_store: u64,
+    of_book: u64,
+    choice: u64,
+) -> Result<(MemDisk, MemDisk), AllocError> {
+    let mut store = filled(alloc)?;
+    store.failing(Vec::new(alloc), vec![in alloc; of_store]?);
+    let mut device = MemDisk::new(alloc);
+    device.failing(Vec::new(alloc), vec![in alloc; of_book]?);
+    let mut book = Book::new(alloc, device);
+    let _stopped = audit(alloc, &mut store, &mut book, "run 9 scripted", b"now 240\nnotarize\n", &[])?;
+    store.crash(choice)?;
+    let mut device = book.into_disk();
+    device.crash(choice)?;
+    Ok((store, device))
+}
+
+/// After each stop and each crash: a clock that went back is refused, or the row is stored in the
+/// tile that isn't sealed yet; then the tile is filed, and the store is clean.
+#[test]
+fn a_crash_between_the_store_and_the_book_leaves_both_sound(rt: HostRuntime) -> Result<(), Fail> {
+    let alloc = rt.alloc();
+    for stop in 1u64..32 {
+        for choice in [0, 1, 200] {
+            // four calls store the Frontier, and the book's come behind them
+            let of_book = if stop > 4 { stop - 4 } else { 0 };
+            let of_store = if stop > 4 { 0 } else { stop };
+            let (mut store, device) = crash_in_notarize(alloc, of_store, of_book, choice)?;
+            let mut book = Book::new(alloc, device);
+            let script = b"validate\nnow 140\ninsert t 2\nnow 240\nnotarize\nvalidate\n";
+            let (_, text) = audit(alloc, &mut store, &mut book, "run 9 scripted", script, &[])?;
+            assert!(rt; text.ends_with(b"ok\nsealed 1\nclean 1\n"));
+            assert!(rt; text.starts_with(b"unsealed\n") || text.starts_with(b"clean "));
+            if stop > 4 {
+                let refused = text
+                    .windows(21)
+                    .any(|part| part == b"refused ClockBack 240".as_slice());
+                assert!(rt; refused);
+            }
+        }
+    }
+    Ok(())
+}
+
+/// The worked store and its book, against digests of another SHA-256.
+#[test]
+fn the_worked_store_and_its_book_are_these_bytes(rt: HostRuntime) -> Result<(), Fail> {
+    let alloc = rt.alloc();
+    let mut store = made(alloc, "init 7 60 3 ta")?;
+    let mut book = Book::new(alloc, MemDisk::new(alloc));
+    let mut script = b"create t k int v int\n".to_vec(alloc)?;
+    for granule in 0u32..8 {
+        let moment = granule * 60;
+        let lines = format!(in alloc; "now {moment}\ninsert t {granule} 0\n")?;
+        script.extend_from_slice(lines.as_bytes())?;
+    }
+    script.extend_from_slice(b"now 480\nnotarize\n")?;
+    let (_, text) = audit(alloc, &mut store, &mut book, "run 7 scripted", &script, &[])?;
+    assert!(rt; text.ends_with(b"ok\nsealed 1\n"));
+    let device = book.into_disk();
+    for (bytes, length, digest) in [
+        (
+            store.bytes(),
+            445,
+            "13a65c8eb32e72a5db254dbe00abbf8708e45a1825f7baafc8cbbab4a661af26",
+        ),
+        (
+            device.bytes(),
+            913,
+            "00fc928e99647354b4fae36b3cfbc87b08c45f1a855a295db221d487e59df44a",
+        ),
+    ] {
+        assert_eq!(rt; bytes.len(), length);
+        let mut hash = Sha256::new();
+        hash.update(bytes);
+        assert_eq!(rt; hex::encode(alloc, hash.finalize())?.as_str(), digest);
+    }
+    let mut again = Book::new(alloc, device);
+    let answered = audit(alloc, &mut store, &mut again, "validate 7", b"", &[500])?;
+    assert_eq!(rt; answered.1.as_slice(), b"clean 1\n".as_slice());
+    assert_eq!(rt; again.into_disk().bytes().len(), 944);
+    Ok(())
+}
