@@ -37,7 +37,7 @@ impl<D: Disk> Book<D> {
     ghost use Rattle.notary_link.specs.Batches.{IsBatch};
     ghost use Rattle.notary_link.specs.Notary.{file, note, batch_of, IsAsked, IsNotOutOfTurn, Answers, GoesOn};
     ghost use Rattle.notary_book.specs.Adding.{Adds};
-    ghost use Rattle.notary_book.specs.Anew.{Looks};
+    ghost use Rattle.notary_book.specs.Anew.{Looks, OnRefusal, CountsAdding, Alters};
     ghost use Rattle.notary_book.specs.Books.{book_shape};
     ghost use Rattle.notary_book.specs.Kept.{IsOpen, IsSettled};
     ghost use Rattle.notary_book.specs.Moments.{LeavesNone, LeavesOf};
@@ -111,6 +111,8 @@ impl<D: Disk> Book<D> {
             (Adds journal payload.now result (D.state self.old.disk) (D.state self.new.disk)) }
         ensures frame { DiskGoesOn (D.state self.old.disk) (D.state self.new.disk) }
         ensures unreadable { self.old.unreadable ≤ self.new.unreadable }
+        ensures counts { CountsAdding result (D.state self.old.disk) (D.state self.new.disk)
+            self.old.unreadable self.new.unreadable }
         ensures asked { self.new.asked ≡ self.old.asked }
         ensures cause { HasCause Failed ((D.state self.old.disk).faults + self.old.unreadable)
             ((D.state self.new.disk).faults + self.new.unreadable) result }
@@ -152,6 +154,9 @@ impl<D: Disk> Book<D> {
         ensures durable { OnOk result (IsSettled (D.state self.new.disk)) }
         ensures images { WhereTold (D.state self.old.disk).reads (D.state self.new.disk).reads
             (LeavesOf (file id index (batch_of moment seals.now)) (D.state self.old.disk) (D.state self.new.disk)) }
+        ensures unread { OnRefusal result (self.new.disk ≡ self.old.disk) }
+        ensures alters { Alters result (D.state self.old.disk) (D.state self.new.disk)
+            (Some kept) self.new.kept self.old.unreadable self.new.unreadable }
     {
         let count = kept.pages.count(id);
         if index != count {
@@ -191,6 +196,9 @@ impl<D: Disk> Book<D> {
         ensures durable { OnOk result (IsSettled (D.state self.new.disk)) }
         ensures images { WhereTold (D.state self.old.disk).reads (D.state self.new.disk).reads
             (LeavesOf (note id mark) (D.state self.old.disk) (D.state self.new.disk)) }
+        ensures unread { OnRefusal result (self.new.disk ≡ self.old.disk) }
+        ensures alters { Alters result (D.state self.old.disk) (D.state self.new.disk)
+            (Some kept) self.new.kept self.old.unreadable self.new.unreadable }
     {
         if !kept.pages.has_room_for_mark() {
             self.kept = Some(kept);
@@ -216,7 +224,7 @@ impl<D: Disk> Notary for Book<D> {
     ghost use Rattle.notary_link.specs.Batches.{IsBatch};
     ghost use Rattle.notary_link.specs.Notary.{file, note, batch_of, GivesCount, GivesAnswer, GivesMoment, GivesMark, IsAsked, IsNotOutOfTurn, Unchanged, Answers, GoesOn};
     ghost use Rattle.outside_words.specs.Told.{WhereTold};
-    ghost use Rattle.notary_book.specs.Anew.{Looks};
+    ghost use Rattle.notary_book.specs.Anew.{Looks, OnRefusal, Alters};
     ghost use Rattle.notary_book.specs.Kept.{IsSettled};
     ghost use Rattle.notary_book.specs.Moments.{LeavesOf};
     ghost use Rattle.notary_book.specs.State.{book_state};
@@ -263,6 +271,9 @@ impl<D: Disk> Notary for Book<D> {
         ensures durable { OnOk result (IsSettled (D.state self.new.disk)) }
         ensures images { WhereTold (D.state self.old.disk).reads (D.state self.new.disk).reads
             (LeavesOf (file id index (batch_of moment seals.now)) (D.state self.old.disk) (D.state self.new.disk)) }
+        ensures unread { IsSome self.old.kept → OnRefusal result (self.new.disk ≡ self.old.disk) }
+        ensures alters { Alters result (D.state self.old.disk) (D.state self.new.disk)
+            self.old.kept self.new.kept self.old.unreadable self.new.unreadable }
     {
         self.read()?;
         match self.kept.take() {
@@ -337,6 +348,9 @@ impl<D: Disk> Notary for Book<D> {
         ensures durable { OnOk result (IsSettled (D.state self.new.disk)) }
         ensures images { WhereTold (D.state self.old.disk).reads (D.state self.new.disk).reads
             (LeavesOf (note id mark) (D.state self.old.disk) (D.state self.new.disk)) }
+        ensures unread { IsSome self.old.kept → OnRefusal result (self.new.disk ≡ self.old.disk) }
+        ensures alters { Alters result (D.state self.old.disk) (D.state self.new.disk)
+            self.old.kept self.new.kept self.old.unreadable self.new.unreadable }
     {
         self.read()?;
         match self.kept.take() {

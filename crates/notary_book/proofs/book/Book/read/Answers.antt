@@ -16,4 +16,4 @@ invariant_of-self g c =
 pub returns-then-is_some-clause-looks : goal.returns-then-is_some-clause-looks
 returns-then-is_some-clause-looks g c =
     let self = c.args.self.now in
-    looks_kept (g.D.Disk.state self.disk) self.kept self.unreadable self.keeps (sym c.is_some.ensures ∙ c.if-is_some.true)
+    looks_kept (g.D.Disk.state self.disk) self.kept self.unreadable (g.met.D.Disk.only_now self.disk) self.keeps (sym c.is_some.ensures ∙ c.if-is_some.true)
