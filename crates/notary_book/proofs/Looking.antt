@@ -1,5 +1,5 @@
 -- What a call does beneath, by what it kept and what it read.
-use Rattle.std.proofs.Common.{◌≡◌, ◌≤◌, ◌⊎◌, inl, inr, ℕ, Bool, true, false, List, ◌∷◌, Option, None, Some, Result, Ok, Err, IsSome, IfSome, refl, sym, ap, ◌∙◌, subst, arith}
+use Rattle.std.proofs.Common.{◌≡◌, ◌≤◌, inl, inr, ℕ, Bool, true, List, ◌∷◌, Option, None, Some, Result, Ok, Err, IsSome, IfSome, refl, ap, ◌∙◌, subst, arith}
 use Rattle.std.specs.Option.{is_some}
 use Rattle.outside_words.specs.Told.{WhereTold, TellsAlike}
 use Rattle.outside_words.specs.Trace.{Extends}
@@ -11,7 +11,7 @@ use Rattle.notary_link.specs.declared.fail.NotaryFail.{NotaryFail}
 use Rattle.notary_link.specs.declared.fail.NotaryFail.TheVariants.{Failed, OutOfTurn, Full, NoMemory}
 use Rattle.notary_link.specs.Notary.{IsAsked}
 use Rattle.notary_book.specs.declared.kept.Kept.{Kept}
-use Rattle.notary_book.specs.Anew.{KeepsBehind, Syncs, IsBook, IsOfBook, Looks, SyncsFirst, CountsAdding, Alters}
+use Rattle.notary_book.specs.Anew.{KeepsBehind, Syncs, IsBook, IsOfBook, Looks, OnRefusal, SyncsFirst, CountsAdding, Alters}
 use Rattle.notary_book.specs.Books.{lists_told}
 use Rattle.notary_book.specs.Kept.{KeepsOf}
 use Rattle.notary_book.specs.Moments.{LeavesNone}
@@ -39,17 +39,31 @@ looks_kept s kept unreadable only_now keeps some = record {
 -- ---- calls that add
 
 -- behind what is kept
-pub alters_kept : {T : Type 0} (result : Result T NotaryFail) (s s' : State) (kept : Kept) (kept' : Option Kept) (u u' : ℕ) → KeepsBehind result kept' → CountsAdding result s s' u u' → IsOfBook result s.reads → TellsAlike (lists_told s.reads) (lists_told s'.reads) → GoesOn s s' → Alters result s s' (Some kept) kept' u u'
-alters_kept result s s' kept kept' u u' keeps counts finds told on = record { keeps = keeps; syncs = λ none. absurd cc; counts = counts; finds = finds; told = told; goes_on = on }
+pub alters_kept : {T : Type 0} (result : Result T NotaryFail) (s s' : State) (kept : Kept) (kept' : Option Kept) (u u' : ℕ) → KeepsBehind result kept' → CountsAdding result s s' u u' → IsOfBook result s.reads → TellsAlike (lists_told s.reads) (lists_told s'.reads) → OnRefusal result (s'.reads ≡ s.reads) → GoesOn s s' → Alters result s s' (Some kept) kept' u u'
+alters_kept result s s' kept kept' u u' keeps counts finds told same on = record { keeps = keeps; syncs = λ none. absurd cc; counts = counts; finds = finds; told = told; same = same; goes_on = on }
+
+refused_then : {T : Type 0} (result : Result T NotaryFail) {P Q : Type 0} → (P → Q) → OnRefusal result P → OnRefusal result Q
+refused_then (Ok x) f p = tt
+refused_then (Err Failed) f p = tt
+refused_then (Err (OutOfTurn count)) f p = f p
+refused_then (Err Full) f p = f p
+refused_then (Err NoMemory) f p = tt
+
+refused_any : {T : Type 0} (result : Result T NotaryFail) {P : Type 0} → P → OnRefusal result P
+refused_any (Ok x) p = tt
+refused_any (Err Failed) p = tt
+refused_any (Err (OutOfTurn count)) p = p
+refused_any (Err Full) p = p
+refused_any (Err NoMemory) p = tt
 
 -- nothing was done
 pub alters_none : {T : Type 0} (result : Result T NotaryFail) (s : State) (kept : Kept) (kept' : Option Kept) (u : ℕ) → KeepsBehind result kept' → CountsAdding result s s u u → IsOfBook result s.reads → Alters result s s (Some kept) kept' u u
-alters_none result s kept kept' u keeps counts finds = alters_kept result s s kept kept' u u keeps counts finds refl (goes_on_same s)
+alters_none result s kept kept' u keeps counts finds = alters_kept result s s kept kept' u u keeps counts finds refl (refused_any result refl) (goes_on_same s)
 
 -- adding stopped
 pub alters_added : (e : NotaryFail) (s s' : State) (kept : Kept) (kept' : Option Kept) (u u' : ℕ) → IsAsked {T = Unit {0}} (Err e) → kept' ≡ None → CountsAdding {T = Unit {0}} (Err e) s s' u u' → TellsAlike (lists_told s.reads) (lists_told s'.reads) → GoesOn s s' → Alters {T = Unit {0}} (Err e) s s' (Some kept) kept' u u'
-alters_added Failed s s' kept kept' u u' only none counts told on = alters_kept (Err Failed) s s' kept kept' u u' none counts tt told on
-alters_added NoMemory s s' kept kept' u u' only none counts told on = alters_kept (Err NoMemory) s s' kept kept' u u' none counts tt told on
+alters_added Failed s s' kept kept' u u' only none counts told on = alters_kept (Err Failed) s s' kept kept' u u' none counts tt told tt on
+alters_added NoMemory s s' kept kept' u u' only none counts told on = alters_kept (Err NoMemory) s s' kept kept' u u' none counts tt told tt on
 alters_added (OutOfTurn count) s s' kept kept' u u' only none counts told on = absurd only
 alters_added Full s s' kept kept' u u' only none counts told on = absurd only
 
@@ -81,5 +95,6 @@ alters_behind result s m s' kept kept'' k kept' u u'' u' looks alters = record {
   counts = stops_apart result s m s' u u' looks.goes_on.faults (subst (λ (n : ℕ). CountsAdding result m s' n u') looks.counts alters.counts);
   finds = subst (λ (o : Option (List ℕ)). IsOfBook result o) looks.reads alters.finds;
   told = subst (λ (o : Option (List ℕ)). TellsAlike (lists_told o) (lists_told s'.reads)) looks.reads alters.told;
+  same = refused_then result (λ e. e ∙ looks.reads) alters.same;
   goes_on = goes_on_then s m s' looks.goes_on alters.goes_on;
 }

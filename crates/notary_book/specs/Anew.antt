@@ -1,5 +1,5 @@
 -- When a book reads its file, what that does to its disk, and when the book counts a fault of its own.
-use Rattle.std.specs.Prelude.{◌≡◌, ◌⊎◌, ◌+◌, ◌-◌, ◌^◌, ℕ, min, Bool, true, false, List, ◌∷◌, Option, None, IfSome, IsSome, Result, Ok, Err, IsOk, OnOk}
+use Rattle.std.specs.Prelude.{◌≡◌, ◌⊎◌, ◌+◌, ◌-◌, ◌^◌, ℕ, min, Bool, true, false, List, ◌∷◌, Option, None, IfSome, IsSome, Result, Err, IsOk, OnOk}
 use Rattle.outside_words.specs.Faults.{Rose}
 use Rattle.outside_words.specs.Told.{WhereTold, TellsAlike}
 use Rattle.outside_words.specs.Trace.{Extends}
@@ -79,4 +79,5 @@ pub record Alters {T : Type 0} (result : Result T NotaryFail) (old new : State) 
   pub counts : CountsAdding result old new before after
   pub finds : IsOfBook result old.reads
   pub told : TellsAlike (lists_told old.reads) (lists_told new.reads)
+  pub same : OnRefusal result (new.reads ≡ old.reads)
   pub goes_on : GoesOn old new

@@ -27,7 +27,8 @@
 //! | while that is kept, a call that asks is answered, and calls no device; nor does a refused one | `unread`, `answers` |
 //! | before it reads it syncs, and asking makes no other changing call | `syncs` |
 //! | asking counts a fault of the book's own exactly where a reading finds no book | `counts`, `finds` |
-//! | what is told of lists stays told | `reads` of `Looks`, `told` of `Alters` |
+//! | asking, and a refused call, leave what reads give | `reads` of `Looks`, `same` of `Alters` |
+//! | what is told of lists stays told | the same, `told` of `Alters` |
 //! | a payload is read as what it spells, and what is spelled is read | `proofs/CallLaws` |
 //! | a book has no trace and no plan, and its faults are those of its disk and the readings that found no book | `fresh` of `new` |
 //!

@@ -408,7 +408,7 @@ returns-in_err-add_batch-clause-alters g c =
     let told = rw c.deref.ensures.value at c.in_ok-journal.ensures.told in
     let after = either k.calls call kept.journal c.in_ok-payload.payload.items (Ok c.in_ok-journal.journal) s s' c.in_ok-journal.ensures.frame spelled next k.in_file settled told (g.met.D.Disk.reads_image n.disk) (g.met.D.Disk.counts_now n.disk) in
     let same : c.from_residual-in_err-add_batch.result ≡ Err NoMemory = search rules in
-    rw same (alters_kept (Err NoMemory) s s' kept n.kept self.unreadable n.unreadable c.in_ok-journal.ensures.none c.in_ok-journal.ensures.counts tt (adds_told k.calls call s s' self.asked self.unreadable n.unreadable c.in_ok-journal.ensures.frame c.in_ok-journal.ensures.unreadable before after) c.in_ok-journal.ensures.frame)
+    rw same (alters_kept (Err NoMemory) s s' kept n.kept self.unreadable n.unreadable c.in_ok-journal.ensures.none c.in_ok-journal.ensures.counts tt (adds_told k.calls call s s' self.asked self.unreadable n.unreadable c.in_ok-journal.ensures.frame c.in_ok-journal.ensures.unreadable before after) tt c.in_ok-journal.ensures.frame)
 
 pub returns-clause-alters : goal.returns-clause-alters
 returns-clause-alters g c =
@@ -428,4 +428,4 @@ returns-clause-alters g c =
     let next = batch_next s.reads kept k c.args.id c.args.index (batch_of c.args.moment c.args.seals.now) (let t = c.if-index-count.false in let turn : c.args.index ≡ c.count-count.result = grind (arith, t) in turn ∙ c.count-count.ensures.value) (sym c.has_room.ensures.value ∙ room) in
     let told = rw c.deref.ensures.value at c.in_ok-journal.ensures.told in
     let after = either k.calls call kept.journal c.in_ok-payload.payload.items (Ok c.in_ok-journal.journal) s s' c.in_ok-journal.ensures.frame spelled next k.in_file settled told (g.met.D.Disk.reads_image n.disk) (g.met.D.Disk.counts_now n.disk) in
-    alters_kept (Ok tt) s s' kept _ self.unreadable n.unreadable refl c.in_ok-journal.ensures.counts (found s.reads (Some kept) c.requires.keeps refl) (adds_told k.calls call s s' self.asked self.unreadable n.unreadable c.in_ok-journal.ensures.frame c.in_ok-journal.ensures.unreadable before after) c.in_ok-journal.ensures.frame
+    alters_kept (Ok tt) s s' kept _ self.unreadable n.unreadable refl c.in_ok-journal.ensures.counts (found s.reads (Some kept) c.requires.keeps refl) (adds_told k.calls call s s' self.asked self.unreadable n.unreadable c.in_ok-journal.ensures.frame c.in_ok-journal.ensures.unreadable before after) tt c.in_ok-journal.ensures.frame
