@@ -39,7 +39,8 @@
 //! A look-up takes the logarithm of the ids and of the names of one id.
 //!
 //! Tested, and not proved: that calls succeed where there is memory, the bytes of the worked book, and
-//! that adding counts a fault of the book's own only where a reading finds no book.
+//! what a book says where one of its bytes is turned. Neither: that a call that adds counts no fault of
+//! the book's own over a book. It could only where its file is full, and the limits come first.
 //!
 //! ```text
 //! let mut book = Book::new(alloc, FileDisk::new(rt, path));
