@@ -4,6 +4,7 @@ pub mod Entries
 pub mod Keeping
 pub mod Leaving
 pub mod Lists
+pub mod Looking
 pub mod Payloads
 pub mod Sizes
 pub mod Skips

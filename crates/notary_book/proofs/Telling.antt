@@ -151,6 +151,15 @@ module _ (calls : List Call) (call : Call) where
         by None none = refl
         by (Some b) none = absurd cc
 
+    pub adds_told : TellsAlike (lists_told s.reads) (lists_told s'.reads)
+    adds_told = by s.reads s'.reads on.told before after
+      where
+        by : (o n : Option (List ℕ)) → TellsAlike o n → IfSome o (Tells calls) → IfSome n (TellsEither calls more) → TellsAlike (lists_told o) (lists_told n)
+        by None None alike t e = refl
+        by None (Some x) alike t e = absurd cc
+        by (Some b) None alike t e = absurd cc
+        by (Some b) (Some x) alike t e = tells_some (Some x) refl e ∙ sym (ap is_some t)
+
     module _ (within : IfSome s.reads (λ b. AddsWithin call book_limits (lists_of calls) (lists_of more))) where
       pub adds_failed : Answers call (Err Failed) (book_state s a u) (book_state s' a u')
       adds_failed = record { lists = lists_step s.reads s'.reads (Changes call book_limits (Err Failed)) before after (inr (keeps calls)) (if_map s.reads within (λ b adds. inl adds)); reason = if_any (lists_told s.reads) (λ lists. tt); trace = tt; asked = refl }

@@ -1,4 +1,5 @@
 pub mod Adding
+pub mod Anew
 pub mod Books
 pub mod Calls
 pub mod Entries

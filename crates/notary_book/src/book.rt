@@ -37,6 +37,7 @@ impl<D: Disk> Book<D> {
     ghost use Rattle.notary_link.specs.Batches.{IsBatch};
     ghost use Rattle.notary_link.specs.Notary.{file, note, batch_of, IsAsked, IsNotOutOfTurn, Answers, GoesOn};
     ghost use Rattle.notary_book.specs.Adding.{Adds};
+    ghost use Rattle.notary_book.specs.Anew.{Looks, OnRefusal, CountsAdding, Alters};
     ghost use Rattle.notary_book.specs.Books.{book_shape};
     ghost use Rattle.notary_book.specs.Kept.{IsOpen, IsSettled};
     ghost use Rattle.notary_book.specs.Moments.{LeavesNone, LeavesOf};
@@ -64,7 +65,9 @@ impl<D: Disk> Book<D> {
 
     // Reads the file, where what it says is not kept.
     fn read(&mut self) -> Result<(), NotaryFail>
-        ensures is_read { OnOk result (IsSome self.new.kept) }
+        ensures unread { IsSome self.old.kept → self.new.disk ≡ self.old.disk }
+        ensures looks { Looks result (D.state self.old.disk) (D.state self.new.disk)
+            self.old.kept self.new.kept self.old.unreadable self.new.unreadable }
         ensures only { IsAsked result }
         ensures reads { (D.state self.new.disk).reads ≡ (D.state self.old.disk).reads }
         ensures faults { (D.state self.old.disk).faults ≤ (D.state self.new.disk).faults }
@@ -108,6 +111,8 @@ impl<D: Disk> Book<D> {
             (Adds journal payload.now result (D.state self.old.disk) (D.state self.new.disk)) }
         ensures frame { DiskGoesOn (D.state self.old.disk) (D.state self.new.disk) }
         ensures unreadable { self.old.unreadable ≤ self.new.unreadable }
+        ensures counts { CountsAdding result (D.state self.old.disk) (D.state self.new.disk)
+            self.old.unreadable self.new.unreadable }
         ensures asked { self.new.asked ≡ self.old.asked }
         ensures cause { HasCause Failed ((D.state self.old.disk).faults + self.old.unreadable)
             ((D.state self.new.disk).faults + self.new.unreadable) result }
@@ -149,6 +154,9 @@ impl<D: Disk> Book<D> {
         ensures durable { OnOk result (IsSettled (D.state self.new.disk)) }
         ensures images { WhereTold (D.state self.old.disk).reads (D.state self.new.disk).reads
             (LeavesOf (file id index (batch_of moment seals.now)) (D.state self.old.disk) (D.state self.new.disk)) }
+        ensures unread { OnRefusal result (self.new.disk ≡ self.old.disk) }
+        ensures alters { Alters result (D.state self.old.disk) (D.state self.new.disk)
+            (Some kept) self.new.kept self.old.unreadable self.new.unreadable }
     {
         let count = kept.pages.count(id);
         if index != count {
@@ -188,6 +196,9 @@ impl<D: Disk> Book<D> {
         ensures durable { OnOk result (IsSettled (D.state self.new.disk)) }
         ensures images { WhereTold (D.state self.old.disk).reads (D.state self.new.disk).reads
             (LeavesOf (note id mark) (D.state self.old.disk) (D.state self.new.disk)) }
+        ensures unread { OnRefusal result (self.new.disk ≡ self.old.disk) }
+        ensures alters { Alters result (D.state self.old.disk) (D.state self.new.disk)
+            (Some kept) self.new.kept self.old.unreadable self.new.unreadable }
     {
         if !kept.pages.has_room_for_mark() {
             self.kept = Some(kept);
@@ -207,12 +218,13 @@ impl<D: Disk> Book<D> {
 
 impl<D: Disk> Notary for Book<D> {
     ghost use Rattle.std.proofs.Common.{lit≤};
-    ghost use Rattle.std.specs.Prelude.{◌+◌, OnOk};
+    ghost use Rattle.std.specs.Prelude.{◌≡◌, ◌≤◌, ◌+◌, OnOk, IsSome};
     ghost use Rattle.outside_words.specs.Faults.{HasCause};
     ghost use Rattle.notary_link.specs.declared.fail.NotaryFail.TheVariants.{Failed};
     ghost use Rattle.notary_link.specs.Batches.{IsBatch};
-    ghost use Rattle.notary_link.specs.Notary.{file, note, batch_of, IsNotOutOfTurn, Answers, GoesOn};
+    ghost use Rattle.notary_link.specs.Notary.{file, note, batch_of, GivesCount, GivesAnswer, GivesMoment, GivesMark, IsAsked, IsNotOutOfTurn, Unchanged, Answers, GoesOn};
     ghost use Rattle.outside_words.specs.Told.{WhereTold};
+    ghost use Rattle.notary_book.specs.Anew.{Looks, OnRefusal, Alters};
     ghost use Rattle.notary_book.specs.Kept.{IsSettled};
     ghost use Rattle.notary_book.specs.Moments.{LeavesOf};
     ghost use Rattle.notary_book.specs.State.{book_state};
@@ -221,7 +233,23 @@ impl<D: Disk> Notary for Book<D> {
 
     ghost limited = { λ b. lit≤ tt };
 
-    fn count(&mut self, id: u64) -> Result<u32, NotaryFail> {
+    fn count(&mut self, id: u64) -> Result<u32, NotaryFail>
+        ensures value { GivesCount id result (book_state (D.state self.old.disk) self.old.asked self.old.unreadable) }
+        ensures only { IsAsked result }
+        ensures same { Unchanged
+            (book_state (D.state self.old.disk) self.old.asked self.old.unreadable)
+            (book_state (D.state self.new.disk) self.new.asked self.new.unreadable) }
+        ensures asked { self.new.asked ≡ self.old.asked }
+        ensures frame { GoesOn
+            (book_state (D.state self.old.disk) self.old.asked self.old.unreadable)
+            (book_state (D.state self.new.disk) self.new.asked self.new.unreadable) }
+        ensures cause { HasCause Failed ((D.state self.old.disk).faults + self.old.unreadable)
+            ((D.state self.new.disk).faults + self.new.unreadable) result }
+
+        ensures unread { IsSome self.old.kept → self.new.disk ≡ self.old.disk }
+        ensures looks { Looks result (D.state self.old.disk) (D.state self.new.disk)
+            self.old.kept self.new.kept self.old.unreadable self.new.unreadable }
+    {
         self.read()?;
         match &self.kept {
             Some(kept) => Ok(kept.pages.count(id)),
@@ -243,6 +271,9 @@ impl<D: Disk> Notary for Book<D> {
         ensures durable { OnOk result (IsSettled (D.state self.new.disk)) }
         ensures images { WhereTold (D.state self.old.disk).reads (D.state self.new.disk).reads
             (LeavesOf (file id index (batch_of moment seals.now)) (D.state self.old.disk) (D.state self.new.disk)) }
+        ensures unread { IsSome self.old.kept → OnRefusal result (self.new.disk ≡ self.old.disk) }
+        ensures alters { Alters result (D.state self.old.disk) (D.state self.new.disk)
+            self.old.kept self.new.kept self.old.unreadable self.new.unreadable }
     {
         self.read()?;
         match self.kept.take() {
@@ -251,7 +282,23 @@ impl<D: Disk> Notary for Book<D> {
         }
     }
 
-    fn ask(&mut self, id: u64, name: Name, digest: &[u8; 32]) -> Result<Answer, NotaryFail> {
+    fn ask(&mut self, id: u64, name: Name, digest: &[u8; 32]) -> Result<Answer, NotaryFail>
+        ensures value { GivesAnswer id name digest.now result (book_state (D.state self.old.disk) self.old.asked self.old.unreadable) }
+        ensures only { IsAsked result }
+        ensures same { Unchanged
+            (book_state (D.state self.old.disk) self.old.asked self.old.unreadable)
+            (book_state (D.state self.new.disk) self.new.asked self.new.unreadable) }
+        ensures asked { self.new.asked ≤ self.old.asked + 1 }
+        ensures frame { GoesOn
+            (book_state (D.state self.old.disk) self.old.asked self.old.unreadable)
+            (book_state (D.state self.new.disk) self.new.asked self.new.unreadable) }
+        ensures cause { HasCause Failed ((D.state self.old.disk).faults + self.old.unreadable)
+            ((D.state self.new.disk).faults + self.new.unreadable) result }
+
+        ensures unread { IsSome self.old.kept → self.new.disk ≡ self.old.disk }
+        ensures looks { Looks result (D.state self.old.disk) (D.state self.new.disk)
+            self.old.kept self.new.kept self.old.unreadable self.new.unreadable }
+    {
         self.asked = self.asked.saturating_add(1);
         self.read()?;
         match &self.kept {
@@ -263,7 +310,23 @@ impl<D: Disk> Notary for Book<D> {
         }
     }
 
-    fn moment_of(&mut self, id: u64, index: u32) -> Result<Option<u64>, NotaryFail> {
+    fn moment_of(&mut self, id: u64, index: u32) -> Result<Option<u64>, NotaryFail>
+        ensures value { GivesMoment id index result (book_state (D.state self.old.disk) self.old.asked self.old.unreadable) }
+        ensures only { IsAsked result }
+        ensures same { Unchanged
+            (book_state (D.state self.old.disk) self.old.asked self.old.unreadable)
+            (book_state (D.state self.new.disk) self.new.asked self.new.unreadable) }
+        ensures asked { self.new.asked ≡ self.old.asked }
+        ensures frame { GoesOn
+            (book_state (D.state self.old.disk) self.old.asked self.old.unreadable)
+            (book_state (D.state self.new.disk) self.new.asked self.new.unreadable) }
+        ensures cause { HasCause Failed ((D.state self.old.disk).faults + self.old.unreadable)
+            ((D.state self.new.disk).faults + self.new.unreadable) result }
+
+        ensures unread { IsSome self.old.kept → self.new.disk ≡ self.old.disk }
+        ensures looks { Looks result (D.state self.old.disk) (D.state self.new.disk)
+            self.old.kept self.new.kept self.old.unreadable self.new.unreadable }
+    {
         self.read()?;
         match &self.kept {
             Some(kept) => Ok(kept.pages.moment(id, index)),
@@ -285,6 +348,9 @@ impl<D: Disk> Notary for Book<D> {
         ensures durable { OnOk result (IsSettled (D.state self.new.disk)) }
         ensures images { WhereTold (D.state self.old.disk).reads (D.state self.new.disk).reads
             (LeavesOf (note id mark) (D.state self.old.disk) (D.state self.new.disk)) }
+        ensures unread { IsSome self.old.kept → OnRefusal result (self.new.disk ≡ self.old.disk) }
+        ensures alters { Alters result (D.state self.old.disk) (D.state self.new.disk)
+            self.old.kept self.new.kept self.old.unreadable self.new.unreadable }
     {
         self.read()?;
         match self.kept.take() {
@@ -293,7 +359,23 @@ impl<D: Disk> Notary for Book<D> {
         }
     }
 
-    fn mark_at(&mut self, id: u64, place: u32) -> Result<Option<Mark>, NotaryFail> {
+    fn mark_at(&mut self, id: u64, place: u32) -> Result<Option<Mark>, NotaryFail>
+        ensures value { GivesMark id place result (book_state (D.state self.old.disk) self.old.asked self.old.unreadable) }
+        ensures only { IsAsked result }
+        ensures same { Unchanged
+            (book_state (D.state self.old.disk) self.old.asked self.old.unreadable)
+            (book_state (D.state self.new.disk) self.new.asked self.new.unreadable) }
+        ensures asked { self.new.asked ≡ self.old.asked }
+        ensures frame { GoesOn
+            (book_state (D.state self.old.disk) self.old.asked self.old.unreadable)
+            (book_state (D.state self.new.disk) self.new.asked self.new.unreadable) }
+        ensures cause { HasCause Failed ((D.state self.old.disk).faults + self.old.unreadable)
+            ((D.state self.new.disk).faults + self.new.unreadable) result }
+
+        ensures unread { IsSome self.old.kept → self.new.disk ≡ self.old.disk }
+        ensures looks { Looks result (D.state self.old.disk) (D.state self.new.disk)
+            self.old.kept self.new.kept self.old.unreadable self.new.unreadable }
+    {
         self.read()?;
         match &self.kept {
             Some(kept) => Ok(kept.pages.mark(id, place)),

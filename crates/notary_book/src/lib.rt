@@ -23,6 +23,12 @@
 //! | a book is a notary, with these lists where its disk tells its bytes | the clauses of `Notary` |
 //! | after Ok what reads give is the only image | `durable` of `file` and `mark` |
 //! | at each moment of a call a crash leaves an image of before, or the old lists with the batch or mark in flight or without | `images` of `file` and `mark` |
+//! | it reads its file where nothing is kept, and keeps what it read but behind Failed and NoMemory | `keeps` of `Looks` and `Alters` |
+//! | while that is kept, a call that asks is answered, and calls no device; nor does a refused one | `unread`, `answers` |
+//! | before it reads it syncs, and asking makes no other changing call | `syncs` |
+//! | asking counts a fault of the book's own exactly where a reading finds no book | `counts`, `finds` |
+//! | asking, and a refused call, leave what reads give | `reads` of `Looks`, `same` of `Alters` |
+//! | what is told of lists stays told | the same, `told` of `Alters` |
 //! | a payload is read as what it spells, and what is spelled is read | `proofs/CallLaws` |
 //! | a book has no trace and no plan, and its faults are those of its disk and the readings that found no book | `fresh` of `new` |
 //!
@@ -32,7 +38,9 @@
 //!
 //! A look-up takes the logarithm of the ids and of the names of one id.
 //!
-//! Tested, and not proved: that calls succeed where there is memory, and the bytes of the worked book.
+//! Tested, and not proved: that calls succeed where there is memory, the bytes of the worked book, and
+//! what a book says where one of its bytes is turned. Neither: that a call that adds counts no fault of
+//! the book's own over a book. It could only where its file is full, and the limits come first.
 //!
 //! ```text
 //! let mut book = Book::new(alloc, FileDisk::new(rt, path));

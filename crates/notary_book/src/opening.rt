@@ -5,6 +5,7 @@ ghost use Rattle.outside_words.specs.Faults.{HasCause};
 ghost use Rattle.outside_words.specs.Told.{WhereTold};
 ghost use Rattle.disk_words.specs.declared.DiskFail.TheVariants.{Failed};
 ghost use Rattle.disk_words.specs.Disk.{Unchanged, GoesOn};
+ghost use Rattle.notary_book.specs.Anew.{Syncs};
 ghost use Rattle.notary_book.specs.Books.{is_free};
 ghost use Rattle.notary_book.specs.Kept.{IsReadFrom, IsSettled};
 ghost use Rattle.notary_book.specs.Moments.{LeavesNone};
@@ -28,6 +29,8 @@ pub(crate) fn open_book<D: Disk>(alloc: Global, disk: &mut D) -> Result<Option<K
     ensures reads { (D.state disk.new).reads ≡ (D.state disk.old).reads }
     ensures told { WhereTold (D.state disk.old).reads (D.state disk.new).reads
         (LeavesNone (D.state disk.old) (D.state disk.new)) }
+    ensures trace { WhereTold (D.state disk.old).reads (D.state disk.new).reads
+        (Syncs result (D.state disk.old) (D.state disk.new)) }
     ensures frame { GoesOn (D.state disk.old) (D.state disk.new) }
     ensures cause { HasCause Failed (D.state disk.old).faults (D.state disk.new).faults result }
 {

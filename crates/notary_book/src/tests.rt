@@ -212,3 +212,147 @@ fn a_crash_leaves_what_was_answered_and_at_most_one_more(rt: HostRuntime) -> Res
     }
     Ok(())
 }
+
+/// The bytes of the worked book with its mark.
+fn worked_bytes(alloc: Global) -> Result<Vec<u8>, AllocError> {
+    let (book, _) = filled(alloc, MemDisk::new(alloc), true)?;
+    book.into_disk().bytes().to_vec(alloc)
+}
+
+/// What a book says: how many batches there are, the answers about the header and the cum, which of the
+/// two batches have their moment, and whether the first mark is `MARK`.
+type Said = (u32, Answer, Answer, bool, bool, Option<bool>);
+
+fn said(book: &mut Book<MemDisk>, header: &Seal, cum: &Seal) -> Result<Said, NotaryFail> {
+    let count = book.count(ID)?;
+    let of_header = book.ask(ID, header.name, &header.digest)?;
+    let of_cum = book.ask(ID, cum.name, &cum.digest)?;
+    let first = book.moment_of(ID, 0)? == Some(480);
+    let second = book.moment_of(ID, 1)? == Some(480);
+    let mark = book.mark_at(ID, 0)?.map(|mark| mark == MARK);
+    Ok((count, of_header, of_cum, first, second, mark))
+}
+
+/// The bytes of a book of the header's batch, a batch of a cum, and a mark.
+fn short_bytes(alloc: Global, header: &Seals, cum: &Seals) -> Result<Vec<u8>, AllocError>
+    requires header { All (λ seal. IsName seal.name) header.now }
+    requires cum { All (λ seal. IsName seal.name) cum.now }
+{
+    let mut book = Book::new(alloc, MemDisk::new(alloc));
+    let _ = file(&mut book, 0, header.as_slice());
+    let _ = file(&mut book, 1, cum.as_slice());
+    let _ = book.mark(ID, MARK);
+    book.into_disk().bytes().to_vec(alloc)
+}
+
+const EMPTY: Said = (0, Answer::Absent, Answer::Absent, false, false, None);
+
+const FIRST: Said = (1, Answer::Same, Answer::Absent, true, false, None);
+
+const BOTH: Said = (2, Answer::Same, Answer::Same, true, true, None);
+
+const WHOLE: Said = (2, Answer::Same, Answer::Same, true, true, Some(true));
+
+/// The places at which each kind of field ends, and what a book says where one byte of it is turned.
+const DAMAGE: [(usize, Result<Said, NotaryFail>); 18] = [
+    // the head
+    (64, Err(NotaryFail::Failed)),
+    // of the first batch: gate, length and tag; id and index; moment; count and name; digest
+    (70, Ok(EMPTY)),
+    (82, Err(NotaryFail::Failed)),
+    (
+        90,
+        Ok((2, Answer::Same, Answer::Same, false, true, Some(true))),
+    ),
+    (93, Ok(EMPTY)),
+    (
+        125,
+        Ok((2, Answer::Differs, Answer::Same, true, true, Some(true))),
+    ),
+    // of the second: the same, but that a name has a tag and a tile
+    (131, Ok(FIRST)),
+    (143, Err(NotaryFail::Failed)),
+    (
+        151,
+        Ok((2, Answer::Same, Answer::Same, true, false, Some(true))),
+    ),
+    (154, Ok(FIRST)),
+    (
+        158,
+        Ok((2, Answer::Same, Answer::Absent, true, true, Some(true))),
+    ),
+    (
+        190,
+        Ok((2, Answer::Same, Answer::Differs, true, true, Some(true))),
+    ),
+    // of the mark: gate, length and tag; id; moment and tiles; outcome; first bad tile
+    (196, Ok(BOTH)),
+    (204, Ok(BOTH)),
+    (
+        216,
+        Ok((2, Answer::Same, Answer::Same, true, true, Some(false))),
+    ),
+    (217, Ok(BOTH)),
+    (
+        221,
+        Ok((2, Answer::Same, Answer::Same, true, true, Some(false))),
+    ),
+    // the gate behind it
+    (222, Ok(WHOLE)),
+];
+
+#[test]
+fn a_turned_byte_leaves_the_records_before_it(rt: HostRuntime) -> Result<(), Fail> {
+    let alloc = rt.alloc();
+    let header = seals_of(alloc, &HEADER)?;
+    let cum = seals_of(alloc, &TILE[..1])?;
+    let bytes = short_bytes(alloc, &header, &cum)?;
+    for (header, cum) in header.as_slice().iter().zip(cum.as_slice()) {
+        let mut from = 0;
+        for (to, expected) in DAMAGE {
+            for place in from..to {
+                let mut book = damaged(alloc, &bytes, place)?;
+                assert_eq!(rt; said(&mut book, header, cum), expected, "at {place}");
+            }
+            from = to;
+        }
+    }
+    Ok(())
+}
+
+/// A book over these bytes, with the byte at a place turned.
+fn damaged(alloc: Global, bytes: &[u8], place: usize) -> Result<Book<MemDisk>, AllocError> {
+    let mut bytes = bytes.to_vec(alloc)?;
+    if place < bytes.len() {
+        bytes[place] ^= 0xff;
+    }
+    Ok(Book::new(alloc, MemDisk::holding(alloc, bytes)))
+}
+
+#[test]
+fn a_refused_call_makes_no_file(rt: HostRuntime) -> Result<(), Fail> {
+    let alloc = rt.alloc();
+    let mut book = Book::new(alloc, MemDisk::new(alloc));
+    let header = seals_of(alloc, &HEADER)?;
+    let refused = file(&mut book, 1, header.as_slice());
+    assert_eq!(rt; refused, Err(NotaryFail::OutOfTurn { count: 0 }));
+    assert_eq!(rt; book.into_disk().bytes().len(), 0);
+    Ok(())
+}
+
+#[test]
+fn a_failed_call_is_followed_by_a_reading(rt: HostRuntime) -> Result<(), Fail> {
+    let alloc = rt.alloc();
+    // the sync before reading; and behind it a piece, a sync, the gate, and a sync, at which the mark is there
+    for (stop, marks) in [(1, 1), (2, 1), (3, 1), (4, 1), (5, 2)] {
+        let mut disk = MemDisk::holding(alloc, worked_bytes(alloc)?);
+        disk.failing(Vec::new(alloc), [stop].to_vec(alloc)?);
+        let mut book = Book::new(alloc, disk);
+        assert_eq!(rt; book.mark(ID, MARK), Err(NotaryFail::Failed), "at {stop}");
+        assert_eq!(rt; book.count(ID), Ok(2), "at {stop}");
+        assert_eq!(rt; book.mark_at(ID, marks), Ok(None), "at {stop}");
+        assert_eq!(rt; book.mark(ID, MARK), Ok(()), "at {stop}");
+        assert_eq!(rt; book.mark_at(ID, marks), Ok(Some(MARK)), "at {stop}");
+    }
+    Ok(())
+}

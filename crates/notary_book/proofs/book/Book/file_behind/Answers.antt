@@ -5,8 +5,9 @@ use Rattle.notary_link.specs.Notary.{Call, file, batch_of}
 use Rattle.notary_book.proofs.Bytes.{told_file}
 use Rattle.notary_book.proofs.Leaving.{leaves_same, leaves_added}
 use Rattle.notary_book.proofs.Keeping.{knows_of, settled_of, open_of, keeps_some, settled_some, opens_some}
+use Rattle.notary_book.proofs.Looking.{found, alters_kept, alters_none, alters_added}
 use Rattle.notary_book.proofs.Sizes.{fits_record, spelled_in}
-use Rattle.notary_book.proofs.Telling.{if_map, if_alike, told_calls, quiet, refused, adds_on, adds_stopped, adds_unknown, adds_done, either, stored, stays_settled, asked_is, out_of_turn, full, batch_within, batch_next}
+use Rattle.notary_book.proofs.Telling.{if_map, if_alike, told_calls, quiet, refused, adds_on, adds_told, nothing_done, adds_stopped, adds_unknown, adds_done, either, stored, stays_settled, asked_is, out_of_turn, full, batch_within, batch_next}
 use Rattle.notary_book.proofs.book.Book.file_behind.Goals as goal
 
 pub returns-then-index-count-clause-change : goal.returns-then-index-count-clause-change
@@ -332,3 +333,102 @@ returns-clause-images g c =
     let next = batch_next s.reads kept k c.args.id c.args.index (batch_of c.args.moment c.args.seals.now) (let t = c.if-index-count.false in let turn : c.args.index ≡ c.count-count.result = grind (arith, t) in turn ∙ c.count-count.ensures.value) (sym c.has_room.ensures.value ∙ room) in
     let told = rw c.deref.ensures.value at c.in_ok-journal.ensures.told in
     leaves_added k.calls call kept.journal c.in_ok-payload.payload.items (Ok c.in_ok-journal.journal) s s' c.in_ok-journal.ensures.frame spelled next k.in_file settled before told
+
+pub returns-then-index-count-clause-alters : goal.returns-then-index-count-clause-alters
+returns-then-index-count-clause-alters g c =
+    let S = g.D.Disk.state in
+    let self = c.args.self.now in
+    let s = S self.disk in
+    let kept = c.args.kept in
+    alters_none (Err (OutOfTurn c.count-count.result)) s kept _ self.unreadable refl refl (found s.reads (Some kept) c.requires.keeps refl)
+
+pub returns-then-not-has_room-clause-alters : goal.returns-then-not-has_room-clause-alters
+returns-then-not-has_room-clause-alters g c =
+    let S = g.D.Disk.state in
+    let self = c.args.self.now in
+    let s = S self.disk in
+    let kept = c.args.kept in
+    alters_none (Err Full) s kept _ self.unreadable refl refl (found s.reads (Some kept) c.requires.keeps refl)
+
+pub returns-in_err-payload-clause-change : goal.returns-in_err-payload-clause-change
+returns-in_err-payload-clause-change g c =
+    let S = g.D.Disk.state in
+    let self = c.args.self.now in
+    let s = S self.disk in
+    let kept = c.args.kept in
+    let k = knows_of s.reads kept c.requires.keeps in
+    let call : Call = file c.args.id c.args.index (batch_of c.args.moment c.args.seals.now) in
+    let same : c.from_residual.result ≡ Err NoMemory = search rules in
+    rw same (refused call NoMemory s self.asked self.unreadable k.calls (told_calls s.reads kept k) (nothing_done s.reads kept k call))
+
+pub returns-in_err-payload-clause-alters : goal.returns-in_err-payload-clause-alters
+returns-in_err-payload-clause-alters g c =
+    let S = g.D.Disk.state in
+    let self = c.args.self.now in
+    let s = S self.disk in
+    let kept = c.args.kept in
+    let same : c.from_residual.result ≡ Err NoMemory = search rules in
+    rw same (alters_none (Err NoMemory) s kept self.kept self.unreadable c.requires.none refl tt)
+
+pub returns-in_err-journal-clause-alters : goal.returns-in_err-journal-clause-alters
+returns-in_err-journal-clause-alters g c =
+    let S = g.D.Disk.state in
+    let self = c.args.self.now in
+    let s = S self.disk in
+    let kept = c.args.kept in
+    let k = knows_of s.reads kept c.requires.keeps in
+    let call : Call = file c.args.id c.args.index (batch_of c.args.moment c.args.seals.now) in
+    let before = told_calls s.reads kept k in
+    let h = c.if-not-has_room.false in
+    let room : c.has_room.result ≡ true = grind (arith, h) in
+    let n = c.add.new.self in
+    let s' = S n.disk in
+    let spelled = spelled_in call c.in_ok-payload.payload.items c.in_ok-payload.ensures in
+    let settled = settled_of s kept c.requires.settled in
+    let next = batch_next s.reads kept k c.args.id c.args.index (batch_of c.args.moment c.args.seals.now) (let t = c.if-index-count.false in let turn : c.args.index ≡ c.count-count.result = grind (arith, t) in turn ∙ c.count-count.ensures.value) (sym c.has_room.ensures.value ∙ room) in
+    let e = c.in_err-journal.field-0.0 in
+    let told = rw c.deref.ensures.value at c.in_err-journal.ensures.told in
+    let after = either k.calls call kept.journal c.in_ok-payload.payload.items (Err e) s s' c.in_err-journal.ensures.frame spelled next k.in_file settled told (g.met.D.Disk.reads_image n.disk) (g.met.D.Disk.counts_now n.disk) in
+    let same : c.from_residual-in_err-journal.result ≡ Err e = search rules in
+    rw same (alters_added e s s' kept n.kept self.unreadable n.unreadable c.in_err-journal.ensures.only c.in_err-journal.ensures.none c.in_err-journal.ensures.counts (adds_told k.calls call s s' self.asked self.unreadable n.unreadable c.in_err-journal.ensures.frame c.in_err-journal.ensures.unreadable before after) c.in_err-journal.ensures.frame)
+
+pub returns-in_err-add_batch-clause-alters : goal.returns-in_err-add_batch-clause-alters
+returns-in_err-add_batch-clause-alters g c =
+    let S = g.D.Disk.state in
+    let self = c.args.self.now in
+    let s = S self.disk in
+    let kept = c.args.kept in
+    let k = knows_of s.reads kept c.requires.keeps in
+    let call : Call = file c.args.id c.args.index (batch_of c.args.moment c.args.seals.now) in
+    let before = told_calls s.reads kept k in
+    let h = c.if-not-has_room.false in
+    let room : c.has_room.result ≡ true = grind (arith, h) in
+    let n = c.add.new.self in
+    let s' = S n.disk in
+    let spelled = spelled_in call c.in_ok-payload.payload.items c.in_ok-payload.ensures in
+    let settled = settled_of s kept c.requires.settled in
+    let next = batch_next s.reads kept k c.args.id c.args.index (batch_of c.args.moment c.args.seals.now) (let t = c.if-index-count.false in let turn : c.args.index ≡ c.count-count.result = grind (arith, t) in turn ∙ c.count-count.ensures.value) (sym c.has_room.ensures.value ∙ room) in
+    let told = rw c.deref.ensures.value at c.in_ok-journal.ensures.told in
+    let after = either k.calls call kept.journal c.in_ok-payload.payload.items (Ok c.in_ok-journal.journal) s s' c.in_ok-journal.ensures.frame spelled next k.in_file settled told (g.met.D.Disk.reads_image n.disk) (g.met.D.Disk.counts_now n.disk) in
+    let same : c.from_residual-in_err-add_batch.result ≡ Err NoMemory = search rules in
+    rw same (alters_kept (Err NoMemory) s s' kept n.kept self.unreadable n.unreadable c.in_ok-journal.ensures.none c.in_ok-journal.ensures.counts tt (adds_told k.calls call s s' self.asked self.unreadable n.unreadable c.in_ok-journal.ensures.frame c.in_ok-journal.ensures.unreadable before after) tt c.in_ok-journal.ensures.frame)
+
+pub returns-clause-alters : goal.returns-clause-alters
+returns-clause-alters g c =
+    let S = g.D.Disk.state in
+    let self = c.args.self.now in
+    let s = S self.disk in
+    let kept = c.args.kept in
+    let k = knows_of s.reads kept c.requires.keeps in
+    let call : Call = file c.args.id c.args.index (batch_of c.args.moment c.args.seals.now) in
+    let before = told_calls s.reads kept k in
+    let h = c.if-not-has_room.false in
+    let room : c.has_room.result ≡ true = grind (arith, h) in
+    let n = c.add.new.self in
+    let s' = S n.disk in
+    let spelled = spelled_in call c.in_ok-payload.payload.items c.in_ok-payload.ensures in
+    let settled = settled_of s kept c.requires.settled in
+    let next = batch_next s.reads kept k c.args.id c.args.index (batch_of c.args.moment c.args.seals.now) (let t = c.if-index-count.false in let turn : c.args.index ≡ c.count-count.result = grind (arith, t) in turn ∙ c.count-count.ensures.value) (sym c.has_room.ensures.value ∙ room) in
+    let told = rw c.deref.ensures.value at c.in_ok-journal.ensures.told in
+    let after = either k.calls call kept.journal c.in_ok-payload.payload.items (Ok c.in_ok-journal.journal) s s' c.in_ok-journal.ensures.frame spelled next k.in_file settled told (g.met.D.Disk.reads_image n.disk) (g.met.D.Disk.counts_now n.disk) in
+    alters_kept (Ok tt) s s' kept _ self.unreadable n.unreadable refl c.in_ok-journal.ensures.counts (found s.reads (Some kept) c.requires.keeps refl) (adds_told k.calls call s s' self.asked self.unreadable n.unreadable c.in_ok-journal.ensures.frame c.in_ok-journal.ensures.unreadable before after) tt c.in_ok-journal.ensures.frame

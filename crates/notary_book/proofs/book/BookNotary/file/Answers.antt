@@ -2,6 +2,7 @@ use Rattle.std.proofs.Common.{◌≡◌, ◌∙◌, ℕ, Some, subst}
 use Rattle.notary_link.specs.Notary.{file, batch_of, Answers}
 use Rattle.notary_book.specs.State.{book_state}
 use Rattle.notary_book.proofs.Leaving.{leaves_read, leaves_behind}
+use Rattle.notary_book.proofs.Looking.{alters_behind}
 use Rattle.notary_book.proofs.Telling.{answers_behind}
 use Rattle.notary_book.proofs.book.BookNotary.file.Goals as goal
 
@@ -42,3 +43,11 @@ returns-in-Some-clause-images g c =
     let S = g.D.Disk.state in
     let mid = c.read.new.self in
     leaves_behind (file c.args.id c.args.index (batch_of c.args.moment c.args.seals.now)) (S c.args.self.now.disk) (S mid.disk) (S c.file_behind.new.self.disk) c.in_ok-read.ensures.reads (g.met.D.Disk.counts_now mid.disk) c.in_ok-read.ensures.told c.file_behind.ensures.images
+
+pub returns-in-Some-clause-alters : goal.returns-in-Some-clause-alters
+returns-in-Some-clause-alters g c =
+    let S = g.D.Disk.state in
+    let old = c.args.self.now in
+    let mid = c.read.new.self in
+    let new = c.file_behind.new.self in
+    alters_behind c.file_behind.result (S old.disk) (S mid.disk) (S new.disk) old.kept mid.kept c.in-Some.kept new.kept old.unreadable mid.unreadable new.unreadable c.in_ok-read.ensures.looks c.file_behind.ensures.alters
