@@ -22,29 +22,28 @@ pub returns-clause-told : goal.returns-clause-told
 returns-clause-told g c =
     let S = g.D.Disk.state in
     beside c.args.store.now c.step.new.store c.step.ensures.header (S c.args.disk.now) (S c.step.new.disk) c.args.line.now c.args.now c.requires.on_tables (Ok c.in_ok-reply.reply) _
-        (answered_as c.is_refusal.result c.in_ok-print_reply.field-0 c.in_ok-reply.reply c.is_refusal.ensures.value c.in_ok-print_reply.ensures.value) c.in_ok-reply.ensures.told
+    (answered_as c.is_refusal.result c.in_ok-print_reply.field-0 c.in_ok-reply.reply c.is_refusal.ensures.value c.in_ok-print_reply.ensures.value) c.in_ok-reply.ensures.told
 
 pub returns-in_err-reply-clause-sound : goal.returns-in_err-reply-clause-sound
 returns-in_err-reply-clause-sound g c =
     let S = g.D.Disk.state in
     stays_sound c.args.store.now c.step.new.store c.args.line.now c.args.now c.step.result (S c.args.disk.now) (S c.step.new.disk)
-        (subst FitsHeader c.header-header.ensures.value c.header-header.ensures.fits)
-        (λ x le image. g.met.D.Disk.counts_now c.step.new.disk (turn (S c.args.disk.now)) x le image)
-        (g.met.D.Disk.reads_image c.args.disk.now) c.step.ensures.told
+    (subst FitsHeader c.header-header.ensures.value c.header-header.ensures.fits)
+    (λ x le image. g.met.D.Disk.counts_now c.step.new.disk (turn (S c.args.disk.now)) x le image)
+    (g.met.D.Disk.reads_image c.args.disk.now) c.step.ensures.told
 
 pub returns-in_err-print_reply-clause-sound : goal.returns-in_err-print_reply-clause-sound
 returns-in_err-print_reply-clause-sound g c =
     let S = g.D.Disk.state in
     stays_sound c.args.store.now c.step.new.store c.args.line.now c.args.now c.step.result (S c.args.disk.now) (S c.step.new.disk)
-        (subst FitsHeader c.header-header.ensures.value c.header-header.ensures.fits)
-        (λ x le image. g.met.D.Disk.counts_now c.step.new.disk (turn (S c.args.disk.now)) x le image)
-        (g.met.D.Disk.reads_image c.args.disk.now) c.step.ensures.told
+    (subst FitsHeader c.header-header.ensures.value c.header-header.ensures.fits)
+    (λ x le image. g.met.D.Disk.counts_now c.step.new.disk (turn (S c.args.disk.now)) x le image)
+    (g.met.D.Disk.reads_image c.args.disk.now) c.step.ensures.told
 
 pub returns-clause-sound : goal.returns-clause-sound
 returns-clause-sound g c =
     let S = g.D.Disk.state in
     stays_sound c.args.store.now c.step.new.store c.args.line.now c.args.now c.step.result (S c.args.disk.now) (S c.step.new.disk)
-        (subst FitsHeader c.header-header.ensures.value c.header-header.ensures.fits)
-        (λ x le image. g.met.D.Disk.counts_now c.step.new.disk (turn (S c.args.disk.now)) x le image)
-        (g.met.D.Disk.reads_image c.args.disk.now) c.step.ensures.told
-
+    (subst FitsHeader c.header-header.ensures.value c.header-header.ensures.fits)
+    (λ x le image. g.met.D.Disk.counts_now c.step.new.disk (turn (S c.args.disk.now)) x le image)
+    (g.met.D.Disk.reads_image c.args.disk.now) c.step.ensures.told
