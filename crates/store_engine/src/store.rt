@@ -155,6 +155,8 @@ impl Store {
         ensures stands { StandsAfter result self.old (frontier_at self.old moment) self.new }
         ensures done { moment ≤ self.old.last → IsOk result }
         ensures same { moment ≤ self.old.last → Unchanged (D.state disk.old) (D.state disk.new) }
+        ensures unstored { IsSome (frontier_fault (tail_of self.old) self.old.at.is_closed moment)
+            → Unchanged (D.state disk.old) (D.state disk.new) }
         ensures told { self.old.last < moment → WhereTold (D.state disk.old).reads (D.state disk.new).reads
             (Adds (items.Frontier moment) result self.old self.new
             (D.state disk.old) (D.state disk.new)) }
