@@ -1,7 +1,7 @@
 -- A notarization, with the steps before it that changed nothing.
 use Rattle.std.specs.Prelude.{IfOk}
 use Rattle.disk_model.specs.Moments.{EveryImage}
-use Rattle.std.proofs.Common.{◌≡◌, ◌⊎◌, inl, inr, ℕ, List, length, Option, Some, None, Result, Ok, Err, refl, sym, ap, subst, ◌∙◌}
+use Rattle.std.proofs.Common.{◌≡◌, ◌⊎◌, inl, inr, ℕ, List, length, Option, Some, None, IsSome, Result, Ok, Err, refl, sym, ap, subst, ◌∙◌}
 use Rattle.outside_words.specs.Told.{WhereTold, TellsAlike}
 use Rattle.outside_words.proofs.Told.{told_then}
 use Rattle.disk_words.specs.Disk as disks
@@ -18,7 +18,7 @@ use Rattle.validator.specs.Notarizing.{next_batches, sealed_after, frontier_for,
 use Rattle.validator.specs.Filing.{FilesFor, CallsFor}
 use Rattle.validator.specs.Reaching.{Notarizes, StoresAround, IsLeft, IsReached, StandsAfter, MakesFor, frontier_calls}
 use Rattle.validator.proofs.Disks.{OnlyNow, around, images_behind, still_settled, unchanged_then, makes_behind, stands_map}
-use Rattle.validator.proofs.Filed.{files_behind, calls_behind}
+use Rattle.validator.proofs.Filed.{files_behind, calls_behind, keeps_then}
 use Rattle.validator.proofs.Notarized.{SameTrace}
 
 module _ (now : ℕ) (items : List Item) (s later_s : Opened) (before after : List ℕ) (open_on : IsOpenOn s items before)
@@ -58,8 +58,14 @@ module _ (now : ℕ) (items : List Item) (s later_s : Opened) (before after : Li
       (told_then filed.trace next.trace later.trace (λ (b a : List Entry). a ≡ b) (CallsFor s.header.id (length (next_lists.batches s.header.id)) (next_of (next_lists.batches s.header.id)) r) (CallsFor s.header.id (length (next_lists.batches s.header.id)) (next_of (next_lists.batches s.header.id)) r)
       alike quiet notarizes.calls (λ b x a is calls. calls_behind s.header.id (length (next_lists.batches s.header.id)) (next_of (next_lists.batches s.header.id)) r b x a is calls))
 
+  -- where something speaks against it, nothing is stored and nothing is filed
+  free_now : IsSome (notarize_fault (tail_of s) s.at.is_closed now items batches) → disks.Unchanged old new × Keeps lists later_lists
+  free_now some = let rest = notarizes.free (subst (λ (bs : List Batch). IsSome (notarize_fault (tail_of s) s.at.is_closed now items bs)) (sym id_batches) some) in
+      (unchanged_then old mid new same rest.0, keeps_then lists next_lists later_lists keeps rest.1)
+
   pub behind : Notarizes now items r s later_s old new before after filed later lists later_lists
   behind = record {
+    free = free_now;
     refused = subst (λ (bs : List Batch). IsRefusedBy (notarize_fault (tail_of s) s.at.is_closed now items bs) r) id_batches notarizes.refused;
     value = subst (λ (bs : List Batch). IfOk r (λ n. n ≡ sealed_after s.header now bs)) id_batches notarizes.value;
     files = files_now;

@@ -93,13 +93,13 @@ module _ (id : ℕ) where
     in_turn_behind (Err notary_fails.Failed) files = record {
       done = files.done;
       some = files.some;
-      fit = subst (λ (room : ℕ). files.done ≤ fitting room batches + 1) same_room files.fit;
+      fit = subst (λ (room : ℕ). files.done ≤ fitting room batches) same_room files.fit;
       filed = all_behind (take files.done batches) files.filed;
     }
     in_turn_behind (Err notary_fails.NoMemory) files = record {
       done = files.done;
       some = files.some;
-      fit = subst (λ (room : ℕ). files.done ≤ fitting room batches + 1) same_room files.fit;
+      fit = subst (λ (room : ℕ). files.done ≤ fitting room batches) same_room files.fit;
       filed = all_behind (take files.done batches) files.filed;
     }
 

@@ -1,5 +1,5 @@
 -- A notarization step by step: what is known of its answer at each return.
-use Rattle.std.proofs.Common.{◌≡◌, ◌⊎◌, inl, inr, ℕ, zero, suc, max, ◌+◌, ◌-◌, ◌<◌, ◌≤◌, List, [], ◌∷◌, ◌++◌, length, map, Option, Some, None, Result, Ok, Err, refl, sym, ap, subst, ◌∙◌, arith}
+use Rattle.std.proofs.Common.{◌≡◌, ◌⊎◌, inl, inr, ℕ, zero, suc, max, ◌+◌, ◌-◌, ◌<◌, ◌≤◌, List, [], ◌∷◌, ◌++◌, length, map, Option, Some, None, IsSome, Result, Ok, Err, refl, sym, ap, subst, ◌∙◌, arith}
 use Rattle.std.specs.List.{range_with_len}
 use Rattle.outside_words.specs.Told.{WhereTold, TellsAlike}
 use Rattle.outside_words.proofs.Told.{told_map, told_same}
@@ -128,6 +128,7 @@ module _ (now : ℕ) (items : List Item) (s : Opened) (before : List ℕ) (open_
       → disks.Unchanged old new → OnlyNow old → after ≡ before → Keeps lists later_lists → SameTrace filed.trace later.trace
       → Notarizes now items (Err e) s s old new before after filed later lists later_lists
   left e old new after filed later lists later_lists still refused same only_now bytes keeps quiet = record {
+    free = λ some. (same, keeps);
     refused = refused;
     value = tt;
     files = files_none s.header.id ℕ filed.limits (next_batches h now (lists.batches s.header.id)) e lists later_lists still keeps;
@@ -171,6 +172,7 @@ module _ (now : ℕ) (items : List Item) (s : Opened) (before : List ℕ) (open_
       pub nothing_left : (old : disks.State) (filed : notaries.State) → OnlyNow old → (r : ℕ) → r ≡ count - 1
           → Notarizes now items (Ok r) s s old old before before filed filed lists lists
       nothing_left old filed only_now r is = record {
+        free = λ some. (unchanged_same old, keeps_same lists);
         refused = fault_is ∙ ap (room_fault (tail_of s)) no_need;
         value = is ∙ (let e : count - 1 ≡ max ended (count - 1) = omega (arith, none) in e) ∙ value_is;
         files = subst (λ (bs : List Batch). FilesFor {A = ℕ} s.header.id filed.limits bs (Ok r) lists lists) (sym no_batch) (files_nothing s.header.id filed.limits r lists lists (keeps_same lists));
@@ -204,6 +206,7 @@ module _ (now : ℕ) (items : List Item) (s : Opened) (before : List ℕ) (open_
       pub not_reached : (e : AuditFail) → IsOfReaching e → Reaches (frontier_to s ended) items (Err e) s later_s old new before after → (filed : notaries.State)
           → Notarizes now items (Err e) s later_s old new before after filed filed lists lists
       not_reached e of_it reaches filed = record {
+        free = λ some. (this.free (subst IsSome fault_is some), keeps_same lists);
         refused = subst (λ (f : Option AuditFail). IsRefusedBy {A = ℕ} f (Err e)) (sym fault_is) (refused_alike (Unit {0}) ℕ (room_fault (tail_of s) need) e this.refused);
         value = tt;
         files = files_none s.header.id ℕ filed.limits (next_batches h now batches) e lists lists still (keeps_same lists);
@@ -238,6 +241,7 @@ module _ (now : ℕ) (items : List Item) (s : Opened) (before : List ℕ) (open_
         pub all_filed : FilesNext plan.history.header.id count (batches_from plan.history now count ended) (Ok tt) filed later lists later_lists
             → Notarizes now items (Ok ended) s later_s old new before after filed later lists later_lists
         all_filed files = record {
+          free = λ some. let none : IsSome {T = AuditFail} None = subst IsSome no_fault some in absurd cc;
           refused = no_fault;
           value = (let e : ended ≡ max ended (count - 1) = omega (arith, some) in e) ∙ value_is;
           files = (files_are (Ok tt) files).files;
@@ -253,6 +257,7 @@ module _ (now : ℕ) (items : List Item) (s : Opened) (before : List ℕ) (open_
         pub not_filed : (e : AuditFail) → FilesNext plan.history.header.id count (batches_from plan.history now count ended) (Err e) filed later lists later_lists
             → Notarizes now items (Err e) s later_s old new before after filed later lists later_lists
         not_filed e files = record {
+          free = λ some. let none : IsSome {T = AuditFail} None = subst IsSome no_fault some in absurd cc;
           refused = subst (λ (f : Option AuditFail). IsRefusedBy {A = ℕ} f (Err e)) (sym no_fault) (filing_refused e this.in_turn);
           value = tt;
           files = files_alike s.header.id (Unit {0}) ℕ filed.limits (next_batches h now batches) e lists later_lists this.files;

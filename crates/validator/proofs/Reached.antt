@@ -1,5 +1,5 @@
 -- A Frontier is stored, where one is needed.
-use Rattle.std.proofs.Common.{◌≡◌, ◌⊎◌, inl, inr, ℕ, ◌<◌, ◌≤◌, Bool, true, false, List, [], ◌∷◌, ◌++◌, Option, Some, None, Result, Ok, Err, refl, sym, ap, subst, ◌∙◌, arith}
+use Rattle.std.proofs.Common.{◌≡◌, ◌⊎◌, inl, inr, ℕ, ◌<◌, ◌≤◌, Bool, true, false, List, [], ◌∷◌, ◌++◌, Option, Some, None, IsSome, Result, Ok, Err, refl, sym, ap, subst, ◌∙◌, arith}
 use Rattle.std.specs.Prelude.{nat_le, nat_lt, if◌then◌else◌}
 use Rattle.std.proofs.lemmas.Bool.{cases_lt}
 use Rattle.std.proofs.lemmas.Bool.Decides.{nat_tests}
@@ -28,6 +28,14 @@ use Rattle.validator.proofs.Telling.{told_still, told_any}
 module _ (s later : Opened) (moment : ℕ) (old new : State) where
   room_is : s.at.is_closed ≡ false → room_fault (tail_of s) (Some moment) ≡ of_store (frontier_fault (tail_of s) s.at.is_closed moment)
   room_is opened = ap (λ (b : Bool). of_store (frontier_fault (tail_of s) b moment)) (sym opened)
+
+  some_store : (f : Option StoreFail) → IsSome (of_store f) → IsSome f
+  some_store None some = some
+  some_store (Some e) some = refl
+
+  -- where there is no room, the disk is untouched
+  free_at : s.at.is_closed ≡ false → (IsSome (frontier_fault (tail_of s) s.at.is_closed moment) → Unchanged old new) → IsSome (room_fault (tail_of s) (Some moment)) → Unchanged old new
+  free_at opened unstored some = unstored (some_store (frontier_fault (tail_of s) s.at.is_closed moment) (subst IsSome (room_is opened) some))
 
   -- the answer's own facts, of a Frontier that is needed
   refused_at : (e : StoreFail) → s.at.is_closed ≡ false → engine.IsRefusedBy {A = Unit {0}} (frontier_fault (tail_of s) s.at.is_closed moment) (Err e) → IsRefusedBy {A = Unit {0}} (room_fault (tail_of s) (Some moment)) (Err (fail_of_frontier e))
@@ -100,10 +108,12 @@ module _ (s later : Opened) (moment : ℕ) (old new : State) where
 
   -- ---- with a Frontier
 
-  module _ (is : List Item) (before after : List ℕ) (open_on : IsOpenOn s is before) (opened : s.at.is_closed ≡ false) where
+  module _ (is : List Item) (before after : List ℕ) (open_on : IsOpenOn s is before) (opened : s.at.is_closed ≡ false)
+      (unstored : IsSome (frontier_fault (tail_of s) s.at.is_closed moment) → Unchanged old new) where
     reaches_failed : (e : StoreFail) → engine.IsRefusedBy {A = Unit {0}} (frontier_fault (tail_of s) s.at.is_closed moment) (Err e) → commits.StandsAfter {A = Unit {0}} (Err e) s (frontier_at s moment) later
         → Adds {A = Unit {0}} (items.Frontier moment) (Err e) s later old new before after → Reaches (Some moment) is (Err (fail_of_frontier e)) s later old new before after
     reaches_failed e refused stands adds = record {
+      free = free_at opened unstored;
       refused = refused_at e opened refused;
       stands = stands_at (frontier_calls s (Some moment)) (IsReached (Some moment) s later is old new before after) e stands adds.trace;
       images = adds.images is open_on;
@@ -114,6 +124,7 @@ module _ (s later : Opened) (moment : ℕ) (old new : State) where
     reaches_done : s.last < moment → engine.IsRefusedBy {A = Unit {0}} (frontier_fault (tail_of s) s.at.is_closed moment) (Ok tt) → commits.StandsAfter {A = Unit {0}} (Ok tt) s (frontier_at s moment) later
         → Adds {A = Unit {0}} (items.Frontier moment) (Ok tt) s later old new before after → Reaches (Some moment) is (Ok tt) s later old new before after
     reaches_done lt refused stands adds = record {
+      free = free_at opened unstored;
       refused = room_is opened ∙ ap of_store refused;
       stands = record {
         store_is = stands ∙ (let no : nat_le moment s.last ≡ false = grind (arith, nat_tests, lt) in ap (λ (b : Bool). if b then s else with_frontier s moment) no);
@@ -129,6 +140,7 @@ module _ (s later : Opened) (moment : ℕ) (old new : State) where
 
     reaches_still : after ≡ before → later ≡ s → Unchanged old new → OnlyNow old → Reaches None is (Ok tt) s later old new before after
     reaches_still bytes stands same only_now = record {
+      free = λ some. same;
       refused = refl;
       stands = record {
         store_is = stands;
@@ -165,23 +177,23 @@ module _ (s later : Opened) (ended end : ℕ) (end_is : end ≡ end_of s.header 
   Needed r = s.last < end → WhereTold old.reads new.reads (Adds (items.Frontier end) r s later old new)
 
   pub reach_done : engine.IsRefusedBy {A = Unit {0}} (frontier_fault (tail_of s) s.at.is_closed end) (Ok tt) → commits.StandsAfter {A = Unit {0}} (Ok tt) s (frontier_at s end) later
-      → (end ≤ s.last → Unchanged old new) → OnlyNow old → (s.last < end → WhereTold old.reads new.reads (Adds {A = Unit {0}} (items.Frontier end) (Ok tt) s later old new)) → WhereTold old.reads new.reads (Reaching (Ok tt))
-  reach_done refused stands same only_now told = by (cases_lt s.last end)
+      → (end ≤ s.last → Unchanged old new) → (IsSome (frontier_fault (tail_of s) s.at.is_closed end) → Unchanged old new) → OnlyNow old → (s.last < end → WhereTold old.reads new.reads (Adds {A = Unit {0}} (items.Frontier end) (Ok tt) s later old new)) → WhereTold old.reads new.reads (Reaching (Ok tt))
+  reach_done refused stands same unstored only_now told = by (cases_lt s.last end)
     where
       by : (s.last < end) ⊎ (end ≤ s.last) → WhereTold old.reads new.reads (Reaching (Ok tt))
       by (inl lt) = told_map old.reads new.reads (Adds {A = Unit {0}} (items.Frontier end) (Ok tt) s later old new) (Reaching (Ok tt)) (told lt)
-          (λ before after adds is open_on opened. subst (λ (o : Option ℕ). Reaches o is (Ok tt) s later old new before after) (sym (needs lt)) (reaches_done s later end old new is before after open_on opened lt refused stands adds))
+          (λ before after adds is open_on opened. subst (λ (o : Option ℕ). Reaches o is (Ok tt) s later old new before after) (sym (needs lt)) (reaches_done s later end old new is before after open_on opened unstored lt refused stands adds))
       by (inr le) = told_still old.reads new.reads (λ before after. Unit {0}) (Reaching (Ok tt)) (same le).reads (told_any old.reads new.reads)
-          (λ before after bytes any is open_on opened. subst (λ (o : Option ℕ). Reaches o is (Ok tt) s later old new before after) (sym (needs_none le)) (reaches_still s later end old new is before after open_on opened bytes (stands ∙ here le) (same le) only_now))
+          (λ before after bytes any is open_on opened. subst (λ (o : Option ℕ). Reaches o is (Ok tt) s later old new before after) (sym (needs_none le)) (reaches_still s later end old new is before after open_on opened unstored bytes (stands ∙ here le) (same le) only_now))
         where
           here : end ≤ s.last → frontier_at s end ≡ s
           here le = let yes : nat_le end s.last ≡ true = grind (arith, nat_tests, le) in ap (λ (b : Bool). if b then s else with_frontier s end) yes
 
   pub reach_failed : (e : StoreFail) → engine.IsRefusedBy {A = Unit {0}} (frontier_fault (tail_of s) s.at.is_closed end) (Err e) → commits.StandsAfter {A = Unit {0}} (Err e) s (frontier_at s end) later
-      → (end ≤ s.last → ⊥) → (s.last < end → WhereTold old.reads new.reads (Adds {A = Unit {0}} (items.Frontier end) (Err e) s later old new)) → WhereTold old.reads new.reads (Reaching (Err (fail_of_frontier e)))
-  reach_failed e refused stands ok told = by (cases_lt s.last end)
+      → (end ≤ s.last → ⊥) → (IsSome (frontier_fault (tail_of s) s.at.is_closed end) → Unchanged old new) → (s.last < end → WhereTold old.reads new.reads (Adds {A = Unit {0}} (items.Frontier end) (Err e) s later old new)) → WhereTold old.reads new.reads (Reaching (Err (fail_of_frontier e)))
+  reach_failed e refused stands ok unstored told = by (cases_lt s.last end)
     where
       by : (s.last < end) ⊎ (end ≤ s.last) → WhereTold old.reads new.reads (Reaching (Err (fail_of_frontier e)))
       by (inl lt) = told_map old.reads new.reads (Adds {A = Unit {0}} (items.Frontier end) (Err e) s later old new) (Reaching (Err (fail_of_frontier e))) (told lt)
-          (λ before after adds is open_on opened. subst (λ (o : Option ℕ). Reaches o is (Err (fail_of_frontier e)) s later old new before after) (sym (needs lt)) (reaches_failed s later end old new is before after open_on opened e refused stands adds))
+          (λ before after adds is open_on opened. subst (λ (o : Option ℕ). Reaches o is (Err (fail_of_frontier e)) s later old new before after) (sym (needs lt)) (reaches_failed s later end old new is before after open_on opened unstored e refused stands adds))
       by (inr le) = absurd (ok le)

@@ -1,5 +1,5 @@
 -- The steps of a notarization.
-use Rattle.std.specs.Prelude.{◌≡◌, ◌≤◌, ℕ, ◌-◌, suc, max, nat_lt, if◌then◌else◌, Bool, false, List, [], ◌∷◌, map, length, Option, Some, None, Result, Ok, Err, IfErr, IfOk}
+use Rattle.std.specs.Prelude.{◌≡◌, ◌≤◌, ℕ, ◌-◌, suc, max, nat_lt, if◌then◌else◌, Bool, false, List, [], ◌∷◌, map, length, Option, Some, None, IsSome, Result, Ok, Err, IfErr, IfOk}
 use Rattle.std.specs.List.{range_with_len}
 use Rattle.outside_words.specs.Told.{WhereTold}
 use Rattle.disk_words.specs.Disk as disks
@@ -140,6 +140,8 @@ IsOfReaching fail = ⊥
 
 -- a Frontier is stored, where one is needed
 pub record Reaches (need : Option ℕ) (stored_items : List Item) (result : Result (Unit {0}) AuditFail) (s later_s : Opened) (old new : disks.State) (before after : List ℕ) : Type 0 where
+  -- where the file has no room for it, the disk is untouched, whatever is answered
+  pub free : IsSome (room_fault (tail_of s) need) → disks.Unchanged old new
   pub refused : IsRefusedBy (room_fault (tail_of s) need) result
   pub stands : StandsAfter result (IsReached need s later_s stored_items old new before after) (IsLeft s later_s old new)
   pub images : disks.Only before old → EveryImage old new (StoresAround s.header stored_items need)

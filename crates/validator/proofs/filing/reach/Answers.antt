@@ -12,7 +12,7 @@ returns-in-Ok-clause-told g c =
     let S = g.D.Disk.state in
     let is : c.end_of-moment.result ≡ end_of c.args.store.now.header c.args.ended = search rules in
     let h = c.in-Ok.ensures in
-    reach_done c.args.store.now c.frontier.new.self c.args.ended c.end_of-moment.result is (S c.args.disk.now) (S c.frontier.new.disk) h.refused h.stands h.same (g.met.D.Disk.only_now c.args.disk.now) h.told
+    reach_done c.args.store.now c.frontier.new.self c.args.ended c.end_of-moment.result is (S c.args.disk.now) (S c.frontier.new.disk) h.refused h.stands h.same h.unstored (g.met.D.Disk.only_now c.args.disk.now) h.told
 
 pub returns-in-Err-clause-told : goal.returns-in-Err-clause-told
 returns-in-Err-clause-told g c =
@@ -21,7 +21,7 @@ returns-in-Err-clause-told g c =
     let h = c.in-Err.ensures in
     let e : c.frontier_refusal.result ≡ fail_of_frontier c.in-Err.fail = c.frontier_refusal.ensures.value in
     subst (λ (f : AuditFail). WhereTold (S c.args.disk.now).reads (S c.frontier.new.disk).reads (IsReaching c.args.store.now c.frontier.new.self c.args.ended (S c.args.disk.now) (S c.frontier.new.disk) (Err f))) (sym e)
-    (reach_failed c.args.store.now c.frontier.new.self c.args.ended c.end_of-moment.result is (S c.args.disk.now) (S c.frontier.new.disk) c.in-Err.fail h.refused h.stands (λ le. let f = h.done le in absurd cc) h.told)
+    (reach_failed c.args.store.now c.frontier.new.self c.args.ended c.end_of-moment.result is (S c.args.disk.now) (S c.frontier.new.disk) c.in-Err.fail h.refused h.stands (λ le. let f = h.done le in absurd cc) h.unstored h.told)
 
 pub returns-in-Err-clause-only : goal.returns-in-Err-clause-only
 returns-in-Err-clause-only g c =
