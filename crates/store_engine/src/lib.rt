@@ -27,6 +27,7 @@
 //! |---|---|
 //! | what is opened stands for the bytes, and bytes are refused exactly where they have no header of the id | `value`, `id` of `open_store` |
 //! | a refusal comes exactly where it has a cause, by the first cause; want of memory may come before | `refused` |
+//! | where there is a cause, the disk is untouched, also where want of memory comes before | `same` of `commit`, `unstored` of `frontier` |
 //! | the number is that of the transactions before and one more | `number` of `commit` |
 //! | after Ok the store has the item, after a refusal it is as it was, after a fault or want of memory it is closed; the tables have nothing that is not durable | `stands` |
 //! | after Ok the file holds the item, and is durable: it is in every image | `added`, `durable` of `told` |

@@ -28,6 +28,7 @@
 //! |---|---|
 //! | a closed store, an earlier clock and a granule too late are refused first, and nothing is asked or changed | `early`, `untouched` |
 //! | any other refusal has its cause (`notarize_fault`): `Broken` and `SealMissing` of what is filed, `StoreFull` of the Frontier | `told`: `refused` |
+//! | where there is such a cause, nothing is stored and nothing is filed, also where a fault or want of memory is answered | `told`: `free` |
 //! | Ok tells how many tiles are sealed then, and their batches are filed, of the clock's moment | `told`: `value`, `files`, `calls` |
 //! | after `Full` as many batches are filed as there is room for | `told`: `files` |
 //! | no batch is filed before the store has reached the end of its tile on a settled disk | `told`: `ordered` |
