@@ -1,5 +1,5 @@
 -- The lines of an input are carried out.
-use Rattle.std.proofs.Common.{◌≡◌, ◌∙◌, ◌≤◌, ◌<◌, ℕ, Bool, true, false, Option, Some, None, List, [], ◌∷◌, ◌++◌, length, take, refl, sym, ap, subst, arith, length-append, inl, inr, ⊎_elim, Result, Ok, Err}
+use Rattle.std.proofs.Common.{◌≡◌, ◌∙◌, ◌≤◌, ◌<◌, ℕ, Bool, true, false, List, [], ◌∷◌, ◌++◌, length, take, refl, sym, ap, subst, arith, length-append, inl, inr, ⊎_elim, Result, Ok, Err}
 use Rattle.std.specs.Prelude.{IsErrOf}
 use Rattle.std.proofs.lemmas.List.{map-append}
 use Rattle.outside_words.specs.Told.{WhereTold, TellsAlike}
@@ -21,7 +21,7 @@ use Rattle.line_input.specs.declared.fail.InputFail.TheVariants as inputs
 use Rattle.line_input.specs.Lines.{IsFeedless, lines_of}
 use Rattle.line_input.specs.Limits.{input_limit, piece_limit}
 use Rattle.line_input.specs.Reader as readers
-use Rattle.line_input.specs.Reader.{Reading, Gives, IsAtEnd, IsAtLimit, Tells}
+use Rattle.line_input.specs.Reader.{Reading, IsAtEnd, IsAtLimit, Tells}
 use Rattle.drill_core.specs.declared.fail.LineFail.{LineFail}
 use Rattle.drill_core.specs.declared.fail.LineFail.TheVariants as lines
 use Rattle.drill_core.specs.World.{StoresWorld, AreBetween}
@@ -29,9 +29,9 @@ use Rattle.dragoon_app.specs.declared.status.Status.{Status}
 use Rattle.dragoon_app.specs.declared.status.Status.TheVariants as statuses
 use Rattle.dragoon_app.specs.declared.run_fail.RunFail.{RunFail}
 use Rattle.dragoon_app.specs.declared.runner.Runner.{Runner}
-use Rattle.dragoon_app.specs.Running.{Running, Timed, carry, carried}
+use Rattle.dragoon_app.specs.Running.{Running, Timed, carried}
 use Rattle.dragoon_app.specs.Ran.{AreFirst, Ends, IsNext, IsUnderWay, Reads, TakesLittle, TakesNoMore, IsOutBut, lines_in, text_before, Takes}
-use Rattle.dragoon_app.specs.Carrying.{IsAt, Wherever, Goes, IsLineOf, Replies, RepliesFrom, Carries, CarriesFrom, IsWritten, IsBetween, ending, of_line, of_input, of_output}
+use Rattle.dragoon_app.specs.Carrying.{Wherever, IsLineOf, Replies, RepliesFrom, Carries, CarriesFrom, IsWritten, IsBetween, ending, of_line, of_input, of_output}
 use Rattle.dragoon_app.proofs.Seconds.{takes_none, takes_then, takes_blank}
 use Rattle.dragoon_app.proofs.Reading.{take_front, take_first, IsRead, read_none, read_more, read_same, first_of, takes_front, takes_little, all_read, ended_at, complete_at}
 use Rattle.dragoon_app.proofs.Written.{before_shorter, before_more, out_but_none}

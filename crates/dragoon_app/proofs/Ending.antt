@@ -27,7 +27,7 @@ use Rattle.dragoon_app.specs.Texts.{fault_line}
 use Rattle.dragoon_app.specs.Outcome.{Said, WriteCause, refused}
 use Rattle.dragoon_app.specs.Running.{Running, Timed, start, carried, world_of}
 use Rattle.dragoon_app.specs.Ran.{AreFirst, IsNext, TakesNoMore, Reads, IsOutBut, CauseOf, IsToTell, IsCutShort, Writes, IsSettled, Runs, RunsUnder, RunsOn, EndsEarly, lines_in, text_before}
-use Rattle.dragoon_app.specs.Carrying.{IsAt, IsReady, Wherever, StaysSound, Carries, CarriesFrom, IsWritten, IsBetween, ending, EndsWith, RunsFrom, SoundFrom}
+use Rattle.dragoon_app.specs.Carrying.{IsReady, Carries, CarriesFrom, IsWritten, IsBetween, ending, EndsWith, RunsFrom, SoundFrom}
 use Rattle.dragoon_app.proofs.Wherever.{told_both, wherever_map}
 use Rattle.dragoon_app.proofs.Written.{out_but_end}
 use Rattle.dragoon_app.proofs.Standing.{stores_in}

@@ -26,7 +26,7 @@ use Rattle.dragoon_app.specs.declared.line_kind.LineKind.TheVariants as kinds
 use Rattle.dragoon_app.specs.Numbers.{max_u64}
 use Rattle.dragoon_app.specs.Running.{Running, Timed, carry, answered, said_by, stmt_kind, kind_of, seconds_of, stepped, set_moment, refused_line, refused_text, MayFindBy}
 use Rattle.dragoon_app.specs.Ran.{Takes}
-use Rattle.dragoon_app.specs.Carrying.{IsAt, Wherever, Goes, GoesTo, Steps, StepsFrom, GoesBy, LineFrom, Replies, RepliesFrom, IsLineOf, TakesFor, GivesSeconds, refusing, SetsMoment}
+use Rattle.dragoon_app.specs.Carrying.{Wherever, Goes, GoesTo, StepsFrom, LineFrom, RepliesFrom, IsLineOf, TakesFor, GivesSeconds, refusing, SetsMoment}
 use Rattle.dragoon_app.proofs.Seconds.{takes_blank, takes_second}
 use Rattle.dragoon_app.proofs.Nothing.{no_finding, nothing, blank_nothing, blank_answer, carry_is, carry_nothing, nothing_found}
 use Rattle.dragoon_app.proofs.Worlds.{step_limits, stands_of}

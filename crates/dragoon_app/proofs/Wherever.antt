@@ -1,5 +1,5 @@
 -- What is told of a disk and a notary before and after each of several calls.
-use Rattle.std.proofs.Common.{◌≡◌, Bool, false, List, ℕ, Option, Some, None, refl}
+use Rattle.std.proofs.Common.{◌≡◌, false, List, ℕ, Option, Some, None, refl}
 use Rattle.std.specs.Option.{is_some}
 use Rattle.outside_words.specs.Told.{WhereTold, TellsAlike}
 use Rattle.outside_words.proofs.Told.{told_map, told_then, told_while, told_same}

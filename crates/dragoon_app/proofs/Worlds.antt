@@ -1,5 +1,5 @@
 -- The worlds of a run: the store and the lists that stand for them, and their limits, which no line changes.
-use Rattle.std.proofs.Common.{◌≡◌, ◌∙◌, ℕ, Bool, true, false, List, length, take, Option, Some, None, Result, Ok, Err, refl, sym, subst, arith}
+use Rattle.std.proofs.Common.{◌≡◌, ◌∙◌, ℕ, Bool, true, false, List, length, Option, Some, None, Result, Ok, Err, refl, sym, subst, arith}
 use Rattle.std.specs.Prelude.{if◌then◌else◌, IfSome, nat_lt, ◌==◌}
 use Rattle.std.proofs.lemmas.List.{take_all}
 use Rattle.tuple_bytes.specs.declared.header.Header.{Header}
@@ -8,7 +8,6 @@ use Rattle.notary_link.specs.declared.mark.Mark.{Mark}
 use Rattle.notary_link.specs.Batches.{Batch}
 use Rattle.notary_link.specs.Filing.{fitting, room_in}
 use Rattle.notary_link.specs.Notary.{Lists, Keeps, marks_in_all}
-use Rattle.stmt_text.specs.declared.stmt.Stmt.{Stmt}
 use Rattle.stmt_text.specs.declared.stmt.Stmt.TheVariants as stmts
 use Rattle.stmt_text.specs.declared.line.Line.{Line}
 use Rattle.stmt_text.specs.declared.line.Line.TheVariants as lines
@@ -20,7 +19,7 @@ use Rattle.validator.specs.Notarizing.{notarize_fault, next_batches}
 use Rattle.validator.specs.Verdicts.{mark_of}
 use Rattle.validator.specs.Texts.{verdict_text}
 use Rattle.history_model.specs.History.{history}
-use Rattle.drill_core.specs.World.{World, Held, StoreIsIn, StoresOf, StandsFor, IsBetween, AreBetween}
+use Rattle.drill_core.specs.World.{World, StoreIsIn, StoresOf, IsBetween, AreBetween}
 use Rattle.drill_core.specs.Steps.{Step, step, on_tables, notarized, unless, sealed, all_filed, filed_for, validated, marked}
 
 -- ---- limits

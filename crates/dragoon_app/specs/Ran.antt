@@ -12,8 +12,7 @@ use Rattle.line_input.specs.Limits.{input_limit, piece_limit}
 use Rattle.tuple_bytes.specs.declared.header.Header.{Header}
 use Rattle.history_model.specs.Stored.{stored}
 use Rattle.notary_link.specs.Notary as notaries
-use Rattle.session_core.specs.World as statements
-use Rattle.drill_core.specs.World.{World, StoresWorld, AreBetween}
+use Rattle.drill_core.specs.World.{StoresWorld, AreBetween}
 use Rattle.dragoon_app.specs.declared.status.Status.{Status}
 use Rattle.dragoon_app.specs.declared.status.Status.TheVariants as statuses
 use Rattle.dragoon_app.specs.Outcome.{Said, refused}

@@ -1,6 +1,6 @@
 //! The command `run`: the lines of the input, carried out one after another.
 
-ghost use Rattle.std.specs.Prelude.{◌≡◌, ◌≢◌, ⊤};
+ghost use Rattle.std.specs.Prelude.{◌≢◌, ⊤};
 ghost use Rattle.outside_words.specs.Faults.{HasCause};
 ghost use Rattle.disk_words.specs.Disk as disks;
 ghost use Rattle.notary_link.specs.Notary as notaries;

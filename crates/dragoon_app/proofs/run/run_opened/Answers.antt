@@ -1,5 +1,4 @@
 use Rattle.std.proofs.Common.{Ok, Err}
-use Rattle.dragoon_app.specs.declared.status.Status.TheVariants as statuses
 use Rattle.dragoon_app.proofs.Ending.{ran_ok, ran_refused, ran_failed, ran_sound, written_cause}
 use Rattle.dragoon_app.proofs.run.run_opened.Goals as goal
 

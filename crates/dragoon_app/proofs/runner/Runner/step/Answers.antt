@@ -1,4 +1,4 @@
-use Rattle.std.proofs.Common.{◌≡◌, Ok, Err, refl, rules}
+use Rattle.std.proofs.Common.{◌≡◌, Err, refl, rules}
 use Rattle.dragoon_app.proofs.Replying.{steps_on, steps_off}
 use Rattle.dragoon_app.proofs.runner.Runner.step.Goals as goal
 
