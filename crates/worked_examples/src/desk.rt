@@ -2,6 +2,7 @@
 
 use disk_model::{Disk, MemDisk};
 use dragoon_app::dragoon;
+use notary_link::{MemNotary, NotaryLimits};
 use outside_io::{MemClock, MemSink, MemSource};
 use std::alloc::{AllocError, Global};
 
@@ -14,6 +15,17 @@ pub fn words(alloc: Global, text: &str) -> Result<Vec<String>, AllocError> {
     Ok(words)
 }
 
+/// A notary that holds nothing yet, and has room for little.
+pub fn notary(alloc: Global) -> MemNotary {
+    MemNotary::new(
+        alloc,
+        NotaryLimits {
+            seals: 1000,
+            marks: 10,
+        },
+    )
+}
+
 /// How a call over this store ends that finds all its devices whole, and what it writes. The clock
 /// gives these seconds.
 pub fn call<D: Disk>(
@@ -24,10 +36,19 @@ pub fn call<D: Disk>(
     seconds: &[u64],
 ) -> Result<(u8, Vec<u8>), AllocError> {
     let words = words(alloc, text)?;
+    let mut notary = notary(alloc);
     let mut clock = MemClock::new(seconds.to_vec(alloc)?);
     let mut input = MemSource::new(script.to_vec(alloc)?, 4096, Vec::new(alloc));
     let mut out = MemSink::new(alloc, Vec::new(alloc));
-    let status = dragoon(alloc, &words, store, &mut clock, &mut input, &mut out);
+    let status = dragoon(
+        alloc,
+        &words,
+        store,
+        &mut notary,
+        &mut clock,
+        &mut input,
+        &mut out,
+    );
     Ok((status.code(), out.bytes().to_vec(alloc)?))
 }
 

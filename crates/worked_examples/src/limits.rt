@@ -1,6 +1,6 @@
 //! What is as large as it may be, and a little larger.
 
-use crate::desk::{call, made, words};
+use crate::desk::{call, made, notary, words};
 use disk_model::MemDisk;
 use dragoon_app::dragoon;
 use outside_io::{MemClock, MemSink, MemSource};
@@ -57,10 +57,19 @@ fn failing(
 ) -> Result<(u8, Vec<u8>), AllocError> {
     let mut store = made(alloc, "init 7 60 3 m")?;
     let words = words(alloc, "run 7 scripted")?;
+    let mut notary = notary(alloc);
     let mut clock = MemClock::new(Vec::new(alloc));
     let mut input = MemSource::new(script, piece, reads.to_vec(alloc)?);
     let mut out = MemSink::new(alloc, writes.to_vec(alloc)?);
-    let status = dragoon(alloc, &words, &mut store, &mut clock, &mut input, &mut out);
+    let status = dragoon(
+        alloc,
+        &words,
+        &mut store,
+        &mut notary,
+        &mut clock,
+        &mut input,
+        &mut out,
+    );
     Ok((status.code(), out.bytes().to_vec(alloc)?))
 }
 
