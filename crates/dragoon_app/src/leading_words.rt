@@ -4,8 +4,10 @@ ghost use Rattle.std.specs.Prelude.{◌≡◌, map, List, ℕ};
 ghost use Rattle.std.specs.String.{string_bytes};
 ghost use Rattle.dragoon_app.specs.Words.{is_given, is_first, is_leading, IsLeading};
 
-/// What such a word begins with.
+/// What a word begins with that names the store.
 const STORE: &[u8] = b"store=";
+
+/// What a word begins with that names the notary.
 const NOTARY: &[u8] = b"notary=";
 
 /// Whether one of the words has the prefix.

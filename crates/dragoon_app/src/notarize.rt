@@ -44,11 +44,7 @@ fn say_sealed<O: Sink>(alloc: Global, out: &mut O, tiles: u32) -> Status
 }
 
 /// Tells what a notarization answered.
-fn say_notarized<O: Sink>(
-    alloc: Global,
-    out: &mut O,
-    answer: Result<u32, AuditFail>,
-) -> Status
+fn say_notarized<O: Sink>(alloc: Global, out: &mut O, answer: Result<u32, AuditFail>) -> Status
     ensures said { Said (notarize_outcome answer) result (O.state out.old) (O.state out.new) }
     ensures cause { WriteCause result (O.state out.old) (O.state out.new) }
     ensures frame { sinks.GoesOn (O.state out.old) (O.state out.new) }

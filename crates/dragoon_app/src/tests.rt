@@ -544,5 +544,8 @@ fn each_status_has_its_number(rt: HostRuntime) {
         Status::InputLimit,
     ]
     .map(|status| status.code());
-    assert_eq!(rt; numbers, [0, 1, 2, 3, 4, 5, 6, 7, 8, 9, 10, 11, 12, 13, 14, 15, 16, 17]);
+    assert_eq!(rt;
+        numbers,
+        [0, 1, 2, 3, 4, 5, 6, 7, 8, 9, 10, 11, 12, 13, 14, 15, 16, 17]
+    );
 }

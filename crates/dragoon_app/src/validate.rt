@@ -54,11 +54,7 @@ fn say_verdict<O: Sink>(alloc: Global, out: &mut O, verdict: Verdict) -> Status
 }
 
 /// Tells what a validation answered.
-fn say_validated<O: Sink>(
-    alloc: Global,
-    out: &mut O,
-    answer: Result<Verdict, AuditFail>,
-) -> Status
+fn say_validated<O: Sink>(alloc: Global, out: &mut O, answer: Result<Verdict, AuditFail>) -> Status
     ensures said { Said (validate_outcome answer) result (O.state out.old) (O.state out.new) }
     ensures cause { WriteCause result (O.state out.old) (O.state out.new) }
     ensures frame { sinks.GoesOn (O.state out.old) (O.state out.new) }
