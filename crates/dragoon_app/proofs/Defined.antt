@@ -3,6 +3,8 @@ use Rattle.std.proofs.Common.{◌≡◌, ℕ, ◌+◌, Bool, List, Option, Some,
 use Rattle.std.specs.Prelude.{IfSome}
 use Rattle.outside_words.specs.Told.{WhereTold, TellsAlike}
 use Rattle.disk_words.specs.Disk as disks
+use Rattle.notary_link.specs.Notary as notaries
+use Rattle.outside_io.specs.Source as sources
 use Rattle.outside_io.specs.Clock as clocks
 use Rattle.outside_io.specs.Sink.{State}
 use Rattle.dragoon_app.specs.declared.command.NewStore.{NewStore}
@@ -13,7 +15,7 @@ use Rattle.dragoon_app.specs.declared.status.Status.TheVariants as statuses
 use Rattle.dragoon_app.specs.Outcome.{Outcome, AnswersFor, Said, refused}
 use Rattle.dragoon_app.specs.Linked.{link_outcome}
 use Rattle.dragoon_app.specs.Init.{Inits}
-use Rattle.dragoon_app.specs.Top.{AnswersAt, AnswersBy}
+use Rattle.dragoon_app.specs.Top.{AnswersAt, AnswersBy, Leaves, SoundIsUnaltered}
 use Rattle.dragoon_app.proofs.Answering.{said_answers}
 
 -- the clock's first answer, or any number
@@ -53,3 +55,14 @@ inits_at command store disk later clock ahead s old new e frame i =
 
 pub run_at : (command : Option Command) (id : ℕ) (scripted : Bool) (clock : clocks.State) (told : Option (List ℕ)) (s : Status) (old new : State) → Some (commands.Run id scripted) ≡ command → AnswersBy command clock told s old new
 run_at command id scripted clock told s old new e = subst (λ (o : Option Command). AnswersBy o clock told s old new) e tt
+
+-- what `Leaves` says
+pub audit_at : (command : Option Command) (audit : Command) (clock : clocks.State) (told : Option (List ℕ)) (s : Status) (old new : State) → AnswersBy (Some audit) clock told s old new → Some audit ≡ command → AnswersBy command clock told s old new
+audit_at command audit clock told s old new is e = subst (λ (o : Option Command). AnswersBy o clock told s old new) e is
+
+pub leaves_at : (command : Option Command) (this : Command) (result : Status) (old new : disks.State) (filed later : notaries.State) (clock ahead : clocks.State) (input left : sources.State) (out written : State)
+    → Leaves (Some this) result old new filed later clock ahead input left out written → Some this ≡ command → Leaves command result old new filed later clock ahead input left out written
+leaves_at command this result old new filed later clock ahead input left out written is e = subst (λ (o : Option Command). Leaves o result old new filed later clock ahead input left out written) e is
+
+pub unaltered_at : (command this : Option Command) (result : Status) (old new : disks.State) (filed later : notaries.State) → SoundIsUnaltered this result old new filed later → this ≡ command → SoundIsUnaltered command result old new filed later
+unaltered_at command this result old new filed later is e = subst (λ (o : Option Command). SoundIsUnaltered o result old new filed later) e is

@@ -5,6 +5,10 @@ pub mod Going
 pub mod Stores
 pub mod Answering
 pub mod Making
+pub mod Auditing
+pub mod Notarized
+pub mod SoundKept
+pub mod Unaltered
 pub mod Defined
 pub mod Seconds
 pub mod Reading

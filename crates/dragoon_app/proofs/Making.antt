@@ -20,7 +20,8 @@ use Rattle.txn_journal.proofs.StoreHeads.{header_of_head}
 use Rattle.dragoon_app.specs.declared.command.NewStore.{NewStore}
 use Rattle.dragoon_app.specs.declared.status.Status.{Status}
 use Rattle.dragoon_app.specs.declared.status.Status.TheVariants as statuses
-use Rattle.dragoon_app.specs.Outcome.{Outcome, Said, IsSaid}
+use Rattle.dragoon_app.specs.Outcome.{Said}
+use Rattle.dragoon_app.proofs.Answering.{said_other}
 use Rattle.dragoon_app.specs.Init.{says_ready, header_at, new_history, MakesStore}
 
 abbrev is_header : List ℕ → Bool
@@ -65,25 +66,6 @@ from_created s now h head r result old new before after is fits spelled taken ok
     subst (λ (x : Header). MakesStore x result old new before after) is
     (from_header h r result old new before after fits taken ok
     (subst (λ (x : List ℕ). Creates is_header store_shape x r old new before after) spelled c))
-
--- ---- what was said
-
-said_status : (d : Outcome) (s : Status) (old new : State) → Said d s old new → IsSaid s → s ≡ d.status
-said_status d statuses.Ok old new h is = h.0
-said_status d statuses.Usage old new h is = h.0
-said_status d statuses.Refused old new h is = h.0
-said_status d statuses.NotAStore old new h is = h.0
-said_status d statuses.DiskFault old new h is = h.0
-said_status d statuses.ReadFault old new h is = h.0
-said_status d statuses.WriteFault old new h is = absurd is
-said_status d statuses.NoMemory old new h is = absurd is
-said_status d statuses.AlreadyThere old new h is = h.0
-said_status d statuses.TooLate old new h is = h.0
-said_status d statuses.InputLimit old new h is = h.0
-
--- one status was said, and so no other
-pub said_other : (d : Outcome) (s x : Status) (old new : State) → Said d s old new → IsSaid x → x ≢ d.status → s ≢ x
-said_other d s x old new h is ne e = ne (sym e ∙ said_status d s old new h (subst IsSaid (sym e) is))
 
 -- ---- by the answer
 

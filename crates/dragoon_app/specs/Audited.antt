@@ -10,16 +10,18 @@ use Rattle.outside_io.specs.Clock as clocks
 use Rattle.tuple_bytes.specs.declared.header.Header.{Header}
 use Rattle.history_model.specs.Stored.{stored}
 use Rattle.store_engine.specs.Opened.{Opened, IsOpenOn}
+use Rattle.audit_model.specs.Sound.{IsSound}
 use Rattle.validator.specs.declared.verdict.Verdict.{Verdict}
 use Rattle.validator.specs.declared.verdict.Verdict.TheVariants as verdicts
 use Rattle.validator.specs.declared.fail.AuditFail.{AuditFail}
 use Rattle.validator.specs.declared.fail.AuditFail.TheVariants as fails
-use Rattle.validator.specs.Texts.{numbered, verdict_text}
+use Rattle.validator.specs.Texts.{numbered, verdict_text, refusal_text}
 use Rattle.validator.specs.Verdicts.{Validates, MakesMark, questions}
 use Rattle.validator.specs.Reaching.{Notarizes}
 use Rattle.dragoon_app.specs.declared.status.Status.{Status}
 use Rattle.dragoon_app.specs.declared.status.Status.TheVariants as statuses
-use Rattle.dragoon_app.specs.Outcome.{Outcome, Said, refused}
+use Rattle.dragoon_app.specs.Texts.{status_name}
+use Rattle.dragoon_app.specs.Outcome.{Outcome, IsSaid, Said, refused}
 use Rattle.dragoon_app.specs.Ran.{EndsEarly, EndsUnopened}
 
 -- ---- the output
@@ -37,6 +39,10 @@ status_of_audit fails.Broken = statuses.Broken
 status_of_audit (fails.SealMissing name) = statuses.SealMissing name
 status_of_audit (fails.OutOfTurn count) = statuses.OutOfTurn count
 status_of_audit fails.NoMemory = statuses.NoMemory
+
+-- the status has the refusal's name, and its detail
+abbrev pub IsNamed : AuditFail → Status → Type 0
+IsNamed fail status = IsSaid status × (status_name status ≡ refusal_text fail)
 
 -- a line, and the status that goes with it
 abbrev pub says_line : Status → List ℕ → Outcome
@@ -62,7 +68,7 @@ validate_outcome (Err fail) = refused (status_of_audit fail)
 -- ---- `notarize`
 
 -- a notarization of an open store of this id, at the second that the clock gave
-pub record NotarizesStore (id : ℕ) (header : Header) (result : Status) (old new : disks.State) (before after : List ℕ) (filed later : notaries.State) (lists later_lists : notaries.Lists) (clock ahead : clocks.State) (input left : sources.State) (out written : sinks.State) : Type 0 where
+pub record NotarizesStore (header : Header) (result : Status) (old new : disks.State) (before after : List ℕ) (filed later : notaries.State) (lists later_lists : notaries.Lists) (clock ahead : clocks.State) (input left : sources.State) (out written : sinks.State) : Type 0 where
   pub now : ℕ
   pub taken : clocks.Tells now clock ahead
   pub none_read : left ≡ input
@@ -75,12 +81,19 @@ pub record NotarizesStore (id : ℕ) (header : Header) (result : Status) (old ne
   pub header_is : store.header ≡ header
   pub notarizes : Notarizes now (stored before).items answer store later_store old new before after filed later lists later_lists
 
+-- the same of a store that was opened, where it stands for the bytes
+abbrev pub NotarizesOpened : Opened → Status → disks.State → disks.State → notaries.State → notaries.State → clocks.State → clocks.State → sinks.State → sinks.State → Type 0
+NotarizesOpened store result old new filed later clock ahead out written =
+    WhereTold old.reads new.reads (λ before after. WhereTold filed.lists later.lists (λ lists later_lists.
+    (input : sources.State) → IsOpenOn store (stored before).items before
+    → NotarizesStore store.header result old new before after filed later lists later_lists clock ahead input input out written))
+
 -- over bytes with this header, or with none
 abbrev pub NotarizesUnder : ℕ → Option Header → Status → disks.State → disks.State → List ℕ → List ℕ → notaries.State → notaries.State → clocks.State → clocks.State → sources.State → sources.State → sinks.State → sinks.State → Type 0
 NotarizesUnder id None result old new before after filed later clock ahead input left out written =
     EndsEarly statuses.NotAStore result old new filed later clock ahead input left out written
 NotarizesUnder id (Some header) result old new before after filed later clock ahead input left out written =
-    (header.id ≡ id → WhereTold filed.lists later.lists (λ lists later_lists. NotarizesStore id header result old new before after filed later lists later_lists clock ahead input left out written))
+    (header.id ≡ id → WhereTold filed.lists later.lists (λ lists later_lists. NotarizesStore header result old new before after filed later lists later_lists clock ahead input left out written))
     × (header.id ≢ id → EndsEarly statuses.NotAStore result old new filed later clock ahead input left out written)
 
 -- NotAStore comes exactly where the bytes have no header of this id. A fault of the disk while the store is opened, and want
@@ -105,3 +118,18 @@ pub record ValidatesOn (id : ℕ) (result : Status) (old new : disks.State) (fil
   pub trace : WhereTold filed.trace later.trace (MakesMark id now answer)
   pub asked : IfOk answer (λ verdict. later.asked ≤ filed.asked + questions verdict)
   pub validates : IfSome old.reads (λ bytes. WhereTold filed.lists later.lists (Validates id now filed.limits (stored bytes) answer))
+
+-- ---- sound stores
+
+-- the verdicts and refusals that tell of an alteration
+abbrev pub IsUnaltered : Status → Type 0
+IsUnaltered statuses.Altered = ⊥
+IsUnaltered statuses.Broken = ⊥
+IsUnaltered (statuses.SealMissing name) = ⊥
+IsUnaltered (statuses.OutOfTurn count) = ⊥
+IsUnaltered s = Unit {0}
+
+-- Of a store that is sound under the id, on a settled disk, it isn't said that it is altered.
+abbrev pub SaysUnaltered : ℕ → Status → disks.State → disks.State → notaries.State → notaries.State → Type 0
+SaysUnaltered id result old new filed later = WhereTold old.reads new.reads (λ before after. WhereTold filed.lists later.lists (λ lists later_lists.
+    disks.Only before old → IsSound old.is_image (lists.batches id) id → IsUnaltered result))

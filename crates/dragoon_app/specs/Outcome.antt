@@ -24,6 +24,15 @@ IsSaid statuses.WriteFault = ⊥
 IsSaid statuses.NoMemory = ⊥
 IsSaid s = Unit {0}
 
+-- a status that comes with its own fault line, and has no detail
+abbrev pub IsPlain : Status → Type 0
+IsPlain statuses.WriteFault = ⊥
+IsPlain statuses.NoMemory = ⊥
+IsPlain (statuses.SealMissing name) = ⊥
+IsPlain (statuses.OutOfTurn count) = ⊥
+IsPlain (statuses.ClockBack last) = ⊥
+IsPlain s = Unit {0}
+
 -- This was answered and its text is out, or a front of the text before a fault of the sink or want of memory.
 abbrev pub Said : Outcome → Status → State → State → Type 0
 Said said statuses.WriteFault old new = FrontIsOut said.text old new

@@ -1,9 +1,7 @@
 -- What the words, the clock, the bytes of the store and the input define.
 use Rattle.std.specs.Prelude.{◌≡◌, ℕ, List, Option, Some, None, IfSome}
 use Rattle.disk_words.specs.Disk as disks
-use Rattle.outside_words.specs.Told.{WhereTold}
 use Rattle.notary_link.specs.Notary as notaries
-use Rattle.audit_model.specs.Sound.{IsSound}
 use Rattle.outside_io.specs.Sink as sinks
 use Rattle.outside_io.specs.Source as sources
 use Rattle.outside_io.specs.Clock as clocks
@@ -15,7 +13,7 @@ use Rattle.dragoon_app.specs.Outcome.{Outcome, AnswersFor, refused}
 use Rattle.dragoon_app.specs.Linked.{link_outcome}
 use Rattle.dragoon_app.specs.Init.{init_outcome, Inits, FitsStore}
 use Rattle.dragoon_app.specs.Ran.{RunsOn}
-use Rattle.dragoon_app.specs.Audited.{NotarizesOn, ValidatesOn}
+use Rattle.dragoon_app.specs.Audited.{NotarizesOn, ValidatesOn, SaysUnaltered}
 
 -- ---- what is written
 
@@ -59,14 +57,6 @@ Leaves (Some (commands.Validate id)) result old new filed later clock ahead inpu
 
 -- ---- sound stores
 
--- the verdicts and refusals that tell of an alteration
-abbrev pub IsUnaltered : Status → Type 0
-IsUnaltered statuses.Altered = ⊥
-IsUnaltered statuses.Broken = ⊥
-IsUnaltered (statuses.SealMissing name) = ⊥
-IsUnaltered (statuses.OutOfTurn count) = ⊥
-IsUnaltered s = Unit {0}
-
 -- the id that a command speaks of, where it asks the notary
 abbrev pub audited_id : Option Command → Option ℕ
 audited_id (Some (commands.Notarize id)) = Some id
@@ -75,5 +65,4 @@ audited_id command = None
 
 -- Of a sound store on a settled disk no command says that it is altered.
 abbrev pub SoundIsUnaltered : Option Command → Status → disks.State → disks.State → notaries.State → notaries.State → Type 0
-SoundIsUnaltered command result old new filed later = IfSome (audited_id command) (λ id. WhereTold old.reads new.reads (λ before after. WhereTold filed.lists later.lists (λ lists later_lists.
-    disks.Only before old → IsSound old.is_image (lists.batches id) id → IsUnaltered result)))
+SoundIsUnaltered command result old new filed later = IfSome (audited_id command) (λ id. SaysUnaltered id result old new filed later)

@@ -21,9 +21,13 @@ has_prefix prefix word = starts_with nat_eq word prefix
 abbrev pub is_given : List (List ℕ) → List ℕ → Bool
 is_given words prefix = list_any (has_prefix prefix) words
 
--- the word, with these before it, has a prefix that none of them has
+-- the word, with these before it, has the prefix, which none of them has
+abbrev pub is_first : List (List ℕ) → List ℕ → List ℕ → Bool
+is_first before word prefix = has_prefix prefix word && not (is_given before prefix)
+
+-- it has one of the prefixes so
 abbrev pub is_leading : List (List ℕ) → List ℕ → Bool
-is_leading before word = list_any (λ prefix. has_prefix prefix word && not (is_given before prefix)) prefixes
+is_leading before word = list_any (is_first before word) prefixes
 
 -- the first n words are leading, and the next one, if there is one, isn't
 pub record IsLeading (words : List (List ℕ)) (n : ℕ) : Type 0 where

@@ -73,6 +73,7 @@ fn init_at<D: Disk, O: Sink>(
         (MakesStore (header_at new.now now) result (D.state store.old) (D.state store.new)) }
     ensures no_usage { result ≢ Status.Usage }
     ensures no_read_fault { result ≢ Status.ReadFault }
+    ensures no_notary_fault { result ≢ Status.NotaryFault }
     ensures store_frame { disks.GoesOn (D.state store.old) (D.state store.new) }
     ensures out_frame { sinks.GoesOn (O.state out.old) (O.state out.new) }
     ensures disk_cause { DiskCause result (D.state store.old) (D.state store.new) }
@@ -103,6 +104,7 @@ pub fn run_init<D: Disk, C: Clock, O: Sink>(
         (C.state clock.old) (C.state clock.new) (O.state out.old) (O.state out.new) }
     ensures no_usage { result ≢ Status.Usage }
     ensures no_read_fault { result ≢ Status.ReadFault }
+    ensures no_notary_fault { result ≢ Status.NotaryFault }
     ensures store_frame { disks.GoesOn (D.state store.old) (D.state store.new) }
     ensures clock_frame { clocks.GoesOn (C.state clock.old) (C.state clock.new) }
     ensures out_frame { sinks.GoesOn (O.state out.old) (O.state out.new) }

@@ -6,13 +6,17 @@
 //! | `link` | `link` | `link_outcome` of what the bytes of the store hold |
 //! | `init ID W K ALGS` | `init` | `init_outcome` of the clock's second and of whether the device is free |
 //! | `run ID`, `run ID scripted` | `run` | `carried` over the lines of the input: the reply of each line |
+//! | `notarize ID` | `notarize` | `notarize_outcome` of what the notarization answers: how many tiles are sealed |
+//! | `validate ID` | `validate` | `validate_outcome` of what the validation answers: its verdict |
 //!
 //! | The layer above may rely on | Clause of `dragoon` |
 //! |---|---|
 //! | for `link`, `init` and words that are no command: where the store tells its bytes, the status and the whole text are the defined ones, at a second that is the clock's where it tells it, up to a fault or want of memory; of a text that was cut short a front is out | `told` |
 //! | `Usage` comes exactly where the words are no command, whatever the store is | `usage`, `no_command` |
-//! | a fault is answered only where the count of that device's faults rose | `disk_cause`, `read_cause`, `write_cause` |
-//! | `link` leaves all devices but the output as they were, and `init` the input | `leaves` |
+//! | a fault is answered only where the count of that device's faults rose | `disk_cause`, `notary_cause`, `read_cause`, `write_cause` |
+//! | a sound store, one whose every image is what is filed, stays sound under each id, whatever is answered | `sound` |
+//! | of a sound store on a settled disk neither `notarize` nor `validate` says that it is altered | `unaltered` |
+//! | `link` leaves all devices but the output as they were, `init` the input and the notary, and `notarize` and `validate` the input | `leaves` |
 //! | after `init` answered `Ok` the store has 65 bytes: the header of the words and the clock's second, and no item; and it is durable | `made`, `stores`, `durable` of `MakesStore` in `leaves` |
 //! | a taken device, and each device where it is too late, is left as it was | `kept`, `late` there |
 //! | on a settled device a crash during `init` leaves no item, and no header but the new one or one whose bytes stood there | `images` there |
@@ -31,6 +35,11 @@
 //! | each reply that is out stands for good: every image has what the lines say that were carried out, and the notary all that they filed and marked | `kept`, `between` there |
 //! | the notary holds no more than that, unless a line was under way | `holds` there |
 //!
+//! `notarize` is `NotarizesOn` in `leaves`: the store is opened, the clock's second taken, and the tiles that have
+//! ended by then are filed, as `validator` says it; `NotAStore` comes exactly where the bytes have no header of the
+//! id, and before the clock or the notary is asked. `validate` is `ValidatesOn`: the verdict at the clock's second, and
+//! its mark; the store is as it was.
+//!
 //! `leading` says how many words in front of the command name devices. A further device is one more
 //! prefix there, and one more parameter of `dragoon`. A further command is a case of `command_of`, of
 //! `AnswersBy`, of `Leaves` and of the call, and a module with its function, its definition and its contract.
@@ -38,17 +47,20 @@
 //! Only tested: that memory is found where there is plenty of it.
 //!
 //! ```rust
+//! let mut notary = Book::new(alloc, device);
 //! let (devices, call) = words.split_at(leading(&words));
-//! let status = dragoon(alloc, call, &mut store, &mut clock, &mut input, &mut out);
+//! let status = dragoon(alloc, call, &mut store, &mut notary, &mut clock, &mut input, &mut out);
 //! ExitCode::from(status.code())
 //! ```
 #![tactic(auto)]
 
+mod audit_fail;
 mod command;
 mod init;
 mod leading_words;
 mod line_kind;
 mod link;
+mod notarize;
 mod number;
 mod run;
 mod run_fail;
@@ -56,6 +68,7 @@ mod runner;
 mod saying;
 mod status;
 mod top;
+mod validate;
 
 pub use leading_words::leading;
 pub use status::Status;

@@ -171,6 +171,7 @@ pub fn run_link<D: Disk, O: Sink>(alloc: Global, store: &mut D, out: &mut O) -> 
         result (O.state out.old) (O.state out.new) }
     ensures no_usage { result ≢ Status.Usage }
     ensures no_read_fault { result ≢ Status.ReadFault }
+    ensures no_notary_fault { result ≢ Status.NotaryFault }
     ensures same { disks.Unchanged (D.state store.old) (D.state store.new) }
     ensures store_frame { disks.GoesOn (D.state store.old) (D.state store.new) }
     ensures out_frame { sinks.GoesOn (O.state out.old) (O.state out.new) }

@@ -3,7 +3,7 @@
 ghost use Rattle.std.specs.Prelude.{◌≡◌};
 ghost use Rattle.outside_io.specs.Sink.{GoesOn};
 ghost use Rattle.dragoon_app.specs.Texts.{fault_line};
-ghost use Rattle.dragoon_app.specs.Outcome.{IsSaid, Said, WriteCause, refused};
+ghost use Rattle.dragoon_app.specs.Outcome.{IsSaid, IsPlain, Said, WriteCause, refused};
 
 use crate::Status;
 use outside_io::{Sink, StreamFail, write_whole};
@@ -23,9 +23,9 @@ pub fn say<O: Sink>(out: &mut O, text: &[u8], status: Status) -> Status
     }
 }
 
-/// Writes the fault line of the status, and then ends with it.
+/// Writes the fault line of a status without a detail, and then ends with it. It takes no memory.
 pub fn refuse<O: Sink>(out: &mut O, status: Status) -> Status
-    requires { IsSaid status }
+    requires { IsPlain status }
     ensures said { Said (refused status) result (O.state out.old) (O.state out.new) }
     ensures cause { WriteCause result (O.state out.old) (O.state out.new) }
     ensures frame { GoesOn (O.state out.old) (O.state out.new) }
@@ -33,22 +33,28 @@ pub fn refuse<O: Sink>(out: &mut O, status: Status) -> Status
     say(out, fault_text(status).as_bytes(), status)
 }
 
-/// The last line of a run that ends so.
+/// The last line of a run that ends so, where the status has no detail.
 #[tactic(auto, unfolding(crate::specs::Texts::fault_line))]
 fn fault_text(status: Status) -> &'static str
+    requires { IsPlain status }
     ensures value { result.now ≡ fault_line status }
 {
     match status {
         Status::Ok => "fault Ok\n",
+        Status::Altered => "fault Altered\n",
         Status::Usage => "fault Usage\n",
         Status::Refused => "fault Refused\n",
         Status::NotAStore => "fault NotAStore\n",
         Status::DiskFault => "fault DiskFault\n",
+        Status::NotaryFault => "fault NotaryFault\n",
         Status::ReadFault => "fault ReadFault\n",
         Status::WriteFault => "fault WriteFault\n",
         Status::NoMemory => "fault NoMemory\n",
+        Status::Broken => "fault Broken\n",
         Status::AlreadyThere => "fault AlreadyThere\n",
         Status::TooLate => "fault TooLate\n",
+        Status::Full => "fault Full\n",
         Status::InputLimit => "fault InputLimit\n",
+        Status::SealMissing { .. } | Status::OutOfTurn { .. } | Status::ClockBack { .. } => "",
     }
 }

@@ -2,6 +2,7 @@
 
 use crate::{Status, dragoon, leading};
 use disk_model::{FileDisk, MemDisk};
+use notary_link::{MemNotary, Name, Notary, NotaryLimits, Seal};
 use outside_io::{MemClock, MemSink, MemSource};
 use std::alloc::{AllocError, Global};
 use std::test::Fail;
@@ -42,6 +43,11 @@ fn words(alloc: Global, texts: &[&str]) -> Result<Vec<String>, AllocError> {
     Ok(words)
 }
 
+/// A notary that holds nothing yet, with room for so many marks.
+fn notary(alloc: Global, marks: u32) -> MemNotary {
+    MemNotary::new(alloc, NotaryLimits { seals: 1000, marks })
+}
+
 /// How the call over these bytes ends, and what it writes.
 fn outcome(
     alloc: Global,
@@ -56,7 +62,15 @@ fn outcome(
     let mut out = MemSink::new(alloc, failing_writes.to_vec(alloc)?);
     let mut clock = MemClock::new(Vec::new(alloc));
     let mut input = MemSource::new(Vec::new(alloc), 1, Vec::new(alloc));
-    let status = dragoon(alloc, &words, &mut store, &mut clock, &mut input, &mut out);
+    let status = dragoon(
+        alloc,
+        &words,
+        &mut store,
+        &mut notary(alloc, 1),
+        &mut clock,
+        &mut input,
+        &mut out,
+    );
     Ok((status.code(), out.bytes().to_vec(alloc)?))
 }
 
@@ -182,7 +196,10 @@ fn leading_words_name_devices_once(rt: HostRuntime) -> Result<(), Fail> {
         (["store=a"].as_slice(), 1),
         (["store=", "link"].as_slice(), 1),
         (["store=a", "store=b", "link"].as_slice(), 1),
-        (["notary=a", "store=b"].as_slice(), 0),
+        (["notary=a", "store=b"].as_slice(), 2),
+        (["store=b", "notary=a", "link"].as_slice(), 2),
+        (["notary=a", "store=b", "notary=c"].as_slice(), 2),
+        (["notary=a", "notary=c"].as_slice(), 1),
         (["stor=a", "link"].as_slice(), 0),
         (["link", "store=a"].as_slice(), 0),
     ] {
@@ -203,7 +220,15 @@ fn made(
     let mut clock = MemClock::new(vec![in alloc; now]?);
     let mut input = MemSource::new(Vec::new(alloc), 1, Vec::new(alloc));
     let mut out = MemSink::new(alloc, Vec::new(alloc));
-    let status = dragoon(alloc, &words, &mut store, &mut clock, &mut input, &mut out);
+    let status = dragoon(
+        alloc,
+        &words,
+        &mut store,
+        &mut notary(alloc, 1),
+        &mut clock,
+        &mut input,
+        &mut out,
+    );
     Ok((
         status.code(),
         out.bytes().to_vec(alloc)?,
@@ -261,7 +286,15 @@ fn a_store_in_a_file_is_made_once_and_read(rt: HostRuntime) -> Result<(), Fail> 
         let mut clock = MemClock::new(Vec::new(alloc));
         let mut input = MemSource::new(Vec::new(alloc), 1, Vec::new(alloc));
         let mut out = MemSink::new(alloc, Vec::new(alloc));
-        let _ = dragoon(alloc, &words, &mut store, &mut clock, &mut input, &mut out);
+        let _ = dragoon(
+            alloc,
+            &words,
+            &mut store,
+            &mut notary(alloc, 1),
+            &mut clock,
+            &mut input,
+            &mut out,
+        );
         assert_eq!(rt; out.bytes(), wanted);
     }
     std::fs::remove_file(&rt, path)?;
@@ -319,7 +352,15 @@ fn carried_out(alloc: Global, texts: &[&str], input: &[u8]) -> Result<(u8, Vec<u
     let mut clock = MemClock::new(vec![in alloc; 9]?);
     let mut input = MemSource::new(input.to_vec(alloc)?, 3, Vec::new(alloc));
     let mut out = MemSink::new(alloc, Vec::new(alloc));
-    let status = dragoon(alloc, &words, &mut store, &mut clock, &mut input, &mut out);
+    let status = dragoon(
+        alloc,
+        &words,
+        &mut store,
+        &mut notary(alloc, 1),
+        &mut clock,
+        &mut input,
+        &mut out,
+    );
     Ok((status.code(), out.bytes().to_vec(alloc)?))
 }
 
@@ -357,21 +398,154 @@ fn a_script_is_carried_out_line_by_line(rt: HostRuntime) -> Result<(), Fail> {
     Ok(())
 }
 
+/// How a call over this store and this notary ends at this second, and what it writes.
+fn called(
+    alloc: Global,
+    texts: &[&str],
+    store: &mut MemDisk,
+    notary: &mut MemNotary,
+    now: u64,
+) -> Result<(u8, Vec<u8>), AllocError> {
+    let words = words(alloc, texts)?;
+    let mut clock = MemClock::new(vec![in alloc; now]?);
+    let mut input = MemSource::new(Vec::new(alloc), 1, Vec::new(alloc));
+    let mut out = MemSink::new(alloc, Vec::new(alloc));
+    let status = dragoon(
+        alloc, &words, store, notary, &mut clock, &mut input, &mut out,
+    );
+    Ok((status.code(), out.bytes().to_vec(alloc)?))
+}
+
+#[test]
+fn what_is_sealed_is_clean_until_it_is_altered(rt: HostRuntime) -> Result<(), Fail> {
+    let alloc = rt.alloc();
+    let mut store = MemDisk::new(alloc);
+    let mut notary = notary(alloc, 10);
+    for (texts, now, wanted) in [
+        (
+            ["init", "7", "30", "3", "ta"].as_slice(),
+            0,
+            (0, b"ready 7\n".as_slice()),
+        ),
+        (
+            ["validate", "7"].as_slice(),
+            0,
+            (0, b"unsealed\n".as_slice()),
+        ),
+        (
+            ["notarize", "7"].as_slice(),
+            239,
+            (0, b"sealed 0\n".as_slice()),
+        ),
+        (
+            ["validate", "7"].as_slice(),
+            239,
+            (0, b"clean 0\n".as_slice()),
+        ),
+        (
+            ["notarize", "7"].as_slice(),
+            240,
+            (0, b"sealed 1\n".as_slice()),
+        ),
+        (
+            ["notarize", "7"].as_slice(),
+            239,
+            (14, b"fault ClockBack 240\n".as_slice()),
+        ),
+        (
+            ["notarize", "7"].as_slice(),
+            720,
+            (0, b"sealed 3\n".as_slice()),
+        ),
+        (
+            ["validate", "7"].as_slice(),
+            0,
+            (0, b"clean 3\n".as_slice()),
+        ),
+        (
+            ["notarize", "8"].as_slice(),
+            720,
+            (4, b"fault NotAStore\n".as_slice()),
+        ),
+        (
+            ["validate"].as_slice(),
+            720,
+            (2, b"fault Usage\n".as_slice()),
+        ),
+    ] {
+        let (status, text) = called(alloc, texts, &mut store, &mut notary, now)?;
+        assert_eq!(rt; (status, text.as_slice()), wanted);
+    }
+    let mut empty = MemDisk::new(alloc);
+    let (status, text) = called(alloc, &["validate", "7"], &mut empty, &mut notary, 720)?;
+    assert_eq!(rt;
+        (status, text.as_slice()),
+        (1, b"header altered 3\n".as_slice())
+    );
+    Ok(())
+}
+
+#[test]
+fn what_the_notary_lacks_is_told(rt: HostRuntime) -> Result<(), Fail> {
+    let alloc = rt.alloc();
+    let mut store = MemDisk::new(alloc);
+    let mut notary = notary(alloc, 1);
+    for (texts, wanted) in [
+        (
+            ["init", "7", "30", "3", "m"].as_slice(),
+            b"ready 7\n".as_slice(),
+        ),
+        (["notarize", "7"].as_slice(), b"sealed 0\n".as_slice()),
+        (["validate", "7"].as_slice(), b"clean 0\n".as_slice()),
+        (["validate", "7"].as_slice(), b"fault Full\n".as_slice()),
+    ] {
+        let (_, text) = called(alloc, texts, &mut store, &mut notary, 0)?;
+        assert_eq!(rt; text.as_slice(), wanted);
+    }
+    let stranger = Seal {
+        name: Name::Cum { tile: 5 },
+        digest: [0; 32],
+    };
+    let _ = notary.file(7, 1, 0, &[stranger]);
+    let (status, text) = called(alloc, &["validate", "7"], &mut store, &mut notary, 0)?;
+    assert_eq!(rt;
+        (status, text.as_slice()),
+        (11, b"fault SealMissing cum 0\n".as_slice())
+    );
+    notary.failing(vec![in alloc; 1]?, Vec::new(alloc));
+    let (status, text) = called(alloc, &["validate", "7"], &mut store, &mut notary, 0)?;
+    assert_eq!(rt;
+        (status, text.as_slice()),
+        (6, b"fault NotaryFault\n".as_slice())
+    );
+    Ok(())
+}
+
 #[test]
 fn each_status_has_its_number(rt: HostRuntime) {
     let numbers = [
         Status::Ok,
+        Status::Altered,
         Status::Usage,
         Status::Refused,
         Status::NotAStore,
         Status::DiskFault,
+        Status::NotaryFault,
         Status::ReadFault,
         Status::WriteFault,
         Status::NoMemory,
+        Status::Broken,
+        Status::SealMissing { name: Name::Header },
+        Status::OutOfTurn { count: 2 },
         Status::AlreadyThere,
+        Status::ClockBack { last: 3 },
         Status::TooLate,
+        Status::Full,
         Status::InputLimit,
     ]
     .map(|status| status.code());
-    assert_eq!(rt; numbers, [0, 2, 3, 4, 5, 7, 8, 9, 13, 15, 17]);
+    assert_eq!(rt;
+        numbers,
+        [0, 1, 2, 3, 4, 5, 6, 7, 8, 9, 10, 11, 12, 13, 14, 15, 16, 17]
+    );
 }

@@ -11,6 +11,7 @@ mod usage;
 use crate::device::Device;
 use crate::usage::USAGE;
 use dragoon_app::{Status, dragoon, leading};
+use notary_book::Book;
 use outside_io::{StdSink, StdSource, SystemClock};
 use std::alloc::{AllocError, Global};
 use std::process::ExitCode;
@@ -43,6 +44,10 @@ fn run<R: Runtime + AllocGlobal + Drop>(rt: &R) -> Result<Status, AllocError> {
     let words = words_of(rt)?;
     let (devices, call) = words.split_at(leading(&words));
     let mut store = Device::named(rt, path_behind("store=", devices))?;
+    let mut notary = Book::new(
+        rt.alloc(),
+        Device::named(rt, path_behind("notary=", devices))?,
+    );
     let mut clock = SystemClock::new(rt.clone()?);
     let mut input = StdSource::new(rt.clone()?);
     let mut out = StdSink::new(rt.clone()?);
@@ -50,6 +55,7 @@ fn run<R: Runtime + AllocGlobal + Drop>(rt: &R) -> Result<Status, AllocError> {
         rt.alloc(),
         call,
         &mut store,
+        &mut notary,
         &mut clock,
         &mut input,
         &mut out,

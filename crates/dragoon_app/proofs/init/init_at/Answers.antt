@@ -3,7 +3,8 @@ use Rattle.disk_words.proofs.Frame.{goes_on_same}
 use Rattle.dragoon_app.specs.declared.status.Status.{Status}
 use Rattle.dragoon_app.specs.declared.status.Status.TheVariants as statuses
 use Rattle.dragoon_app.specs.Outcome.{IsSaid, refused}
-use Rattle.dragoon_app.proofs.Making.{is_head, ready_store, refused_store, said_other}
+use Rattle.dragoon_app.proofs.Making.{is_head, ready_store, refused_store}
+use Rattle.dragoon_app.proofs.Answering.{said_other}
 use Rattle.dragoon_app.proofs.init.init_at.Goals as goal
 
 pub returns-then-now-gt-MAX_MOMENT-clause-store_frame : goal.returns-then-now-gt-MAX_MOMENT-clause-store_frame

@@ -1,0 +1,190 @@
+-- Of a sound store it isn't said that it is altered.
+use Rattle.std.proofs.Common.{◌≡◌, ◌⊎◌, ℕ, ◌+◌, Bool, true, false, List, [], ◌∷◌, length, Option, Some, None, refl, sym, ap, subst, ◌∙◌, inl, inr, ⊎_elim, Result, Ok, Err}
+use Rattle.std.specs.Prelude.{IfSome}
+use Rattle.outside_words.specs.Told.{WhereTold}
+use Rattle.outside_words.proofs.Told.{told_map}
+use Rattle.disk_words.specs.Disk as disks
+use Rattle.notary_link.specs.Notary as notaries
+use Rattle.notary_link.specs.Batches.{Batch}
+use Rattle.outside_io.specs.Clock as clocks
+use Rattle.outside_io.specs.Sink as sinks
+use Rattle.outside_io.specs.Source as sources
+use Rattle.tuple_bytes.specs.declared.header.Header.{Header}
+use Rattle.tuple_bytes.specs.declared.item.Item.{Item}
+use Rattle.history_model.specs.History.{History, history}
+use Rattle.history_model.specs.Stored.{stored}
+use Rattle.audit_model.specs.Altered.{history_in}
+use Rattle.audit_model.specs.Sound.{IsSound, AllNotarized, HoldsNotarized}
+use Rattle.store_engine.specs.declared.fail.StoreFail.{StoreFail}
+use Rattle.store_engine.specs.declared.fail.StoreFail.TheVariants as stores
+use Rattle.store_engine.specs.Opened.{Opened, IsOpenOn}
+use Rattle.store_engine.specs.Refusals.{Tail, tail_of, is_back, is_late, frontier_fault}
+use Rattle.validator.specs.declared.verdict.Verdict.{Verdict}
+use Rattle.validator.specs.declared.verdict.Verdict.TheVariants as verdicts
+use Rattle.validator.specs.declared.fail.AuditFail.{AuditFail}
+use Rattle.validator.specs.declared.fail.AuditFail.TheVariants as fails
+use Rattle.validator.specs.Notarizing.{else_cause, where_true, early_fault, filed_fault, of_store, room_fault, frontier_for, notarize_fault, IsRefusedBy}
+use Rattle.validator.specs.Verdicts.{IsFound, IsFoundIn, Validates, history_with}
+use Rattle.validator.specs.Laws.{SoundIsClean, SoundIsNotRefused}
+use Rattle.dragoon_app.specs.declared.status.Status.{Status}
+use Rattle.dragoon_app.specs.declared.status.Status.TheVariants as statuses
+use Rattle.dragoon_app.specs.Outcome.{Outcome, Said}
+use Rattle.dragoon_app.specs.Audited.{status_of_audit, notarize_outcome, validate_outcome, NotarizesStore, NotarizesOpened, IsUnaltered, SaysUnaltered}
+use Rattle.dragoon_app.proofs.Notarized.{told_from, told_of, if_both}
+use Rattle.dragoon_app.proofs.SoundKept.{sound_images}
+
+-- ---- what was said
+
+unaltered_said : (d : Outcome) (s : Status) (old new : sinks.State) → Said d s old new → IsUnaltered d.status → IsUnaltered s
+unaltered_said d statuses.Ok old new h is = tt
+unaltered_said d statuses.Altered old new h is = subst IsUnaltered (sym h.0) is
+unaltered_said d statuses.Usage old new h is = tt
+unaltered_said d statuses.Refused old new h is = tt
+unaltered_said d statuses.NotAStore old new h is = tt
+unaltered_said d statuses.DiskFault old new h is = tt
+unaltered_said d statuses.NotaryFault old new h is = tt
+unaltered_said d statuses.ReadFault old new h is = tt
+unaltered_said d statuses.WriteFault old new h is = tt
+unaltered_said d statuses.NoMemory old new h is = tt
+unaltered_said d statuses.Broken old new h is = subst IsUnaltered (sym h.0) is
+unaltered_said d (statuses.SealMissing name) old new h is = subst IsUnaltered (sym h.0) is
+unaltered_said d (statuses.OutOfTurn count) old new h is = subst IsUnaltered (sym h.0) is
+unaltered_said d statuses.AlreadyThere old new h is = tt
+unaltered_said d (statuses.ClockBack last) old new h is = tt
+unaltered_said d statuses.TooLate old new h is = tt
+unaltered_said d statuses.Full old new h is = tt
+unaltered_said d statuses.InputLimit old new h is = tt
+
+-- ---- a validation
+
+abbrev IsWell : Result Verdict AuditFail → Type 0
+IsWell found = (found ≡ Ok verdicts.Unsealed) ⊎ ((n : ℕ) × (found ≡ Ok (verdicts.Clean n)))
+
+sound_found : SoundIsClean → (is_image : List ℕ → Type 0) (batches : List Batch) (id : ℕ) (bytes : List ℕ) (found : Result Verdict AuditFail) → is_image bytes → IsSound is_image batches id
+    → IsFound id batches (stored bytes) found → IsWell found
+sound_found law is_image batches id bytes found here sound is = ⊎_elim
+    (λ (none : batches ≡ []). inl (subst (λ (bs : List Batch). IsFoundIn bs (history_with id (stored bytes)) found) none is))
+    (λ (some : (n : ℕ) × (length batches ≡ n + 1) × AllNotarized is_image batches id n). inr (some.0, law batches id some.0 bytes found (some.2 bytes here) is))
+    sound
+
+-- what is altered is not found
+not_well : (found : Result Verdict AuditFail) → IsWell found → IsUnaltered (validate_outcome found).status
+not_well found well = ⊎_elim
+    (λ (e : found ≡ Ok verdicts.Unsealed). subst (λ (x : Result Verdict AuditFail). IsUnaltered (validate_outcome x).status) (sym e) tt)
+    (λ (e : (n : ℕ) × (found ≡ Ok (verdicts.Clean n))). subst (λ (x : Result Verdict AuditFail). IsUnaltered (validate_outcome x).status) (sym e.1) tt)
+    well
+
+validated : SoundIsClean → (is_image : List ℕ → Type 0) (id now : ℕ) (limits : _) (bytes : List ℕ) (answer : Result Verdict AuditFail) (lists later : notaries.Lists) → is_image bytes → IsSound is_image (lists.batches id) id
+    → Validates id now limits (stored bytes) answer lists later → IsUnaltered (validate_outcome answer).status
+validated law is_image id now limits bytes (Ok verdict) lists later here sound v = not_well (Ok verdict) (sound_found law is_image (lists.batches id) id bytes (Ok verdict) here sound v.0)
+validated law is_image id now limits bytes (Err (fails.SealMissing name)) lists later here sound v = not_well (Err (fails.SealMissing name)) (sound_found law is_image (lists.batches id) id bytes (Err (fails.SealMissing name)) here sound v.0)
+validated law is_image id now limits bytes (Err fails.Full) lists later here sound v = tt
+validated law is_image id now limits bytes (Err fails.NotaryFault) lists later here sound v = tt
+validated law is_image id now limits bytes (Err fails.NoMemory) lists later here sound v = tt
+validated law is_image id now limits bytes (Err fails.DiskFault) lists later here sound v = tt
+validated law is_image id now limits bytes (Err (fails.ClockBack last)) lists later here sound v = tt
+validated law is_image id now limits bytes (Err fails.TooLate) lists later here sound v = tt
+validated law is_image id now limits bytes (Err fails.StoreFull) lists later here sound v = tt
+validated law is_image id now limits bytes (Err fails.Closed) lists later here sound v = tt
+validated law is_image id now limits bytes (Err fails.Broken) lists later here sound v = absurd v
+validated law is_image id now limits bytes (Err (fails.OutOfTurn count)) lists later here sound v = absurd v
+
+pub validate_unaltered : SoundIsClean → (id now : ℕ) (answer : Result Verdict AuditFail) (result : Status) (old new : disks.State) (filed later : notaries.State) (out written : sinks.State) → IfSome old.reads old.is_image
+    → IfSome old.reads (λ bytes. WhereTold filed.lists later.lists (Validates id now filed.limits (stored bytes) answer)) → Said (validate_outcome answer) result out written → SaysUnaltered id result old new filed later
+validate_unaltered law id now answer result old new filed later out written image told said =
+    told_of old.reads new.reads _ _ (if_both old.reads old.is_image (λ bytes. WhereTold filed.lists later.lists (Validates id now filed.limits (stored bytes) answer)) image told) (λ before after h. told_map filed.lists later.lists _ _ h.1
+    (λ lists later_lists v only sound. unaltered_said (validate_outcome answer) result out written said (validated law old.is_image id now filed.limits before answer lists later_lists h.0 sound v)))
+
+-- ---- a notarization
+
+-- a refusal, if there is one, that tells of no alteration
+abbrev IsHarmless : Option AuditFail → Type 0
+IsHarmless None = Unit {0}
+IsHarmless (Some fail) = IsUnaltered (status_of_audit fail)
+
+where_harmless : (b : Bool) (fail : AuditFail) (other : Option AuditFail) → IsUnaltered (status_of_audit fail) → IsHarmless other → IsHarmless (where_true b fail other)
+where_harmless true fail other is next = is
+where_harmless false fail other is next = next
+
+else_harmless : (first next : Option AuditFail) → IsHarmless first → IsHarmless next → IsHarmless (else_cause first next)
+else_harmless None next is others = others
+else_harmless (Some fail) next is others = is
+
+store_harmless : (o : Option StoreFail) → IsHarmless (of_store o)
+store_harmless None = tt
+store_harmless (Some stores.NotAStore) = tt
+store_harmless (Some stores.DiskFault) = tt
+store_harmless (Some stores.NoMemory) = tt
+store_harmless (Some (stores.ClockBack last)) = tt
+store_harmless (Some stores.TooLate) = tt
+store_harmless (Some stores.TooManyOps) = tt
+store_harmless (Some stores.TooLong) = tt
+store_harmless (Some stores.StoreFull) = tt
+store_harmless (Some stores.Closed) = tt
+
+room_harmless : (t : Tail) (need : Option ℕ) → IsHarmless (room_fault t need)
+room_harmless t None = tt
+room_harmless t (Some moment) = store_harmless (frontier_fault t false moment)
+
+-- where nothing that is filed speaks against it
+fault_harmless : (t : Tail) (is_closed : Bool) (now : ℕ) (items : List Item) (batches : List Batch) → filed_fault batches (history t.header items) ≡ None → IsHarmless (notarize_fault t is_closed now items batches)
+fault_harmless t is_closed now items batches none =
+    else_harmless (early_fault t is_closed now) _
+    (where_harmless is_closed fails.Closed _ tt (where_harmless (is_back t now) (fails.ClockBack t.last) _ tt (where_harmless (is_late t now) fails.TooLate None tt tt)))
+    (else_harmless (filed_fault batches (history t.header items)) _ (subst IsHarmless (sym none) tt) (room_harmless t (frontier_for t now batches)))
+
+refused_harmless : (fault : Option AuditFail) (answer : Result ℕ AuditFail) → IsHarmless fault → IsRefusedBy fault answer → IsUnaltered (notarize_outcome answer).status
+refused_harmless fault (Ok tiles) is r = tt
+refused_harmless fault (Err fails.Full) is r = tt
+refused_harmless fault (Err fails.DiskFault) is r = tt
+refused_harmless fault (Err fails.NotaryFault) is r = tt
+refused_harmless fault (Err fails.NoMemory) is r = tt
+refused_harmless fault (Err (fails.OutOfTurn count)) is r = absurd r
+refused_harmless fault (Err fails.Closed) is r = tt
+refused_harmless fault (Err (fails.ClockBack last)) is r = tt
+refused_harmless fault (Err fails.TooLate) is r = tt
+refused_harmless fault (Err fails.StoreFull) is r = tt
+refused_harmless fault (Err fails.Broken) is r = absurd (subst IsHarmless r is)
+refused_harmless fault (Err (fails.SealMissing name)) is r = absurd (subst IsHarmless r is)
+
+sound_filed : SoundIsNotRefused → (is_image : List ℕ → Type 0) (batches : List Batch) (id : ℕ) (bytes : List ℕ) (header : Header) → is_image bytes → (stored bytes).header ≡ Some header → IsSound is_image batches id
+    → filed_fault batches (history header (stored bytes).items) ≡ None
+sound_filed law is_image batches id bytes header here has sound = ⊎_elim
+    (λ (none : batches ≡ []). ap (λ (bs : List Batch). filed_fault bs (history header (stored bytes).items)) none)
+    (λ (some : (n : ℕ) × (length batches ≡ n + 1) × AllNotarized is_image batches id n).
+    law batches id some.0 (history header (stored bytes).items)
+    (subst (λ (o : Option Header). HoldsNotarized batches id some.0 (history_in (record { header = o; items = (stored bytes).items; end = (stored bytes).end }))) has (some.2 bytes here)))
+    sound
+
+notarized : SoundIsNotRefused → (is_image : List ℕ → Type 0) (id : ℕ) (header : Header) (result : Status) (old new : disks.State) (before after : List ℕ) (filed later : notaries.State) (lists later_lists : notaries.Lists) (clock ahead : clocks.State) (input left : sources.State) (out written : sinks.State)
+    → header.id ≡ id → is_image before → IsSound is_image (lists.batches id) id
+    → NotarizesStore header result old new before after filed later lists later_lists clock ahead input left out written → IsUnaltered result
+notarized law is_image id header result old new before after filed later lists later_lists clock ahead input left out written is here sound n =
+    let same : id ≡ n.store.header.id = sym (ap (λ (h : Header). h.id) n.header_is ∙ is) in
+    let none = sound_filed law is_image (lists.batches n.store.header.id) id before n.store.header here n.opened.stores.header_is (subst (λ (i : ℕ). IsSound is_image (lists.batches i) id) same sound) in
+    unaltered_said (notarize_outcome n.answer) result out written n.said
+    (refused_harmless _ n.answer (fault_harmless (tail_of n.store) n.store.at.is_closed n.now (stored before).items (lists.batches n.store.header.id) none) n.notarizes.refused)
+
+pub notarize_unaltered : SoundIsNotRefused → (id : ℕ) (s : Opened) (result : Status) (first old new : disks.State) (filed later : notaries.State) (clock ahead : clocks.State) (out written : sinks.State)
+    → IfSome first.reads first.is_image → IfSome first.reads (λ bytes. IsOpenOn s (stored bytes).items bytes) → s.header.id ≡ id → disks.Unchanged first old
+    → NotarizesOpened s result old new filed later clock ahead out written → SaysUnaltered id result first new filed later
+notarize_unaltered law id s result first old new filed later clock ahead out written image opened is same told =
+    told_from first.reads old.reads new.reads _ _ _ same.reads (if_both first.reads first.is_image (λ bytes. IsOpenOn s (stored bytes).items bytes) image opened) told (λ before after p h. told_map filed.lists later.lists _ _ h
+    (λ lists later_lists n only sound. notarized law first.is_image id s.header result old new before after filed later lists later_lists clock ahead nothing nothing out written is p.0 sound (n nothing p.1)))
+  where
+    nothing : sources.State
+    nothing = record { rest = None; faults = 0 }
+
+-- it was refused before anything was asked
+pub refused_unaltered : (id : ℕ) (result : Status) (old new : disks.State) (filed later : notaries.State) → IsUnaltered result → SaysUnaltered id result old new filed later
+refused_unaltered id result old new filed later is = by old.reads new.reads
+  where
+    lists : (o n : Option notaries.Lists) (P Q : notaries.Lists → Type 0) → WhereTold o n (λ lists later_lists. P lists → Q lists → IsUnaltered result)
+    lists (Some l) (Some m) P Q = λ p q. is
+    lists (Some l) None P Q = tt
+    lists None n P Q = tt
+
+    by : (o n : Option (List ℕ)) → WhereTold o n (λ before after. WhereTold filed.lists later.lists (λ lists later_lists. disks.Only before old → IsSound old.is_image (lists.batches id) id → IsUnaltered result))
+    by (Some b) (Some a) = lists filed.lists later.lists (λ l. disks.Only b old) (λ l. IsSound old.is_image (l.batches id) id)
+    by (Some b) None = tt
+    by None n = tt
