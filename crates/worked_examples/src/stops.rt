@@ -124,16 +124,19 @@ fn a_crash_between_the_store_and_the_book_leaves_both_sound(rt: HostRuntime) -> 
     let alloc = rt.alloc();
     for stop in 1u64..32 {
         for choice in [0, 1, 200] {
-            // four calls store the Frontier, and the book's come behind them
-            let of_book = if stop > 4 { stop - 4 } else { 0 };
-            let of_store = if stop > 4 { 0 } else { stop };
+            // the book syncs before it is read; four calls store the Frontier; and then come the book's
+            let (of_store, of_book) = match stop {
+                1 => (0, 1),
+                2..=5 => (stop - 1, 0),
+                _ => (0, stop - 4),
+            };
             let (mut store, device) = crash_in_notarize(alloc, of_store, of_book, choice)?;
             let mut book = Book::new(alloc, device);
             let script = b"validate\nnow 140\ninsert t 2\nnow 240\nnotarize\nvalidate\n";
             let (_, text) = audit(alloc, &mut store, &mut book, "run 9 scripted", script, &[])?;
             assert!(rt; text.ends_with(b"ok\nsealed 1\nclean 1\n"));
             assert!(rt; text.starts_with(b"unsealed\n") || text.starts_with(b"clean "));
-            if stop > 4 {
+            if stop > 5 {
                 let refused = text
                     .windows(21)
                     .any(|part| part == b"refused ClockBack 240".as_slice());
