@@ -10,7 +10,7 @@ use std::test::Fail;
 fn rows(alloc: Global, granules: u32) -> Result<Vec<u8>, AllocError> {
     let mut script = b"create t k int v int\n".to_vec(alloc)?;
     for granule in 0..granules {
-        let moment = granule * 60;
+        let moment = u64::from(granule) * 60;
         let lines = format!(in alloc; "now {moment}\ninsert t {granule} 0\n")?;
         script.extend_from_slice(lines.as_bytes())?;
     }
@@ -26,7 +26,7 @@ fn sealed(
 ) -> Result<MemDisk, AllocError> {
     let mut store = made(alloc, text)?;
     let mut script = rows(alloc, granules)?;
-    let end = granules * 60;
+    let end = u64::from(granules) * 60;
     script.extend_from_slice(format!(in alloc; "now {end}\nnotarize\n")?.as_bytes())?;
     let _filled = audit(alloc, &mut store, notary, "run 7 scripted", &script, &[])?;
     Ok(store)
