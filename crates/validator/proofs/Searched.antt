@@ -70,7 +70,7 @@ module _ (h : History) (n : ℕ) (links : List (List ℕ)) (are : links ≡ map 
   search_shows lists id (Ok (Some tile)) only is = (refl, region_by (link_answers lists id links) (cums (lists.batches id) h) n (Some tile) (alike lists id) is)
   search_shows lists id (Err ask_fails.NotaryFault) only is = tt
   search_shows lists id (Err ask_fails.NoMemory) only is = tt
-  search_shows lists id (Err (ask_fails.SealMissing (names.Cum tile))) only is = (tile, is.0, refl, sym (alike lists id tile is.0) ∙ is.1)
+  search_shows lists id (Err (ask_fails.SealMissing (names.Cum tile))) only is = (tile, is.0, refl, sym (alike lists id tile is.0) ∙ is.1, λ same. is.2 (alike lists id (n - 1) (omega (arith, is.0)) ∙ same))
   search_shows lists id (Err (ask_fails.SealMissing names.Header)) only is = absurd is
   search_shows lists id (Err (ask_fails.SealMissing (names.Tile tile part))) only is = absurd is
   search_shows lists id (Err (ask_fails.SealMissing (names.Node level index))) only is = absurd is

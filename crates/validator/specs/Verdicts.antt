@@ -1,5 +1,5 @@
 -- What a validation finds, and the mark that it adds.
-use Rattle.std.specs.Prelude.{◌≡◌, ◌⊎◌, ◌<◌, ◌==◌, ℕ, ◌+◌, ◌-◌, nat_lt, nat_le, if◌then◌else◌, Bool, true, false, List, [], ◌∷◌, length, Option, Some, None, Result, Ok, Err}
+use Rattle.std.specs.Prelude.{◌≡◌, ◌≢◌, ◌⊎◌, ◌<◌, ◌==◌, ℕ, ◌+◌, ◌-◌, nat_lt, nat_le, if◌then◌else◌, Bool, true, false, List, [], ◌∷◌, length, Option, Some, None, Result, Ok, Err}
 use Rattle.outside_words.specs.Told.{WhereTold}
 use Rattle.tuple_bytes.specs.declared.header.Header.{Header}
 use Rattle.history_model.specs.declared.stored.Stored.{Stored}
@@ -36,11 +36,12 @@ under_id id (Some header) s = if header.id == id then Some (history header s.ite
 abbrev pub history_with : ℕ → Stored → Option History
 history_with id s = under_id id s.header s
 
--- of n tiles, by the answers for the chain: clean where the last is the same, else altered from the first bad tile on
+-- of n tiles, by the answers for the chain: clean where the last is the same, else altered from the first bad tile on, or the seal
+-- of a tile is missing
 abbrev pub IsFoundBy : (ℕ → Answer) → ℕ → Result Verdict AuditFail → Type 0
 IsFoundBy chain n (Ok (verdicts.Clean tiles)) = (tiles ≡ n) × BeginsRegion chain n None
 IsFoundBy chain n (Ok (verdicts.Altered tiles first)) = (tiles ≡ n) × BeginsRegion chain n (Some first)
-IsFoundBy chain n (Err (fails.SealMissing name)) = (tile : ℕ) × (tile < n) × (name ≡ names.Cum tile) × (chain tile ≡ Absent)
+IsFoundBy chain n (Err (fails.SealMissing name)) = (tile : ℕ) × (tile < n) × (name ≡ names.Cum tile) × (chain tile ≡ Absent) × (chain (n - 1) ≢ Same)
 IsFoundBy chain n found = ⊥
 
 -- where the tiles end at most behind the last granule; others were never filed by this program

@@ -9,7 +9,7 @@
 //! | header altered | no header is stored, one of another id, or one whose digest differs |
 //! | clean | the chain at the end of the last sealed tile is the same |
 //! | altered | it differs; told is a tile that differs, and is 0 or follows one that is the same |
-//! | `SealMissing` | the header's seal, or that of a tile that was asked for, was never filed |
+//! | `SealMissing` | the header's seal was never filed, or that of a tile, where the last sealed tile is not the same |
 //!
 //! | The layer above may rely on | Clause of `validate` |
 //! |---|---|
