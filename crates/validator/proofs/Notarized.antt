@@ -1,5 +1,5 @@
 -- A notarization step by step: what is known of its answer at each return.
-use Rattle.std.proofs.Common.{◌≡◌, ◌⊎◌, inl, inr, ℕ, zero, suc, max, ◌+◌, ◌-◌, ◌<◌, ◌≤◌, List, [], ◌∷◌, ◌++◌, length, map, Option, Some, None, IsSome, Result, Ok, Err, refl, sym, ap, subst, ◌∙◌, arith}
+use Rattle.std.proofs.Common.{◌≡◌, ◌⊎◌, inl, inr, ℕ, zero, suc, max, true, ◌+◌, ◌-◌, ◌<◌, ◌≤◌, List, [], ◌∷◌, ◌++◌, length, map, Option, Some, None, IsSome, Result, Ok, Err, refl, sym, ap, subst, ◌∙◌, arith}
 use Rattle.std.specs.List.{range_with_len}
 use Rattle.outside_words.specs.Told.{WhereTold, TellsAlike}
 use Rattle.outside_words.proofs.Told.{told_map, told_same}
@@ -46,18 +46,18 @@ reaching_still (fails.SealMissing name) of_it = tt
 reaching_still (fails.OutOfTurn count) of_it = tt
 reaching_still fails.NoMemory of_it = tt
 
-stands_alike : (A B : Type 0) (e : AuditFail) (R L : Type 0) → StandsAfter {A = A} (Err e) R L → StandsAfter {A = B} (Err e) R L
-stands_alike A B fails.DiskFault R L h = h
-stands_alike A B fails.NotaryFault R L h = h
-stands_alike A B (fails.ClockBack last) R L h = h
-stands_alike A B fails.TooLate R L h = h
-stands_alike A B fails.StoreFull R L h = h
-stands_alike A B fails.Full R L h = h
-stands_alike A B fails.Closed R L h = h
-stands_alike A B fails.Broken R L h = h
-stands_alike A B (fails.SealMissing name) R L h = h
-stands_alike A B (fails.OutOfTurn count) R L h = h
-stands_alike A B fails.NoMemory R L h = h
+stands_alike : (A B : Type 0) (e : AuditFail) (R L S : Type 0) → StandsAfter {A = A} (Err e) R L S → StandsAfter {A = B} (Err e) R L S
+stands_alike A B fails.DiskFault R L S h = h
+stands_alike A B fails.NotaryFault R L S h = h
+stands_alike A B (fails.ClockBack last) R L S h = h
+stands_alike A B fails.TooLate R L S h = h
+stands_alike A B fails.StoreFull R L S h = h
+stands_alike A B fails.Full R L S h = h
+stands_alike A B fails.Closed R L S h = h
+stands_alike A B fails.Broken R L S h = h
+stands_alike A B (fails.SealMissing name) R L S h = h
+stands_alike A B (fails.OutOfTurn count) R L S h = h
+stands_alike A B fails.NoMemory R L S h = h
 
 makes_alike : (A B : Type 0) (calls : List disks.Call) (e : AuditFail) (old new : disks.State) → MakesFor {A = A} calls (Err e) old new → MakesFor {A = B} calls (Err e) old new
 makes_alike A B calls fails.DiskFault old new h = h
@@ -87,18 +87,18 @@ filing_refused fails.Broken of_it = absurd of_it
 filing_refused (fails.SealMissing name) of_it = absurd of_it
 filing_refused (fails.OutOfTurn count) of_it = absurd of_it
 
-filing_stands : (e : AuditFail) (R L : Type 0) → IsOfFiling e → R → StandsAfter {A = ℕ} (Err e) R L
-filing_stands fails.NotaryFault R L of_it here = inr here
-filing_stands fails.Full R L of_it here = here
-filing_stands fails.NoMemory R L of_it here = tt
-filing_stands fails.DiskFault R L of_it here = absurd of_it
-filing_stands (fails.ClockBack last) R L of_it here = absurd of_it
-filing_stands fails.TooLate R L of_it here = absurd of_it
-filing_stands fails.StoreFull R L of_it here = absurd of_it
-filing_stands fails.Closed R L of_it here = absurd of_it
-filing_stands fails.Broken R L of_it here = absurd of_it
-filing_stands (fails.SealMissing name) R L of_it here = absurd of_it
-filing_stands (fails.OutOfTurn count) R L of_it here = absurd of_it
+filing_stands : (e : AuditFail) (R L S : Type 0) → IsOfFiling e → R → StandsAfter {A = ℕ} (Err e) R L S
+filing_stands fails.NotaryFault R L S of_it here = inr here
+filing_stands fails.Full R L S of_it here = here
+filing_stands fails.NoMemory R L S of_it here = inr (inl here)
+filing_stands fails.DiskFault R L S of_it here = absurd of_it
+filing_stands (fails.ClockBack last) R L S of_it here = absurd of_it
+filing_stands fails.TooLate R L S of_it here = absurd of_it
+filing_stands fails.StoreFull R L S of_it here = absurd of_it
+filing_stands fails.Closed R L S of_it here = absurd of_it
+filing_stands fails.Broken R L S of_it here = absurd of_it
+filing_stands (fails.SealMissing name) R L S of_it here = absurd of_it
+filing_stands (fails.OutOfTurn count) R L S of_it here = absurd of_it
 
 filing_makes : (calls : List disks.Call) (e : AuditFail) (old new : disks.State) → IsOfFiling e → MakesFor {A = Unit {0}} calls (Ok tt) old new → MakesFor {A = ℕ} calls (Err e) old new
 filing_makes calls fails.NotaryFault old new of_it made = inr made
@@ -133,7 +133,7 @@ module _ (now : ℕ) (items : List Item) (s : Opened) (before : List ℕ) (open_
     value = tt;
     files = files_none s.header.id ℕ filed.limits (next_batches h now (lists.batches s.header.id)) e lists later_lists still keeps;
     calls = told_map filed.trace later.trace (λ (b a : List Entry). a ≡ b) (CallsFor {A = ℕ} s.header.id (length (lists.batches s.header.id)) (next_batches h now (lists.batches s.header.id)) (Err e)) quiet (λ b a is. calls_none s.header.id ℕ (length (lists.batches s.header.id)) (next_batches h now (lists.batches s.header.id)) e b a still is);
-    stands = stands_left ℕ e (IsReached (need_of (lists.batches s.header.id)) s s items old new before after) (IsLeft s s old new) still (refl, same);
+    stands = stands_left ℕ e (IsReached (need_of (lists.batches s.header.id)) s s items old new before after) (IsLeft s s old new) (s.at.is_closed ≡ true) still (refl, same);
     ordered = λ more. absurd (more (keeps.batches s.header.id));
     images = λ only. images_left old new new same only_now before (StoresAround s.header items (need_of (lists.batches s.header.id))) only here;
     kept = λ only. subst (StoresAround s.header items (need_of (lists.batches s.header.id))) (sym bytes) here;
@@ -211,7 +211,7 @@ module _ (now : ℕ) (items : List Item) (s : Opened) (before : List ℕ) (open_
         value = tt;
         files = files_none s.header.id ℕ filed.limits (next_batches h now batches) e lists lists still (keeps_same lists);
         calls = told_same filed.trace filed.trace (CallsFor {A = ℕ} s.header.id (length batches) (next_batches h now batches) (Err e)) refl (λ b. calls_none s.header.id ℕ (length batches) (next_batches h now batches) e b b still refl);
-        stands = stands_alike (Unit {0}) ℕ e (IsReached need s later_s items old new before after) (IsLeft s later_s old new) this.stands;
+        stands = stands_alike (Unit {0}) ℕ e (IsReached need s later_s items old new before after) (IsLeft s later_s old new) (later_s.at.is_closed ≡ true) this.stands;
         ordered = λ more. absurd (more refl);
         images = this.images;
         kept = this.kept;
@@ -262,7 +262,7 @@ module _ (now : ℕ) (items : List Item) (s : Opened) (before : List ℕ) (open_
           value = tt;
           files = files_alike s.header.id (Unit {0}) ℕ filed.limits (next_batches h now batches) e lists later_lists this.files;
           calls = told_map filed.trace later.trace (CallsFor {A = Unit {0}} s.header.id (length batches) (next_batches h now batches) (Err e)) (CallsFor {A = ℕ} s.header.id (length batches) (next_batches h now batches) (Err e)) this.calls (λ b a is. calls_alike s.header.id (Unit {0}) ℕ (length batches) (next_batches h now batches) e b a is);
-          stands = filing_stands e (IsReached need s later_s items old new before after) (IsLeft s later_s old new) this.in_turn at_need.stands;
+          stands = filing_stands e (IsReached need s later_s items old new before after) (IsLeft s later_s old new) (later_s.at.is_closed ≡ true) this.in_turn at_need.stands;
           ordered = λ more. at_need.stands;
           images = at_need.images;
           kept = at_need.kept;

@@ -1,5 +1,5 @@
 -- The steps of a notarization.
-use Rattle.std.specs.Prelude.{◌≡◌, ◌≤◌, ℕ, ◌-◌, suc, max, nat_lt, if◌then◌else◌, Bool, false, List, [], ◌∷◌, map, length, Option, Some, None, IsSome, Result, Ok, Err, IfErr, IfOk}
+use Rattle.std.specs.Prelude.{◌≡◌, ◌≤◌, ℕ, ◌-◌, suc, max, nat_lt, if◌then◌else◌, Bool, true, false, List, [], ◌∷◌, map, length, Option, Some, None, IsSome, Result, Ok, Err, IfErr, IfOk}
 use Rattle.std.specs.List.{range_with_len}
 use Rattle.outside_words.specs.Told.{WhereTold}
 use Rattle.disk_words.specs.Disk as disks
@@ -143,7 +143,7 @@ pub record Reaches (need : Option ℕ) (stored_items : List Item) (result : Resu
   -- where the file has no room for it, the disk is untouched, whatever is answered
   pub free : IsSome (room_fault (tail_of s) need) → disks.Unchanged old new
   pub refused : IsRefusedBy (room_fault (tail_of s) need) result
-  pub stands : StandsAfter result (IsReached need s later_s stored_items old new before after) (IsLeft s later_s old new)
+  pub stands : StandsAfter result (IsReached need s later_s stored_items old new before after) (IsLeft s later_s old new) (later_s.at.is_closed ≡ true)
   pub images : disks.Only before old → EveryImage old new (StoresAround s.header stored_items need)
   pub kept : disks.Only before old → StoresAround s.header stored_items need after
   pub trace : MakesFor (frontier_calls s need) result old new
