@@ -32,7 +32,7 @@ use Rattle.validator.specs.Notarizing.{else_cause, fault_by, chain_fault, filed_
 use Rattle.validator.specs.Laws.{SoundIsClean, SoundIsNotRefused}
 use Rattle.validator.proofs.Faults.{chain_within}
 
-header_planned : (l : Layout) (n : ℕ) → Contains (planned l n) names.Header
+pub header_planned : (l : Layout) (n : ℕ) → Contains (planned l n) names.Header
 unfolding planned batch_names
 header_planned l n = Contains-flat_map (batch_names l) (range_with_len 0 (n + 1)) 0 names.Header (in_range 0 (n + 1) 0 (omega arith) (omega arith)) (here names.Header [])
 

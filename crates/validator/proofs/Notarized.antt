@@ -20,7 +20,7 @@ use Rattle.validator.specs.declared.fail.AuditFail.{AuditFail}
 use Rattle.validator.specs.declared.fail.AuditFail.TheVariants as fails
 use Rattle.validator.specs.Tiles.{tiles_at}
 use Rattle.validator.specs.Notarizing.{next_batches, sealed_after, frontier_for, notarize_fault, room_fault, filed_fault, early_fault, IsRefusedBy}
-use Rattle.validator.specs.Filing.{FilesFor, CallsFor, FilesSome}
+use Rattle.validator.specs.Filing.{FilesFor, CallsFor, HasFiledMore}
 use Rattle.validator.specs.Reaching.{Notarizes, StoresAround, IsLeft, IsReached, StandsAfter, MakesFor, frontier_calls, reached}
 use Rattle.validator.specs.Steps.{IsChecked, IsHeld, Reaches, FilesNext, frontier_to, batches_from, IsOfReaching, IsOfFiling}
 use Rattle.validator.proofs.Faults.{only_room, needed, not_needed, refused_alike}

@@ -29,5 +29,5 @@ CallsFor id from batches (Err fails.NoMemory) old new = (new ≡ old) ⊎ MakesC
 CallsFor id from batches (Err fail) old new = new ≡ old
 
 -- a batch more stands there
-abbrev pub FilesSome : ℕ → Lists → Lists → Type 0
-FilesSome id lists later = later.batches id ≡ lists.batches id → ⊥
+abbrev pub HasFiledMore : ℕ → Lists → Lists → Type 0
+HasFiledMore id lists later = later.batches id ≡ lists.batches id → ⊥

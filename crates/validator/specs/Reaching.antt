@@ -17,7 +17,7 @@ use Rattle.store_engine.specs.Commits.{with_frontier}
 use Rattle.validator.specs.declared.fail.AuditFail.{AuditFail}
 use Rattle.validator.specs.declared.fail.AuditFail.TheVariants as fails
 use Rattle.validator.specs.Notarizing.{notarize_fault, IsRefusedBy, sealed_after, frontier_for, next_batches}
-use Rattle.validator.specs.Filing.{FilesFor, CallsFor, FilesSome}
+use Rattle.validator.specs.Filing.{FilesFor, CallsFor, HasFiledMore}
 
 -- ---- with a Frontier
 
@@ -94,7 +94,7 @@ pub record Notarizes (now : ℕ) (stored_items : List Item) (result : Result ℕ
   pub calls : WhereTold filed.trace later.trace (CallsFor s.header.id (length (lists.batches s.header.id)) (next_batches (history s.header stored_items) now (lists.batches s.header.id)) result)
   pub stands : StandsAfter result (IsReached (frontier_for (tail_of s) now (lists.batches s.header.id)) s later_s stored_items old new before after) (IsLeft s later_s old new) (later_s.at.is_closed ≡ true)
   -- a batch is filed only where the store has reached the end of its tile
-  pub ordered : FilesSome s.header.id lists later_lists → IsReached (frontier_for (tail_of s) now (lists.batches s.header.id)) s later_s stored_items old new before after
+  pub ordered : HasFiledMore s.header.id lists later_lists → IsReached (frontier_for (tail_of s) now (lists.batches s.header.id)) s later_s stored_items old new before after
   -- a crash at any moment leaves the items, or those and the Frontier
   pub images : disks.Only before old → EveryImage old new (StoresAround s.header stored_items (frontier_for (tail_of s) now (lists.batches s.header.id)))
   -- whatever was answered

@@ -153,11 +153,11 @@ IsOfJudging fail = IsOfFinding fail
 abbrev pub KeepsBatches : Lists → Lists → Type 0
 KeepsBatches lists later = (id : ℕ) → later.batches id ≡ lists.batches id
 
--- how many questions a verdict takes at most: one for the header, and those of the search
+-- how many questions a verdict takes at most: one for the header, and those of the search where a tile is sealed
 abbrev pub questions : Verdict → ℕ
 questions verdicts.Unsealed = 0
 questions (verdicts.HeaderAltered tiles) = 1
-questions (verdicts.Clean tiles) = digit_count tiles + 3
+questions (verdicts.Clean tiles) = if tiles == 0 then 1 else digit_count tiles + 3
 questions (verdicts.Altered tiles first) = digit_count tiles + 3
 
 -- a mark was added by one call
@@ -165,9 +165,9 @@ abbrev pub CallsMark : ℕ → Option Mark → List Entry → List Entry → Typ
 CallsMark id None old new = new ≡ old
 CallsMark id (Some mark) old new = new ≡ is_done (note id mark) ∷ old
 
--- The one call of a validation that changes anything adds its mark.
+-- The one call of a validation that changes anything adds its mark. Where the notary refuses it, that was the mark of some verdict.
 abbrev pub MakesMark : ℕ → ℕ → Result Verdict AuditFail → List Entry → List Entry → Type 0
 MakesMark id now (Ok verdict) old new = CallsMark id (mark_of verdict now) old new
-MakesMark id now (Err fails.Full) old new = (mark : Mark) × (mark.moment ≡ now) × (new ≡ was_answered notary_fails.Full (note id mark) ∷ old)
-MakesMark id now (Err fails.NotaryFault) old new = (new ≡ old) ⊎ ((mark : Mark) × (mark.moment ≡ now) × (new ≡ was_answered notary_fails.Failed (note id mark) ∷ old))
+MakesMark id now (Err fails.Full) old new = (verdict : Verdict) × (mark : Mark) × (mark_of verdict now ≡ Some mark) × (new ≡ was_answered notary_fails.Full (note id mark) ∷ old)
+MakesMark id now (Err fails.NotaryFault) old new = (new ≡ old) ⊎ ((verdict : Verdict) × (mark : Mark) × (mark_of verdict now ≡ Some mark) × (new ≡ was_answered notary_fails.Failed (note id mark) ∷ old))
 MakesMark id now (Err fail) old new = new ≡ old

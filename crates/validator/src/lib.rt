@@ -41,6 +41,8 @@
 //! |---|---|
 //! | [`sound_is_clean`] | of what a sound store's images hold only a clean verdict is found |
 //! | [`sound_is_not_refused`] | nothing that is filed speaks against a sound store |
+//! | [`broken_is_altered`] | a store that is refused as `Broken` has another header, or some sealed granule is altered |
+//! | [`missing_is_clash`] | `SealMissing`, of a notary that holds a history's batches, comes only where two inputs clash |
 //!
 //! That something can always be found is `proofs/SomethingFound`. Only tested: that calls succeed
 //! where there is memory.
@@ -69,7 +71,7 @@ mod validating_tests;
 mod verdict;
 
 pub use fail::AuditFail;
-pub use laws::{sound_is_clean, sound_is_not_refused};
+pub use laws::{broken_is_altered, missing_is_clash, sound_is_clean, sound_is_not_refused};
 pub use notarizing::notarize;
 pub use printing::{put_name, put_refusal, put_verdict};
 pub use validating::validate;
