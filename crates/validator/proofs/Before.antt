@@ -1,7 +1,7 @@
 -- A notarization, with the steps before it that changed nothing.
 use Rattle.std.specs.Prelude.{IfOk}
 use Rattle.disk_model.specs.Moments.{EveryImage}
-use Rattle.std.proofs.Common.{◌≡◌, ◌⊎◌, inl, inr, ℕ, true, List, length, Option, Some, None, IsSome, Result, Ok, Err, refl, sym, ap, subst, ◌∙◌}
+use Rattle.std.proofs.Common.{◌≡◌, ℕ, true, List, length, Option, IsSome, Result, sym, subst, ◌∙◌}
 use Rattle.outside_words.specs.Told.{WhereTold, TellsAlike}
 use Rattle.outside_words.proofs.Told.{told_then}
 use Rattle.disk_words.specs.Disk as disks
@@ -16,7 +16,7 @@ use Rattle.store_engine.specs.Refusals.{tail_of}
 use Rattle.validator.specs.declared.fail.AuditFail.{AuditFail}
 use Rattle.validator.specs.Notarizing.{next_batches, sealed_after, frontier_for, notarize_fault, IsRefusedBy}
 use Rattle.validator.specs.Filing.{FilesFor, CallsFor}
-use Rattle.validator.specs.Reaching.{Notarizes, StoresAround, IsLeft, IsReached, StandsAfter, MakesFor, frontier_calls}
+use Rattle.validator.specs.Reaching.{Notarizes, StoresAround, IsLeft, IsReached, MakesFor, frontier_calls}
 use Rattle.validator.proofs.Disks.{OnlyNow, around, images_behind, still_settled, unchanged_then, makes_behind, stands_map}
 use Rattle.validator.proofs.Filed.{files_behind, calls_behind, keeps_then}
 use Rattle.validator.proofs.Notarized.{SameTrace}

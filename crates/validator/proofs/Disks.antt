@@ -1,5 +1,5 @@
 -- What a step that leaves the disk, or only stores a Frontier, leaves of a store.
-use Rattle.std.proofs.Common.{◌≡◌, ◌⊎◌, inl, inr, ℕ, Bool, List, Option, Some, None, Result, Ok, Err, refl, sym, ap, subst, ◌∙◌, arith}
+use Rattle.std.proofs.Common.{◌≡◌, inl, inr, ℕ, Bool, List, Option, Some, None, Result, Ok, Err, refl, sym, subst, ◌∙◌}
 use Rattle.disk_words.specs.declared.DiskFail.{DiskFail}
 use Rattle.disk_words.specs.declared.DiskFail.TheVariants as disk_fails
 use Rattle.disk_words.specs.Disk.{Call, State, turn, Only, Unchanged}
@@ -8,10 +8,10 @@ use Rattle.disk_model.proofs.Moments.{started, stays, joined}
 use Rattle.outside_words.specs.Runs.{after_calls, StopsAtFailed, StopsBefore}
 use Rattle.tuple_bytes.specs.declared.header.Header.{Header}
 use Rattle.tuple_bytes.specs.declared.item.Item.{Item}
-use Rattle.store_engine.specs.Opened.{Opened, Stores}
+use Rattle.store_engine.specs.Opened.{Stores}
 use Rattle.validator.specs.declared.fail.AuditFail.{AuditFail}
 use Rattle.validator.specs.declared.fail.AuditFail.TheVariants as fails
-use Rattle.validator.specs.Reaching.{StoresAround, MakesFor, IsLeft, StandsAfter}
+use Rattle.validator.specs.Reaching.{StoresAround, MakesFor, StandsAfter}
 
 -- since this turn there was no other moment than now
 abbrev pub OnlyNow : State → Type 0

@@ -1,31 +1,28 @@
 -- A notarization step by step: what is known of its answer at each return.
-use Rattle.std.proofs.Common.{◌≡◌, ◌⊎◌, inl, inr, ℕ, zero, suc, max, true, ◌+◌, ◌-◌, ◌<◌, ◌≤◌, List, [], ◌∷◌, ◌++◌, length, map, Option, Some, None, IsSome, Result, Ok, Err, refl, sym, ap, subst, ◌∙◌, arith}
+use Rattle.std.proofs.Common.{◌≡◌, inl, inr, ℕ, suc, max, true, ◌-◌, ◌<◌, ◌≤◌, List, [], length, map, Option, None, IsSome, Result, Ok, Err, refl, sym, ap, subst, ◌∙◌, arith}
 use Rattle.std.specs.List.{range_with_len}
-use Rattle.outside_words.specs.Told.{WhereTold, TellsAlike}
+use Rattle.outside_words.specs.Told.{WhereTold}
 use Rattle.outside_words.proofs.Told.{told_map, told_same}
 use Rattle.disk_words.specs.Disk as disks
-use Rattle.disk_model.specs.Moments.{EveryImage}
-use Rattle.tuple_bytes.specs.declared.header.Header.{Header}
 use Rattle.tuple_bytes.specs.declared.item.Item.{Item}
 use Rattle.history_model.specs.History.{History, history}
 use Rattle.notary_link.specs.Batches.{Batch}
-use Rattle.notary_link.specs.declared.notary.NotaryLimits.{NotaryLimits}
 use Rattle.notary_link.specs.Notary as notaries
 use Rattle.notary_link.specs.Notary.{Lists, Entry, Keeps, batch_of}
 use Rattle.audit_model.specs.Names.{batch}
-use Rattle.store_engine.specs.Opened.{Opened, Stores, IsOpenOn}
+use Rattle.store_engine.specs.Opened.{Opened, IsOpenOn}
 use Rattle.store_engine.specs.Refusals.{tail_of}
 use Rattle.seal_plan.specs.Plan.{Planned}
 use Rattle.validator.specs.declared.fail.AuditFail.{AuditFail}
 use Rattle.validator.specs.declared.fail.AuditFail.TheVariants as fails
 use Rattle.validator.specs.Tiles.{tiles_at}
-use Rattle.validator.specs.Notarizing.{next_batches, sealed_after, frontier_for, notarize_fault, room_fault, filed_fault, early_fault, IsRefusedBy}
-use Rattle.validator.specs.Filing.{FilesFor, CallsFor, HasFiledMore}
-use Rattle.validator.specs.Reaching.{Notarizes, StoresAround, IsLeft, IsReached, StandsAfter, MakesFor, frontier_calls, reached}
-use Rattle.validator.specs.Steps.{IsChecked, IsHeld, Reaches, FilesNext, frontier_to, batches_from, IsOfReaching, IsOfFiling}
+use Rattle.validator.specs.Notarizing.{next_batches, sealed_after, frontier_for, notarize_fault, room_fault, IsRefusedBy}
+use Rattle.validator.specs.Filing.{FilesFor, CallsFor}
+use Rattle.validator.specs.Reaching.{Notarizes, StoresAround, IsLeft, IsReached, StandsAfter, MakesFor, frontier_calls}
+use Rattle.validator.specs.Steps.{IsChecked, Reaches, FilesNext, frontier_to, batches_from, IsOfReaching, IsOfFiling}
 use Rattle.validator.proofs.Faults.{only_room, needed, not_needed, refused_alike}
-use Rattle.validator.proofs.Disks.{OnlyNow, IsStill, around, images_left, images_behind, unchanged_same, makes_none, stands_left}
-use Rattle.validator.proofs.Filed.{files_none, calls_none, files_nothing, files_behind, calls_behind, files_alike, calls_alike, keeps_same}
+use Rattle.validator.proofs.Disks.{OnlyNow, IsStill, around, images_left, unchanged_same, makes_none, stands_left}
+use Rattle.validator.proofs.Filed.{files_none, calls_none, files_nothing, files_alike, calls_alike, keeps_same}
 
 -- no call changed the trace
 abbrev pub SameTrace : Option (List Entry) → Option (List Entry) → Type 0

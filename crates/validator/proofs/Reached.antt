@@ -1,12 +1,11 @@
 -- A Frontier is stored, where one is needed.
-use Rattle.std.proofs.Common.{◌≡◌, ◌⊎◌, inl, inr, ℕ, ◌<◌, ◌≤◌, Bool, true, false, List, [], ◌∷◌, ◌++◌, Option, Some, None, IsSome, Result, Ok, Err, refl, sym, ap, subst, ◌∙◌, arith}
-use Rattle.std.specs.Prelude.{nat_le, nat_lt, if◌then◌else◌}
+use Rattle.std.proofs.Common.{◌≡◌, ◌⊎◌, inl, inr, ℕ, ◌<◌, ◌≤◌, Bool, true, false, List, Option, Some, None, IsSome, Result, Ok, Err, refl, sym, ap, subst, ◌∙◌, arith}
+use Rattle.std.specs.Prelude.{nat_le, if◌then◌else◌}
 use Rattle.std.proofs.lemmas.Bool.{cases_lt}
 use Rattle.std.proofs.lemmas.Bool.Decides.{nat_tests}
 use Rattle.outside_words.specs.Told.{WhereTold}
 use Rattle.outside_words.proofs.Told.{told_map}
-use Rattle.disk_words.specs.Disk.{Call, State, Only, Unchanged}
-use Rattle.disk_model.specs.Moments.{EveryImage}
+use Rattle.disk_words.specs.Disk.{Call, State, Unchanged}
 use Rattle.tuple_bytes.specs.declared.item.Item.{Item}
 use Rattle.tuple_bytes.specs.declared.item.Item.TheVariants as items
 use Rattle.store_engine.specs.declared.fail.StoreFail.{StoreFail}
@@ -17,7 +16,6 @@ use Rattle.store_engine.specs.Refusals.{tail_of, frontier_fault}
 use Rattle.store_engine.specs.Commits as commits
 use Rattle.store_engine.specs.Commits.{Adds, frontier_at, with_frontier}
 use Rattle.validator.specs.declared.fail.AuditFail.{AuditFail}
-use Rattle.validator.specs.declared.fail.AuditFail.TheVariants as fails
 use Rattle.validator.specs.Tiles.{end_of}
 use Rattle.validator.specs.Notarizing.{of_store, room_fault, IsRefusedBy}
 use Rattle.validator.specs.Reaching.{StoresAround, IsLeft, IsReached, StandsAfter, StaysOpen, MakesFor, frontier_calls}

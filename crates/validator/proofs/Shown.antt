@@ -1,5 +1,5 @@
 -- What a refusal shows of a file.
-use Rattle.std.proofs.Common.{◌≡◌, ◌⊎◌, inl, inr, ℕ, suc, ◌+◌, ◌<◌, ◌≤◌, Bool, true, false, List, [], ◌∷◌, length, Option, Some, None, Ok, Err, refl, sym, ap, subst, ◌∙◌, arith}
+use Rattle.std.proofs.Common.{◌≡◌, ◌⊎◌, inl, inr, ℕ, suc, ◌<◌, ◌≤◌, Bool, true, false, List, [], ◌∷◌, length, Option, Some, Err, refl, sym, ap, subst, ◌∙◌, arith}
 use Rattle.std.specs.Prelude.{nat_le, if◌then◌else◌}
 use Rattle.std.specs.List.{Contains}
 use Rattle.std.proofs.lemmas.Bool.Decides.{nat_tests}
@@ -21,8 +21,8 @@ use Rattle.audit_model.proofs.Planned.{cum_planned}
 use Rattle.audit_model.proofs.Exact.{header_shown, one_or_other, refused_other, changed_altered}
 use Rattle.validator.specs.declared.fail.AuditFail.{AuditFail}
 use Rattle.validator.specs.declared.fail.AuditFail.TheVariants as fails
-use Rattle.validator.specs.Tiles.{first_past, cums}
-use Rattle.validator.specs.Verdicts.{IsFoundBy, IsFoundWithin, IsFoundAt, IsFoundIn}
+use Rattle.validator.specs.Tiles.{first_past}
+use Rattle.validator.specs.Verdicts.{IsFoundWithin, IsFoundAt, IsFoundIn}
 use Rattle.validator.specs.Notarizing.{else_cause, fault_by, chain_fault, filed_fault}
 use Rattle.validator.specs.Laws.{BrokenIsAltered, MissingIsClash}
 use Rattle.validator.proofs.Clean.{header_planned}

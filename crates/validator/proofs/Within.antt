@@ -1,5 +1,5 @@
 -- Which tiles end at most behind the last granule.
-use Rattle.std.proofs.Common.{◌≡◌, ◌⊎◌, inl, inr, ℕ, zero, suc, ◌*◌, ◌/◌, ◌^◌, ◌+◌, ◌<◌, ◌≤◌, ◌==◌, nat_le, Bool, true, false, List, Result, Ok, Err, refl, sym, ap, subst, arith, le-div_iff_mul-le}
+use Rattle.std.proofs.Common.{◌≡◌, ◌⊎◌, inl, inr, ℕ, zero, suc, ◌/◌, ◌^◌, ◌+◌, ◌<◌, ◌≤◌, ◌==◌, nat_le, Bool, true, false, List, Result, Ok, Err, refl, ap, subst, arith, le-div_iff_mul-le}
 use Rattle.std.specs.Prelude.{if◌then◌else◌}
 use Rattle.std.proofs.lemmas.Bool.{cases_lt}
 use Rattle.std.proofs.lemmas.Bool.Decides.{nat_tests}
@@ -15,7 +15,7 @@ use Rattle.validator.specs.declared.fail.AuditFail.{AuditFail}
 use Rattle.validator.specs.declared.fail.AuditFail.TheVariants as fails
 use Rattle.validator.specs.Tiles.{first_past, cums}
 use Rattle.audit_model.specs.Tree.{digit_count}
-use Rattle.validator.specs.Verdicts.{questions, IsFoundBy, IsFoundWithin, IsFoundUnder}
+use Rattle.validator.specs.Verdicts.{questions, IsFoundBy, IsFoundUnder}
 
 module _ (l : Layout) (n : ℕ) where
   pub tiles_within : n ≤ first_past l → first_granule l n ≤ max_granules

@@ -1,8 +1,8 @@
 -- What a sound store is answered, and what a refusal shows of a store.
-use Rattle.std.specs.Prelude.{◌≡◌, ◌⊎◌, ◌+◌, ℕ, List, length, Some, None, Ok, Err, Result, IfSome}
+use Rattle.std.specs.Prelude.{◌≡◌, ◌⊎◌, ℕ, List, Some, None, Ok, Err, Result}
 use Rattle.notary_link.specs.declared.name.Name.{Name}
 use Rattle.notary_link.specs.Batches.{Batch}
-use Rattle.history_model.specs.History.{History, history}
+use Rattle.history_model.specs.History.{History}
 use Rattle.history_model.specs.Stored.{stored}
 use Rattle.digest_model.specs.Laws.{HasSpelling}
 use Rattle.audit_model.specs.Notary.{NotaryOf}
@@ -27,17 +27,17 @@ abbrev pub SoundIsNotRefused : Type 0
 SoundIsNotRefused = (batches : List Batch) (id n : ℕ) (h : History) → IsNotarized batches id n h
     → filed_fault batches h ≡ None
 
--- Where what is filed of h speaks against a file, that has another header, or some sealed granule is altered, without exception.
+-- Where what is filed of h shows that a file is broken, that has another header, or some sealed granule is altered, without exception.
 abbrev pub BrokenIsAltered : Type 0
 BrokenIsAltered = (batches : List Batch) (id n : ℕ) (h s : History) → NotaryOf batches id h n → HasSpelling h → HasSpelling s
     → filed_fault batches s ≡ Some fails.Broken
     → HasOtherHeader h (Some s) ⊎ ((g : ℕ) × IsAltered h (Some s) n g)
 
--- A notarization or a validation misses a seal
+-- a notarization or a validation misses the seal of this name
 abbrev pub Misses : List Batch → History → Name → Type 0
 Misses batches s name = (filed_fault batches s ≡ Some (fails.SealMissing name)) ⊎ IsFoundIn batches (Some s) (Err (fails.SealMissing name))
 
--- of a notary that holds the batches of h only where two inputs clash.
+-- A notary that holds the batches of h has each seal that is asked for, or two inputs clash.
 abbrev pub MissingIsClash : Type 0
 MissingIsClash = (batches : List Batch) (id n : ℕ) (h s : History) (name : Name) → NotaryOf batches id h n → HasSpelling h → HasSpelling s
     → Misses batches s name

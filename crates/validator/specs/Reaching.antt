@@ -1,5 +1,5 @@
 -- What becomes of the store when a history is notarized: it is as it was, or has a Frontier more.
-use Rattle.std.specs.Prelude.{◌≡◌, ◌⊎◌, ℕ, true, List, [], ◌∷◌, ◌++◌, max, length, Option, Some, None, IsSome, Result, Ok, Err, IfOk}
+use Rattle.std.specs.Prelude.{◌≡◌, ◌⊎◌, ℕ, true, List, [], ◌∷◌, ◌++◌, length, Option, Some, None, IsSome, Result, Ok, Err, IfOk}
 use Rattle.outside_words.specs.Told.{WhereTold}
 use Rattle.disk_words.specs.declared.DiskFail.TheVariants as disk_fails
 use Rattle.disk_words.specs.Disk as disks

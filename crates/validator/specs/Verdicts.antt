@@ -1,6 +1,5 @@
 -- What a validation finds, and the mark that it adds.
-use Rattle.std.specs.Prelude.{◌≡◌, ◌≢◌, ◌⊎◌, ◌<◌, ◌==◌, ℕ, ◌+◌, ◌-◌, nat_lt, nat_le, if◌then◌else◌, Bool, true, false, List, [], ◌∷◌, length, Option, Some, None, Result, Ok, Err}
-use Rattle.outside_words.specs.Told.{WhereTold}
+use Rattle.std.specs.Prelude.{◌≡◌, ◌≢◌, ◌⊎◌, ◌<◌, ◌==◌, ℕ, ◌+◌, ◌-◌, nat_le, if◌then◌else◌, Bool, true, false, List, [], ◌∷◌, length, Option, Some, None, Result, Ok, Err}
 use Rattle.tuple_bytes.specs.declared.header.Header.{Header}
 use Rattle.history_model.specs.declared.stored.Stored.{Stored}
 use Rattle.history_model.specs.History.{History, history}
@@ -14,7 +13,7 @@ use Rattle.notary_link.specs.declared.mark.Outcome.TheVariants as outcomes
 use Rattle.notary_link.specs.declared.name.Name.TheVariants as names
 use Rattle.notary_link.specs.declared.notary.NotaryLimits.{NotaryLimits}
 use Rattle.notary_link.specs.Batches.{Batch}
-use Rattle.notary_link.specs.Notary.{State, Lists, Entry, Keeps, Notes, HasRoom, AddsWithin, note}
+use Rattle.notary_link.specs.Notary.{Lists, Entry, Keeps, Notes, HasRoom, AddsWithin, note}
 use Rattle.notary_link.specs.Runs.{is_done, was_answered}
 use Rattle.audit_model.specs.Mono.{BeginsRegion}
 use Rattle.audit_model.specs.Notary.{answers}
