@@ -98,19 +98,23 @@ module _ (calls : List disks.Call) (first old new : disks.State) (e : old.trace 
   makes_from (Err (fails.SealMissing name)) made = made ∙ e
   makes_from (Err (fails.OutOfTurn count)) made = made ∙ e
 
-stands_from : {A : Type 0} (result : Result A AuditFail) (reached left reached' left' : Type 0) → (reached → reached') → (left → left') → StandsAfter result reached left → StandsAfter result reached' left'
-stands_from (Ok done) reached left reached' left' f g s = f s
-stands_from (Err fails.Full) reached left reached' left' f g s = f s
-stands_from (Err fails.NotaryFault) reached left reached' left' f g s = ⊎_elim (λ (l : left). inl (g l)) (λ (r : reached). inr (f r)) s
-stands_from (Err fails.DiskFault) reached left reached' left' f g s = tt
-stands_from (Err fails.NoMemory) reached left reached' left' f g s = tt
-stands_from (Err (fails.ClockBack last)) reached left reached' left' f g s = g s
-stands_from (Err fails.TooLate) reached left reached' left' f g s = g s
-stands_from (Err fails.StoreFull) reached left reached' left' f g s = g s
-stands_from (Err fails.Closed) reached left reached' left' f g s = g s
-stands_from (Err fails.Broken) reached left reached' left' f g s = g s
-stands_from (Err (fails.SealMissing name)) reached left reached' left' f g s = g s
-stands_from (Err (fails.OutOfTurn count)) reached left reached' left' f g s = g s
+left_reached_or_shut : (reached left reached' left' shut : Type 0) → (reached → reached') → (left → left') → left ⊎ reached ⊎ shut → left' ⊎ reached' ⊎ shut
+left_reached_or_shut reached left reached' left' shut f g s = ⊎_elim (λ (l : left). inl (g l))
+    (λ (other : reached ⊎ shut). inr (⊎_elim (λ (r : reached). inl (f r)) (λ (is : shut). inr is) other)) s
+
+stands_from : {A : Type 0} (result : Result A AuditFail) (reached left reached' left' shut : Type 0) → (reached → reached') → (left → left') → StandsAfter result reached left shut → StandsAfter result reached' left' shut
+stands_from (Ok done) reached left reached' left' shut f g s = f s
+stands_from (Err fails.Full) reached left reached' left' shut f g s = f s
+stands_from (Err fails.NotaryFault) reached left reached' left' shut f g s = ⊎_elim (λ (l : left). inl (g l)) (λ (r : reached). inr (f r)) s
+stands_from (Err fails.DiskFault) reached left reached' left' shut f g s = left_reached_or_shut reached left reached' left' shut f g s
+stands_from (Err fails.NoMemory) reached left reached' left' shut f g s = left_reached_or_shut reached left reached' left' shut f g s
+stands_from (Err (fails.ClockBack last)) reached left reached' left' shut f g s = g s
+stands_from (Err fails.TooLate) reached left reached' left' shut f g s = g s
+stands_from (Err fails.StoreFull) reached left reached' left' shut f g s = g s
+stands_from (Err fails.Closed) reached left reached' left' shut f g s = g s
+stands_from (Err fails.Broken) reached left reached' left' shut f g s = g s
+stands_from (Err (fails.SealMissing name)) reached left reached' left' shut f g s = g s
+stands_from (Err (fails.OutOfTurn count)) reached left reached' left' shut f g s = g s
 
 notarizes_from : (now : ℕ) (items : List Item) (result : Result ℕ AuditFail) (s later_s : Opened) (first old new : disks.State) (before after : List ℕ) (filed later : notaries.State) (lists later_lists : notaries.Lists) → disks.Unchanged first old
     → Notarizes now items result s later_s old new before after filed later lists later_lists → Notarizes now items result s later_s first new before after filed later lists later_lists
@@ -120,7 +124,7 @@ notarizes_from now items result s later_s first old new before after filed later
   value = n.value;
   files = n.files;
   calls = n.calls;
-  stands = stands_from result _ _ _ _ (λ r. reached_from _ r) (λ l. (l.0, unchanged_then first old new same l.1)) n.stands;
+  stands = stands_from result _ _ _ _ _ (λ r. reached_from _ r) (λ l. (l.0, unchanged_then first old new same l.1)) n.stands;
   ordered = λ some. reached_from _ (n.ordered some);
   images = λ only. every_image_from first old new _ same (n.images (only_before first old before same only));
   kept = λ only. n.kept (only_before first old before same only);

@@ -166,19 +166,19 @@ module _ (now : ℕ) (s later_s : Opened) (old new : State) (before after : List
         subst (λ (x : Opened). Goes w next result (alone x) old new before after later) (sym stands)
         (stay result (subst (λ (f : AuditFail). IfOk result (λ answered. answered ≡ refusal (refusal_text f))) same_fail reply))
 
-    pub refused : (r : Result ℕ AuditFail) (result : Result Answered LineFail) → IsAnswer sealed_text r result → IsRefusedBy fault r → (reached_too : Type 0) → reaching.StandsAfter r reached_too (reaching.IsLeft s later_s old new) → To next result
-    refused (Ok n) result answer by R stands = let none : fault ≡ None = by in absurd cc
-    refused (Err fails.Full) result answer by R stands = let none : fault ≡ None = by in absurd cc
-    refused (Err fails.DiskFault) result answer by R stands = faulty result answer
-    refused (Err fails.NotaryFault) result answer by R stands = faulty result answer
-    refused (Err fails.NoMemory) result answer by R stands = faulty result answer
-    refused (Err fails.Closed) result answer by R stands = faulty result answer
-    refused (Err (fails.OutOfTurn count)) result answer by R stands = absurd by
-    refused (Err (fails.ClockBack last)) result answer by R stands = told (fails.ClockBack last) by stands.0 result answer
-    refused (Err fails.TooLate) result answer by R stands = told fails.TooLate by stands.0 result answer
-    refused (Err fails.StoreFull) result answer by R stands = told fails.StoreFull by stands.0 result answer
-    refused (Err fails.Broken) result answer by R stands = told fails.Broken by stands.0 result answer
-    refused (Err (fails.SealMissing name)) result answer by R stands = told (fails.SealMissing name) by stands.0 result answer
+    pub refused : (r : Result ℕ AuditFail) (result : Result Answered LineFail) → IsAnswer sealed_text r result → IsRefusedBy fault r → (reached_too shut : Type 0) → reaching.StandsAfter r reached_too (reaching.IsLeft s later_s old new) shut → To next result
+    refused (Ok n) result answer by R S stands = let none : fault ≡ None = by in absurd cc
+    refused (Err fails.Full) result answer by R S stands = let none : fault ≡ None = by in absurd cc
+    refused (Err fails.DiskFault) result answer by R S stands = faulty result answer
+    refused (Err fails.NotaryFault) result answer by R S stands = faulty result answer
+    refused (Err fails.NoMemory) result answer by R S stands = faulty result answer
+    refused (Err fails.Closed) result answer by R S stands = faulty result answer
+    refused (Err (fails.OutOfTurn count)) result answer by R S stands = absurd by
+    refused (Err (fails.ClockBack last)) result answer by R S stands = told (fails.ClockBack last) by stands.0 result answer
+    refused (Err fails.TooLate) result answer by R S stands = told fails.TooLate by stands.0 result answer
+    refused (Err fails.StoreFull) result answer by R S stands = told fails.StoreFull by stands.0 result answer
+    refused (Err fails.Broken) result answer by R S stands = told fails.Broken by stands.0 result answer
+    refused (Err (fails.SealMissing name)) result answer by R S stands = told (fails.SealMissing name) by stands.0 result answer
 
   -- ---- nothing speaks against it
 
@@ -260,22 +260,22 @@ module _ (now : ℕ) (s later_s : Opened) (old new : State) (before after : List
     sealed_some true is less result at files reply = let no = ne_eqb fit (length batches) (λ e. omega (arith, e, less)) in absurd cc
 
     pub made : fault ≡ None → (r : Result ℕ AuditFail) (result : Result Answered LineFail) → IsAnswer sealed_text r result → IsRefusedBy fault r → IfOk r (λ n. n ≡ tiles)
-        → FilesFor w.id limits batches r lists later → (left_too : Type 0) → reaching.StandsAfter r (IsReached need s later_s ws.items old new before after) left_too
+        → FilesFor w.id limits batches r lists later → (left_too shut : Type 0) → reaching.StandsAfter r (IsReached need s later_s ws.items old new before after) left_too shut
         → To (all_filed w new_world batches tiles) result
-    made free (Ok n) result answer by value files L stands = sealed_all (fit == length batches) refl (sym fit_is ∙ files.fit) result stands files.filed
+    made free (Ok n) result answer by value files L S stands = sealed_all (fit == length batches) refl (sym fit_is ∙ files.fit) result stands files.filed
         (subst (λ (m : ℕ). IfOk result (λ answered. answered ≡ said (sealed_text m))) value answer)
-    made free (Err fails.Full) result answer by value files L stands = sealed_some (fit == length batches) refl (omega (arith, fit_is, files.left)) result stands
+    made free (Err fails.Full) result answer by value files L S stands = sealed_some (fit == length batches) refl (omega (arith, fit_is, files.left)) result stands
         (subst (λ (n : ℕ). FilesAll w.id (take n batches) lists later) fit_is files.filed) answer
-    made free (Err fails.DiskFault) result answer by value files L stands = failed (fit == length batches) refl result answer
-    made free (Err fails.NotaryFault) result answer by value files L stands = failed (fit == length batches) refl result answer
-    made free (Err fails.NoMemory) result answer by value files L stands = failed (fit == length batches) refl result answer
-    made free (Err (fails.OutOfTurn count)) result answer by value files L stands = absurd by
-    made free (Err fails.Closed) result answer by value files L stands = let some : fault ≡ Some fails.Closed = by in absurd cc
-    made free (Err (fails.ClockBack last)) result answer by value files L stands = let some : fault ≡ Some (fails.ClockBack last) = by in absurd cc
-    made free (Err fails.TooLate) result answer by value files L stands = let some : fault ≡ Some fails.TooLate = by in absurd cc
-    made free (Err fails.StoreFull) result answer by value files L stands = let some : fault ≡ Some fails.StoreFull = by in absurd cc
-    made free (Err fails.Broken) result answer by value files L stands = let some : fault ≡ Some fails.Broken = by in absurd cc
-    made free (Err (fails.SealMissing name)) result answer by value files L stands = let some : fault ≡ Some (fails.SealMissing name) = by in absurd cc
+    made free (Err fails.DiskFault) result answer by value files L S stands = failed (fit == length batches) refl result answer
+    made free (Err fails.NotaryFault) result answer by value files L S stands = failed (fit == length batches) refl result answer
+    made free (Err fails.NoMemory) result answer by value files L S stands = failed (fit == length batches) refl result answer
+    made free (Err (fails.OutOfTurn count)) result answer by value files L S stands = absurd by
+    made free (Err fails.Closed) result answer by value files L S stands = let some : fault ≡ Some fails.Closed = by in absurd cc
+    made free (Err (fails.ClockBack last)) result answer by value files L S stands = let some : fault ≡ Some (fails.ClockBack last) = by in absurd cc
+    made free (Err fails.TooLate) result answer by value files L S stands = let some : fault ≡ Some fails.TooLate = by in absurd cc
+    made free (Err fails.StoreFull) result answer by value files L S stands = let some : fault ≡ Some fails.StoreFull = by in absurd cc
+    made free (Err fails.Broken) result answer by value files L S stands = let some : fault ≡ Some fails.Broken = by in absurd cc
+    made free (Err (fails.SealMissing name)) result answer by value files L S stands = let some : fault ≡ Some (fails.SealMissing name) = by in absurd cc
 
   -- ---- either way
 
@@ -292,18 +292,18 @@ module _ (now : ℕ) (s later_s : Opened) (old new : State) (before after : List
     value_world : IfOk r (λ m. m ≡ tiles)
     value_world = subst (λ (t : ℕ). IfOk r (λ m. m ≡ t)) tiles_are n.value
 
-    stands_world : reaching.StandsAfter r (IsReached need s later_s ws.items old new before after) (reaching.IsLeft s later_s old new)
-    stands_world = subst (λ (o : Option ℕ). reaching.StandsAfter r (IsReached o s later_s ws.items old new before after) (reaching.IsLeft s later_s old new)) need_is n.stands
+    stands_world : reaching.StandsAfter r (IsReached need s later_s ws.items old new before after) (reaching.IsLeft s later_s old new) (later_s.at.is_closed ≡ true)
+    stands_world = subst (λ (o : Option ℕ). reaching.StandsAfter r (IsReached o s later_s ws.items old new before after) (reaching.IsLeft s later_s old new) (later_s.at.is_closed ≡ true)) need_is n.stands
 
     goes_by : (f : Option AuditFail) → fault ≡ f → To (unless f w (sealed w ws now)) result
     goes_by (Some fail) is =
         let stay = n.free (subst (λ (o : Option AuditFail). IsSome o) (sym (fault_is ∙ is)) refl) in
-        refused fail is stay.0 stay.1 r result answer by_world (IsReached need s later_s ws.items old new before after) stands_world
+        refused fail is stay.0 stay.1 r result answer by_world (IsReached need s later_s ws.items old new before after) (later_s.at.is_closed ≡ true) stands_world
     goes_by None is = made
         (λ only. subst (λ (o : Option ℕ). EveryImage old new (StoresAround s.header ws.items o)) need_is (n.images only))
         (λ only. subst (λ (o : Option ℕ). StoresAround s.header ws.items o after) need_is (n.kept only))
         (subst (λ (k : ℕ). FilesFew w.id batches k lists later) fit_is (few_filed w.id limits batches r lists later files_world))
-        is r result answer by_world value_world files_world (reaching.IsLeft s later_s old new) stands_world
+        is r result answer by_world value_world files_world (reaching.IsLeft s later_s old new) (later_s.at.is_closed ≡ true) stands_world
 
     pub notarizes : Steps (lines.Plain stmts.Notarize) now w result (alone later_s) old new before after later
     notarizes = record {
@@ -342,8 +342,8 @@ notarization now s later_s old new filed later is_open header only_now r result 
 -- whatever was answered, the header stays
 pub stays_header : (r : Result ℕ AuditFail) (s later_s : Opened) → reaching.StaysOpen r s later_s → later_s.header ≡ s.header
 stays_header (Ok n) s later_s stays = stays.0
-stays_header (Err fails.DiskFault) s later_s stays = stays
-stays_header (Err fails.NoMemory) s later_s stays = stays
+stays_header (Err fails.DiskFault) s later_s stays = stays.0
+stays_header (Err fails.NoMemory) s later_s stays = stays.0
 stays_header (Err fails.NotaryFault) s later_s stays = stays.0
 stays_header (Err (fails.ClockBack last)) s later_s stays = stays.0
 stays_header (Err fails.TooLate) s later_s stays = stays.0

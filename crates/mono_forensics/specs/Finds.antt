@@ -1,5 +1,5 @@
 -- What the search for the first bad tile answers.
-use Rattle.std.specs.Prelude.{◌≡◌, ◌<◌, ℕ, Bool, true, false, List, [], Option, Result, Ok, Err}
+use Rattle.std.specs.Prelude.{◌≡◌, ◌≢◌, ◌<◌, ◌-◌, ℕ, Bool, true, false, List, [], Option, Result, Ok, Err}
 use Rattle.std.specs.List.{slice_index_or}
 use Rattle.notary_link.specs.declared.name.Name.TheVariants.{Cum}
 use Rattle.notary_link.specs.declared.answer.Answer.{Answer}
@@ -14,10 +14,11 @@ use Rattle.audit_model.specs.Mono.{BeginsRegion}
 abbrev pub cums : Lists → ℕ → List (List ℕ) → ℕ → Answer
 cums lists id links tile = answer (lists.batches id) (Cum tile) (slice_index_or links tile [])
 
--- Ok tells where the region of n tiles begins, and a missing seal is that of a tile of which none was filed.
+-- Ok tells where the region of n tiles begins. A missing seal is that of a tile of which none was filed, and none is told where the
+-- last tile is the same.
 abbrev pub Finds : (ℕ → Answer) → ℕ → Result (Option ℕ) AskFail → Type 0
 Finds cums n (Ok region) = BeginsRegion cums n region
-Finds cums n (Err (SealMissing (Cum tile))) = (tile < n) × (cums tile ≡ Absent)
+Finds cums n (Err (SealMissing (Cum tile))) = (tile < n) × (cums tile ≡ Absent) × (cums (n - 1) ≢ Same)
 Finds cums n (Err (SealMissing name)) = ⊥
 Finds cums n (Err fail) = Unit {0}
 

@@ -13,7 +13,7 @@
 //! | Sentence | Clause |
 //! |---|---|
 //! | None comes exactly where the last tile is the same; a tile that is named differs, as the last one does, and is the first or follows one that is the same | `value` |
-//! | a missing seal is that of a tile for which the notary has none | `value`, `only` |
+//! | a missing seal is that of a tile for which the notary has none, and is told only where the last tile is not the same | `value`, `only` |
 //! | a tile that is named is one of those that were given, also where the notary tells nothing | `within` |
 //! | at most two questions more are asked than the number of tiles has binary digits | `asked` |
 //! | nothing has changed, and the notary's promises go on | `same`, `frame` |

@@ -1,7 +1,7 @@
 -- A notarization, with the steps before it that changed nothing.
 use Rattle.std.specs.Prelude.{IfOk}
 use Rattle.disk_model.specs.Moments.{EveryImage}
-use Rattle.std.proofs.Common.{◌≡◌, ◌⊎◌, inl, inr, ℕ, List, length, Option, Some, None, IsSome, Result, Ok, Err, refl, sym, ap, subst, ◌∙◌}
+use Rattle.std.proofs.Common.{◌≡◌, ℕ, true, List, length, Option, IsSome, Result, sym, subst, ◌∙◌}
 use Rattle.outside_words.specs.Told.{WhereTold, TellsAlike}
 use Rattle.outside_words.proofs.Told.{told_then}
 use Rattle.disk_words.specs.Disk as disks
@@ -16,7 +16,7 @@ use Rattle.store_engine.specs.Refusals.{tail_of}
 use Rattle.validator.specs.declared.fail.AuditFail.{AuditFail}
 use Rattle.validator.specs.Notarizing.{next_batches, sealed_after, frontier_for, notarize_fault, IsRefusedBy}
 use Rattle.validator.specs.Filing.{FilesFor, CallsFor}
-use Rattle.validator.specs.Reaching.{Notarizes, StoresAround, IsLeft, IsReached, StandsAfter, MakesFor, frontier_calls}
+use Rattle.validator.specs.Reaching.{Notarizes, StoresAround, IsLeft, IsReached, MakesFor, frontier_calls}
 use Rattle.validator.proofs.Disks.{OnlyNow, around, images_behind, still_settled, unchanged_then, makes_behind, stands_map}
 use Rattle.validator.proofs.Filed.{files_behind, calls_behind, keeps_then}
 use Rattle.validator.proofs.Notarized.{SameTrace}
@@ -70,7 +70,7 @@ module _ (now : ℕ) (items : List Item) (s later_s : Opened) (before after : Li
     value = subst (λ (bs : List Batch). IfOk r (λ n. n ≡ sealed_after s.header now bs)) id_batches notarizes.value;
     files = files_now;
     calls = calls_now;
-    stands = stands_map r (IsReached (need_of (next_lists.batches s.header.id)) s later_s items mid new before after) (IsLeft s later_s mid new) (IsReached (need_of batches) s later_s items old new before after) (IsLeft s later_s old new) reached_behind left_behind notarizes.stands;
+    stands = stands_map r (IsReached (need_of (next_lists.batches s.header.id)) s later_s items mid new before after) (IsLeft s later_s mid new) (IsReached (need_of batches) s later_s items old new before after) (IsLeft s later_s old new) (later_s.at.is_closed ≡ true) reached_behind left_behind notarizes.stands;
     ordered = λ more. reached_behind (notarizes.ordered (λ is. more (is ∙ id_batches)));
     images = λ only. images_behind old mid new same only_now before (StoresAround s.header items (need_of batches)) only (around s.header items (need_of batches) before open_on.stores) (subst (λ (bs : List Batch). EveryImage mid new (StoresAround s.header items (need_of bs))) id_batches (notarizes.images (still_settled old mid before same only)));
     kept = λ only. subst (λ (bs : List Batch). StoresAround s.header items (need_of bs) after) id_batches (notarizes.kept (still_settled old mid before same only));

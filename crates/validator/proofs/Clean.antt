@@ -1,5 +1,5 @@
 -- What a sound store is answered.
-use Rattle.std.proofs.Common.{◌≡◌, ℕ, zero, suc, ◌+◌, ◌-◌, ◌<◌, ◌≤◌, ◌==◌, Bool, true, false, List, [], ◌∷◌, length, Option, Some, None, Result, Ok, Err, refl, sym, ap, subst, ◌∙◌, arith}
+use Rattle.std.proofs.Common.{◌≡◌, ℕ, zero, suc, ◌+◌, ◌<◌, ◌≤◌, ◌==◌, Bool, true, List, [], ◌∷◌, length, Option, Some, None, Result, Ok, Err, refl, sym, ap, subst, ◌∙◌, arith}
 use Rattle.std.specs.Prelude.{unwrap_or, nat_le, if◌then◌else◌}
 use Rattle.std.specs.List.{Contains, range_with_len}
 use Rattle.std.specs.Option.{option_map}
@@ -12,14 +12,14 @@ use Rattle.digest_model.specs.Layout.{Layout, layout, first_granule, max_granule
 use Rattle.digest_model.proofs.Members.{here, Contains-flat_map}
 use Rattle.digest_model.proofs.Lists.{in_range}
 use Rattle.notary_link.specs.declared.answer.Answer.{Answer}
-use Rattle.notary_link.specs.declared.answer.Answer.TheVariants.{Same, Differs, Absent}
+use Rattle.notary_link.specs.declared.answer.Answer.TheVariants.{Same}
 use Rattle.notary_link.specs.declared.name.Name.TheVariants as names
 use Rattle.notary_link.specs.Batches.{Batch}
 use Rattle.audit_model.specs.Names.{planned, batch_names}
 use Rattle.audit_model.specs.Notary.{NotaryOf, answers}
 use Rattle.audit_model.specs.Mono.{BeginsRegion}
 use Rattle.audit_model.specs.Altered.{history_in}
-use Rattle.audit_model.specs.Sound.{IsNotarized, HoldsNotarized}
+use Rattle.audit_model.specs.Sound.{HoldsNotarized}
 use Rattle.audit_model.proofs.Compare.{own_same, counted}
 use Rattle.audit_model.proofs.Planned.{cum_planned}
 use Rattle.validator.specs.declared.fail.AuditFail.{AuditFail}
@@ -32,7 +32,7 @@ use Rattle.validator.specs.Notarizing.{else_cause, fault_by, chain_fault, filed_
 use Rattle.validator.specs.Laws.{SoundIsClean, SoundIsNotRefused}
 use Rattle.validator.proofs.Faults.{chain_within}
 
-header_planned : (l : Layout) (n : ℕ) → Contains (planned l n) names.Header
+pub header_planned : (l : Layout) (n : ℕ) → Contains (planned l n) names.Header
 unfolding planned batch_names
 header_planned l n = Contains-flat_map (batch_names l) (range_with_len 0 (n + 1)) 0 names.Header (in_range 0 (n + 1) 0 (omega arith) (omega arith)) (here names.Header [])
 

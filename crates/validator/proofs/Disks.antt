@@ -1,5 +1,5 @@
 -- What a step that leaves the disk, or only stores a Frontier, leaves of a store.
-use Rattle.std.proofs.Common.{◌≡◌, ◌⊎◌, inl, inr, ℕ, Bool, List, Option, Some, None, Result, Ok, Err, refl, sym, ap, subst, ◌∙◌, arith}
+use Rattle.std.proofs.Common.{◌≡◌, inl, inr, ℕ, Bool, List, Option, Some, None, Result, Ok, Err, refl, sym, subst, ◌∙◌}
 use Rattle.disk_words.specs.declared.DiskFail.{DiskFail}
 use Rattle.disk_words.specs.declared.DiskFail.TheVariants as disk_fails
 use Rattle.disk_words.specs.Disk.{Call, State, turn, Only, Unchanged}
@@ -8,10 +8,10 @@ use Rattle.disk_model.proofs.Moments.{started, stays, joined}
 use Rattle.outside_words.specs.Runs.{after_calls, StopsAtFailed, StopsBefore}
 use Rattle.tuple_bytes.specs.declared.header.Header.{Header}
 use Rattle.tuple_bytes.specs.declared.item.Item.{Item}
-use Rattle.store_engine.specs.Opened.{Opened, Stores}
+use Rattle.store_engine.specs.Opened.{Stores}
 use Rattle.validator.specs.declared.fail.AuditFail.{AuditFail}
 use Rattle.validator.specs.declared.fail.AuditFail.TheVariants as fails
-use Rattle.validator.specs.Reaching.{StoresAround, MakesFor, IsLeft, StandsAfter}
+use Rattle.validator.specs.Reaching.{StoresAround, MakesFor, StandsAfter}
 
 -- since this turn there was no other moment than now
 abbrev pub OnlyNow : State → Type 0
@@ -89,31 +89,35 @@ makes_none A calls fails.Broken old new still same = same
 makes_none A calls (fails.SealMissing name) old new still same = same
 makes_none A calls (fails.OutOfTurn count) old new still same = same
 
-pub stands_left : (A : Type 0) (e : AuditFail) (R L : Type 0) → IsStill e → L → StandsAfter {A = A} (Err e) R L
-stands_left A fails.Full R L still left = absurd still
-stands_left A fails.NotaryFault R L still left = inl left
-stands_left A fails.DiskFault R L still left = tt
-stands_left A fails.NoMemory R L still left = tt
-stands_left A (fails.ClockBack last) R L still left = left
-stands_left A fails.TooLate R L still left = left
-stands_left A fails.StoreFull R L still left = left
-stands_left A fails.Closed R L still left = left
-stands_left A fails.Broken R L still left = left
-stands_left A (fails.SealMissing name) R L still left = left
-stands_left A (fails.OutOfTurn count) R L still left = left
+pub stands_left : (A : Type 0) (e : AuditFail) (R L S : Type 0) → IsStill e → L → StandsAfter {A = A} (Err e) R L S
+stands_left A fails.Full R L S still left = absurd still
+stands_left A fails.NotaryFault R L S still left = inl left
+stands_left A fails.DiskFault R L S still left = inl left
+stands_left A fails.NoMemory R L S still left = inl left
+stands_left A (fails.ClockBack last) R L S still left = left
+stands_left A fails.TooLate R L S still left = left
+stands_left A fails.StoreFull R L S still left = left
+stands_left A fails.Closed R L S still left = left
+stands_left A fails.Broken R L S still left = left
+stands_left A (fails.SealMissing name) R L S still left = left
+stands_left A (fails.OutOfTurn count) R L S still left = left
 
 -- the same with weaker facts
-pub stands_map : {A : Type 0} (r : Result A AuditFail) (R L S M : Type 0) → (R → S) → (L → M) → StandsAfter r R L → StandsAfter r S M
-stands_map (Ok done) R L S M f g h = f h
-stands_map (Err fails.Full) R L S M f g h = f h
-stands_map (Err fails.NotaryFault) R L S M f g (inl h) = inl (g h)
-stands_map (Err fails.NotaryFault) R L S M f g (inr h) = inr (f h)
-stands_map (Err fails.DiskFault) R L S M f g h = tt
-stands_map (Err fails.NoMemory) R L S M f g h = tt
-stands_map (Err (fails.ClockBack last)) R L S M f g h = g h
-stands_map (Err fails.TooLate) R L S M f g h = g h
-stands_map (Err fails.StoreFull) R L S M f g h = g h
-stands_map (Err fails.Closed) R L S M f g h = g h
-stands_map (Err fails.Broken) R L S M f g h = g h
-stands_map (Err (fails.SealMissing name)) R L S M f g h = g h
-stands_map (Err (fails.OutOfTurn count)) R L S M f g h = g h
+pub stands_map : {A : Type 0} (r : Result A AuditFail) (R L R' L' S : Type 0) → (R → R') → (L → L') → StandsAfter r R L S → StandsAfter r R' L' S
+stands_map (Ok done) R L R' L' S f g h = f h
+stands_map (Err fails.Full) R L R' L' S f g h = f h
+stands_map (Err fails.NotaryFault) R L R' L' S f g (inl h) = inl (g h)
+stands_map (Err fails.NotaryFault) R L R' L' S f g (inr h) = inr (f h)
+stands_map (Err fails.DiskFault) R L R' L' S f g (inl h) = inl (g h)
+stands_map (Err fails.DiskFault) R L R' L' S f g (inr (inl h)) = inr (inl (f h))
+stands_map (Err fails.DiskFault) R L R' L' S f g (inr (inr h)) = inr (inr h)
+stands_map (Err fails.NoMemory) R L R' L' S f g (inl h) = inl (g h)
+stands_map (Err fails.NoMemory) R L R' L' S f g (inr (inl h)) = inr (inl (f h))
+stands_map (Err fails.NoMemory) R L R' L' S f g (inr (inr h)) = inr (inr h)
+stands_map (Err (fails.ClockBack last)) R L R' L' S f g h = g h
+stands_map (Err fails.TooLate) R L R' L' S f g h = g h
+stands_map (Err fails.StoreFull) R L R' L' S f g h = g h
+stands_map (Err fails.Closed) R L R' L' S f g h = g h
+stands_map (Err fails.Broken) R L R' L' S f g h = g h
+stands_map (Err (fails.SealMissing name)) R L R' L' S f g h = g h
+stands_map (Err (fails.OutOfTurn count)) R L R' L' S f g h = g h

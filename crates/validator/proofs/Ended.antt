@@ -1,5 +1,5 @@
 -- A notarization, told of the disk and of the notary.
-use Rattle.std.proofs.Common.{◌≡◌, ℕ, ◌+◌, ◌-◌, ◌<◌, ◌≤◌, Bool, true, false, List, [], length, Option, Some, None, Result, Ok, Err, refl, sym, ap, subst, ◌∙◌}
+use Rattle.std.proofs.Common.{◌≡◌, ℕ, ◌-◌, ◌<◌, ◌≤◌, Bool, true, false, List, [], length, Some, None, Result, Ok, Err, refl, sym, ap, subst, ◌∙◌}
 use Rattle.outside_words.specs.Told.{WhereTold}
 use Rattle.outside_words.proofs.Told.{told_map, told_same, told_while}
 use Rattle.disk_words.specs.Disk as disks
@@ -129,22 +129,22 @@ module _ (now : ℕ) (s : Opened) where
       (λ lists items open_on. left now items s before open_on e old old before filed filed lists lists (clock_still e of_it) (refused_early s now items (lists.batches s.header.id) ℕ e of_it early) (unchanged_same old) only_now refl (keeps_same lists) (same_trace filed))))
 
   -- what is told of holding the batches against the items
-  abbrev pub HeldTold : ℕ → disks.State → disks.State → notaries.State → notaries.State → Result (Planned × ℕ) AuditFail → Header → Type 0
-  HeldTold ended old mid filed next held header = WhereTold old.reads mid.reads (λ before after. WhereTold filed.lists next.lists (λ lists later. (items : List Item) → Stores header items before → Holds header items ended (lists.batches header.id) held))
+  abbrev pub HeldTold : disks.State → disks.State → notaries.State → notaries.State → Result (Planned × ℕ) AuditFail → Header → Type 0
+  HeldTold old mid filed next held header = WhereTold old.reads mid.reads (λ before after. WhereTold filed.lists next.lists (λ lists later. (items : List Item) → Stores header items before → Holds header items (lists.batches header.id) held))
 
   module _ (ended : ℕ) (early : early_fault (tail_of s) s.at.is_closed now ≡ None) (old mid : disks.State) (same : disks.Unchanged old mid) (only_now : OnlyNow old)
-      (filed next : notaries.State) (quiet : notaries.Unchanged filed next) (held : Result (Planned × ℕ) AuditFail) (header : Header) (header_is : header ≡ s.header) (told_at : HeldTold ended old mid filed next held header) where
-    told : HeldTold ended old mid filed next held s.header
-    told = subst (HeldTold ended old mid filed next held) header_is told_at
+      (filed next : notaries.State) (quiet : notaries.Unchanged filed next) (held : Result (Planned × ℕ) AuditFail) (header : Header) (header_is : header ≡ s.header) (told_at : HeldTold old mid filed next held header) where
+    told : HeldTold old mid filed next held s.header
+    told = subst (HeldTold old mid filed next held) header_is told_at
 
     abbrev HoldsOf : List ℕ → Lists → Lists → Type 0
-    HoldsOf before lists later = (items : List Item) → Stores s.header items before → Holds s.header items ended (lists.batches s.header.id) held
+    HoldsOf before lists later = (items : List Item) → Stores s.header items before → Holds s.header items (lists.batches s.header.id) held
 
     pub told_not_held : (e : AuditFail) (r : Result ℕ AuditFail) → r ≡ Err e → held ≡ Err e → IsOfHolding e → AllTold s r old mid filed next
     told_not_held e r is held_is of_it = subst (λ (x : Result ℕ AuditFail). AllTold s x old mid filed next) (sym is)
         (told_still old.reads mid.reads (λ before after. WhereTold filed.lists next.lists (HoldsOf before)) (λ before after. WhereTold filed.lists next.lists (All_of s (Err e) old mid filed next before after)) same.reads told
         (λ before after bytes inner. told_map filed.lists next.lists (λ lists later. Keeps lists later × HoldsOf before lists later) (All_of s (Err e) old mid filed next before after) (told_both filed.lists next.lists Keeps (HoldsOf before) quiet.lists inner)
-        (λ lists later both items open_on. left now items s before open_on e old mid after filed next lists later (holding_still e of_it) (refused_held s now items (lists.batches s.header.id) (Planned × ℕ) ℕ e of_it early (subst (λ (x : Result (Planned × ℕ) AuditFail). Holds s.header items ended (lists.batches s.header.id) x) held_is (both.1 items open_on.stores)).refused) same only_now bytes both.0 quiet.trace)))
+        (λ lists later both items open_on. left now items s before open_on e old mid after filed next lists later (holding_still e of_it) (refused_held s now items (lists.batches s.header.id) (Planned × ℕ) ℕ e of_it early (subst (λ (x : Result (Planned × ℕ) AuditFail). Holds s.header items (lists.batches s.header.id) x) held_is (both.1 items open_on.stores)).refused) same only_now bytes both.0 quiet.trace)))
 
     pub told_held : (ended_is : ended ≡ tiles_at s.header now) (plan : Planned) (count : ℕ) → held ≡ Ok (plan, count) → notaries.GoesOn filed next → (later_s : Opened) (new : disks.State) (later : notaries.State) (r : Result ℕ AuditFail) → notaries.GoesOn next later
         → Told now s later_s ended count plan r mid new next later → AllTold later_s r old new filed later
@@ -153,7 +153,7 @@ module _ (now : ℕ) (s : Opened) where
         (λ before after inner outer. told_while filed.lists next.lists later.lists (λ lists between. Keeps lists between × HoldsOf before lists between) (Inner now s later_s ended count plan r mid new next later before after) (All_of later_s r old new filed later before after) further.told.untold
         (told_both filed.lists next.lists Keeps (HoldsOf before) quiet.lists inner) outer
         (λ lists between later_lists both notarizes items open_on.
-        let holds = subst (λ (x : Result (Planned × ℕ) AuditFail). Holds s.header items ended (lists.batches s.header.id) x) held_is (both.1 items open_on.stores) in
+        let holds = subst (λ (x : Result (Planned × ℕ) AuditFail). Holds s.header items (lists.batches s.header.id) x) held_is (both.1 items open_on.stores) in
         let checked : IsChecked now s items (between.batches s.header.id) ended count plan = record {
           open_on = early;
           ended_is = ended_is;

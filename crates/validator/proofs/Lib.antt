@@ -15,3 +15,4 @@ pub mod Held
 pub mod FiledNext
 pub mod Ended
 pub mod Clean
+pub mod Shown

@@ -1,31 +1,28 @@
 -- A notarization step by step: what is known of its answer at each return.
-use Rattle.std.proofs.Common.{◌≡◌, ◌⊎◌, inl, inr, ℕ, zero, suc, max, ◌+◌, ◌-◌, ◌<◌, ◌≤◌, List, [], ◌∷◌, ◌++◌, length, map, Option, Some, None, IsSome, Result, Ok, Err, refl, sym, ap, subst, ◌∙◌, arith}
+use Rattle.std.proofs.Common.{◌≡◌, inl, inr, ℕ, suc, max, true, ◌-◌, ◌<◌, ◌≤◌, List, [], length, map, Option, None, IsSome, Result, Ok, Err, refl, sym, ap, subst, ◌∙◌, arith}
 use Rattle.std.specs.List.{range_with_len}
-use Rattle.outside_words.specs.Told.{WhereTold, TellsAlike}
+use Rattle.outside_words.specs.Told.{WhereTold}
 use Rattle.outside_words.proofs.Told.{told_map, told_same}
 use Rattle.disk_words.specs.Disk as disks
-use Rattle.disk_model.specs.Moments.{EveryImage}
-use Rattle.tuple_bytes.specs.declared.header.Header.{Header}
 use Rattle.tuple_bytes.specs.declared.item.Item.{Item}
 use Rattle.history_model.specs.History.{History, history}
 use Rattle.notary_link.specs.Batches.{Batch}
-use Rattle.notary_link.specs.declared.notary.NotaryLimits.{NotaryLimits}
 use Rattle.notary_link.specs.Notary as notaries
 use Rattle.notary_link.specs.Notary.{Lists, Entry, Keeps, batch_of}
 use Rattle.audit_model.specs.Names.{batch}
-use Rattle.store_engine.specs.Opened.{Opened, Stores, IsOpenOn}
+use Rattle.store_engine.specs.Opened.{Opened, IsOpenOn}
 use Rattle.store_engine.specs.Refusals.{tail_of}
 use Rattle.seal_plan.specs.Plan.{Planned}
 use Rattle.validator.specs.declared.fail.AuditFail.{AuditFail}
 use Rattle.validator.specs.declared.fail.AuditFail.TheVariants as fails
 use Rattle.validator.specs.Tiles.{tiles_at}
-use Rattle.validator.specs.Notarizing.{next_batches, sealed_after, frontier_for, notarize_fault, room_fault, filed_fault, early_fault, IsRefusedBy}
-use Rattle.validator.specs.Filing.{FilesFor, CallsFor, FilesSome}
-use Rattle.validator.specs.Reaching.{Notarizes, StoresAround, IsLeft, IsReached, StandsAfter, MakesFor, frontier_calls, reached}
-use Rattle.validator.specs.Steps.{IsChecked, IsHeld, Reaches, FilesNext, frontier_to, batches_from, IsOfReaching, IsOfFiling}
+use Rattle.validator.specs.Notarizing.{next_batches, sealed_after, frontier_for, notarize_fault, room_fault, IsRefusedBy}
+use Rattle.validator.specs.Filing.{FilesFor, CallsFor}
+use Rattle.validator.specs.Reaching.{Notarizes, StoresAround, IsLeft, IsReached, StandsAfter, MakesFor, frontier_calls}
+use Rattle.validator.specs.Steps.{IsChecked, Reaches, FilesNext, frontier_to, batches_from, IsOfReaching, IsOfFiling}
 use Rattle.validator.proofs.Faults.{only_room, needed, not_needed, refused_alike}
-use Rattle.validator.proofs.Disks.{OnlyNow, IsStill, around, images_left, images_behind, unchanged_same, makes_none, stands_left}
-use Rattle.validator.proofs.Filed.{files_none, calls_none, files_nothing, files_behind, calls_behind, files_alike, calls_alike, keeps_same}
+use Rattle.validator.proofs.Disks.{OnlyNow, IsStill, around, images_left, unchanged_same, makes_none, stands_left}
+use Rattle.validator.proofs.Filed.{files_none, calls_none, files_nothing, files_alike, calls_alike, keeps_same}
 
 -- no call changed the trace
 abbrev pub SameTrace : Option (List Entry) → Option (List Entry) → Type 0
@@ -46,18 +43,18 @@ reaching_still (fails.SealMissing name) of_it = tt
 reaching_still (fails.OutOfTurn count) of_it = tt
 reaching_still fails.NoMemory of_it = tt
 
-stands_alike : (A B : Type 0) (e : AuditFail) (R L : Type 0) → StandsAfter {A = A} (Err e) R L → StandsAfter {A = B} (Err e) R L
-stands_alike A B fails.DiskFault R L h = h
-stands_alike A B fails.NotaryFault R L h = h
-stands_alike A B (fails.ClockBack last) R L h = h
-stands_alike A B fails.TooLate R L h = h
-stands_alike A B fails.StoreFull R L h = h
-stands_alike A B fails.Full R L h = h
-stands_alike A B fails.Closed R L h = h
-stands_alike A B fails.Broken R L h = h
-stands_alike A B (fails.SealMissing name) R L h = h
-stands_alike A B (fails.OutOfTurn count) R L h = h
-stands_alike A B fails.NoMemory R L h = h
+stands_alike : (A B : Type 0) (e : AuditFail) (R L S : Type 0) → StandsAfter {A = A} (Err e) R L S → StandsAfter {A = B} (Err e) R L S
+stands_alike A B fails.DiskFault R L S h = h
+stands_alike A B fails.NotaryFault R L S h = h
+stands_alike A B (fails.ClockBack last) R L S h = h
+stands_alike A B fails.TooLate R L S h = h
+stands_alike A B fails.StoreFull R L S h = h
+stands_alike A B fails.Full R L S h = h
+stands_alike A B fails.Closed R L S h = h
+stands_alike A B fails.Broken R L S h = h
+stands_alike A B (fails.SealMissing name) R L S h = h
+stands_alike A B (fails.OutOfTurn count) R L S h = h
+stands_alike A B fails.NoMemory R L S h = h
 
 makes_alike : (A B : Type 0) (calls : List disks.Call) (e : AuditFail) (old new : disks.State) → MakesFor {A = A} calls (Err e) old new → MakesFor {A = B} calls (Err e) old new
 makes_alike A B calls fails.DiskFault old new h = h
@@ -87,18 +84,18 @@ filing_refused fails.Broken of_it = absurd of_it
 filing_refused (fails.SealMissing name) of_it = absurd of_it
 filing_refused (fails.OutOfTurn count) of_it = absurd of_it
 
-filing_stands : (e : AuditFail) (R L : Type 0) → IsOfFiling e → R → StandsAfter {A = ℕ} (Err e) R L
-filing_stands fails.NotaryFault R L of_it here = inr here
-filing_stands fails.Full R L of_it here = here
-filing_stands fails.NoMemory R L of_it here = tt
-filing_stands fails.DiskFault R L of_it here = absurd of_it
-filing_stands (fails.ClockBack last) R L of_it here = absurd of_it
-filing_stands fails.TooLate R L of_it here = absurd of_it
-filing_stands fails.StoreFull R L of_it here = absurd of_it
-filing_stands fails.Closed R L of_it here = absurd of_it
-filing_stands fails.Broken R L of_it here = absurd of_it
-filing_stands (fails.SealMissing name) R L of_it here = absurd of_it
-filing_stands (fails.OutOfTurn count) R L of_it here = absurd of_it
+filing_stands : (e : AuditFail) (R L S : Type 0) → IsOfFiling e → R → StandsAfter {A = ℕ} (Err e) R L S
+filing_stands fails.NotaryFault R L S of_it here = inr here
+filing_stands fails.Full R L S of_it here = here
+filing_stands fails.NoMemory R L S of_it here = inr (inl here)
+filing_stands fails.DiskFault R L S of_it here = absurd of_it
+filing_stands (fails.ClockBack last) R L S of_it here = absurd of_it
+filing_stands fails.TooLate R L S of_it here = absurd of_it
+filing_stands fails.StoreFull R L S of_it here = absurd of_it
+filing_stands fails.Closed R L S of_it here = absurd of_it
+filing_stands fails.Broken R L S of_it here = absurd of_it
+filing_stands (fails.SealMissing name) R L S of_it here = absurd of_it
+filing_stands (fails.OutOfTurn count) R L S of_it here = absurd of_it
 
 filing_makes : (calls : List disks.Call) (e : AuditFail) (old new : disks.State) → IsOfFiling e → MakesFor {A = Unit {0}} calls (Ok tt) old new → MakesFor {A = ℕ} calls (Err e) old new
 filing_makes calls fails.NotaryFault old new of_it made = inr made
@@ -133,7 +130,7 @@ module _ (now : ℕ) (items : List Item) (s : Opened) (before : List ℕ) (open_
     value = tt;
     files = files_none s.header.id ℕ filed.limits (next_batches h now (lists.batches s.header.id)) e lists later_lists still keeps;
     calls = told_map filed.trace later.trace (λ (b a : List Entry). a ≡ b) (CallsFor {A = ℕ} s.header.id (length (lists.batches s.header.id)) (next_batches h now (lists.batches s.header.id)) (Err e)) quiet (λ b a is. calls_none s.header.id ℕ (length (lists.batches s.header.id)) (next_batches h now (lists.batches s.header.id)) e b a still is);
-    stands = stands_left ℕ e (IsReached (need_of (lists.batches s.header.id)) s s items old new before after) (IsLeft s s old new) still (refl, same);
+    stands = stands_left ℕ e (IsReached (need_of (lists.batches s.header.id)) s s items old new before after) (IsLeft s s old new) (s.at.is_closed ≡ true) still (refl, same);
     ordered = λ more. absurd (more (keeps.batches s.header.id));
     images = λ only. images_left old new new same only_now before (StoresAround s.header items (need_of (lists.batches s.header.id))) only here;
     kept = λ only. subst (StoresAround s.header items (need_of (lists.batches s.header.id))) (sym bytes) here;
@@ -211,7 +208,7 @@ module _ (now : ℕ) (items : List Item) (s : Opened) (before : List ℕ) (open_
         value = tt;
         files = files_none s.header.id ℕ filed.limits (next_batches h now batches) e lists lists still (keeps_same lists);
         calls = told_same filed.trace filed.trace (CallsFor {A = ℕ} s.header.id (length batches) (next_batches h now batches) (Err e)) refl (λ b. calls_none s.header.id ℕ (length batches) (next_batches h now batches) e b b still refl);
-        stands = stands_alike (Unit {0}) ℕ e (IsReached need s later_s items old new before after) (IsLeft s later_s old new) this.stands;
+        stands = stands_alike (Unit {0}) ℕ e (IsReached need s later_s items old new before after) (IsLeft s later_s old new) (later_s.at.is_closed ≡ true) this.stands;
         ordered = λ more. absurd (more refl);
         images = this.images;
         kept = this.kept;
@@ -262,7 +259,7 @@ module _ (now : ℕ) (items : List Item) (s : Opened) (before : List ℕ) (open_
           value = tt;
           files = files_alike s.header.id (Unit {0}) ℕ filed.limits (next_batches h now batches) e lists later_lists this.files;
           calls = told_map filed.trace later.trace (CallsFor {A = Unit {0}} s.header.id (length batches) (next_batches h now batches) (Err e)) (CallsFor {A = ℕ} s.header.id (length batches) (next_batches h now batches) (Err e)) this.calls (λ b a is. calls_alike s.header.id (Unit {0}) ℕ (length batches) (next_batches h now batches) e b a is);
-          stands = filing_stands e (IsReached need s later_s items old new before after) (IsLeft s later_s old new) this.in_turn at_need.stands;
+          stands = filing_stands e (IsReached need s later_s items old new before after) (IsLeft s later_s old new) (later_s.at.is_closed ≡ true) this.in_turn at_need.stands;
           ordered = λ more. at_need.stands;
           images = at_need.images;
           kept = at_need.kept;

@@ -1,12 +1,11 @@
 -- A Frontier is stored, where one is needed.
-use Rattle.std.proofs.Common.{◌≡◌, ◌⊎◌, inl, inr, ℕ, ◌<◌, ◌≤◌, Bool, true, false, List, [], ◌∷◌, ◌++◌, Option, Some, None, IsSome, Result, Ok, Err, refl, sym, ap, subst, ◌∙◌, arith}
-use Rattle.std.specs.Prelude.{nat_le, nat_lt, if◌then◌else◌}
+use Rattle.std.proofs.Common.{◌≡◌, ◌⊎◌, inl, inr, ℕ, ◌<◌, ◌≤◌, Bool, true, false, List, Option, Some, None, IsSome, Result, Ok, Err, refl, sym, ap, subst, ◌∙◌, arith}
+use Rattle.std.specs.Prelude.{nat_le, if◌then◌else◌}
 use Rattle.std.proofs.lemmas.Bool.{cases_lt}
 use Rattle.std.proofs.lemmas.Bool.Decides.{nat_tests}
 use Rattle.outside_words.specs.Told.{WhereTold}
 use Rattle.outside_words.proofs.Told.{told_map}
-use Rattle.disk_words.specs.Disk.{Call, State, Only, Unchanged}
-use Rattle.disk_model.specs.Moments.{EveryImage}
+use Rattle.disk_words.specs.Disk.{Call, State, Unchanged}
 use Rattle.tuple_bytes.specs.declared.item.Item.{Item}
 use Rattle.tuple_bytes.specs.declared.item.Item.TheVariants as items
 use Rattle.store_engine.specs.declared.fail.StoreFail.{StoreFail}
@@ -17,7 +16,6 @@ use Rattle.store_engine.specs.Refusals.{tail_of, frontier_fault}
 use Rattle.store_engine.specs.Commits as commits
 use Rattle.store_engine.specs.Commits.{Adds, frontier_at, with_frontier}
 use Rattle.validator.specs.declared.fail.AuditFail.{AuditFail}
-use Rattle.validator.specs.declared.fail.AuditFail.TheVariants as fails
 use Rattle.validator.specs.Tiles.{end_of}
 use Rattle.validator.specs.Notarizing.{of_store, room_fault, IsRefusedBy}
 use Rattle.validator.specs.Reaching.{StoresAround, IsLeft, IsReached, StandsAfter, StaysOpen, MakesFor, frontier_calls}
@@ -60,16 +58,17 @@ module _ (s later : Opened) (moment : ℕ) (old new : State) where
   trace_at calls stores.TooLong made = inl made.trace
   trace_at calls stores.Closed made = inl made.trace
 
-  stands_at : (calls : List Call) (R : Type 0) (e : StoreFail) → commits.StandsAfter {A = Unit {0}} (Err e) s (frontier_at s moment) later → commits.MakesOf {A = Unit {0}} calls (Err e) old new → StandsAfter {A = Unit {0}} (Err (fail_of_frontier e)) R (IsLeft s later old new)
+  stands_at : (calls : List Call) (R : Type 0) (e : StoreFail) → commits.StandsAfter {A = Unit {0}} (Err e) s (frontier_at s moment) later → commits.MakesOf {A = Unit {0}} calls (Err e) old new → StandsAfter {A = Unit {0}} (Err (fail_of_frontier e)) R (IsLeft s later old new) (later.at.is_closed ≡ true)
   stands_at calls R stores.StoreFull stands made = (stands, made)
-  stands_at calls R stores.DiskFault stands made = tt
-  stands_at calls R stores.NoMemory stands made = tt
-  stands_at calls R stores.NotAStore stands made = tt
-  stands_at calls R (stores.ClockBack last) stands made = tt
-  stands_at calls R stores.TooLate stands made = tt
-  stands_at calls R stores.TooManyOps stands made = tt
-  stands_at calls R stores.TooLong stands made = tt
-  stands_at calls R stores.Closed stands made = tt
+  stands_at calls R stores.DiskFault stands made = inr (inr (ap (λ (t : Opened). t.at.is_closed) stands))
+  stands_at calls R stores.NoMemory (inl stands) made = inr (inr (ap (λ (t : Opened). t.at.is_closed) stands))
+  stands_at calls R stores.NoMemory (inr stands) made = inr (inr (ap (λ (t : Opened). t.at.is_closed) stands.1))
+  stands_at calls R stores.NotAStore stands made = absurd made
+  stands_at calls R (stores.ClockBack last) stands made = inl (stands, made)
+  stands_at calls R stores.TooLate stands made = inl (stands, made)
+  stands_at calls R stores.TooManyOps stands made = inl (stands, made)
+  stands_at calls R stores.TooLong stands made = inl (stands, made)
+  stands_at calls R stores.Closed stands made = inl (stands, made)
 
   header_at : (b : Bool) → (if b then s else with_frontier s moment).header ≡ s.header
   header_at true = refl
@@ -85,15 +84,15 @@ module _ (s later : Opened) (moment : ℕ) (old new : State) where
 
   pub open_at_fault : (e : StoreFail) → commits.StandsAfter {A = Unit {0}} (Err e) s (frontier_at s moment) later → StaysOpen {A = Unit {0}} (Err (fail_of_frontier e)) s later
   open_at_fault stores.StoreFull stands = (ap (λ (t : Opened). t.header) stands, ap (λ (t : Opened). t.at.is_closed) stands)
-  open_at_fault stores.DiskFault stands = ap (λ (t : Opened). t.header) stands
-  open_at_fault stores.NoMemory (inl stands) = ap (λ (t : Opened). t.header) stands
-  open_at_fault stores.NoMemory (inr stands) = ap (λ (t : Opened). t.header) stands.1 ∙ header_at (nat_le moment s.last)
+  open_at_fault stores.DiskFault stands = (ap (λ (t : Opened). t.header) stands, inr (ap (λ (t : Opened). t.at.is_closed) stands))
+  open_at_fault stores.NoMemory (inl stands) = (ap (λ (t : Opened). t.header) stands, inr (ap (λ (t : Opened). t.at.is_closed) stands))
+  open_at_fault stores.NoMemory (inr stands) = (ap (λ (t : Opened). t.header) stands.1 ∙ header_at (nat_le moment s.last), inr (ap (λ (t : Opened). t.at.is_closed) stands.1))
   open_at_fault stores.NotAStore stands = absurd stands
-  open_at_fault (stores.ClockBack last) stands = ap (λ (t : Opened). t.header) stands
-  open_at_fault stores.TooLate stands = ap (λ (t : Opened). t.header) stands
-  open_at_fault stores.TooManyOps stands = ap (λ (t : Opened). t.header) stands
-  open_at_fault stores.TooLong stands = ap (λ (t : Opened). t.header) stands
-  open_at_fault stores.Closed stands = ap (λ (t : Opened). t.header) stands
+  open_at_fault (stores.ClockBack last) stands = (ap (λ (t : Opened). t.header) stands, inl (ap (λ (t : Opened). t.at.is_closed) stands))
+  open_at_fault stores.TooLate stands = (ap (λ (t : Opened). t.header) stands, inl (ap (λ (t : Opened). t.at.is_closed) stands))
+  open_at_fault stores.TooManyOps stands = (ap (λ (t : Opened). t.header) stands, inl (ap (λ (t : Opened). t.at.is_closed) stands))
+  open_at_fault stores.TooLong stands = (ap (λ (t : Opened). t.header) stands, inl (ap (λ (t : Opened). t.at.is_closed) stands))
+  open_at_fault stores.Closed stands = (ap (λ (t : Opened). t.header) stands, inl (ap (λ (t : Opened). t.at.is_closed) stands))
 
   pub of_reaching : (e : StoreFail) → IsOfReaching (fail_of_frontier e)
   of_reaching stores.StoreFull = tt

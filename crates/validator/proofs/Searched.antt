@@ -1,18 +1,18 @@
 -- What the search for the first bad tile shows of a history.
-use Rattle.std.proofs.Common.{◌≡◌, ◌⊎◌, inl, inr, ℕ, zero, suc, ◌+◌, ◌-◌, ◌<◌, ◌≤◌, List, [], map, length, get_or, Option, Some, None, Result, Ok, Err, refl, sym, ap, subst, ◌∙◌, arith}
+use Rattle.std.proofs.Common.{◌≡◌, ◌⊎◌, inl, inr, ℕ, zero, suc, ◌-◌, ◌<◌, List, [], map, length, get_or, Option, Some, None, Result, Ok, Err, refl, sym, ap, subst, ◌∙◌, arith}
 use Rattle.std.specs.List.{range_with_len}
 use Rattle.std.proofs.lemmas.List.FromFn.{length-map-range_with_len, get_or-map-range_with_len}
 use Rattle.outside_words.specs.Told.{WhereTold}
 use Rattle.history_model.specs.History.{History}
 use Rattle.digest_model.specs.Digests.{cum}
 use Rattle.notary_link.specs.declared.answer.Answer.{Answer}
-use Rattle.notary_link.specs.declared.answer.Answer.TheVariants.{Same, Differs, Absent}
+use Rattle.notary_link.specs.declared.answer.Answer.TheVariants.{Same}
 use Rattle.notary_link.specs.declared.fail.AskFail.{AskFail}
 use Rattle.notary_link.specs.declared.fail.AskFail.TheVariants as ask_fails
 use Rattle.notary_link.specs.declared.name.Name.TheVariants as names
-use Rattle.notary_link.specs.Batches.{Batch, answer}
+use Rattle.notary_link.specs.Batches.{answer}
 use Rattle.notary_link.specs.Notary.{Lists}
-use Rattle.audit_model.specs.Mono.{BeginsRegion, IsFirstBad}
+use Rattle.audit_model.specs.Mono.{BeginsRegion}
 use Rattle.audit_model.specs.Names.{digest}
 use Rattle.seal_plan.specs.Plan.{Planned, planned_of}
 use Rattle.mono_forensics.specs.Finds.{Finds, IsFindFail, cums as link_answers}
@@ -70,7 +70,7 @@ module _ (h : History) (n : ℕ) (links : List (List ℕ)) (are : links ≡ map 
   search_shows lists id (Ok (Some tile)) only is = (refl, region_by (link_answers lists id links) (cums (lists.batches id) h) n (Some tile) (alike lists id) is)
   search_shows lists id (Err ask_fails.NotaryFault) only is = tt
   search_shows lists id (Err ask_fails.NoMemory) only is = tt
-  search_shows lists id (Err (ask_fails.SealMissing (names.Cum tile))) only is = (tile, is.0, refl, sym (alike lists id tile is.0) ∙ is.1)
+  search_shows lists id (Err (ask_fails.SealMissing (names.Cum tile))) only is = (tile, is.0, refl, sym (alike lists id tile is.0) ∙ is.1, λ same. is.2 (alike lists id (n - 1) (omega (arith, is.0)) ∙ same))
   search_shows lists id (Err (ask_fails.SealMissing names.Header)) only is = absurd is
   search_shows lists id (Err (ask_fails.SealMissing (names.Tile tile part))) only is = absurd is
   search_shows lists id (Err (ask_fails.SealMissing (names.Node level index))) only is = absurd is

@@ -1,5 +1,6 @@
 -- Which tiles end at most behind the last granule.
-use Rattle.std.proofs.Common.{◌≡◌, ◌⊎◌, inl, inr, ℕ, zero, suc, ◌*◌, ◌/◌, ◌^◌, ◌<◌, ◌≤◌, nat_le, true, false, List, Result, Ok, Err, refl, sym, ap, subst, arith, le-div_iff_mul-le}
+use Rattle.std.proofs.Common.{◌≡◌, ◌⊎◌, inl, inr, ℕ, zero, suc, ◌/◌, ◌^◌, ◌+◌, ◌<◌, ◌≤◌, ◌==◌, nat_le, Bool, true, false, List, Result, Ok, Err, refl, ap, subst, arith, le-div_iff_mul-le}
+use Rattle.std.specs.Prelude.{if◌then◌else◌}
 use Rattle.std.proofs.lemmas.Bool.{cases_lt}
 use Rattle.std.proofs.lemmas.Bool.Decides.{nat_tests}
 use Rattle.std.proofs.lemmas.Nat.{pow_pos, shr_le}
@@ -13,7 +14,8 @@ use Rattle.validator.specs.declared.verdict.Verdict.TheVariants as verdicts
 use Rattle.validator.specs.declared.fail.AuditFail.{AuditFail}
 use Rattle.validator.specs.declared.fail.AuditFail.TheVariants as fails
 use Rattle.validator.specs.Tiles.{first_past, cums}
-use Rattle.validator.specs.Verdicts.{IsFoundBy, IsFoundWithin, IsFoundUnder}
+use Rattle.audit_model.specs.Tree.{digit_count}
+use Rattle.validator.specs.Verdicts.{questions, IsFoundBy, IsFoundUnder}
 
 module _ (l : Layout) (n : ℕ) where
   pub tiles_within : n ≤ first_past l → first_granule l n ≤ max_granules
@@ -50,3 +52,7 @@ module _ (batches : List Batch) (n : ℕ) (h : History) where
 pub none_sealed : (chain : ℕ → Answer) (n : ℕ) → n ≡ 0 → IsFoundBy chain n (Ok (verdicts.Clean n))
 none_sealed chain zero none = (refl, refl)
 none_sealed chain (suc n) none = absurd (omega (arith, none))
+
+-- the questions of a search
+pub clean_questions : (n : ℕ) → 1 ≤ n → questions (verdicts.Clean n) ≡ digit_count n + 3
+clean_questions n some = let no : (n == 0) ≡ false = grind (arith, nat_tests, some) in ap (λ (b : Bool). if b then 1 else digit_count n + 3) no

@@ -1,11 +1,9 @@
 -- What becomes of the notary when a history is notarized.
-use Rattle.std.specs.Prelude.{◌≡◌, ◌⊎◌, ◌∷◌, ℕ, List, [], length, Result, Ok, Err}
-use Rattle.outside_words.specs.Told.{WhereTold}
-use Rattle.notary_link.specs.declared.fail.NotaryFail.{NotaryFail}
+use Rattle.std.specs.Prelude.{◌≡◌, ◌⊎◌, ℕ, List, Result, Ok, Err}
 use Rattle.notary_link.specs.declared.fail.NotaryFail.TheVariants as notary_fails
 use Rattle.notary_link.specs.declared.notary.NotaryLimits.{NotaryLimits}
 use Rattle.notary_link.specs.Batches.{Batch}
-use Rattle.notary_link.specs.Notary.{State, Lists, Entry, Keeps}
+use Rattle.notary_link.specs.Notary.{Lists, Entry, Keeps}
 use Rattle.notary_link.specs.Filing.{filings, FilesInTurn}
 use Rattle.notary_link.specs.Runs.{MakesCalls}
 use Rattle.validator.specs.declared.fail.AuditFail.{AuditFail}
@@ -29,5 +27,5 @@ CallsFor id from batches (Err fails.NoMemory) old new = (new ≡ old) ⊎ MakesC
 CallsFor id from batches (Err fail) old new = new ≡ old
 
 -- a batch more stands there
-abbrev pub FilesSome : ℕ → Lists → Lists → Type 0
-FilesSome id lists later = later.batches id ≡ lists.batches id → ⊥
+abbrev pub HasFiledMore : ℕ → Lists → Lists → Type 0
+HasFiledMore id lists later = later.batches id ≡ lists.batches id → ⊥

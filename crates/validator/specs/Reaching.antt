@@ -1,5 +1,5 @@
 -- What becomes of the store when a history is notarized: it is as it was, or has a Frontier more.
-use Rattle.std.specs.Prelude.{◌≡◌, ◌⊎◌, ℕ, List, [], ◌∷◌, ◌++◌, max, length, Option, Some, None, IsSome, Result, Ok, Err, IfOk}
+use Rattle.std.specs.Prelude.{◌≡◌, ◌⊎◌, ℕ, true, List, [], ◌∷◌, ◌++◌, length, Option, Some, None, IsSome, Result, Ok, Err, IfOk}
 use Rattle.outside_words.specs.Told.{WhereTold}
 use Rattle.disk_words.specs.declared.DiskFail.TheVariants as disk_fails
 use Rattle.disk_words.specs.Disk as disks
@@ -17,7 +17,7 @@ use Rattle.store_engine.specs.Commits.{with_frontier}
 use Rattle.validator.specs.declared.fail.AuditFail.{AuditFail}
 use Rattle.validator.specs.declared.fail.AuditFail.TheVariants as fails
 use Rattle.validator.specs.Notarizing.{notarize_fault, IsRefusedBy, sealed_after, frontier_for, next_batches}
-use Rattle.validator.specs.Filing.{FilesFor, CallsFor, FilesSome}
+use Rattle.validator.specs.Filing.{FilesFor, CallsFor, HasFiledMore}
 
 -- ---- with a Frontier
 
@@ -47,14 +47,14 @@ pub record IsReached (need : Option ℕ) (s later : Opened) (stored_items : List
   pub open_on : IsOpenOn later (with_frontier_for need stored_items) after
   pub settled : disks.Only before old → disks.Only after new
 
--- where the store stands after an answer
-abbrev pub StandsAfter : {A : Type 0} → Result A AuditFail → (reached left : Type 0) → Type 0
-StandsAfter (Ok done) reached left = reached
-StandsAfter (Err fails.Full) reached left = reached
-StandsAfter (Err fails.NotaryFault) reached left = left ⊎ reached
-StandsAfter (Err fails.DiskFault) reached left = Unit {0}
-StandsAfter (Err fails.NoMemory) reached left = Unit {0}
-StandsAfter (Err fail) reached left = left
+-- where the store stands after an answer: a fault of the disk and want of memory may also have shut it
+abbrev pub StandsAfter : {A : Type 0} → Result A AuditFail → (reached left shut : Type 0) → Type 0
+StandsAfter (Ok done) reached left shut = reached
+StandsAfter (Err fails.Full) reached left shut = reached
+StandsAfter (Err fails.NotaryFault) reached left shut = left ⊎ reached
+StandsAfter (Err fails.DiskFault) reached left shut = left ⊎ reached ⊎ shut
+StandsAfter (Err fails.NoMemory) reached left shut = left ⊎ reached ⊎ shut
+StandsAfter (Err fail) reached left shut = left
 
 -- the calls that append a Frontier, where one is stored
 abbrev pub frontier_calls : Opened → Option ℕ → List disks.Call
@@ -72,10 +72,10 @@ MakesFor calls (Err fail) old new = new.trace ≡ old.trace
 
 -- ---- whatever is told
 
--- the store keeps its header, and a refusal that names no fault leaves it as open as it was
+-- The store keeps its header, and stays as open as it was. Only a fault of the disk and want of memory may shut it.
 abbrev pub StaysOpen : {A : Type 0} → Result A AuditFail → Opened → Opened → Type 0
-StaysOpen (Err fails.DiskFault) s later = later.header ≡ s.header
-StaysOpen (Err fails.NoMemory) s later = later.header ≡ s.header
+StaysOpen (Err fails.DiskFault) s later = (later.header ≡ s.header) × ((later.at.is_closed ≡ s.at.is_closed) ⊎ (later.at.is_closed ≡ true))
+StaysOpen (Err fails.NoMemory) s later = (later.header ≡ s.header) × ((later.at.is_closed ≡ s.at.is_closed) ⊎ (later.at.is_closed ≡ true))
 StaysOpen result s later = (later.header ≡ s.header) × (later.at.is_closed ≡ s.at.is_closed)
 
 -- the notary was not asked, and not called
@@ -92,9 +92,9 @@ pub record Notarizes (now : ℕ) (stored_items : List Item) (result : Result ℕ
   pub value : IfOk result (λ n. n ≡ sealed_after s.header now (lists.batches s.header.id))
   pub files : FilesFor s.header.id filed.limits (next_batches (history s.header stored_items) now (lists.batches s.header.id)) result lists later_lists
   pub calls : WhereTold filed.trace later.trace (CallsFor s.header.id (length (lists.batches s.header.id)) (next_batches (history s.header stored_items) now (lists.batches s.header.id)) result)
-  pub stands : StandsAfter result (IsReached (frontier_for (tail_of s) now (lists.batches s.header.id)) s later_s stored_items old new before after) (IsLeft s later_s old new)
+  pub stands : StandsAfter result (IsReached (frontier_for (tail_of s) now (lists.batches s.header.id)) s later_s stored_items old new before after) (IsLeft s later_s old new) (later_s.at.is_closed ≡ true)
   -- a batch is filed only where the store has reached the end of its tile
-  pub ordered : FilesSome s.header.id lists later_lists → IsReached (frontier_for (tail_of s) now (lists.batches s.header.id)) s later_s stored_items old new before after
+  pub ordered : HasFiledMore s.header.id lists later_lists → IsReached (frontier_for (tail_of s) now (lists.batches s.header.id)) s later_s stored_items old new before after
   -- a crash at any moment leaves the items, or those and the Frontier
   pub images : disks.Only before old → EveryImage old new (StoresAround s.header stored_items (frontier_for (tail_of s) now (lists.batches s.header.id)))
   -- whatever was answered

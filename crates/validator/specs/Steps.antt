@@ -1,5 +1,5 @@
 -- The steps of a notarization.
-use Rattle.std.specs.Prelude.{◌≡◌, ◌≤◌, ℕ, ◌-◌, suc, max, nat_lt, if◌then◌else◌, Bool, false, List, [], ◌∷◌, map, length, Option, Some, None, IsSome, Result, Ok, Err, IfErr, IfOk}
+use Rattle.std.specs.Prelude.{◌≡◌, ◌≤◌, ℕ, ◌-◌, suc, max, nat_lt, if◌then◌else◌, Bool, true, List, [], ◌∷◌, map, length, Option, Some, None, IsSome, Result, Ok, Err, IfErr, IfOk}
 use Rattle.std.specs.List.{range_with_len}
 use Rattle.outside_words.specs.Told.{WhereTold}
 use Rattle.disk_words.specs.Disk as disks
@@ -9,9 +9,7 @@ use Rattle.tuple_bytes.specs.declared.item.Item.{Item}
 use Rattle.tuple_bytes.specs.Spelling.{FitsHeader}
 use Rattle.history_model.specs.History.{History, history}
 use Rattle.digest_model.specs.Layout.{layout, first_granule, max_granules}
-use Rattle.notary_link.specs.declared.name.Name.{Name}
 use Rattle.notary_link.specs.declared.name.Name.TheVariants as names
-use Rattle.notary_link.specs.declared.notary.NotaryLimits.{NotaryLimits}
 use Rattle.notary_link.specs.Batches.{Batch}
 use Rattle.notary_link.specs.Notary.{State, Lists, batch_of}
 use Rattle.audit_model.specs.Names.{batch}
@@ -19,7 +17,7 @@ use Rattle.audit_model.specs.Notary.{answers}
 use Rattle.seal_plan.specs.Plan.{Planned, planned_of}
 use Rattle.store_engine.specs.declared.fail.StoreFail.{StoreFail}
 use Rattle.store_engine.specs.declared.fail.StoreFail.TheVariants as stores
-use Rattle.store_engine.specs.Opened.{Opened, IsOpenOn}
+use Rattle.store_engine.specs.Opened.{Opened}
 use Rattle.store_engine.specs.Refusals.{Tail, tail_of}
 use Rattle.validator.specs.declared.fail.AuditFail.{AuditFail}
 use Rattle.validator.specs.declared.fail.AuditFail.TheVariants as fails
@@ -143,7 +141,7 @@ pub record Reaches (need : Option ℕ) (stored_items : List Item) (result : Resu
   -- where the file has no room for it, the disk is untouched, whatever is answered
   pub free : IsSome (room_fault (tail_of s) need) → disks.Unchanged old new
   pub refused : IsRefusedBy (room_fault (tail_of s) need) result
-  pub stands : StandsAfter result (IsReached need s later_s stored_items old new before after) (IsLeft s later_s old new)
+  pub stands : StandsAfter result (IsReached need s later_s stored_items old new before after) (IsLeft s later_s old new) (later_s.at.is_closed ≡ true)
   pub images : disks.Only before old → EveryImage old new (StoresAround s.header stored_items need)
   pub kept : disks.Only before old → StoresAround s.header stored_items need after
   pub trace : MakesFor (frontier_calls s need) result old new
@@ -191,6 +189,6 @@ pub record IsChecked (now : ℕ) (s : Opened) (stored_items : List Item) (batche
   pub held : IsHeld (history s.header stored_items) batches plan count
 
 -- what holding the notary's batches against the stored items gives
-pub record Holds (header : Header) (stored_items : List Item) (ended : ℕ) (batches : List Batch) (result : Result (Planned × ℕ) AuditFail) : Type 0 where
+pub record Holds (header : Header) (stored_items : List Item) (batches : List Batch) (result : Result (Planned × ℕ) AuditFail) : Type 0 where
   pub refused : IsRefusedBy (filed_fault batches (history header stored_items)) result
   pub held : IfOk result (λ held. IsHeld (history header stored_items) batches held.0 held.1)

@@ -1,6 +1,5 @@
 -- What a validation finds, and the mark that it adds.
-use Rattle.std.specs.Prelude.{◌≡◌, ◌⊎◌, ◌<◌, ◌==◌, ℕ, ◌+◌, ◌-◌, nat_lt, nat_le, if◌then◌else◌, Bool, true, false, List, [], ◌∷◌, length, Option, Some, None, Result, Ok, Err}
-use Rattle.outside_words.specs.Told.{WhereTold}
+use Rattle.std.specs.Prelude.{◌≡◌, ◌≢◌, ◌⊎◌, ◌<◌, ◌==◌, ℕ, ◌+◌, ◌-◌, nat_le, if◌then◌else◌, Bool, true, false, List, [], ◌∷◌, length, Option, Some, None, Result, Ok, Err}
 use Rattle.tuple_bytes.specs.declared.header.Header.{Header}
 use Rattle.history_model.specs.declared.stored.Stored.{Stored}
 use Rattle.history_model.specs.History.{History, history}
@@ -14,7 +13,7 @@ use Rattle.notary_link.specs.declared.mark.Outcome.TheVariants as outcomes
 use Rattle.notary_link.specs.declared.name.Name.TheVariants as names
 use Rattle.notary_link.specs.declared.notary.NotaryLimits.{NotaryLimits}
 use Rattle.notary_link.specs.Batches.{Batch}
-use Rattle.notary_link.specs.Notary.{State, Lists, Entry, Keeps, Notes, HasRoom, AddsWithin, note}
+use Rattle.notary_link.specs.Notary.{Lists, Entry, Keeps, Notes, HasRoom, AddsWithin, note}
 use Rattle.notary_link.specs.Runs.{is_done, was_answered}
 use Rattle.audit_model.specs.Mono.{BeginsRegion}
 use Rattle.audit_model.specs.Notary.{answers}
@@ -36,11 +35,12 @@ under_id id (Some header) s = if header.id == id then Some (history header s.ite
 abbrev pub history_with : ℕ → Stored → Option History
 history_with id s = under_id id s.header s
 
--- of n tiles, by the answers for the chain: clean where the last is the same, else altered from the first bad tile on
+-- of n tiles, by the answers for the chain: clean where the last is the same, else altered from the first bad tile on, or the seal
+-- of a tile is missing
 abbrev pub IsFoundBy : (ℕ → Answer) → ℕ → Result Verdict AuditFail → Type 0
 IsFoundBy chain n (Ok (verdicts.Clean tiles)) = (tiles ≡ n) × BeginsRegion chain n None
 IsFoundBy chain n (Ok (verdicts.Altered tiles first)) = (tiles ≡ n) × BeginsRegion chain n (Some first)
-IsFoundBy chain n (Err (fails.SealMissing name)) = (tile : ℕ) × (tile < n) × (name ≡ names.Cum tile) × (chain tile ≡ Absent)
+IsFoundBy chain n (Err (fails.SealMissing name)) = (tile : ℕ) × (tile < n) × (name ≡ names.Cum tile) × (chain tile ≡ Absent) × (chain (n - 1) ≢ Same)
 IsFoundBy chain n found = ⊥
 
 -- where the tiles end at most behind the last granule; others were never filed by this program
@@ -152,11 +152,11 @@ IsOfJudging fail = IsOfFinding fail
 abbrev pub KeepsBatches : Lists → Lists → Type 0
 KeepsBatches lists later = (id : ℕ) → later.batches id ≡ lists.batches id
 
--- how many questions a verdict takes at most: one for the header, and those of the search
+-- how many questions a verdict takes at most: one for the header, and those of the search where a tile is sealed
 abbrev pub questions : Verdict → ℕ
 questions verdicts.Unsealed = 0
 questions (verdicts.HeaderAltered tiles) = 1
-questions (verdicts.Clean tiles) = digit_count tiles + 3
+questions (verdicts.Clean tiles) = if tiles == 0 then 1 else digit_count tiles + 3
 questions (verdicts.Altered tiles first) = digit_count tiles + 3
 
 -- a mark was added by one call
@@ -164,9 +164,9 @@ abbrev pub CallsMark : ℕ → Option Mark → List Entry → List Entry → Typ
 CallsMark id None old new = new ≡ old
 CallsMark id (Some mark) old new = new ≡ is_done (note id mark) ∷ old
 
--- The one call of a validation that changes anything adds its mark.
+-- The one call of a validation that changes anything adds its mark. Where the notary refuses it, that was the mark of some verdict.
 abbrev pub MakesMark : ℕ → ℕ → Result Verdict AuditFail → List Entry → List Entry → Type 0
 MakesMark id now (Ok verdict) old new = CallsMark id (mark_of verdict now) old new
-MakesMark id now (Err fails.Full) old new = (mark : Mark) × (mark.moment ≡ now) × (new ≡ was_answered notary_fails.Full (note id mark) ∷ old)
-MakesMark id now (Err fails.NotaryFault) old new = (new ≡ old) ⊎ ((mark : Mark) × (mark.moment ≡ now) × (new ≡ was_answered notary_fails.Failed (note id mark) ∷ old))
+MakesMark id now (Err fails.Full) old new = (verdict : Verdict) × (mark : Mark) × (mark_of verdict now ≡ Some mark) × (new ≡ was_answered notary_fails.Full (note id mark) ∷ old)
+MakesMark id now (Err fails.NotaryFault) old new = (new ≡ old) ⊎ ((verdict : Verdict) × (mark : Mark) × (mark_of verdict now ≡ Some mark) × (new ≡ was_answered notary_fails.Failed (note id mark) ∷ old))
 MakesMark id now (Err fail) old new = new ≡ old

@@ -220,7 +220,7 @@ pub(crate) fn hold_stored<D: Disk, N: Notary, L: Ledger>(
     ensures told { WhereTold (D.state disk.old).reads (D.state disk.new).reads (λ before after.
         WhereTold (N.state notary.old).lists (N.state notary.new).lists (λ lists later.
         (items : List Item) → Stores header.now items before
-        → Holds header.now items ended (lists.batches header.now.id) result)) }
+        → Holds header.now items (lists.batches header.now.id) result)) }
     ensures plan { IfOk result (λ held. IsPlanFor header.now ended held.0 held.1) }
     ensures only { IfErr result IsOfHolding }
     ensures same { disks.Unchanged (D.state disk.old) (D.state disk.new) }

@@ -9,15 +9,15 @@
 //! | header altered | no header is stored, one of another id, or one whose digest differs |
 //! | clean | the chain at the end of the last sealed tile is the same |
 //! | altered | it differs; told is a tile that differs, and is 0 or follows one that is the same |
-//! | `SealMissing` | the header's seal, or that of a tile that was asked for, was never filed |
+//! | `SealMissing` | the header's seal was never filed, or that of a tile; the last sealed tile is then not the same, or ends behind the last granule |
 //!
 //! | The layer above may rely on | Clause of `validate` |
 //! |---|---|
 //! | what is found is what the answers to the questions show of what is stored (`IsFound`) | `told` |
-//! | then the mark of the verdict is added by one call, and nothing else; none where nothing was filed | `told`, `trace` |
+//! | then the mark of the verdict is added by one call, and nothing else; none where nothing was filed; a call that was refused had a verdict's mark | `told`, `trace` |
 //! | `Full` comes only where there is no room for the mark, and no other cause refuses | `told`, `none_other` |
 //! | the disk is as it was, and a sound store stays sound | `same`, `sound` |
-//! | few questions are asked: one for the header, and the number of binary digits of the tiles and two more | `asked` |
+//! | few questions are asked: one for the header, and where a tile is sealed the number of binary digits of the tiles and two more | `asked` |
 //! | a fault is answered only where the disk or the notary counted it | `disk_cause`, `notary_cause` |
 //!
 //! [`notarize`] reads the store once, holds what is filed already against it, stores a Frontier where the
@@ -35,12 +35,15 @@
 //! | a crash leaves the items, or those and the Frontier | `told`: `images`, `kept` |
 //! | a sound store stays sound under each id, whatever is answered | `sound` |
 //! | at most two questions are asked | `asked` |
-//! | only a fault and want of memory close the store | `open` |
+//! | only a fault of the disk and want of memory close the store | `open` |
+//! | after these the store is as it was, has reached the end of the last tile, or is closed | `told`: `stands` |
 //!
 //! | A law | Says |
 //! |---|---|
 //! | [`sound_is_clean`] | of what a sound store's images hold only a clean verdict is found |
 //! | [`sound_is_not_refused`] | nothing that is filed speaks against a sound store |
+//! | [`broken_is_altered`] | a store that is refused as `Broken` has another header, or some sealed granule is altered |
+//! | [`missing_is_clash`] | `SealMissing`, of a notary that holds a history's batches, comes only where two inputs clash |
 //!
 //! That something can always be found is `proofs/SomethingFound`. Only tested: that calls succeed
 //! where there is memory.
@@ -69,7 +72,7 @@ mod validating_tests;
 mod verdict;
 
 pub use fail::AuditFail;
-pub use laws::{sound_is_clean, sound_is_not_refused};
+pub use laws::{broken_is_altered, missing_is_clash, sound_is_clean, sound_is_not_refused};
 pub use notarizing::notarize;
 pub use printing::{put_name, put_refusal, put_verdict};
 pub use validating::validate;

@@ -5,7 +5,7 @@ use Rattle.notary_link.proofs.Frame.{goes_on_same}
 use Rattle.validator.specs.declared.verdict.Verdict.TheVariants as verdicts
 use Rattle.validator.specs.Fails.{of_asking}
 use Rattle.validator.proofs.Searched.{links_are, as_many, told_search}
-use Rattle.validator.proofs.Within.{tiles_few}
+use Rattle.validator.proofs.Within.{tiles_few, clean_questions}
 use Rattle.validator.proofs.finding.search.Goals as goal
 
 pub returns-in_err-plan-clause-frame : goal.returns-in_err-plan-clause-frame
@@ -59,4 +59,4 @@ returns-clause-asked g c =
     let are = links_are (history c.args.header.now c.args.items.now) c.args.tiles c.in_ok-plan.plan c.links.result.now c.links.ensures.value c.in_ok-plan.ensures.value in
     let many = as_many (history c.args.header.now c.args.items.now) c.args.tiles c.links.result.now are in
     let asked = rw many at c.in_ok-first_bad.ensures.asked in
-    omega (arith, asked)
+    omega (arith, asked, clean_questions c.args.tiles c.requires.some)
