@@ -9,6 +9,7 @@ pub mod Disks
 pub mod Filed
 pub mod Notarized
 pub mod Before
+pub mod Growing
 pub mod Sound
 pub mod Reached
 pub mod Held
