@@ -7,3 +7,4 @@ pub mod Validating
 pub mod Notarizing
 pub mod Nowhere
 pub mod SoundWorlds
+pub mod Stopped
