@@ -6,3 +6,5 @@ pub mod Sounds
 pub mod Validating
 pub mod Notarizing
 pub mod Nowhere
+pub mod SoundWorlds
+pub mod Stopped

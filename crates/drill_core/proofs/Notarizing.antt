@@ -36,7 +36,7 @@ use Rattle.validator.specs.Reaching.{Notarizes, IsReached, StoresAround}
 use Rattle.drill_core.specs.declared.answered.Answered.{Answered}
 use Rattle.drill_core.specs.declared.fail.LineFail.{LineFail}
 use Rattle.drill_core.specs.World.{World, Held, IsIn, StoresOf, StoresEither, with_store, with_lists, with_batches, AreBetween}
-use Rattle.drill_core.specs.Answers.{said, refusal, IsAnswerTo}
+use Rattle.drill_core.specs.Answers.{said, refusal, IsAnswer, IsAnswerTo}
 use Rattle.drill_core.specs.Parts.{alone}
 use Rattle.drill_core.specs.Steps.{Step, says, refuses, filed, filed_for, reached, all_filed, sealed, unless, notarized}
 use Rattle.drill_core.specs.Stepping.{IsReply, Goes, Steps, StepsFor}
@@ -44,7 +44,7 @@ use Rattle.drill_core.proofs.Between.{kept_between, keeps_then, filed_keeps, fil
 use Rattle.drill_core.proofs.LineKinds.{none_found, notarize_step}
 use Rattle.drill_core.proofs.Left.{left}
 use Rattle.drill_core.proofs.Tables.{HasStore, has_store}
-use Rattle.drill_core.proofs.Validating.{IsAnswer, replies_as, given}
+use Rattle.drill_core.proofs.Validating.{replies_as, given}
 
 -- how many tiles are sealed
 abbrev pub sealed_text : ℕ → List ℕ

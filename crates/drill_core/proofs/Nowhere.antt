@@ -14,7 +14,8 @@ use Rattle.drill_core.specs.declared.answered.Answered.{Answered}
 use Rattle.drill_core.specs.declared.fail.LineFail.{LineFail}
 use Rattle.drill_core.specs.World.{World, Held, IsIn, StoreIsIn}
 use Rattle.drill_core.specs.Answers.{refusal}
-use Rattle.drill_core.specs.Parts.{no_store, NeedsStore}
+use Rattle.drill_core.specs.Parts.{no_store}
+use Rattle.drill_core.specs.Unheld.{NeedsStore}
 use Rattle.drill_core.specs.Steps.{Step, step, has_no_store, on_tables, notarized, MayFind}
 use Rattle.drill_core.specs.Stepping.{Goes, Steps, StepsFor}
 use Rattle.drill_core.proofs.Between.{kept_between}

@@ -30,7 +30,7 @@ use Rattle.validator.specs.Verdicts.{IsFound, IsFoundIn, mark_of, history_with, 
 use Rattle.drill_core.specs.declared.answered.Answered.{Answered}
 use Rattle.drill_core.specs.declared.fail.LineFail.{LineFail}
 use Rattle.drill_core.specs.World.{World, Held, IsIn, StoreIsIn, with_mark, AreBetween}
-use Rattle.drill_core.specs.Answers.{said, refusal, IsAnswerTo}
+use Rattle.drill_core.specs.Answers.{said, refusal, IsAnswer, IsAnswerTo}
 use Rattle.drill_core.specs.Parts.{StepsWithout}
 use Rattle.drill_core.specs.Steps.{Step, says, refuses, marked, validated, filed_for, history_of}
 use Rattle.drill_core.specs.Stepping.{IsReply, Goes, Steps}
@@ -38,11 +38,6 @@ use Rattle.drill_core.proofs.Between.{kept_between, keeps_then, noted_keeps, not
 use Rattle.validator.proofs.SomethingFound.{something_is_found}
 use Rattle.drill_core.proofs.LineKinds.{validate_step}
 use Rattle.drill_core.proofs.Left.{left}
-
--- the answer to what an audit came to
-abbrev pub IsAnswer : {A : Type 0} → (A → List ℕ) → Result A AuditFail → Result Answered LineFail → Type 0
-IsAnswer text (Ok a) result = IfOk result (λ answered. answered ≡ said (text a))
-IsAnswer text (Err fail) result = IsAnswerTo fail result
 
 pub replies_as : (next : Step) (x : Answered) (result : Result Answered LineFail) → x.text ≡ next.text → x.refused ≡ next.is_refused → IfOk result (λ answered. answered ≡ x) → IfOk result (IsReply next)
 replies_as next x (Ok answered) text refused is = record { text = ap (λ (y : Answered). y.text) is ∙ text; refused = ap (λ (y : Answered). y.refused) is ∙ refused }

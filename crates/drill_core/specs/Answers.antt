@@ -36,3 +36,8 @@ IsAnswerTo audits.NotaryFault result = OnOk result ⊥
 IsAnswerTo audits.NoMemory result = OnOk result ⊥
 IsAnswerTo audits.Closed result = OnOk result ⊥
 IsAnswerTo fail result = IfOk result (λ answered. answered ≡ refusal (refusal_text fail))
+
+-- the answer to what an audit came to, of which this is the text
+abbrev pub IsAnswer : {A : Type 0} → (A → List ℕ) → Result A AuditFail → Result Answered LineFail → Type 0
+IsAnswer text (Ok a) result = IfOk result (λ answered. answered ≡ said (text a))
+IsAnswer text (Err fail) result = IsAnswerTo fail result

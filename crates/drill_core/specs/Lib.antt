@@ -3,3 +3,5 @@ pub mod Steps
 pub mod Stepping
 pub mod Answers
 pub mod Parts
+pub mod Unheld
+pub mod Laws

@@ -1,16 +1,13 @@
 -- What the parts of a line do.
-use Rattle.std.specs.Prelude.{◌≡◌, ℕ, Option, Some, None, Result}
+use Rattle.std.specs.Prelude.{◌≡◌, ℕ, Some, None, Result}
 use Rattle.disk_words.specs.Disk as disks
 use Rattle.notary_link.specs.Notary as notaries
 use Rattle.store_engine.specs.Opened.{Opened}
 use Rattle.stmt_text.specs.declared.line.Line.{Line}
-use Rattle.stmt_text.specs.declared.line.Line.TheVariants as lines
-use Rattle.stmt_text.specs.declared.stmt.Stmt.TheVariants as stmts
 use Rattle.validator.specs.Safe.{KeepsSound}
 use Rattle.drill_core.specs.declared.answered.Answered.{Answered}
 use Rattle.drill_core.specs.declared.fail.LineFail.{LineFail}
 use Rattle.drill_core.specs.World.{Held, StandsFor}
-use Rattle.drill_core.specs.Steps.{IsWorldLine}
 use Rattle.drill_core.specs.Stepping.{StepsFor}
 
 -- an open store, and its id
@@ -32,8 +29,3 @@ StaysSound s old new = (filed : notaries.State) → KeepsSound (StandsFor (alone
 -- whatever store there is, which is not called
 abbrev pub StepsWithout : Line → ℕ → Result Answered LineFail → ℕ → disks.State → disks.State → notaries.State → notaries.State → Type 0
 StepsWithout line now result id old new filed later = (held : Held) → held.id ≡ id → StepsFor line now result held held old new filed later
-
--- all lines of a world but `validate`
-abbrev pub NeedsStore : Line → Type 0
-NeedsStore (lines.Plain stmts.Validate) = ⊥
-NeedsStore line = IsWorldLine line

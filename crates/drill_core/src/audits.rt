@@ -13,6 +13,7 @@ ghost use Rattle.drill_core.specs.Answers.{IsAnswerTo};
 ghost use Rattle.drill_core.specs.World.{StandsFor};
 ghost use Rattle.drill_core.specs.Stepping.{StepsFor};
 ghost use Rattle.drill_core.specs.Parts.{alone, StepsWithout};
+ghost use Rattle.drill_core.specs.Unheld.{GoesByBytes};
 
 use crate::answered::{Answered, found, refused, sealed};
 use crate::fail::LineFail;
@@ -70,6 +71,7 @@ pub(crate) fn answer_validation<D: Disk, N: Notary>(
     id: u64,
     now: u64,
 ) -> Result<Answered, LineFail>
+    ensures bytes { GoesByBytes id now result (D.state disk.old) (D.state disk.new) (N.state notary.old) (N.state notary.new) }
     ensures told { StepsWithout (lines.Plain stmts.Validate) now result id
         (D.state disk.old) (D.state disk.new) (N.state notary.old) (N.state notary.new) }
     ensures sound { KeepsSound (λ before. ⊤)

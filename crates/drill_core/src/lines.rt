@@ -5,13 +5,17 @@ ghost use Rattle.outside_words.specs.Faults.{HasCause};
 ghost use Rattle.disk_words.specs.Disk as disks;
 ghost use Rattle.notary_link.specs.Notary as notaries;
 ghost use Rattle.stmt_text.specs.Fits.{FitsParts};
+ghost use Rattle.stmt_text.specs.declared.line.Line.TheVariants as lines;
+ghost use Rattle.stmt_text.specs.declared.stmt.Stmt.TheVariants as stmts;
+ghost use Rattle.session_core.specs.Steps.{IsTableLine};
 ghost use Rattle.validator.specs.Safe.{KeepsSound};
 ghost use Rattle.drill_core.specs.declared.fail.LineFail.TheVariants.{DiskFault, NotaryFault, NoMemory};
 ghost use Rattle.drill_core.specs.Answers.{refusal};
 ghost use Rattle.drill_core.specs.World.{StandsFor};
 ghost use Rattle.drill_core.specs.Steps.{IsWorldLine};
 ghost use Rattle.drill_core.specs.Stepping.{StepsFor};
-ghost use Rattle.drill_core.specs.Parts.{alone, no_store, NeedsStore};
+ghost use Rattle.drill_core.specs.Parts.{alone, no_store};
+ghost use Rattle.drill_core.specs.Unheld.{NeedsStore, IsToldNone, GoesByBytes};
 
 use crate::answered::{Answered, not_a_store};
 use crate::audits::{answer_notarization, answer_validation};
@@ -39,6 +43,8 @@ pub(crate) fn answer_with_store<D: Disk, N: Notary>(
     requires fits { FitsParts line.now }
     ensures open { OnOk result (store.new.at.is_closed ≡ false) }
     ensures header { store.new.header ≡ store.old.header }
+    ensures bytes { line.now ≡ lines.Plain stmts.Validate → GoesByBytes store.old.header.id now result (D.state disk.old) (D.state disk.new) (N.state notary.old) (N.state notary.new) }
+    ensures unasked { IsTableLine line.now → N.state notary.new ≡ N.state notary.old }
     ensures told { StepsFor line.now now result (alone store.old) (alone store.new)
         (D.state disk.old) (D.state disk.new) (N.state notary.old) (N.state notary.new) }
     ensures sound { KeepsSound (StandsFor (alone store.old))
@@ -83,6 +89,8 @@ pub(crate) fn answer_without_store<D: Disk, N: Notary>(
     now: u64,
 ) -> Result<Answered, LineFail>
     requires is_line { IsWorldLine line.now }
+    ensures none { NeedsStore line.now → IsToldNone result (D.state disk.old) (D.state disk.new) (N.state notary.old) (N.state notary.new) }
+    ensures bytes { line.now ≡ lines.Plain stmts.Validate → GoesByBytes id now result (D.state disk.old) (D.state disk.new) (N.state notary.old) (N.state notary.new) }
     ensures told { StepsFor line.now now result (no_store id) (no_store id)
         (D.state disk.old) (D.state disk.new) (N.state notary.old) (N.state notary.new) }
     ensures sound { KeepsSound (λ before. ⊤)

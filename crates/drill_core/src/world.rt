@@ -8,6 +8,9 @@ ghost use Rattle.disk_words.specs.Disk as disks;
 ghost use Rattle.notary_link.specs.Notary as notaries;
 ghost use Rattle.history_model.specs.Stored.{stored};
 ghost use Rattle.stmt_text.specs.Fits.{FitsParts};
+ghost use Rattle.stmt_text.specs.declared.line.Line.TheVariants as lines;
+ghost use Rattle.stmt_text.specs.declared.stmt.Stmt.TheVariants as stmts;
+ghost use Rattle.session_core.specs.Steps.{IsTableLine};
 ghost use Rattle.store_engine.specs.declared.fail.StoreFail.TheVariants as stores;
 ghost use Rattle.store_engine.specs.Opened.{IsOpenOn};
 ghost use Rattle.store_engine.specs.Refusals.{IsNoStore, IsOfOpening};
@@ -16,6 +19,7 @@ ghost use Rattle.drill_core.specs.declared.fail.LineFail.TheVariants.{DiskFault,
 ghost use Rattle.drill_core.specs.World.{StandsFor, IsEntered};
 ghost use Rattle.drill_core.specs.Steps.{IsWorldLine};
 ghost use Rattle.drill_core.specs.Stepping.{StepsFor, KeepsStore};
+ghost use Rattle.drill_core.specs.Unheld.{NeedsStore, IsToldNone, GoesByBytes};
 
 use crate::answered::Answered;
 use crate::fail::LineFail;
@@ -65,6 +69,8 @@ impl World {
         ensures id { self.new.id ≡ self.old.id }
         ensures value { IfSome (D.state disk.old).reads (λ bytes. IsEntered self.old.id bytes result self.new.store) }
         ensures some { OnOk result (IsSome self.new.store) }
+        ensures open { IfSome self.new.store (λ s. s.at.is_closed ≡ false) }
+        ensures own { IfSome self.new.store (λ s. s.header.id ≡ self.old.id) }
         ensures none { OnErr result (self.new.store ≡ None) }
         ensures none_other { IfErr result IsOfOpening }
         ensures same { disks.Unchanged (D.state disk.old) (D.state disk.new) }
@@ -90,6 +96,13 @@ impl World {
         requires fits { FitsParts line.now }
         ensures id { self.new.id ≡ self.old.id }
         ensures store { KeepsStore result self.old self.new }
+        ensures open { IfSome self.new.store (λ s. s.at.is_closed ≡ false) }
+        ensures own { IfSome self.new.store (λ s. s.header.id ≡ self.old.id) }
+        ensures none { self.old.store ≡ None → NeedsStore line.now → IsToldNone result
+            (D.state disk.old) (D.state disk.new) (N.state notary.old) (N.state notary.new) }
+        ensures bytes { line.now ≡ lines.Plain stmts.Validate → GoesByBytes self.old.id now result
+            (D.state disk.old) (D.state disk.new) (N.state notary.old) (N.state notary.new) }
+        ensures unasked { IsTableLine line.now → N.state notary.new ≡ N.state notary.old }
         ensures told { StepsFor line.now now result self.old self.new
             (D.state disk.old) (D.state disk.new) (N.state notary.old) (N.state notary.new) }
         ensures sound { KeepsSound (StandsFor self.old)

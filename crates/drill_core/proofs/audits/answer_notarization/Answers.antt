@@ -1,4 +1,4 @@
-use Rattle.std.proofs.Common.{◌≡◌, Ok, Err}
+use Rattle.std.proofs.Common.{Ok, Err}
 use Rattle.std.proofs.lemmas.Result.{err_from_is_err_and}
 use Rattle.drill_core.proofs.Notarizing.{notarization, stays_header}
 use Rattle.drill_core.proofs.audits.answer_notarization.Goals as goal

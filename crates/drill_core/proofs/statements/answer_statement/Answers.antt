@@ -1,8 +1,8 @@
-use Rattle.std.proofs.Common.{◌≡◌, Ok, Err, subst, sym, ◌∙◌}
+use Rattle.std.proofs.Common.{Ok, Err, subst}
 use Rattle.std.proofs.lemmas.Result.{err_from_is_err_and}
 use Rattle.disk_words.specs.Disk.{turn}
 use Rattle.tuple_bytes.specs.Spelling.{FitsHeader}
-use Rattle.drill_core.proofs.Tables.{beside, fails_anyhow, answered_as, not_notary}
+use Rattle.drill_core.proofs.Tables.{beside, fails_anyhow, answered_as}
 use Rattle.drill_core.proofs.Sounds.{stays_sound}
 use Rattle.drill_core.proofs.statements.answer_statement.Goals as goal
 

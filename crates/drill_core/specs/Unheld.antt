@@ -1,0 +1,39 @@
+-- What is answered where no store is held, as after a failure, whatever world it is.
+use Rattle.std.specs.Prelude.{◌≡◌, ℕ, List, codes, IfSome, Result, IfOk}
+use Rattle.outside_words.specs.Told.{WhereTold}
+use Rattle.disk_words.specs.Disk as disks
+use Rattle.history_model.specs.Stored.{stored}
+use Rattle.notary_link.specs.Notary as notaries
+use Rattle.stmt_text.specs.declared.stmt.Stmt.TheVariants as stmts
+use Rattle.stmt_text.specs.declared.line.Line.{Line}
+use Rattle.stmt_text.specs.declared.line.Line.TheVariants as lines
+use Rattle.validator.specs.declared.verdict.Verdict.{Verdict}
+use Rattle.validator.specs.declared.fail.AuditFail.{AuditFail}
+use Rattle.validator.specs.Texts.{verdict_text}
+use Rattle.validator.specs.Verdicts.{Validates}
+use Rattle.drill_core.specs.declared.answered.Answered.{Answered}
+use Rattle.drill_core.specs.declared.fail.LineFail.{LineFail}
+use Rattle.drill_core.specs.Answers.{refusal, IsAnswer}
+use Rattle.drill_core.specs.Steps.{IsWorldLine}
+
+-- all lines of a world but `validate`
+abbrev pub NeedsStore : Line → Type 0
+NeedsStore (lines.Plain stmts.Validate) = ⊥
+NeedsStore line = IsWorldLine line
+
+-- a line that needs a store is told that there is none, and calls neither the disk nor the notary
+pub record IsToldNone (result : Result Answered LineFail) (old new : disks.State) (filed later : notaries.State) : Type 0 where
+  pub reply : IfOk result (λ answered. answered ≡ refusal (codes "NotAStore"))
+  pub disk : disks.Unchanged old new
+  pub notary : later ≡ filed
+
+-- this was found of the stored bytes and what is filed, noted where it may be, and replied
+pub record IsFoundAndTold (id now : ℕ) (result : Result Answered LineFail) (filed : notaries.State) (bytes : List ℕ) (lists later_lists : notaries.Lists) : Type 0 where
+  pub found : Result Verdict AuditFail
+  pub validates : Validates id now filed.limits (stored bytes) found lists later_lists
+  pub reply : IsAnswer verdict_text found result
+
+-- A validation goes by the stored bytes and what is filed alone, and leaves the disk.
+pub record GoesByBytes (id now : ℕ) (result : Result Answered LineFail) (old new : disks.State) (filed later : notaries.State) : Type 0 where
+  pub disk : disks.Unchanged old new
+  pub told : IfSome old.reads (λ bytes. WhereTold filed.lists later.lists (IsFoundAndTold id now result filed bytes))
