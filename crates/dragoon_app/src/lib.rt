@@ -11,11 +11,11 @@
 //!
 //! | The layer above may rely on | Clause of `dragoon` |
 //! |---|---|
-//! | for `link`, `init` and words that are no command: where the store tells its bytes, the status and the whole text are the defined ones, at a second that is the clock's where it tells it, up to a fault or want of memory; of a text that was cut short a front is out | `told` |
+//! | for `link`, `init` and words that are no command: where the store tells its bytes, the status and the whole text are the defined ones, for `init` at the second that the clock gave, up to a fault or want of memory; of a text that was cut short a front is out | `told`, `answers` of `InitsAt` in `leaves` |
 //! | `Usage` comes exactly where the words are no command, whatever the store is | `usage`, `no_command` |
 //! | a fault is answered only where the count of that device's faults rose | `disk_cause`, `notary_cause`, `read_cause`, `write_cause` |
 //! | a sound store, one whose every image is what is filed, stays sound under each id, whatever is answered | `sound` |
-//! | of a sound store on a settled disk neither `notarize` nor `validate` says that it is altered | `unaltered` |
+//! | of a sound store neither `notarize` nor `validate` says that it is altered | `unaltered` |
 //! | `link` leaves all devices but the output as they were, `init` the input and the notary, and `notarize` and `validate` the input | `leaves` |
 //! | after `init` answered `Ok` the store has 65 bytes: the header of the words and the clock's second, and no item; and it is durable | `made`, `stores`, `durable` of `MakesStore` in `leaves` |
 //! | a taken device, and each device where it is too late, is left as it was | `kept`, `late` there |
