@@ -6,3 +6,4 @@ pub mod Sounds
 pub mod Validating
 pub mod Notarizing
 pub mod Nowhere
+pub mod SoundWorlds

@@ -1,5 +1,5 @@
 -- A statement on tables leaves a sound store sound.
-use Rattle.std.proofs.Common.{◌≡◌, ◌⊎◌, ℕ, ◌≤◌, ◌+◌, ◌-◌, Bool, true, false, List, ◌++◌, ◌∷◌, [], length, Option, Some, None, IfSome, Result, Ok, Err, inl, inr, refl, sym, ap, subst, ◌∙◌, arith}
+use Rattle.std.proofs.Common.{◌≡◌, ◌⊎◌, ℕ, ◌≤◌, Bool, true, false, List, ◌++◌, ◌∷◌, [], Option, Some, None, IfSome, Result, Ok, Err, inl, inr, refl, sym, ap, subst, ◌∙◌, arith}
 use Rattle.std.specs.Option.{option_map}
 use Rattle.std.proofs.lemmas.Bool.Decides.{nat_tests}
 use Rattle.outside_words.specs.Told.{WhereTold}
@@ -17,9 +17,8 @@ use Rattle.history_model.specs.Answers.{prepared}
 use Rattle.history_model.specs.History.{History, history, last_moment}
 use Rattle.history_model.specs.Stored.{stored}
 use Rattle.notary_link.specs.Batches.{Batch}
-use Rattle.notary_link.specs.Notary as notaries
 use Rattle.audit_model.specs.Altered.{history_in}
-use Rattle.audit_model.specs.Sound.{IsNotarized, HoldsNotarized, AllNotarized, IsSound}
+use Rattle.audit_model.specs.Sound.{IsNotarized, HoldsNotarized, IsSound}
 use Rattle.audit_model.proofs.Adding.{added_stays}
 use Rattle.store_engine.specs.declared.fail.StoreFail.{StoreFail}
 use Rattle.store_engine.specs.Opened.{Opened, Stores, IsOpenOn}
@@ -30,9 +29,9 @@ use Rattle.stmt_text.specs.declared.line.Line.TheVariants as lines
 use Rattle.session_core.specs.declared.reply.Reply.{Reply}
 use Rattle.session_core.specs.declared.sessions.StepFail.{StepFail}
 use Rattle.session_core.specs.World.{World, IsIn, StoresEither, tail_of_world, tables_now, with_txn}
-use Rattle.session_core.specs.Steps.{committed, commit, commit_prepared, write_or_read, write_in, step}
-use Rattle.session_core.specs.Stepping.{StepsIn, StepsTo}
-use Rattle.drill_core.specs.Parts.{alone, StaysSound}
+use Rattle.session_core.specs.Steps.{committed, commit_prepared, write_or_read, write_in, step}
+use Rattle.session_core.specs.Stepping.{StepsTo}
+use Rattle.drill_core.specs.Parts.{StaysSound}
 
 -- ---- what a step adds
 

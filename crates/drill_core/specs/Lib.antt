@@ -3,3 +3,4 @@ pub mod Steps
 pub mod Stepping
 pub mod Answers
 pub mod Parts
+pub mod Laws

@@ -1,5 +1,5 @@
 -- A line over an open store and a notary: it does to the world that they stand for what the definition says.
-use Rattle.std.specs.Prelude.{◌≡◌, ◌⊎◌, ℕ, List, ◌++◌, Option, Some, None, option_map, IfSome, Result, Ok, Err, OnOk, OnErr, IfOk, is_some}
+use Rattle.std.specs.Prelude.{◌≡◌, ℕ, List, None, option_map, Result, Ok, Err, OnOk, IfOk}
 use Rattle.outside_words.specs.Told.{WhereTold}
 use Rattle.disk_words.specs.Disk as disks
 use Rattle.disk_model.specs.Moments.{EveryImage}

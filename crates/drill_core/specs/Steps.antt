@@ -1,7 +1,5 @@
 -- What a line does to a world, and the text of its reply.
-use Rattle.std.specs.Prelude.{◌≡◌, ℕ, ◌+◌, ◌==◌, false, true, nat_lt, if◌then◌else◌, Bool, List, ◌++◌, ◌∷◌, [], length, take, codes, Option, Some, None, Result, Ok, Err}
-use Rattle.std.specs.Fmt.{decimal}
-use Rattle.history_model.specs.declared.stored.Stored.{Stored}
+use Rattle.std.specs.Prelude.{ℕ, ◌==◌, false, true, nat_lt, if◌then◌else◌, Bool, List, ◌++◌, ◌∷◌, [], length, take, codes, Option, Some, None, Result, Ok, Err}
 use Rattle.history_model.specs.History.{History, history}
 use Rattle.notary_link.specs.declared.mark.Mark.{Mark}
 use Rattle.notary_link.specs.Batches.{Batch}
@@ -15,12 +13,10 @@ use Rattle.session_core.specs.World as statements
 use Rattle.session_core.specs.Steps as statement_steps
 use Rattle.session_core.specs.Replies as replies
 use Rattle.validator.specs.declared.verdict.Verdict.{Verdict}
-use Rattle.validator.specs.declared.verdict.Verdict.TheVariants as verdicts
 use Rattle.validator.specs.declared.fail.AuditFail.{AuditFail}
 use Rattle.validator.specs.declared.fail.AuditFail.TheVariants as fails
 use Rattle.validator.specs.Notarizing.{notarize_fault, next_batches, sealed_after, frontier_for}
 use Rattle.validator.specs.Verdicts.{IsFoundIn, mark_of}
-use Rattle.validator.specs.Reaching.{with_frontier_for}
 use Rattle.validator.specs.Texts.{verdict_text, refusal_text, numbered}
 use Rattle.drill_core.specs.World.{World, with_store, with_lists, with_batches, with_mark}
 

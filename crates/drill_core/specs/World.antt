@@ -1,5 +1,5 @@
 -- The world that lines run in: a stored history, and what a notary holds.
-use Rattle.std.specs.Prelude.{◌≡◌, ◌⊎◌, false, ℕ, ◌==◌, ◌≤◌, ◌+◌, if◌then◌else◌, List, ◌++◌, ◌∷◌, [], length, take, Option, Some, None, IfSome, Result, Ok, Err}
+use Rattle.std.specs.Prelude.{◌≡◌, ◌⊎◌, ℕ, ◌==◌, ◌≤◌, if◌then◌else◌, List, ◌++◌, ◌∷◌, [], length, take, Option, Some, None, IfSome, Result, Ok, Err}
 use Rattle.history_model.specs.Stored.{stored}
 use Rattle.notary_link.specs.declared.mark.Mark.{Mark}
 use Rattle.notary_link.specs.declared.notary.NotaryLimits.{NotaryLimits}

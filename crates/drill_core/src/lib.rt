@@ -27,9 +27,9 @@
 //! | a store stays open, of the same header, until a failure; after one there is none | `store` of `World::line` |
 //! | a failure is a fault of the disk or of the notary, or want of memory | `disk_cause` and `notary_cause` |
 //! | the store of the id is opened, or there is none | `value` of `World::enter` |
+//! | a world whose store is what was filed stays so at every line, and no line tells of an alteration | [`sound_worlds_stay_sound`] |
 //!
-//! Only tested: that memory suffices. What is filed when a notary answers a fault may be one batch or one
-//! mark more than it has room for, since a notary that fails tells nothing of its room.
+//! Only tested: that memory suffices.
 //!
 //! ```rust
 //! world.enter(alloc, &mut disk)?;
@@ -41,12 +41,14 @@
 mod answered;
 mod audits;
 mod fail;
+mod laws;
 mod lines;
 mod statements;
 mod world;
 
 pub use answered::Answered;
 pub use fail::LineFail;
+pub use laws::sound_worlds_stay_sound;
 pub use lines::is_world_line;
 pub use world::World;
 

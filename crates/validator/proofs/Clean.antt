@@ -91,7 +91,7 @@ same_history id (Some header) s h is own =
     let test : (header.id == id) ≡ true = grind (arith, nat_tests, own_id) in
     ap (λ (b : Bool). if b then Some (history header s.items) else None) test ∙ is
 
-clean_in : (batches : List Batch) (id n : ℕ) (h : History) (o : Option History) (found : Result Verdict AuditFail) → o ≡ Some h → NotaryOf batches id h n → IsFoundIn batches o found → found ≡ Ok (verdicts.Clean n)
+pub clean_in : (batches : List Batch) (id n : ℕ) (h : History) (o : Option History) (found : Result Verdict AuditFail) → o ≡ Some h → NotaryOf batches id h n → IsFoundIn batches o found → found ≡ Ok (verdicts.Clean n)
 clean_in [] id n h o found is filed shows = absurd (let many = counted [] id h n filed in omega (arith, many))
 clean_in (first ∷ batches) id n h o found is filed shows =
     let many : length batches ≡ n = omega (arith, counted (first ∷ batches) id h n filed) in

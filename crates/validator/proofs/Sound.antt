@@ -30,15 +30,14 @@ use Rattle.audit_model.specs.Altered.{history_in}
 use Rattle.audit_model.specs.Sound.{IsNotarized, HoldsNotarized, AllNotarized, IsSound}
 use Rattle.audit_model.proofs.Adding.{added_stays, frontier_filed}
 use Rattle.store_engine.specs.Opened.{Opened, Stores, IsOpenOn}
-use Rattle.store_engine.specs.Refusals.{tail_of}
+use Rattle.store_engine.specs.Refusals.{Tail, tail_of}
 use Rattle.store_engine.proofs.Telling.{last_more}
 use Rattle.validator.specs.declared.fail.AuditFail.{AuditFail}
 use Rattle.validator.specs.Tiles.{tiles_at, end_of}
 use Rattle.validator.specs.Notarizing.{next_batches, frontier_for}
 use Rattle.validator.specs.Reaching.{Notarizes, StoresAround, IsReached, with_frontier_for, reached}
-use Rattle.validator.specs.Steps.{frontier_to}
-use Rattle.validator.proofs.Faults.{needed}
 use Rattle.validator.proofs.Filed.{FilesFirst, files_first}
+use Rattle.validator.proofs.Growing.{IsFiledUpTo, need_follows, notarized_more}
 
 -- ---- what bytes hold
 
@@ -61,62 +60,7 @@ module _ (batches : List Batch) (id n : ℕ) (header : Header) where
   holds_around is (Some moment) c fits follows (inl stores) notarized = holds is c stores notarized
   holds_around is (Some moment) c fits follows (inr stores) notarized = holds (is ++ items.Frontier moment ∷ []) c stores (added_stays batches id n header is (items.Frontier moment) fits notarized (follows moment refl))
 
--- ---- the Frontier
-
-some_is : (a b : ℕ) → Some a ≡ Some b → a ≡ b
-some_is a b same = ap (λ (o : Option ℕ). unwrap_or o a) same
-
-module _ (s : Opened) (is : List Item) (last : s.last ≡ last_moment is) where
-  later_by : (x end moment : ℕ) (b : Bool) → b ≡ nat_lt s.last end → (if b then Some end else None) ≡ Some moment → last_moment is ≤ moment
-  later_by x end moment true tells same = let lt : s.last < end = grind (arith, nat_tests, tells) in omega (arith, lt, last, some_is end moment same)
-  later_by x end moment false tells same = absurd cc
-
-  -- what is needed is not before the last moment
-  need_follows : (now : ℕ) (batches : List Batch) (moment : ℕ) → frontier_for (tail_of s) now batches ≡ Some moment → last_moment is ≤ moment
-  need_follows now batches moment same = by (nat_le (length batches) (tiles_at s.header now)) same
-    where
-      by : (b : Bool) → (if b && nat_lt s.last (end_of s.header (tiles_at s.header now)) then Some (end_of s.header (tiles_at s.header now)) else None) ≡ Some moment → last_moment is ≤ moment
-      by true same = later_by 0 (end_of s.header (tiles_at s.header now)) moment (nat_lt s.last (end_of s.header (tiles_at s.header now))) refl same
-      by false same = absurd cc
-
-  -- with it the end is reached
-  end_reached : (n : ℕ) → end_of s.header n ≤ last_moment (with_frontier_for (frontier_to s n) is)
-  end_reached n = by (nat_lt s.last (end_of s.header n)) refl
-    where
-      by : (b : Bool) → b ≡ nat_lt s.last (end_of s.header n) → end_of s.header n ≤ last_moment (with_frontier_for (if b then Some (end_of s.header n) else None) is)
-      by true tells = omega (arith, last_more is (items.Frontier (end_of s.header n)))
-      by false tells = let le : end_of s.header n ≤ s.last = grind (arith, nat_tests, tells) in omega (arith, le, last)
-
--- ---- the batches
-
-range_joined : {X : Type 0} (f : ℕ → X) (a m n : ℕ) → map f (range_with_len a m) ++ map f (range_with_len (a + m) n) ≡ map f (range_with_len a (m + n))
-range_joined f a zero n = let place : a + 0 ≡ a = omega arith in let none : 0 + n ≡ n = omega arith in rw (place, none) refl
-range_joined {X} f a (suc m) n =
-    let place : a + suc m ≡ a + 1 + m = omega arith in
-    let next : suc m + n ≡ suc (m + n) = omega arith in
-    rw (place, next) (ap (λ (xs : List X). f a ∷ xs) (range_joined f (a + 1) m n))
-
-seals_made : (now : ℕ) (h : History) (is : List ℕ) → map (λ (b : Batch). b.seals) (map (λ index. batch_of now (batch h index)) is) ≡ map (batch h) is
-seals_made now h [] = refl
-seals_made now h (i ∷ is) = ap (λ (xs : List (List Seal)). batch h i ∷ xs) (seals_made now h is)
-
--- the seals of so many batches from the first on
-abbrev pub IsFiledUpTo : List Batch → History → ℕ → Type 0
-IsFiledUpTo batches h count = map (λ (b : Batch). b.seals) batches ≡ map (batch h) (range_with_len 0 count)
-
-more_filed : (now : ℕ) (h : History) (batches : List Batch) (count done n : ℕ) → IsFiledUpTo batches h count → done ≤ n
-    → IsFiledUpTo (batches ++ take done (map (λ index. batch_of now (batch h index)) (range_with_len count n))) h (count + done)
-more_filed now h batches count done n filed within =
-    map-append (λ (b : Batch). b.seals) batches (take done (map (λ index. batch_of now (batch h index)) (range_with_len count n)))
-    ∙ ap (λ (xs : List (List Seal)). xs ++ map (λ (b : Batch). b.seals) (take done (map (λ index. batch_of now (batch h index)) (range_with_len count n)))) filed
-    ∙ ap (λ (bs : List Batch). map (batch h) (range_with_len 0 count) ++ map (λ (b : Batch). b.seals) bs) (take-map-range_with_len (λ index. batch_of now (batch h index)) count n done within)
-    ∙ ap (λ (xs : List (List Seal)). map (batch h) (range_with_len 0 count) ++ xs) (seals_made now h (range_with_len count done))
-    ∙ (let from : 0 + count ≡ count = omega arith in ap (λ (a : ℕ). map (batch h) (range_with_len 0 count) ++ map (batch h) (range_with_len a done)) (sym from))
-    ∙ range_joined (batch h) 0 count done
-
-filed_around : (batches : List Batch) (id n : ℕ) (header : Header) (is : List Item) (need : Option ℕ) → NotaryOf batches id (history header is) n → NotaryOf batches id (history header (with_frontier_for need is)) n
-filed_around batches id n header is None filed = filed
-filed_around batches id n header is (Some moment) filed = frontier_filed batches id n header is moment filed
+-- ---- all of it
 
 nat_equal : (m n : ℕ) → (m ≡ n) ⊎ (m ≢ n)
 nat_equal m n = by (cases_lt m n) (cases_lt n m)
@@ -125,8 +69,6 @@ nat_equal m n = by (cases_lt m n) (cases_lt n m)
     by (inl less) other = inr (λ is. omega (arith, less, is))
     by (inr le) (inl more) = inr (λ is. omega (arith, more, is))
     by (inr le) (inr ge) = inl (omega (arith, le, ge))
-
--- ---- all of it
 
 module _ (now : ℕ) (is : List Item) (s later_s : Opened) (before after : List ℕ) (open_on : IsOpenOn s is before) (fits : FitsHeader s.header)
     (within : first_granule (layout (history s.header [])) (tiles_at s.header now) ≤ max_granules)
@@ -157,7 +99,7 @@ module _ (now : ℕ) (is : List Item) (s later_s : Opened) (before after : List 
     where
       by : IsSound old.is_image (lists.batches id) id → IsSound new.is_image (lists.batches id) id
       by (inl none) = inl none
-      by (inr known) = inr (known.0, known.1, λ c image. holds_around (lists.batches id) id known.0 s.header is need c fits (λ moment same. need_follows s is open_on.knows.last now batches moment same) (around_of c image) (is_held (lists.batches id) id known.0 s.header is before open_on.stores (known.2 before here)))
+      by (inr known) = inr (known.0, known.1, λ c image. holds_around (lists.batches id) id known.0 s.header is need c fits (λ moment same. need_follows (tail_of s) is open_on.knows.last now batches moment same) (around_of c image) (is_held (lists.batches id) id known.0 s.header is before open_on.stores (known.2 before here)))
 
   -- where the store had a sound id, its batches are those of what it holds
   filed_before : IsSound old.is_image batches s.header.id → IsFiledUpTo batches (history s.header is) (length batches)
@@ -165,18 +107,9 @@ module _ (now : ℕ) (is : List Item) (s later_s : Opened) (before after : List 
   filed_before (inr known) = rw known.1 (is_held batches s.header.id known.0 s.header is before open_on.stores (known.2 before here)).filed.seals
 
   module _ (some : 0 < first.done) (sound : IsSound old.is_image batches s.header.id) where
-    many : length next ≡ suc ended - length batches
-    many = length-map-range_with_len (λ index. batch_of now (batch (history s.header is) index)) (length batches) (suc ended - length batches)
-
     -- so many tiles are sealed then
     abbrev sealed : ℕ
     sealed = length batches + first.done - 1
-
-    few : sealed ≤ ended
-    few = omega (arith, first.some, many, some)
-
-    need_is : frontier_to s ended ≡ need
-    need_is = needed s now is batches ended refl (omega (arith, first.some, many, some))
 
     grown : length (later_lists.batches s.header.id) ≡ length batches + first.done
     grown = ap length first.filed.filed ∙ length-append batches (take first.done next) ∙ ap (λ (n : ℕ). length batches + n) (length-take-le first.done next first.some)
@@ -184,25 +117,9 @@ module _ (now : ℕ) (is : List Item) (s later_s : Opened) (before after : List 
     reached_it : IsReached need s later_s is old new before after
     reached_it = notarizes.ordered (λ same. omega (arith, grown, ap length same, some))
 
-    last_is : end_of s.header ended ≤ last_moment (with_frontier_for need is)
-    last_is = subst (λ (o : Option ℕ). end_of s.header ended ≤ last_moment (with_frontier_for o is)) need_is (end_reached s is open_on.knows.last ended)
-
-    seals_are : IsFiledUpTo (later_lists.batches s.header.id) (history s.header is) (sealed + 1)
-    seals_are =
-        let e : length batches + first.done ≡ sealed + 1 = omega (arith, some) in
-        subst (λ (n : ℕ). IsFiledUpTo (later_lists.batches s.header.id) (history s.header is) n) e
-        (subst (λ (bs : List Batch). IsFiledUpTo bs (history s.header is) (length batches + first.done)) (sym first.filed.filed)
-        (more_filed now (history s.header is) batches (length batches) first.done (suc ended - length batches) (filed_before sound) (omega (arith, first.some, many))))
-
     notarized : IsNotarized (later_lists.batches s.header.id) s.header.id sealed (history s.header (with_frontier_for need is))
-    notarized = record {
-      filed = filed_around (later_lists.batches s.header.id) s.header.id sealed s.header is need (record {
-        seals = seals_are;
-        header = refl;
-        within = let le = mul-le sealed (2 ^ s.header.k) ended (2 ^ s.header.k) few (omega arith) in omega (arith, le, within);
-      });
-      reached = let le = mul-le (sealed * 2 ^ s.header.k) s.header.width (ended * 2 ^ s.header.k) s.header.width (mul-le sealed (2 ^ s.header.k) ended (2 ^ s.header.k) few (omega arith)) (omega arith) in omega (arith, le, last_is);
-    }
+    notarized = subst (λ (bs : List Batch). IsNotarized bs s.header.id sealed (history s.header (with_frontier_for need is))) (sym first.filed.filed)
+        (notarized_more (tail_of s) is open_on.knows.last now batches within (filed_before sound) first.done some first.some)
 
     stores_after : Stores s.header (with_frontier_for need is) after
     stores_after = subst (λ (header : Header). Stores header (with_frontier_for need is) after) (header_of need later_s reached_it.store_is) reached_it.open_on.stores
