@@ -34,11 +34,13 @@
 //! | on a settled store a crash at any moment leaves what stood there after some first lines | `images` of `store` |
 //! | each reply that is out stands for good: every image has what the lines say that were carried out, and the notary all that they filed and marked | `kept`, `between` there |
 //! | the notary holds no more than that, unless a line was under way | `holds` there |
+//! | a run that begins over a world whose store is what was filed ends over one, and none of its lines tells of an alteration | the law `sound_runs_are_unaltered`, by `found` |
 //!
 //! `notarize` is `NotarizesOn` in `leaves`: the store is opened, the clock's second taken, and the tiles that have
 //! ended by then are filed, as `validator` says it; `NotAStore` comes exactly where the bytes have no header of the
 //! id, and before the clock or the notary is asked. `validate` is `ValidatesOn`: the verdict at the clock's second, and
-//! its mark; the store is as it was.
+//! its mark; the store is as it was. Where either answers a fault its count rose, also where the output then failed;
+//! want of memory writes nothing.
 //!
 //! `leading` says how many words in front of the command name devices. A further device is one more
 //! prefix there, and one more parameter of `dragoon`. A further command is a case of `command_of`, of
@@ -57,6 +59,7 @@
 mod audit_fail;
 mod command;
 mod init;
+mod laws;
 mod leading_words;
 mod line_kind;
 mod link;
@@ -70,6 +73,7 @@ mod status;
 mod top;
 mod validate;
 
+pub use laws::sound_runs_are_unaltered;
 pub use leading_words::leading;
 pub use status::Status;
 pub use top::dragoon;
