@@ -1,5 +1,9 @@
 -- A sound world stays sound along a run, and no line tells of an alteration.
-use Rattle.std.proofs.Common.{◌≡◌, ℕ, Bool, true, false, List, [], ◌∷◌, refl, sym, ap, subst, Result, Ok, Err}
+use Rattle.std.proofs.Common.{ℕ, Bool, true, false, List, [], ◌∷◌, Option, refl, sym, subst, Result, Ok, Err}
+use Rattle.tuple_bytes.specs.declared.header.Header.{Header}
+use Rattle.history_model.specs.Stored.{stored}
+use Rattle.history_model.specs.StoredHistory.{StoredIsHistory}
+use Rattle.audit_model.specs.Altered.{history_in}
 use Rattle.stmt_text.specs.declared.error.ParseFail.{ParseFail}
 use Rattle.stmt_text.specs.declared.error.ParseFail.TheVariants as fails
 use Rattle.stmt_text.specs.declared.line.Line.{Line}
@@ -8,11 +12,11 @@ use Rattle.validator.specs.declared.verdict.Verdict.{Verdict}
 use Rattle.validator.specs.declared.fail.AuditFail.{AuditFail}
 use Rattle.drill_core.specs.World.{World}
 use Rattle.drill_core.specs.Steps.{MayFind}
-use Rattle.drill_core.specs.Laws.{IsSoundWorld, HasFitHeader, SoundWorldsStaySound}
+use Rattle.drill_core.specs.Laws.{HoldsFiled, IsSoundWorld, HasFitHeader, SoundWorldsStaySound}
 use Rattle.dragoon_app.specs.declared.line_kind.LineKind.{LineKind}
 use Rattle.dragoon_app.specs.declared.line_kind.LineKind.TheVariants as kinds
 use Rattle.dragoon_app.specs.Running.{Running, Timed, carry, carried, answered, said_by, kind_of, seconds_of, set_moment, MayFindBy, AllMayFind}
-use Rattle.dragoon_app.specs.Laws.{TellsNoneBy, AllTellNone, SoundRunsAreUnaltered}
+use Rattle.dragoon_app.specs.Laws.{TellsNoneBy, AllTellNone, SoundRunsAreUnaltered, SoundBytesBeginSound}
 use Rattle.dragoon_app.proofs.Nothing.{carry_is}
 
 abbrev IsGood : World → Type 0
@@ -47,3 +51,9 @@ module _ (law : SoundWorldsStaySound) (scripted : Bool) where
 
 pub sound_runs : SoundWorldsStaySound → SoundRunsAreUnaltered
 sound_runs law = λ scripted begin timed fit sound may. all_good law scripted begin timed (fit, sound) may
+
+pub sound_start : StoredIsHistory → SoundBytesBeginSound
+sound_start law = λ bytes header lists limits fits has holds. (
+  ((law bytes header fits has).header, refl),
+  subst (λ (o : Option Header). HoldsFiled (lists.batches header.id) header.id (history_in (record { header = o; items = (stored bytes).items; end = (stored bytes).end }))) has holds,
+)

@@ -34,7 +34,7 @@
 //! | on a settled store a crash at any moment leaves what stood there after some first lines | `images` of `store` |
 //! | each reply that is out stands for good: every image has what the lines say that were carried out, and the notary all that they filed and marked | `kept`, `between` there |
 //! | the notary holds no more than that, unless a line was under way | `holds` there |
-//! | a run that begins over a world whose store is what was filed ends over one, and none of its lines tells of an alteration | the law `sound_runs_are_unaltered`, by `found` |
+//! | a run over bytes that hold what is filed begins over a sound world; it ends over one, and none of its lines tells of an alteration | the laws `sound_bytes_begin_sound` and `sound_runs_are_unaltered`, by `found` |
 //!
 //! `notarize` is `NotarizesOn` in `leaves`: the store is opened, the clock's second taken, and the tiles that have
 //! ended by then are filed, as `validator` says it; `NotAStore` comes exactly where the bytes have no header of the
@@ -73,7 +73,7 @@ mod status;
 mod top;
 mod validate;
 
-pub use laws::sound_runs_are_unaltered;
+pub use laws::{sound_bytes_begin_sound, sound_runs_are_unaltered};
 pub use leading_words::leading;
 pub use status::Status;
 pub use top::dragoon;
