@@ -1,7 +1,7 @@
 -- What is said of an audit, and its causes.
-use Rattle.std.proofs.Common.{◌≡◌, ◌≢◌, ◌⊎◌, ℕ, Bool, true, false, List, [], ◌∷◌, ◌++◌, Option, Some, None, refl, sym, ap, subst, ◌∙◌, inl, inr, ⊎_elim, Result, Ok, Err}
+use Rattle.std.proofs.Common.{◌≡◌, ◌≢◌, ◌⊎◌, ℕ, Bool, true, false, List, [], ◌∷◌, ◌++◌, None, refl, sym, ap, subst, ◌∙◌, inl, inr, ⊎_elim, Result, Ok, Err}
 use Rattle.std.specs.Prelude.{IsErrOf, IfErr, codes}
-use Rattle.outside_words.specs.Faults.{Rose, HasCause}
+use Rattle.outside_words.specs.Faults.{HasCause}
 use Rattle.disk_words.specs.Disk as disks
 use Rattle.notary_link.specs.Notary as notaries
 use Rattle.outside_io.specs.Sink.{State}
@@ -17,7 +17,7 @@ use Rattle.dragoon_app.specs.declared.status.Status.TheVariants as statuses
 use Rattle.dragoon_app.specs.Texts.{status_name, fault_line}
 use Rattle.validator.specs.Texts.{refusal_text}
 use Rattle.dragoon_app.specs.Outcome.{Outcome, Said, IsSaid, DiskCause, NotaryCause, refused}
-use Rattle.dragoon_app.specs.Audited.{status_of_audit, verdict_status, notarize_outcome, validate_outcome}
+use Rattle.dragoon_app.specs.Audited.{status_of_audit, notarize_outcome, validate_outcome}
 use Rattle.dragoon_app.proofs.Answering.{said_status}
 
 -- ---- the status of an answer

@@ -26,7 +26,7 @@ use Rattle.dragoon_app.specs.declared.runner.Runner.{Runner}
 use Rattle.dragoon_app.specs.Texts.{fault_line}
 use Rattle.dragoon_app.specs.Outcome.{Said, WriteCause, refused}
 use Rattle.dragoon_app.specs.Running.{Running, Timed, start, carried, world_of}
-use Rattle.dragoon_app.specs.Ran.{AreFirst, IsNext, TakesNoMore, Reads, IsOutBut, CauseOf, IsToTell, IsCutShort, Writes, IsSettled, Runs, RunsUnder, RunsOn, EndsEarly, lines_in, text_before}
+use Rattle.dragoon_app.specs.Ran.{AreFirst, IsNext, TakesNoMore, Reads, IsOutBut, CauseOf, IsToTell, IsCutAtEnd, Writes, IsSettled, Runs, RunsUnder, RunsOn, EndsEarly, lines_in, text_before}
 use Rattle.dragoon_app.specs.Carrying.{IsReady, Carries, CarriesFrom, IsWritten, IsBetween, ending, EndsWith, RunsFrom, SoundFrom}
 use Rattle.dragoon_app.proofs.Wherever.{told_both, wherever_map}
 use Rattle.dragoon_app.proofs.Written.{out_but_end}
@@ -205,7 +205,7 @@ sound_from : (first old : disks.State) (batches : List Batch) (id : ℕ) → dis
 sound_from first old batches id same (inl none) = inl none
 sound_from first old batches id same (inr some) = inr (some.0, some.1, λ bytes is. some.2 bytes ((same.images bytes).0 is))
 
-short_from : (P Q : Status → Type 0) (before text : List ℕ) (out written : State) → ((s : Status) → P s → Q s) → IsCutShort P before text out written → IsCutShort Q before text out written
+short_from : (P Q : Status → Type 0) (before text : List ℕ) (out written : State) → ((s : Status) → P s → Q s) → IsCutAtEnd P before text out written → IsCutAtEnd Q before text out written
 short_from P Q before text out written f h = ⊎_elim (λ (o : IsOutBut before text out written). inl o) (λ (t : (s : Status) × P s × IsOutBut text (text ++ fault_line s) out written). inr (t.0, f t.0 t.1, t.2)) h
 
 writes_from : (P Q : Status → Type 0) (before : List ℕ) (r : Running) (s : Status) (out written : State) → ((s : Status) → P s → Q s) → Writes P before r s out written → Writes Q before r s out written

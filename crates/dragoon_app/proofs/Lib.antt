@@ -15,6 +15,7 @@ pub mod Reading
 pub mod Written
 pub mod Nothing
 pub mod Worlds
+pub mod SoundRuns
 pub mod Wherever
 pub mod Standing
 pub mod CarriedLines

@@ -1,5 +1,5 @@
 -- A store that is made, or not.
-use Rattle.std.proofs.Common.{◌≡◌, ◌≢◌, ℕ, Bool, List, [], ◌∷◌, ◌++◌, Option, Some, None, Result, Ok, Err, refl, sym, ap, subst, ◌∙◌}
+use Rattle.std.proofs.Common.{◌≡◌, ◌≢◌, ℕ, Bool, List, [], ◌∷◌, ◌++◌, Option, Some, None, Result, Ok, Err, refl, ap, subst, ◌∙◌}
 use Rattle.std.specs.Prelude.{IsTrue, OnOk, is_some}
 use Rattle.std.proofs.lemmas.Option.{same_Some}
 use Rattle.outside_words.specs.Told.{WhereTold}

@@ -1,7 +1,7 @@
 -- A command on a store that was opened before, or wasn't.
-use Rattle.std.proofs.Common.{◌≡◌, ◌≢◌, ◌⊎◌, ◌≤◌, ℕ, List, length, Option, Some, None, refl, sym, ap, subst, ◌∙◌, arith, inl, inr, ⊎_elim, Result, Ok, Err}
+use Rattle.std.proofs.Common.{◌≡◌, ◌⊎◌, ◌≤◌, ℕ, false, List, length, Option, Some, None, refl, sym, ap, subst, ◌∙◌, arith, inl, inr, ⊎_elim, Result, Ok, Err}
 use Rattle.std.specs.Prelude.{IfSome}
-use Rattle.outside_words.specs.Faults.{Rose}
+use Rattle.outside_words.specs.Faults.{Rose, HasCause}
 use Rattle.outside_words.specs.Told.{WhereTold}
 use Rattle.outside_words.proofs.Told.{told_map}
 use Rattle.disk_words.specs.declared.DiskFail.{DiskFail}
@@ -22,7 +22,7 @@ use Rattle.store_engine.specs.Opened.{Opened, IsOpenOn}
 use Rattle.validator.specs.declared.fail.AuditFail.{AuditFail}
 use Rattle.validator.specs.declared.fail.AuditFail.TheVariants as fails
 use Rattle.validator.specs.Notarizing.{frontier_for}
-use Rattle.validator.specs.Reaching.{frontier_calls, IsLeft, IsReached, StandsAfter, MakesFor, Notarizes}
+use Rattle.validator.specs.Reaching.{frontier_calls, IsReached, StandsAfter, MakesFor, Notarizes}
 use Rattle.dragoon_app.specs.declared.status.Status.{Status}
 use Rattle.dragoon_app.specs.declared.status.Status.TheVariants as statuses
 use Rattle.dragoon_app.specs.Outcome.{Said, refused}
@@ -136,34 +136,41 @@ notarizes_from now items result s later_s first old new before after filed later
 
 -- the store stands for its bytes
 pub notarizes_opened : (now : ℕ) (answer : Result ℕ AuditFail) (s later_s : Opened) (result : Status) (old new : disks.State) (filed later : notaries.State) (clock ahead : clocks.State) (out written : sinks.State)
-    → clocks.Tells now clock ahead → Said (notarize_outcome answer) result out written
+    → s.at.is_closed ≡ false → clocks.Tells now clock ahead → Said (notarize_outcome answer) result out written
+    → HasCause fails.DiskFault old.faults new.faults answer → HasCause fails.NotaryFault filed.faults later.faults answer
     → WhereTold old.reads new.reads (λ before after. WhereTold filed.lists later.lists (λ lists later_lists. (items : List Item) → IsOpenOn s items before → Notarizes now items answer s later_s old new before after filed later lists later_lists))
     → NotarizesOpened s result old new filed later clock ahead out written
-notarizes_opened now answer s later_s result old new filed later clock ahead out written taken said told =
+notarizes_opened now answer s later_s result old new filed later clock ahead out written open_still taken said disk_cause notary_cause told =
     told_map old.reads new.reads _ _ told (λ before after h. told_map filed.lists later.lists _ _ h (λ lists later_lists n input is_open. record {
       now = now;
       taken = taken;
       none_read = refl;
       answer = answer;
       said = said;
+      disk_cause = disk_cause;
+      notary_cause = notary_cause;
       store = s;
       later_store = later_s;
       opened = is_open;
+      is_open = open_still;
       header_is = refl;
       notarizes = n (stored before).items is_open;
     }))
 
-store_from : (header : Header) (result : Status) (first old new : disks.State) (before after : List ℕ) (filed later : notaries.State) (lists later_lists : notaries.Lists) (clock ahead : clocks.State) (input left : sources.State) (out written : sinks.State) → disks.Unchanged first old
+store_from : (header : Header) (result : Status) (first old new : disks.State) (before after : List ℕ) (filed later : notaries.State) (lists later_lists : notaries.Lists) (clock ahead : clocks.State) (input left : sources.State) (out written : sinks.State) → disks.Unchanged first old → first.faults ≤ old.faults
     → NotarizesStore header result old new before after filed later lists later_lists clock ahead input left out written → NotarizesStore header result first new before after filed later lists later_lists clock ahead input left out written
-store_from header result first old new before after filed later lists later_lists clock ahead input left out written same n = record {
+store_from header result first old new before after filed later lists later_lists clock ahead input left out written same no_fewer n = record {
   now = n.now;
   taken = n.taken;
   none_read = n.none_read;
   answer = n.answer;
   said = n.said;
+  disk_cause = λ e. cause_from first.faults old.faults new.faults no_fewer (n.disk_cause e);
+  notary_cause = n.notary_cause;
   store = n.store;
   later_store = n.later_store;
   opened = n.opened;
+  is_open = n.is_open;
   header_is = n.header_is;
   notarizes = notarizes_from n.now (stored before).items n.answer n.store n.later_store first old new before after filed later lists later_lists same n.notarizes;
 }
@@ -171,11 +178,11 @@ store_from header result first old new before after filed later lists later_list
 -- ---- by how the store was opened
 
 pub notarized_opened : (id : ℕ) (s : Opened) (result : Status) (first old new : disks.State) (filed later : notaries.State) (clock ahead : clocks.State) (out written : sinks.State)
-    → IfSome first.reads (λ bytes. IsOpenOn s (stored bytes).items bytes) → s.header.id ≡ id → disks.Unchanged first old → NotarizesOpened s result old new filed later clock ahead out written
+    → IfSome first.reads (λ bytes. IsOpenOn s (stored bytes).items bytes) → s.header.id ≡ id → disks.Unchanged first old → first.faults ≤ old.faults → NotarizesOpened s result old new filed later clock ahead out written
     → (input : sources.State) → NotarizesOn id result first new filed later clock ahead input input out written
-notarized_opened id s result first old new filed later clock ahead out written opened is same told input =
+notarized_opened id s result first old new filed later clock ahead out written opened is same no_fewer told input =
     inr (inr (told_from first.reads old.reads new.reads _ _ _ same.reads opened told (λ before after is_open h.
-    let over = told_map filed.lists later.lists _ (λ lists later_lists. NotarizesStore s.header result first new before after filed later lists later_lists clock ahead input input out written) h (λ lists later_lists n. store_from s.header result first old new before after filed later lists later_lists clock ahead input input out written same (n input is_open)) in
+    let over = told_map filed.lists later.lists _ (λ lists later_lists. NotarizesStore s.header result first new before after filed later lists later_lists clock ahead input input out written) h (λ lists later_lists n. store_from s.header result first old new before after filed later lists later_lists clock ahead input input out written same no_fewer (n input is_open)) in
     subst (λ (o : Option Header). NotarizesUnder id o result first new before after filed later clock ahead input input out written) (sym is_open.stores.header_is) ((λ e. over), (λ ne. absurd (ne is))))))
 
 pub notarized_nowhere : (id : ℕ) (result : Status) (old new : disks.State) (filed : notaries.State) (clock : clocks.State) (out written : sinks.State)

@@ -1,12 +1,11 @@
 -- A sound store stays sound.
-use Rattle.std.proofs.Common.{◌≡◌, ◌≢◌, ◌⊎◌, ◌<◌, ◌≤◌, ◌+◌, ◌==◌, ℕ, Bool, true, false, cond, ltb, List, [], ◌∷◌, length, take, drop, Option, Some, None, refl, sym, ap, subst, ◌∙◌, arith, inl, inr, ⊎_elim}
+use Rattle.std.proofs.Common.{◌≡◌, ◌≢◌, ◌⊎◌, ◌<◌, ◌≤◌, ◌+◌, ◌==◌, ℕ, Bool, true, false, cond, ltb, List, [], length, take, drop, Option, Some, None, refl, sym, ap, subst, ◌∙◌, arith, inl, inr, ⊎_elim}
 use Rattle.std.specs.Prelude.{IfSome, ⊤, slice_index}
 use Rattle.std.specs.Str.{bytes_eq}
 use Rattle.std.proofs.lemmas.Bool.{cases_lt, ltb-true}
 use Rattle.std.proofs.lemmas.Bool.Decides.{nat_tests, Decides-eqb}
 use Rattle.std.proofs.lemmas.List.{get_or-take}
 use Rattle.std.proofs.lemmas.Slice.Eq.{slice_eq-Decides}
-use Rattle.outside_words.specs.Told.{WhereTold}
 use Rattle.outside_words.proofs.Told.{told_map, told_same}
 use Rattle.disk_words.specs.Disk as disks
 use Rattle.notary_link.specs.Notary as notaries
@@ -20,7 +19,6 @@ use Rattle.tuple_bytes.specs.declared.item.Item.{Item}
 use Rattle.tuple_bytes.specs.Limits.{max_moment}
 use Rattle.tuple_bytes.specs.Spelling.{head_text}
 use Rattle.tuple_bytes.specs.HeaderBytes.{header_at, header_of}
-use Rattle.history_model.specs.History.{History}
 use Rattle.history_model.specs.Stored.{store_shape, header_length, stored, front_header, stored_under}
 use Rattle.txn_journal.specs.Create.{IsFree, IsTaken}
 use Rattle.audit_model.specs.Altered.{history_in}
@@ -30,7 +28,7 @@ use Rattle.validator.specs.Safe.{KeepsSound}
 use Rattle.dragoon_app.specs.declared.command.NewStore.{NewStore}
 use Rattle.dragoon_app.specs.declared.status.Status.{Status}
 use Rattle.dragoon_app.specs.Init.{Inits, MakesStore, header_at as new_header}
-use Rattle.dragoon_app.proofs.Notarized.{only_before, told_from, told_of}
+use Rattle.dragoon_app.proofs.Notarized.{only_before, told_from}
 
 -- ---- an unchanged store
 

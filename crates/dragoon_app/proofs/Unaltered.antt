@@ -1,5 +1,5 @@
 -- Of a sound store it isn't said that it is altered.
-use Rattle.std.proofs.Common.{◌≡◌, ◌⊎◌, ℕ, ◌+◌, Bool, true, false, List, [], ◌∷◌, length, Option, Some, None, refl, sym, ap, subst, ◌∙◌, inl, inr, ⊎_elim, Result, Ok, Err}
+use Rattle.std.proofs.Common.{◌≡◌, ◌⊎◌, ℕ, ◌+◌, Bool, true, false, List, [], length, Option, Some, None, sym, ap, subst, ◌∙◌, inl, inr, ⊎_elim, Result, Ok, Err}
 use Rattle.std.specs.Prelude.{IfSome}
 use Rattle.outside_words.specs.Told.{WhereTold}
 use Rattle.outside_words.proofs.Told.{told_map}
@@ -11,7 +11,7 @@ use Rattle.outside_io.specs.Sink as sinks
 use Rattle.outside_io.specs.Source as sources
 use Rattle.tuple_bytes.specs.declared.header.Header.{Header}
 use Rattle.tuple_bytes.specs.declared.item.Item.{Item}
-use Rattle.history_model.specs.History.{History, history}
+use Rattle.history_model.specs.History.{history}
 use Rattle.history_model.specs.Stored.{stored}
 use Rattle.audit_model.specs.Altered.{history_in}
 use Rattle.audit_model.specs.Sound.{IsSound, AllNotarized, HoldsNotarized}
@@ -31,7 +31,6 @@ use Rattle.dragoon_app.specs.declared.status.Status.TheVariants as statuses
 use Rattle.dragoon_app.specs.Outcome.{Outcome, Said}
 use Rattle.dragoon_app.specs.Audited.{status_of_audit, notarize_outcome, validate_outcome, NotarizesStore, NotarizesOpened, IsUnaltered, SaysUnaltered}
 use Rattle.dragoon_app.proofs.Notarized.{told_from, told_of, if_both}
-use Rattle.dragoon_app.proofs.SoundKept.{sound_images}
 
 -- ---- what was said
 
@@ -93,7 +92,7 @@ pub validate_unaltered : SoundIsClean → (id now : ℕ) (answer : Result Verdic
     → IfSome old.reads (λ bytes. WhereTold filed.lists later.lists (Validates id now filed.limits (stored bytes) answer)) → Said (validate_outcome answer) result out written → SaysUnaltered id result old new filed later
 validate_unaltered law id now answer result old new filed later out written image told said =
     told_of old.reads new.reads _ _ (if_both old.reads old.is_image (λ bytes. WhereTold filed.lists later.lists (Validates id now filed.limits (stored bytes) answer)) image told) (λ before after h. told_map filed.lists later.lists _ _ h.1
-    (λ lists later_lists v only sound. unaltered_said (validate_outcome answer) result out written said (validated law old.is_image id now filed.limits before answer lists later_lists h.0 sound v)))
+    (λ lists later_lists v sound. unaltered_said (validate_outcome answer) result out written said (validated law old.is_image id now filed.limits before answer lists later_lists h.0 sound v)))
 
 -- ---- a notarization
 
@@ -170,7 +169,7 @@ pub notarize_unaltered : SoundIsNotRefused → (id : ℕ) (s : Opened) (result :
     → NotarizesOpened s result old new filed later clock ahead out written → SaysUnaltered id result first new filed later
 notarize_unaltered law id s result first old new filed later clock ahead out written image opened is same told =
     told_from first.reads old.reads new.reads _ _ _ same.reads (if_both first.reads first.is_image (λ bytes. IsOpenOn s (stored bytes).items bytes) image opened) told (λ before after p h. told_map filed.lists later.lists _ _ h
-    (λ lists later_lists n only sound. notarized law first.is_image id s.header result old new before after filed later lists later_lists clock ahead nothing nothing out written is p.0 sound (n nothing p.1)))
+    (λ lists later_lists n sound. notarized law first.is_image id s.header result old new before after filed later lists later_lists clock ahead nothing nothing out written is p.0 sound (n nothing p.1)))
   where
     nothing : sources.State
     nothing = record { rest = None; faults = 0 }
@@ -179,12 +178,12 @@ notarize_unaltered law id s result first old new filed later clock ahead out wri
 pub refused_unaltered : (id : ℕ) (result : Status) (old new : disks.State) (filed later : notaries.State) → IsUnaltered result → SaysUnaltered id result old new filed later
 refused_unaltered id result old new filed later is = by old.reads new.reads
   where
-    lists : (o n : Option notaries.Lists) (P Q : notaries.Lists → Type 0) → WhereTold o n (λ lists later_lists. P lists → Q lists → IsUnaltered result)
-    lists (Some l) (Some m) P Q = λ p q. is
-    lists (Some l) None P Q = tt
-    lists None n P Q = tt
+    lists : (o n : Option notaries.Lists) (P : notaries.Lists → Type 0) → WhereTold o n (λ lists later_lists. P lists → IsUnaltered result)
+    lists (Some l) (Some m) P = λ p. is
+    lists (Some l) None P = tt
+    lists None n P = tt
 
-    by : (o n : Option (List ℕ)) → WhereTold o n (λ before after. WhereTold filed.lists later.lists (λ lists later_lists. disks.Only before old → IsSound old.is_image (lists.batches id) id → IsUnaltered result))
-    by (Some b) (Some a) = lists filed.lists later.lists (λ l. disks.Only b old) (λ l. IsSound old.is_image (l.batches id) id)
+    by : (o n : Option (List ℕ)) → WhereTold o n (λ before after. WhereTold filed.lists later.lists (λ lists later_lists. IsSound old.is_image (lists.batches id) id → IsUnaltered result))
+    by (Some b) (Some a) = lists filed.lists later.lists (λ l. IsSound old.is_image (l.batches id) id)
     by (Some b) None = tt
     by None n = tt

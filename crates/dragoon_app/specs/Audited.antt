@@ -1,7 +1,7 @@
 -- What `notarize` and `validate` write, and what becomes of the store, the notary and the clock.
-use Rattle.std.specs.Prelude.{◌≡◌, ◌≢◌, ◌⊎◌, ◌≤◌, ◌+◌, ℕ, List, ◌++◌, ◌∷◌, [], codes, Option, Some, None, IfOk, IfSome, Result, Ok, Err}
+use Rattle.std.specs.Prelude.{◌≡◌, ◌≢◌, ◌⊎◌, ◌≤◌, ◌+◌, ℕ, false, List, ◌++◌, ◌∷◌, [], codes, Option, Some, None, IfOk, IfErr, IfSome, Result, Ok, Err}
 use Rattle.outside_words.specs.Told.{WhereTold}
-use Rattle.outside_words.specs.Faults.{Rose}
+use Rattle.outside_words.specs.Faults.{Rose, HasCause}
 use Rattle.disk_words.specs.Disk as disks
 use Rattle.notary_link.specs.Notary as notaries
 use Rattle.outside_io.specs.Sink as sinks
@@ -16,12 +16,12 @@ use Rattle.validator.specs.declared.verdict.Verdict.TheVariants as verdicts
 use Rattle.validator.specs.declared.fail.AuditFail.{AuditFail}
 use Rattle.validator.specs.declared.fail.AuditFail.TheVariants as fails
 use Rattle.validator.specs.Texts.{numbered, verdict_text, refusal_text}
-use Rattle.validator.specs.Verdicts.{Validates, MakesMark, questions}
+use Rattle.validator.specs.Verdicts.{Validates, MakesMark, IsOfValidation, questions}
 use Rattle.validator.specs.Reaching.{Notarizes}
 use Rattle.dragoon_app.specs.declared.status.Status.{Status}
 use Rattle.dragoon_app.specs.declared.status.Status.TheVariants as statuses
-use Rattle.dragoon_app.specs.Texts.{status_name}
-use Rattle.dragoon_app.specs.Outcome.{Outcome, IsSaid, Said, refused}
+use Rattle.dragoon_app.specs.Texts.{status_name, fault_line}
+use Rattle.dragoon_app.specs.Outcome.{Outcome, IsSaid, Said}
 use Rattle.dragoon_app.specs.Ran.{EndsEarly, EndsUnopened}
 
 -- ---- the output
@@ -40,6 +40,15 @@ status_of_audit (fails.SealMissing name) = statuses.SealMissing name
 status_of_audit (fails.OutOfTurn count) = statuses.OutOfTurn count
 status_of_audit fails.NoMemory = statuses.NoMemory
 
+-- the line that tells it; want of memory has none
+abbrev pub text_of_audit : AuditFail → List ℕ
+text_of_audit fails.NoMemory = []
+text_of_audit fail = fault_line (status_of_audit fail)
+
+-- what a command writes that was refused so
+abbrev pub refused_audit : AuditFail → Outcome
+refused_audit fail = record { status = status_of_audit fail; text = text_of_audit fail }
+
 -- the status has the refusal's name, and its detail
 abbrev pub IsNamed : AuditFail → Status → Type 0
 IsNamed fail status = IsSaid status × (status_name status ≡ refusal_text fail)
@@ -51,7 +60,7 @@ says_line s words = record { status = s; text = words ++ 10 ∷ [] }
 -- what `notarize` writes, by its answer
 abbrev pub notarize_outcome : Result ℕ AuditFail → Outcome
 notarize_outcome (Ok tiles) = says_line statuses.Ok (numbered (codes "sealed ") tiles)
-notarize_outcome (Err fail) = refused (status_of_audit fail)
+notarize_outcome (Err fail) = refused_audit fail
 
 -- a verdict that something is altered has a status of its own
 abbrev pub verdict_status : Verdict → Status
@@ -63,7 +72,7 @@ verdict_status (verdicts.Altered tiles first) = statuses.Altered
 -- what `validate` writes, by its answer
 abbrev pub validate_outcome : Result Verdict AuditFail → Outcome
 validate_outcome (Ok verdict) = says_line (verdict_status verdict) (verdict_text verdict)
-validate_outcome (Err fail) = refused (status_of_audit fail)
+validate_outcome (Err fail) = refused_audit fail
 
 -- ---- `notarize`
 
@@ -74,10 +83,13 @@ pub record NotarizesStore (header : Header) (result : Status) (old new : disks.S
   pub none_read : left ≡ input
   pub answer : Result ℕ AuditFail
   pub said : Said (notarize_outcome answer) result out written
+  pub disk_cause : HasCause fails.DiskFault old.faults new.faults answer
+  pub notary_cause : HasCause fails.NotaryFault filed.faults later.faults answer
   -- the store before and after
   pub store : Opened
   pub later_store : Opened
   pub opened : IsOpenOn store (stored before).items before
+  pub is_open : store.at.is_closed ≡ false
   pub header_is : store.header ≡ header
   pub notarizes : Notarizes now (stored before).items answer store later_store old new before after filed later lists later_lists
 
@@ -115,6 +127,9 @@ pub record ValidatesOn (id : ℕ) (result : Status) (old new : disks.State) (fil
   pub same : disks.Unchanged old new
   pub answer : Result Verdict AuditFail
   pub said : Said (validate_outcome answer) result out written
+  pub none_other : IfErr answer IsOfValidation
+  pub disk_cause : HasCause fails.DiskFault old.faults new.faults answer
+  pub notary_cause : HasCause fails.NotaryFault filed.faults later.faults answer
   pub trace : WhereTold filed.trace later.trace (MakesMark id now answer)
   pub asked : IfOk answer (λ verdict. later.asked ≤ filed.asked + questions verdict)
   pub validates : IfSome old.reads (λ bytes. WhereTold filed.lists later.lists (Validates id now filed.limits (stored bytes) answer))
@@ -129,7 +144,7 @@ IsUnaltered (statuses.SealMissing name) = ⊥
 IsUnaltered (statuses.OutOfTurn count) = ⊥
 IsUnaltered s = Unit {0}
 
--- Of a store that is sound under the id, on a settled disk, it isn't said that it is altered.
+-- Of a store that is sound under the id it isn't said that it is altered.
 abbrev pub SaysUnaltered : ℕ → Status → disks.State → disks.State → notaries.State → notaries.State → Type 0
 SaysUnaltered id result old new filed later = WhereTold old.reads new.reads (λ before after. WhereTold filed.lists later.lists (λ lists later_lists.
-    disks.Only before old → IsSound old.is_image (lists.batches id) id → IsUnaltered result))
+    IsSound old.is_image (lists.batches id) id → IsUnaltered result))

@@ -6,6 +6,7 @@ pub mod Init
 pub mod Linked
 pub mod Running
 pub mod Ran
+pub mod Laws
 pub mod Audited
 pub mod Carrying
 pub mod Top

@@ -108,8 +108,8 @@ pub record IsToTell (done : List Timed) (next : Timed) (old new : disks.State) (
   pub read : WhereTold input.rest left.rest (Reads s done next)
 
 -- at most the last reply is cut short, or a fault line behind all replies
-abbrev pub IsCutShort : (Status → Type 0) → List ℕ → List ℕ → sinks.State → sinks.State → Type 0
-IsCutShort Told before text old new = IsOutBut before text old new ⊎ ((s : Status) × Told s × IsOutBut text (text ++ fault_line s) old new)
+abbrev pub IsCutAtEnd : (Status → Type 0) → List ℕ → List ℕ → sinks.State → sinks.State → Type 0
+IsCutAtEnd Told before text old new = IsOutBut before text old new ⊎ ((s : Status) × Told s × IsOutBut text (text ++ fault_line s) old new)
 
 -- After Ok and Refused all replies are out, and no other text; then some reply is a refusal exactly where the status
 -- says so. After a fault that is told the fault line is behind them. Else the end is cut short. No other status ends a
@@ -121,8 +121,8 @@ Writes Told before r statuses.DiskFault old new = sinks.IsOut (r.text ++ fault_l
 Writes Told before r statuses.NotaryFault old new = sinks.IsOut (r.text ++ fault_line statuses.NotaryFault) old new
 Writes Told before r statuses.ReadFault old new = sinks.IsOut (r.text ++ fault_line statuses.ReadFault) old new
 Writes Told before r statuses.InputLimit old new = sinks.IsOut (r.text ++ fault_line statuses.InputLimit) old new
-Writes Told before r statuses.WriteFault old new = IsCutShort Told before r.text old new
-Writes Told before r statuses.NoMemory old new = IsCutShort Told before r.text old new
+Writes Told before r statuses.WriteFault old new = IsCutAtEnd Told before r.text old new
+Writes Told before r statuses.NoMemory old new = IsCutAtEnd Told before r.text old new
 Writes Told before r statuses.Usage old new = ⊥
 Writes Told before r statuses.NotAStore old new = ⊥
 Writes Told before r statuses.AlreadyThere old new = ⊥

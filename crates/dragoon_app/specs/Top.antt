@@ -9,28 +9,22 @@ use Rattle.dragoon_app.specs.declared.command.Command.{Command}
 use Rattle.dragoon_app.specs.declared.command.Command.TheVariants as commands
 use Rattle.dragoon_app.specs.declared.status.Status.{Status}
 use Rattle.dragoon_app.specs.declared.status.Status.TheVariants as statuses
-use Rattle.dragoon_app.specs.Outcome.{Outcome, AnswersFor, refused}
+use Rattle.dragoon_app.specs.Outcome.{AnswersFor, refused}
 use Rattle.dragoon_app.specs.Linked.{link_outcome}
-use Rattle.dragoon_app.specs.Init.{init_outcome, Inits, FitsStore}
+use Rattle.dragoon_app.specs.Init.{Inits, FitsStore}
 use Rattle.dragoon_app.specs.Ran.{RunsOn}
 use Rattle.dragoon_app.specs.Audited.{NotarizesOn, ValidatesOn, SaysUnaltered}
 
 -- ---- what is written
 
--- what was defined at the clock's second was answered, where the store tells its bytes
-pub record AnswersAt (define : ℕ → List ℕ → Outcome) (clock : clocks.State) (told : Option (List ℕ)) (result : Status) (old new : sinks.State) : Type 0 where
-  pub now : ℕ
-  pub is_now : IfSome clock.answers (λ answers. now ≡ answers 0)
-  pub answers : AnswersFor (define now) told result old new
-
--- By the command, at a second of the clock. What the others write is defined by more than the store: `Leaves` says it.
-abbrev pub AnswersBy : Option Command → clocks.State → Option (List ℕ) → Status → sinks.State → sinks.State → Type 0
-AnswersBy None = AnswersAt (λ now bytes. refused statuses.Usage)
-AnswersBy (Some commands.Link) = AnswersAt (λ now bytes. link_outcome bytes)
-AnswersBy (Some (commands.Init s)) = AnswersAt (init_outcome s)
-AnswersBy (Some (commands.Run id scripted)) = λ clock told result old new. Unit {0}
-AnswersBy (Some (commands.Notarize id)) = λ clock told result old new. Unit {0}
-AnswersBy (Some (commands.Validate id)) = λ clock told result old new. Unit {0}
+-- By the command, where the store tells its bytes. What the others write is defined by more than these: `Leaves` says it.
+abbrev pub AnswersBy : Option Command → Option (List ℕ) → Status → sinks.State → sinks.State → Type 0
+AnswersBy None = AnswersFor (λ bytes. refused statuses.Usage)
+AnswersBy (Some commands.Link) = AnswersFor link_outcome
+AnswersBy (Some (commands.Init s)) = λ told result old new. Unit {0}
+AnswersBy (Some (commands.Run id scripted)) = λ told result old new. Unit {0}
+AnswersBy (Some (commands.Notarize id)) = λ told result old new. Unit {0}
+AnswersBy (Some (commands.Validate id)) = λ told result old new. Unit {0}
 
 -- ---- what is left
 
@@ -63,6 +57,6 @@ audited_id (Some (commands.Notarize id)) = Some id
 audited_id (Some (commands.Validate id)) = Some id
 audited_id command = None
 
--- Of a sound store on a settled disk no command says that it is altered.
+-- Of a sound store no command says that it is altered.
 abbrev pub SoundIsUnaltered : Option Command → Status → disks.State → disks.State → notaries.State → notaries.State → Type 0
 SoundIsUnaltered command result old new filed later = IfSome (audited_id command) (λ id. SaysUnaltered id result old new filed later)

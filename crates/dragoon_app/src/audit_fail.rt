@@ -3,7 +3,7 @@
 ghost use Rattle.std.specs.Prelude.{◌≡◌, ◌≢◌, ◌++◌, ◌∷◌, [], codes, IfOk};
 ghost use Rattle.outside_io.specs.Sink.{GoesOn};
 ghost use Rattle.validator.specs.Texts.{refusal_text};
-ghost use Rattle.dragoon_app.specs.Audited.{status_of_audit, IsNamed};
+ghost use Rattle.dragoon_app.specs.Audited.{refused_audit, IsNamed};
 ghost use Rattle.dragoon_app.specs.Outcome.{Said, WriteCause, refused};
 
 use crate::Status;
@@ -38,7 +38,7 @@ fn refuse_by_name<O: Sink>(alloc: Global, out: &mut O, fail: AuditFail, status: 
 
 /// Tells a refusal by its line, but for want of memory, and ends with its status.
 pub fn refuse_audit<O: Sink>(alloc: Global, out: &mut O, fail: AuditFail) -> Status
-    ensures said { Said (refused (status_of_audit fail)) result (O.state out.old) (O.state out.new) }
+    ensures said { Said (refused_audit fail) result (O.state out.old) (O.state out.new) }
     ensures cause { WriteCause result (O.state out.old) (O.state out.new) }
     ensures frame { GoesOn (O.state out.old) (O.state out.new) }
 {

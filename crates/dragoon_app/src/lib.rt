@@ -11,11 +11,11 @@
 //!
 //! | The layer above may rely on | Clause of `dragoon` |
 //! |---|---|
-//! | for `link`, `init` and words that are no command: where the store tells its bytes, the status and the whole text are the defined ones, at a second that is the clock's where it tells it, up to a fault or want of memory; of a text that was cut short a front is out | `told` |
+//! | for `link`, `init` and words that are no command: where the store tells its bytes, the status and the whole text are the defined ones, for `init` at the second that the clock gave, up to a fault or want of memory; of a text that was cut short a front is out | `told`, `answers` of `InitsAt` in `leaves` |
 //! | `Usage` comes exactly where the words are no command, whatever the store is | `usage`, `no_command` |
 //! | a fault is answered only where the count of that device's faults rose | `disk_cause`, `notary_cause`, `read_cause`, `write_cause` |
 //! | a sound store, one whose every image is what is filed, stays sound under each id, whatever is answered | `sound` |
-//! | of a sound store on a settled disk neither `notarize` nor `validate` says that it is altered | `unaltered` |
+//! | of a sound store neither `notarize` nor `validate` says that it is altered | `unaltered` |
 //! | `link` leaves all devices but the output as they were, `init` the input and the notary, and `notarize` and `validate` the input | `leaves` |
 //! | after `init` answered `Ok` the store has 65 bytes: the header of the words and the clock's second, and no item; and it is durable | `made`, `stores`, `durable` of `MakesStore` in `leaves` |
 //! | a taken device, and each device where it is too late, is left as it was | `kept`, `late` there |
@@ -34,11 +34,13 @@
 //! | on a settled store a crash at any moment leaves what stood there after some first lines | `images` of `store` |
 //! | each reply that is out stands for good: every image has what the lines say that were carried out, and the notary all that they filed and marked | `kept`, `between` there |
 //! | the notary holds no more than that, unless a line was under way | `holds` there |
+//! | a run over bytes that hold what is filed begins over a sound world; it ends over one, and none of its lines tells of an alteration | the laws `sound_bytes_begin_sound` and `sound_runs_are_unaltered`, by `found` |
 //!
 //! `notarize` is `NotarizesOn` in `leaves`: the store is opened, the clock's second taken, and the tiles that have
 //! ended by then are filed, as `validator` says it; `NotAStore` comes exactly where the bytes have no header of the
 //! id, and before the clock or the notary is asked. `validate` is `ValidatesOn`: the verdict at the clock's second, and
-//! its mark; the store is as it was.
+//! its mark; the store is as it was. Where either answers a fault its count rose, also where the output then failed;
+//! want of memory writes nothing.
 //!
 //! `leading` says how many words in front of the command name devices. A further device is one more
 //! prefix there, and one more parameter of `dragoon`. A further command is a case of `command_of`, of
@@ -57,6 +59,7 @@
 mod audit_fail;
 mod command;
 mod init;
+mod laws;
 mod leading_words;
 mod line_kind;
 mod link;
@@ -70,6 +73,7 @@ mod status;
 mod top;
 mod validate;
 
+pub use laws::{sound_bytes_begin_sound, sound_runs_are_unaltered};
 pub use leading_words::leading;
 pub use status::Status;
 pub use top::dragoon;

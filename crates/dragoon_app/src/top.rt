@@ -38,7 +38,7 @@ pub fn dragoon<D: Disk, N: Notary, C: Clock, I: Source, O: Sink>(
 ) -> Status
     // Where the store tells its bytes, what they and the words define was answered and is out.
     ensures told { AnswersBy (spec.command_of (map string_bytes words.now))
-        (C.state clock.old) (D.state store.old).reads result (O.state out.old) (O.state out.new) }
+        (D.state store.old).reads result (O.state out.old) (O.state out.new) }
 
     // The words are looked at first, whatever the store tells.
     ensures usage { result ≡ Status.Usage → spec.command_of (map string_bytes words.now) ≡ None }

@@ -9,7 +9,7 @@ returns-clause-told g c =
     notarizes_opened c.now-now.result c.notarize-answer.result c.args.store.now c.notarize-answer.new.store c.say_notarized.result
     (g.D.Disk.state c.args.disk.now) (g.D.Disk.state c.notarize-answer.new.disk) (g.N.Notary.state c.args.notary.now) (g.N.Notary.state c.notarize-answer.new.notary)
     (g.C.Clock.state c.args.clock.now) (g.C.Clock.state c.now-now.new.self) (g.O.Sink.state c.args.out.now) (g.O.Sink.state c.say_notarized.new.out)
-    c.now-now.ensures.value c.say_notarized.ensures.said c.notarize-answer.ensures.told
+    c.requires.open c.now-now.ensures.value c.say_notarized.ensures.said c.notarize-answer.ensures.disk_cause c.notarize-answer.ensures.notary_cause c.notarize-answer.ensures.told
 
 pub returns-clause-no_usage : goal.returns-clause-no_usage
 returns-clause-no_usage g c = audit_no_usage c.notarize-answer.result (notarize_outcome c.notarize-answer.result) c.say_notarized.result (g.O.Sink.state c.args.out.now) (g.O.Sink.state c.say_notarized.new.out) (notarize_ends c.notarize-answer.result) c.say_notarized.ensures.said

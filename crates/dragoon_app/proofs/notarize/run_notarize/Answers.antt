@@ -11,7 +11,7 @@ returns-in-Ok-clause-told g c =
     notarized_opened c.args.id c.in-Ok.store c.notarize_opened.result
     (g.D.Disk.state c.args.disk.now) (g.D.Disk.state c.open_store.new.disk) (g.D.Disk.state c.notarize_opened.new.disk) (g.N.Notary.state c.args.notary.now) (g.N.Notary.state c.notarize_opened.new.notary)
     (g.C.Clock.state c.args.clock.now) (g.C.Clock.state c.notarize_opened.new.clock) (g.O.Sink.state c.args.out.now) (g.O.Sink.state c.notarize_opened.new.out)
-    c.in-Ok.ensures.value c.in-Ok.ensures.id c.open_store.ensures.same c.notarize_opened.ensures.told
+    c.in-Ok.ensures.value c.in-Ok.ensures.id c.open_store.ensures.same c.open_store.ensures.frame.faults c.notarize_opened.ensures.told
 
 pub returns-in-Ok-clause-sound : goal.returns-in-Ok-clause-sound
 returns-in-Ok-clause-sound g c =

@@ -1,6 +1,6 @@
 use Rattle.std.proofs.Common.{sym}
 use Rattle.notary_link.proofs.Frame as notary_frames
-use Rattle.dragoon_app.proofs.Ending.{ran_opened, ran_wanting, opened_sound, unopened_sound}
+use Rattle.dragoon_app.proofs.Ending.{ran_opened, opened_sound}
 use Rattle.dragoon_app.proofs.run.run_lines.Goals as goal
 
 pub returns-in-Ok-clause-told : goal.returns-in-Ok-clause-told

@@ -1,7 +1,7 @@
 use Rattle.std.proofs.Common.{Some, None, sym, ap, ◌∙◌}
 use Rattle.disk_words.proofs.Frame.{goes_on_same}
 use Rattle.dragoon_app.specs.declared.command.Command.{Command}
-use Rattle.dragoon_app.proofs.Defined.{none_at, link_at, inits_at, run_at, audit_at, leaves_at, unaltered_at}
+use Rattle.dragoon_app.proofs.Defined.{none_at, answers_at, leaves_at, unaltered_at}
 use Rattle.dragoon_app.proofs.SoundKept.{sound_unchanged, sound_same, sound_new}
 use Rattle.notary_link.proofs.Frame.{goes_on_same as notary_same}
 use Rattle.std.specs.Prelude.{⊤}
@@ -12,27 +12,21 @@ pub returns-in-None-clause-store_frame : goal.returns-in-None-clause-store_frame
 returns-in-None-clause-store_frame g c = goes_on_same _
 
 pub returns-in-Some-Link-clause-told : goal.returns-in-Some-Link-clause-told
-returns-in-Some-Link-clause-told g c =
-    link_at _ (g.C.Clock.state c.args.clock.now) (g.D.Disk.state c.args.store.now).reads c.run_link.result (g.O.Sink.state c.args.out.now) (g.O.Sink.state c.run_link.new.out)
-    (sym (c.in-Some-Link.is ∙ ap (λ (x : Command). Some x) c.in-Some-Link.field-0-is) ∙ c.command_of.ensures.value) c.run_link.ensures.told
+returns-in-Some-Link-clause-told g c = answers_at _ commands.Link (g.D.Disk.state c.args.store.now).reads c.run_link.result (g.O.Sink.state c.args.out.now) (g.O.Sink.state c.run_link.new.out) c.run_link.ensures.told (sym (c.in-Some-Link.is ∙ ap (λ (x : Command). Some x) c.in-Some-Link.field-0-is) ∙ c.command_of.ensures.value)
 
 pub returns-in-Some-Init-clause-told : goal.returns-in-Some-Init-clause-told
-returns-in-Some-Init-clause-told g c =
-    inits_at _ c.in-Some-Init.new (g.D.Disk.state c.args.store.now) (g.D.Disk.state c.run_init.new.store) (g.C.Clock.state c.args.clock.now) (g.C.Clock.state c.run_init.new.clock) c.run_init.result (g.O.Sink.state c.args.out.now) (g.O.Sink.state c.run_init.new.out)
-    (sym (c.in-Some-Init.is ∙ ap (λ (x : Command). Some x) c.in-Some-Init.field-0-is) ∙ c.command_of.ensures.value) c.run_init.ensures.clock_frame c.run_init.ensures.told
+returns-in-Some-Init-clause-told g c = answers_at _ (commands.Init c.in-Some-Init.new) (g.D.Disk.state c.args.store.now).reads c.run_init.result (g.O.Sink.state c.args.out.now) (g.O.Sink.state c.run_init.new.out) tt (sym (c.in-Some-Init.is ∙ ap (λ (x : Command). Some x) c.in-Some-Init.field-0-is) ∙ c.command_of.ensures.value)
 
 pub returns-in-None-clause-told : goal.returns-in-None-clause-told
 returns-in-None-clause-told g c =
-    none_at _ (g.C.Clock.state c.args.clock.now) (g.D.Disk.state c.args.store.now).reads c.refuse.result (g.O.Sink.state c.args.out.now) (g.O.Sink.state c.refuse.new.out)
+    none_at _ (g.D.Disk.state c.args.store.now).reads c.refuse.result (g.O.Sink.state c.args.out.now) (g.O.Sink.state c.refuse.new.out)
     (sym c.in-None.is ∙ c.command_of.ensures.value) c.refuse.ensures.said
 
 pub returns-in-Some-Run-clause-told : goal.returns-in-Some-Run-clause-told
-returns-in-Some-Run-clause-told g c =
-    run_at _ c.in-Some-Run.id c.in-Some-Run.is_scripted (g.C.Clock.state c.args.clock.now) (g.D.Disk.state c.args.store.now).reads c.run_lines.result (g.O.Sink.state c.args.out.now) (g.O.Sink.state c.run_lines.new.out)
-    (sym (c.in-Some-Run.is ∙ ap (λ (x : Command). Some x) c.in-Some-Run.field-0-is) ∙ c.command_of.ensures.value)
+returns-in-Some-Run-clause-told g c = answers_at _ (commands.Run c.in-Some-Run.id c.in-Some-Run.is_scripted) (g.D.Disk.state c.args.store.now).reads c.run_lines.result (g.O.Sink.state c.args.out.now) (g.O.Sink.state c.run_lines.new.out) tt (sym (c.in-Some-Run.is ∙ ap (λ (x : Command). Some x) c.in-Some-Run.field-0-is) ∙ c.command_of.ensures.value)
 
 pub returns-in-Some-Notarize-clause-told : goal.returns-in-Some-Notarize-clause-told
-returns-in-Some-Notarize-clause-told g c = audit_at _ (commands.Notarize c.in-Some-Notarize.id) (g.C.Clock.state c.args.clock.now) (g.D.Disk.state c.args.store.now).reads c.run_notarize.result (g.O.Sink.state c.args.out.now) (g.O.Sink.state c.run_notarize.new.out) tt (sym (c.in-Some-Notarize.is ∙ ap (λ (x : Command). Some x) c.in-Some-Notarize.field-0-is) ∙ c.command_of.ensures.value)
+returns-in-Some-Notarize-clause-told g c = answers_at _ (commands.Notarize c.in-Some-Notarize.id) (g.D.Disk.state c.args.store.now).reads c.run_notarize.result (g.O.Sink.state c.args.out.now) (g.O.Sink.state c.run_notarize.new.out) tt (sym (c.in-Some-Notarize.is ∙ ap (λ (x : Command). Some x) c.in-Some-Notarize.field-0-is) ∙ c.command_of.ensures.value)
 
 pub returns-in-Some-Notarize-clause-leaves : goal.returns-in-Some-Notarize-clause-leaves
 returns-in-Some-Notarize-clause-leaves g c =
@@ -44,7 +38,7 @@ returns-in-Some-Notarize-clause-unaltered g c =
     unaltered_at _ (Some (commands.Notarize c.in-Some-Notarize.id)) c.run_notarize.result (g.D.Disk.state c.args.store.now) (g.D.Disk.state c.run_notarize.new.disk) (g.N.Notary.state c.args.notary.now) (g.N.Notary.state c.run_notarize.new.notary) c.run_notarize.ensures.unaltered (sym (c.in-Some-Notarize.is ∙ ap (λ (x : Command). Some x) c.in-Some-Notarize.field-0-is) ∙ c.command_of.ensures.value)
 
 pub returns-in-Some-Validate-clause-told : goal.returns-in-Some-Validate-clause-told
-returns-in-Some-Validate-clause-told g c = audit_at _ (commands.Validate c.in-Some-Validate.id) (g.C.Clock.state c.args.clock.now) (g.D.Disk.state c.args.store.now).reads c.run_validate.result (g.O.Sink.state c.args.out.now) (g.O.Sink.state c.run_validate.new.out) tt (sym (c.in-Some-Validate.is ∙ ap (λ (x : Command). Some x) c.in-Some-Validate.field-0-is) ∙ c.command_of.ensures.value)
+returns-in-Some-Validate-clause-told g c = answers_at _ (commands.Validate c.in-Some-Validate.id) (g.D.Disk.state c.args.store.now).reads c.run_validate.result (g.O.Sink.state c.args.out.now) (g.O.Sink.state c.run_validate.new.out) tt (sym (c.in-Some-Validate.is ∙ ap (λ (x : Command). Some x) c.in-Some-Validate.field-0-is) ∙ c.command_of.ensures.value)
 
 pub returns-in-Some-Validate-clause-leaves : goal.returns-in-Some-Validate-clause-leaves
 returns-in-Some-Validate-clause-leaves g c =

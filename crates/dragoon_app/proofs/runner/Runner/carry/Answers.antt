@@ -4,7 +4,7 @@ use Rattle.notary_link.proofs.Frame as notary_frames
 use Rattle.drill_core.specs.declared.fail.LineFail.TheVariants as lines
 use Rattle.dragoon_app.specs.declared.line_kind.LineKind.TheVariants as kinds
 use Rattle.dragoon_app.specs.Running.{set_moment, refused_line}
-use Rattle.dragoon_app.proofs.Replying.{goes_by, steps_by, world_line, blank_goes, refuses_goes, sets_goes, fails_goes, moment_same, takes_for}
+use Rattle.dragoon_app.proofs.Replying.{goes_by, steps_by, blank_goes, refuses_goes, sets_goes, fails_goes, moment_same, takes_for}
 use Rattle.dragoon_app.proofs.runner.Runner.carry.Goals as goal
 
 pub returns-in_err-set_moment-in-SetsMoment-clause-disk_frame : goal.returns-in_err-set_moment-in-SetsMoment-clause-disk_frame
