@@ -43,6 +43,7 @@ module _ (w : World) (held : Held) (old new : State) (bytes : List ℕ) (lists :
     images = same_images next;
     kept = λ only. inl (stores_world w held bytes lists i);
     between = between;
+    same = λ stays. same.trace;
   }
   left next (Err fail) later id store reply keeps between = record {
     reply = tt;
@@ -51,4 +52,5 @@ module _ (w : World) (held : Held) (old new : State) (bytes : List ℕ) (lists :
     images = same_images next;
     kept = λ only. inl (stores_world w held bytes lists i);
     between = between;
+    same = λ stays. tt;
   }

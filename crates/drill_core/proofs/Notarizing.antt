@@ -8,10 +8,11 @@ use Rattle.std.proofs.lemmas.List.{append-nil, take-take}
 use Rattle.outside_words.specs.Told.{WhereTold}
 use Rattle.outside_words.proofs.Told.{told_map}
 use Rattle.disk_words.specs.Disk.{State, turn, Only, Unchanged}
-use Rattle.disk_model.specs.Moments.{EveryImage}
+use Rattle.disk_model.specs.Moments.{EveryImage, MakesCalls}
 use Rattle.disk_model.proofs.Moments.{weaker}
 use Rattle.tuple_bytes.specs.declared.header.Header.{Header}
 use Rattle.tuple_bytes.specs.declared.item.Item.{Item}
+use Rattle.tuple_bytes.specs.declared.item.Item.TheVariants as items
 use Rattle.tuple_bytes.specs.Spelling.{spell_frontier}
 use Rattle.history_model.specs.History.{history}
 use Rattle.notary_link.specs.declared.notary.NotaryLimits.{NotaryLimits}
@@ -43,7 +44,7 @@ use Rattle.drill_core.specs.Stepping.{IsReply, Goes, Steps, StepsFor}
 use Rattle.drill_core.proofs.Between.{kept_between, keeps_then, filed_keeps, filed_between}
 use Rattle.drill_core.proofs.LineKinds.{none_found, notarize_step}
 use Rattle.drill_core.proofs.Left.{left}
-use Rattle.drill_core.proofs.Tables.{HasStore, has_store}
+use Rattle.drill_core.proofs.Tables.{HasStore, has_store, never_longer, items_stay}
 use Rattle.drill_core.proofs.Validating.{replies_as, given}
 
 -- how many tiles are sealed
@@ -53,7 +54,7 @@ sealed_text tiles = numbered (codes "sealed ") tiles
 -- after a failure it is no matter where the store stands
 pub wherever : (w : World) (next : Step) (fail : LineFail) (later other : Held) (old new : State) (before after : List ℕ) (lists : Lists)
     → Goes w next (Err fail) later old new before after lists → Goes w next (Err fail) other old new before after lists
-wherever w next fail later other old new before after lists goes = record { reply = tt; stands = tt; settled = λ only. tt; images = goes.images; kept = goes.kept; between = goes.between }
+wherever w next fail later other old new before after lists goes = record { reply = tt; stands = tt; settled = λ only. tt; images = goes.images; kept = goes.kept; between = goes.between; same = λ stays. tt }
 
 keeps_none : (id : ℕ) (lists later : Lists) → Keeps lists later → FilesAll id [] lists later
 keeps_none id lists later keeps = record { filed = keeps.batches id ∙ sym (append-nil (lists.batches id)); others = λ other apart. keeps.batches other; marks = keeps.marks }
@@ -207,6 +208,15 @@ module _ (now : ℕ) (s later_s : Opened) (old new : State) (before after : List
     has.own,
   )
 
+  -- a world that stays needs no Frontier, and without one there is no call
+  needs_none : (o : Option ℕ) → Some (reached o ws) ≡ Some ws → o ≡ None
+  needs_none None stays = refl
+  needs_none (Some moment) stays = absurd (never_longer ws.items (items.Frontier moment) (items_stay (reached (Some moment) ws) ws stays))
+
+  unmoved : (o : Option ℕ) → MakesCalls (reaching.frontier_calls s o) (Ok tt) old new → o ≡ None → new.trace ≡ old.trace
+  unmoved None moves none = moves
+  unmoved (Some moment) moves none = absurd cc
+
   module _ (images : Only before old → EveryImage old new Around) (kept : Only before old → Around after) (part : FilesFew w.id batches fit lists later) where
     between : AreBetween w.lists new_world.lists later
     between = filed_between w.id w.lists lists later i.lists (take fit batches) part.done
@@ -214,7 +224,7 @@ module _ (now : ℕ) (s later_s : Opened) (old new : State) (before after : List
 
     -- where the store has reached what it needs, and what fits was filed
     abbrev IsDone : Type 0
-    IsDone = IsReached need s later_s ws.items old new before after × FilesAll w.id (take fit batches) lists later
+    IsDone = IsReached need s later_s ws.items old new before after × FilesAll w.id (take fit batches) lists later × (need ≡ None → new.trace ≡ old.trace)
 
     go : (text : List ℕ) (is_refused : Bool) (result : Result Answered LineFail) → OnOk result IsDone
         → IfOk result (λ answered. answered ≡ record { refused = is_refused; text = text })
@@ -230,6 +240,7 @@ module _ (now : ℕ) (s later_s : Opened) (old new : State) (before after : List
       images = λ only. weaker (images only) (either_of need);
       kept = λ only. either_of need after (kept only);
       between = between;
+      same = λ stays. done.2 (needs_none need (stays ∙ has.is));
     }
     go text is_refused (Err fail) done reply = record {
       reply = tt;
@@ -238,6 +249,7 @@ module _ (now : ℕ) (s later_s : Opened) (old new : State) (before after : List
       images = λ only. weaker (images only) (either_of need);
       kept = λ only. either_of need after (kept only);
       between = between;
+      same = λ stays. tt;
     }
 
     abbrev after_filing : Bool → Step
@@ -248,34 +260,34 @@ module _ (now : ℕ) (s later_s : Opened) (old new : State) (before after : List
     failed true is (Err fail) never = go (sealed_text tiles ++ 10 ∷ []) false (Err fail) tt tt
     failed false is (Err fail) never = go (codes "refused " ++ refusal_text fails.Full ++ 10 ∷ []) true (Err fail) tt tt
 
-    sealed_all : (b : Bool) → (fit == length batches) ≡ b → fit ≡ length batches → (result : Result Answered LineFail) → IsReached need s later_s ws.items old new before after → FilesAll w.id batches lists later
+    sealed_all : (b : Bool) → (fit == length batches) ≡ b → fit ≡ length batches → (result : Result Answered LineFail) → IsReached need s later_s ws.items old new before after → FilesAll w.id batches lists later → (need ≡ None → new.trace ≡ old.trace)
         → IfOk result (λ answered. answered ≡ said (sealed_text tiles)) → To (after_filing b) result
-    sealed_all true is whole result at files reply = go (sealed_text tiles ++ 10 ∷ []) false result
-        (given result (at, subst (λ (l : List Batch). FilesAll w.id l lists later) (sym (ap (λ (n : ℕ). take n batches) whole ∙ take-length batches)) files)) reply
-    sealed_all false is whole result at files reply = let yes = eq-eqb fit (length batches) whole in absurd cc
+    sealed_all true is whole result at files moves reply = go (sealed_text tiles ++ 10 ∷ []) false result
+        (given result (at, subst (λ (l : List Batch). FilesAll w.id l lists later) (sym (ap (λ (n : ℕ). take n batches) whole ∙ take-length batches)) files, moves)) reply
+    sealed_all false is whole result at files moves reply = let yes = eq-eqb fit (length batches) whole in absurd cc
 
-    sealed_some : (b : Bool) → (fit == length batches) ≡ b → fit < length batches → (result : Result Answered LineFail) → IsReached need s later_s ws.items old new before after → FilesAll w.id (take fit batches) lists later
+    sealed_some : (b : Bool) → (fit == length batches) ≡ b → fit < length batches → (result : Result Answered LineFail) → IsReached need s later_s ws.items old new before after → FilesAll w.id (take fit batches) lists later → (need ≡ None → new.trace ≡ old.trace)
         → IfOk result (λ answered. answered ≡ refusal (refusal_text fails.Full)) → To (after_filing b) result
-    sealed_some false is less result at files reply = go (codes "refused " ++ refusal_text fails.Full ++ 10 ∷ []) true result (given result (at, files)) reply
-    sealed_some true is less result at files reply = let no = ne_eqb fit (length batches) (λ e. omega (arith, e, less)) in absurd cc
+    sealed_some false is less result at files moves reply = go (codes "refused " ++ refusal_text fails.Full ++ 10 ∷ []) true result (given result (at, files, moves)) reply
+    sealed_some true is less result at files moves reply = let no = ne_eqb fit (length batches) (λ e. omega (arith, e, less)) in absurd cc
 
     pub made : fault ≡ None → (r : Result ℕ AuditFail) (result : Result Answered LineFail) → IsAnswer sealed_text r result → IsRefusedBy fault r → IfOk r (λ n. n ≡ tiles)
-        → FilesFor w.id limits batches r lists later → (left_too shut : Type 0) → reaching.StandsAfter r (IsReached need s later_s ws.items old new before after) left_too shut
+        → FilesFor w.id limits batches r lists later → reaching.MakesFor (reaching.frontier_calls s need) r old new → (left_too shut : Type 0) → reaching.StandsAfter r (IsReached need s later_s ws.items old new before after) left_too shut
         → To (all_filed w new_world batches tiles) result
-    made free (Ok n) result answer by value files L S stands = sealed_all (fit == length batches) refl (sym fit_is ∙ files.fit) result stands files.filed
+    made free (Ok n) result answer by value files moves L S stands = sealed_all (fit == length batches) refl (sym fit_is ∙ files.fit) result stands files.filed (unmoved need moves)
         (subst (λ (m : ℕ). IfOk result (λ answered. answered ≡ said (sealed_text m))) value answer)
-    made free (Err fails.Full) result answer by value files L S stands = sealed_some (fit == length batches) refl (omega (arith, fit_is, files.left)) result stands
-        (subst (λ (n : ℕ). FilesAll w.id (take n batches) lists later) fit_is files.filed) answer
-    made free (Err fails.DiskFault) result answer by value files L S stands = failed (fit == length batches) refl result answer
-    made free (Err fails.NotaryFault) result answer by value files L S stands = failed (fit == length batches) refl result answer
-    made free (Err fails.NoMemory) result answer by value files L S stands = failed (fit == length batches) refl result answer
-    made free (Err (fails.OutOfTurn count)) result answer by value files L S stands = absurd by
-    made free (Err fails.Closed) result answer by value files L S stands = let some : fault ≡ Some fails.Closed = by in absurd cc
-    made free (Err (fails.ClockBack last)) result answer by value files L S stands = let some : fault ≡ Some (fails.ClockBack last) = by in absurd cc
-    made free (Err fails.TooLate) result answer by value files L S stands = let some : fault ≡ Some fails.TooLate = by in absurd cc
-    made free (Err fails.StoreFull) result answer by value files L S stands = let some : fault ≡ Some fails.StoreFull = by in absurd cc
-    made free (Err fails.Broken) result answer by value files L S stands = let some : fault ≡ Some fails.Broken = by in absurd cc
-    made free (Err (fails.SealMissing name)) result answer by value files L S stands = let some : fault ≡ Some (fails.SealMissing name) = by in absurd cc
+    made free (Err fails.Full) result answer by value files moves L S stands = sealed_some (fit == length batches) refl (omega (arith, fit_is, files.left)) result stands
+        (subst (λ (n : ℕ). FilesAll w.id (take n batches) lists later) fit_is files.filed) (unmoved need moves) answer
+    made free (Err fails.DiskFault) result answer by value files moves L S stands = failed (fit == length batches) refl result answer
+    made free (Err fails.NotaryFault) result answer by value files moves L S stands = failed (fit == length batches) refl result answer
+    made free (Err fails.NoMemory) result answer by value files moves L S stands = failed (fit == length batches) refl result answer
+    made free (Err (fails.OutOfTurn count)) result answer by value files moves L S stands = absurd by
+    made free (Err fails.Closed) result answer by value files moves L S stands = let some : fault ≡ Some fails.Closed = by in absurd cc
+    made free (Err (fails.ClockBack last)) result answer by value files moves L S stands = let some : fault ≡ Some (fails.ClockBack last) = by in absurd cc
+    made free (Err fails.TooLate) result answer by value files moves L S stands = let some : fault ≡ Some fails.TooLate = by in absurd cc
+    made free (Err fails.StoreFull) result answer by value files moves L S stands = let some : fault ≡ Some fails.StoreFull = by in absurd cc
+    made free (Err fails.Broken) result answer by value files moves L S stands = let some : fault ≡ Some fails.Broken = by in absurd cc
+    made free (Err (fails.SealMissing name)) result answer by value files moves L S stands = let some : fault ≡ Some (fails.SealMissing name) = by in absurd cc
 
   -- ---- either way
 
@@ -303,7 +315,7 @@ module _ (now : ℕ) (s later_s : Opened) (old new : State) (before after : List
         (λ only. subst (λ (o : Option ℕ). EveryImage old new (StoresAround s.header ws.items o)) need_is (n.images only))
         (λ only. subst (λ (o : Option ℕ). StoresAround s.header ws.items o after) need_is (n.kept only))
         (subst (λ (k : ℕ). FilesFew w.id batches k lists later) fit_is (few_filed w.id limits batches r lists later files_world))
-        is r result answer by_world value_world files_world (reaching.IsLeft s later_s old new) (later_s.at.is_closed ≡ true) stands_world
+        is r result answer by_world value_world files_world (subst (λ (o : Option ℕ). reaching.MakesFor (reaching.frontier_calls s o) r old new) need_is n.trace) (reaching.IsLeft s later_s old new) (later_s.at.is_closed ≡ true) stands_world
 
     pub notarizes : Steps (lines.Plain stmts.Notarize) now w result (alone later_s) old new before after later
     notarizes = record {

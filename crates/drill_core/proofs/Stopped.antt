@@ -21,7 +21,7 @@ module _ (line : Line) (now : ℕ) (old new : State) (filed filed_later : notari
       (λ before after at. told_map filed.lists filed_later.lists (StepsOn fail held later before after) (StepsOn other_fail held other before after) at
       (λ lists later_lists steps w i within.
       let s = steps w i within in
-      record { found = s.found; may = s.may; goes = record { reply = tt; stands = tt; settled = λ only. tt; images = s.goes.images; kept = s.goes.kept; between = s.goes.between } }))
+      record { found = s.found; may = s.may; goes = record { reply = tt; stands = tt; settled = λ only. tt; images = s.goes.images; kept = s.goes.kept; between = s.goes.between; same = λ stays. tt } }))
 
   pub stops : (fail other_fail : LineFail) (s later_s : Opened) (held other : Held) → held.store ≡ Some s → held.id ≡ s.header.id
       → StepsFor line now (Err fail) (alone s) (alone later_s) old new filed filed_later → StepsFor line now (Err other_fail) held other old new filed filed_later

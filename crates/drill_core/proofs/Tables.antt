@@ -1,5 +1,5 @@
 -- A statement on tables does to the world what it does to the store's.
-use Rattle.std.proofs.Common.{◌≡◌, ◌⊎◌, ℕ, Bool, List, Option, Some, None, Result, Ok, Err, IfOk, inl, inr, refl, sym, ap, subst, ◌∙◌}
+use Rattle.std.proofs.Common.{◌≡◌, ◌⊎◌, ℕ, Bool, List, ◌++◌, ◌∷◌, [], length, length-append, Option, Some, None, Result, Ok, Err, IfOk, inl, inr, refl, sym, ap, subst, ◌∙◌, arith}
 use Rattle.outside_words.specs.Told.{WhereTold}
 use Rattle.outside_words.proofs.Told.{told_map, told_same}
 use Rattle.disk_words.specs.Disk as disks
@@ -14,7 +14,10 @@ use Rattle.session_core.specs.declared.sessions.StepFail.TheVariants as steps_as
 use Rattle.session_core.specs.Replies.{reply_text, is_refusal}
 use Rattle.session_core.specs.World as statements
 use Rattle.session_core.specs.Steps as statement_steps
-use Rattle.session_core.specs.Stepping.{StepsIn, StepsTo}
+use Rattle.session_core.specs.Stepping.{StepsIn, StepsTo, MakesFor}
+use Rattle.session_core.specs.declared.reply.Reply.TheVariants as replies
+use Rattle.tuple_bytes.specs.declared.item.Item.{Item}
+use Rattle.tuple_bytes.specs.declared.item.Item.TheVariants as items
 use Rattle.drill_core.specs.declared.answered.Answered.{Answered}
 use Rattle.drill_core.specs.declared.fail.LineFail.{LineFail}
 use Rattle.drill_core.specs.World.{World, IsIn, StoreIsIn, StoresOf, StoresEither}
@@ -59,6 +62,29 @@ pub not_notary : (fail : StepFail) → fault_of fail ≡ fails.NotaryFault → �
 not_notary steps_as.DiskFault is = absurd cc
 not_notary steps_as.NoMemory is = absurd cc
 
+-- ---- what stays has nothing more
+
+pub never_longer : (l : List Item) (x : Item) → l ++ x ∷ [] ≡ l → ⊥
+never_longer l x same = let e : length (l ++ x ∷ []) ≡ length l = ap length same in let more = length-append l (x ∷ []) in omega (arith, e, more)
+
+abbrev items_in : Option statements.World → List Item
+items_in None = []
+items_in (Some w) = w.items
+
+pub items_stay : (x w : statements.World) → Some x ≡ Some w → x.items ≡ w.items
+items_stay x w same = ap items_in same
+
+-- a reply without a transaction more has made no call
+unmoved : (w : statements.World) (next : statement_steps.Step) (reply : Reply) (s : Opened) (old new : disks.State) → MakesFor w next (Ok reply) s old new → Some next.world ≡ Some w → new.trace ≡ old.trace
+unmoved w next (replies.Committed number) s old new makes stays =
+    absurd (never_longer w.items (items.Txn makes.txn) (sym (ap (λ (x : statement_steps.Step). x.world.items) makes.stores) ∙ items_stay next.world w stays))
+unmoved w next replies.Done s old new makes stays = makes
+unmoved w next (replies.Found row) s old new makes stays = makes
+unmoved w next replies.Missing s old new makes stays = makes
+unmoved w next (replies.Scanned rows) s old new makes stays = makes
+unmoved w next (replies.Told versions) s old new makes stays = makes
+unmoved w next (replies.Refused refusal) s old new makes stays = makes
+
 module _ (s later : Opened) (header : later.header ≡ s.header) (old new : disks.State) where
   module _ (w : World) (lists : notaries.Lists) (b a : List ℕ) (i : IsIn w (alone s) b lists) (has : HasStore w s b) where
     either : (next : statement_steps.Step) (c : List ℕ) → statements.StoresEither has.world next.world c → StoresEither w (after_statement w next).world c
@@ -78,6 +104,7 @@ module _ (s later : Opened) (header : later.header ≡ s.header) (old new : disk
       images = λ only. weaker (steps.images only) (either next);
       kept = λ only. either next a (steps.kept only);
       between = kept_between w.lists lists i.lists;
+      same = λ stays. unmoved has.world next reply s old new steps.trace (stays ∙ has.is);
     }
     goes next r (Err fail) steps is = record {
       reply = tt;
@@ -86,6 +113,7 @@ module _ (s later : Opened) (header : later.header ≡ s.header) (old new : disk
       images = λ only. weaker (steps.images only) (either next);
       kept = λ only. either next a (steps.kept only);
       between = kept_between w.lists lists i.lists;
+      same = λ stays. tt;
     }
     goes next (Err fail) (Ok answered) steps is = absurd is
 

@@ -28,6 +28,8 @@ pub record Goes (w : World) (next : Step) (result : Result Answered LineFail) (l
   -- whatever was answered
   pub kept : disks.Only before old → StoresEither w next.world after
   pub between : AreBetween w.lists next.world.lists lists
+  -- where nothing is stored, no call changes the disk
+  pub same : next.world.store ≡ w.store → OnOk result (new.trace ≡ old.trace)
 
 -- what a line does to a world, where this was found
 pub record Steps (line : Line) (now : ℕ) (w : World) (result : Result Answered LineFail) (later : Held) (old new : disks.State) (before after : List ℕ) (lists : notaries.Lists) : Type 0 where

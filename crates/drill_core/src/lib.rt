@@ -25,6 +25,10 @@
 //! | whatever was answered, the notary holds the first of what the line adds, and all that it held | `between` of `Goes` |
 //! | each image of a sound store is still what was filed | `sound` of `World::line` |
 //! | a store stays open, of the same header, until a failure; after one there is none | `store` of `World::line` |
+//! | where nothing is stored, no call changes the disk | `same` of `Goes` |
+//! | a statement on tables leaves the notary | `unasked` of `World::line` |
+//! | where no store is held, whatever is told, all but `validate` are refused and call nothing | `none` of `World::line` |
+//! | a validation goes by the stored bytes and what is filed alone | `bytes` of `World::line` |
 //! | a failure is a fault of the disk or of the notary, or want of memory | `disk_cause` and `notary_cause` |
 //! | the store of the id is opened, or there is none | `value` of `World::enter` |
 //! | a world whose store is what was filed stays so at every line, and no line tells of an alteration | [`sound_worlds_stay_sound`] |
