@@ -1,5 +1,5 @@
 -- How far the file of a book goes: at most so many bytes for each seal and for each mark that it says.
-use Rattle.std.proofs.Common.{◌≡◌, ◌≤◌, ◌<◌, ◌+◌, ◌*◌, ℕ, zero, suc, List, [], ◌∷◌, ◌++◌, length, Option, None, Some, IfSome, refl, sym, ap, ◌∙◌, subst, arith, append_assoc, length-take, length-drop, drop}
+use Rattle.std.proofs.Common.{◌≡◌, ◌≤◌, ◌<◌, ◌+◌, ◌*◌, ℕ, zero, suc, List, [], ◌∷◌, ◌++◌, length, Option, None, Some, IfSome, refl, sym, ap, ◌∙◌, subst, false, true, arith, append_assoc, length-take, length-drop, drop}
 use Rattle.std.specs.Option.{is_some}
 use Rattle.std.specs.List.{All, AllByRecursion}
 use Rattle.std.proofs.lemmas.List.{append-nil}
@@ -9,13 +9,14 @@ use Rattle.byte_grammar.specs.Gated.{Shape, named_length, payload_at, with_first
 use Rattle.notary_link.specs.Notary.{Call, file, note, seals_in_all, marks_in_all}
 use Rattle.notary_link.proofs.InAll.{filed_seals, filed_marks, noted_seals, noted_marks}
 use Rattle.txn_journal.specs.Held.{Held, Standing, StandsIn, held_under, held_by}
+use Rattle.txn_journal.specs.Opening.{held_of}
 use Rattle.txn_journal.specs.Reading.{head_of, left}
 use Rattle.txn_journal.proofs.Frames.{record_from}
 use Rattle.notary_book.specs.declared.kept.Kept.{Kept}
 use Rattle.notary_book.specs.declared.pages.Pages.{Pages}
 use Rattle.notary_book.specs.Books.{lists_of, max_seals, max_marks, is_book_head, book_shape, calls_in}
 use Rattle.notary_book.specs.Calls.{call_of}
-use Rattle.notary_book.specs.Kept.{StandsFor, IsRead, next_gate, IsShort, HasPlace, IsSpelled, Knows}
+use Rattle.notary_book.specs.Kept.{StandsFor, IsRead, next_gate, IsShort, HasPlace, IsSpelled, IsReadOf, Stores, Holds, Knows}
 use Rattle.notary_book.specs.Spelling.{FitsCall, Spells}
 use Rattle.notary_book.proofs.Lists.{files, notes}
 use Rattle.notary_book.proofs.Sizes.{weight, weighs}
@@ -73,7 +74,7 @@ sizes_weigh before [] spelled fit = omega (arith, ap weight_of (append-nil befor
 sizes_weigh before (payload ∷ payloads) spelled fit = by (call_of payload) refl (λ next. sizes_weigh next payloads spelled.1 fit.1)
   where
     by : (o : Option Call) → call_of payload ≡ o → ((next : List Call) → sizes payloads + weight_of next ≤ weight_of (next ++ calls_in payloads)) → sizes (payload ∷ payloads) + weight_of before ≤ weight_of (before ++ calls_in (payload ∷ payloads))
-    by None none ih = let wrong : is_some (call_of payload) ≡ is_some {A = Call} None = ap is_some none in let is = fit.0.accepted in absurd cc
+    by None none ih = let accepted : is_some (call_of payload) ≡ true = fit.0.accepted in let wrong : false ≡ true = sym (ap is_some none) ∙ accepted in absurd cc
     by (Some call) some ih =
         let s = spelled.0 call some in
         let first : calls_in (payload ∷ payloads) ≡ call ∷ calls_in payloads = rw some refl in
@@ -100,6 +101,21 @@ pub has_place : (at : Option Standing) (pages : Pages) (payload : List ℕ) → 
 has_place at pages payload seals marks fits short = omega (arith, seals, marks, fits.short, short)
 
 -- ---- what is kept
+
+-- of an opened file
+pub holds_read : (reads : Option (List ℕ)) (head : List ℕ) (payloads seen : List (List ℕ)) (at : Standing) (found : Option Pages) (pages : Pages) → seen ≡ payloads → found ≡ Some pages → at.is_closed ≡ false → IfSome reads (StandsIn is_book_head book_shape at (held_of head payloads at)) → All (FitsRecord book_shape) payloads → IsReadOf (calls_in seen) found → IfSome found (λ pages. All IsSpelled seen) → Holds reads (record { journal = Some at; pages = pages })
+holds_read reads head payloads seen at found pages same is fresh stands fit of_seen of_spelled =
+    let some_read : IsReadOf (calls_in seen) (Some pages) = subst (IsReadOf (calls_in seen)) is of_seen in
+    let read : IsRead (calls_in payloads) pages = subst (λ (ps : List (List ℕ)). IsRead (calls_in ps) pages) same some_read in
+    let some_spelled : All IsSpelled seen = subst (λ (o : Option Pages). IfSome o (λ pages. All IsSpelled seen)) is of_spelled in
+    let spelled : All IsSpelled payloads = subst (All IsSpelled) same some_spelled in
+    record {
+      calls = calls_in payloads;
+      stands = read.stands;
+      in_file = if_map reads stands (λ b s. record { held = held_of head payloads at; stands = s; calls_are = refl; next = read.next });
+      short = if_map reads stands (λ b s. read_short at b (held_of head payloads at) pages s spelled fit read);
+      is_open = fresh;
+    }
 
 module _ (reads : Option (List ℕ)) (kept : Kept) (k : Knows reads kept) (payload : List ℕ) where
   pub placed : FitsRecord book_shape payload → IfSome reads (λ b. HasPlace kept.journal payload)

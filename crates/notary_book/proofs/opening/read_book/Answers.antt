@@ -1,14 +1,8 @@
-use Rattle.std.proofs.Common.{rules, ◌≡◌, IfSome, IfOk, OnOk, IfErr, ℕ, ◌+◌, ◌-◌, ◌*◌, ◌<◌, ◌≤◌, length, ◌/◌, ◌%◌, Bool, true, false, nat_eq, nat_lt, List, [], ◌∷◌, ◌++◌, slice_index_or, slice_set, bit_and, bit_or, Fits, w8, w32, w64, Bor, MutBor}
-use Rattle.outside_words.specs.Faults.{HasCause}
-use Rattle.outside_words.specs.Told.{WhereTold}
-use Rattle.disk_words.specs.declared.DiskFail.TheVariants.{Failed}
-use Rattle.disk_words.specs.Disk.{Unchanged, GoesOn}
-use Rattle.notary_book.specs.Anew.{Syncs}
-use Rattle.notary_book.specs.Books.{is_free}
-use Rattle.notary_book.specs.Kept.{IsReadFrom, IsSettled}
-use Rattle.notary_book.specs.Moments.{LeavesNone}
+use Rattle.notary_book.proofs.Ends.{holds_read}
 use Rattle.notary_book.proofs.opening.read_book.Goals as goal
 
--- src/opening.rt:48:1
 pub returns-in-Some-clause-value : goal.returns-in-Some-clause-value
-returns-in-Some-clause-value g c = ?
+returns-in-Some-clause-value g c =
+    let o = c.in-Ok.opened in
+    let read = c.in_ok-pages-in-Ok in
+    holds_read (g.D.Disk.state c.args.disk.now).reads o.head o.payloads c.as_slice.result.now o.journal read.field-0 c.in-Some.pages c.as_slice.ensures.value c.in-Some.is c.in-Ok.ensures.fresh c.in-Ok.ensures.value c.in-Ok.ensures.fit read.ensures.value read.ensures.spelled
