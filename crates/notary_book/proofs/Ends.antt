@@ -8,7 +8,7 @@ use Rattle.std.proofs.lemmas.Option.{same_Some}
 use Rattle.byte_grammar.specs.Gated.{Shape, named_length, payload_at, with_first, records, FitsRecord}
 use Rattle.notary_link.specs.Notary.{Call, file, note, seals_in_all, marks_in_all}
 use Rattle.notary_link.proofs.InAll.{filed_seals, filed_marks, noted_seals, noted_marks}
-use Rattle.txn_journal.specs.Held.{Held, Standing, StandsIn, held_under, held_by}
+use Rattle.txn_journal.specs.Held.{Held, Standing, StandsIn, held_under}
 use Rattle.txn_journal.specs.Opening.{held_of}
 use Rattle.txn_journal.specs.Reading.{head_of, left}
 use Rattle.txn_journal.proofs.Frames.{record_from}
@@ -16,7 +16,7 @@ use Rattle.notary_book.specs.declared.kept.Kept.{Kept}
 use Rattle.notary_book.specs.declared.pages.Pages.{Pages}
 use Rattle.notary_book.specs.Books.{lists_of, max_seals, max_marks, is_book_head, book_shape, calls_in}
 use Rattle.notary_book.specs.Calls.{call_of}
-use Rattle.notary_book.specs.Kept.{StandsFor, IsRead, next_gate, IsShort, HasPlace, IsSpelled, IsReadOf, Stores, Holds, Knows}
+use Rattle.notary_book.specs.Kept.{StandsFor, IsRead, next_gate, IsShort, HasPlace, IsSpelled, IsReadOf, Holds, Knows}
 use Rattle.notary_book.specs.Spelling.{FitsCall, Spells}
 use Rattle.notary_book.proofs.Lists.{files, notes}
 use Rattle.notary_book.proofs.Sizes.{weight, weighs}

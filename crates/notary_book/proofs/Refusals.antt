@@ -1,5 +1,5 @@
 -- What adding to the file of a book may answer, and where the next gate is then.
-use Rattle.std.proofs.Common.{◌≡◌, ◌<◌, ◌+◌, ℕ, false, List, [], length, Option, None, Some, Result, Ok, Err, IfSome, refl, sym, ap, ◌∙◌, subst, arith}
+use Rattle.std.proofs.Common.{◌≡◌, ℕ, List, [], length, Option, None, Some, Ok, Err, IfSome, sym, ap, ◌∙◌, arith}
 use Rattle.std.proofs.lemmas.Option.{same_Some}
 use Rattle.outside_words.specs.Told.{WhereTold, TellsAlike}
 use Rattle.disk_words.specs.declared.DiskFail.{DiskFail}
