@@ -7,7 +7,7 @@ use Rattle.notary_link.specs.Notary.{Call}
 use Rattle.txn_journal.specs.Held.{Held, Standing, held_by}
 use Rattle.notary_book.specs.declared.kept.Kept.{Kept}
 use Rattle.notary_book.specs.Books.{all_next, is_book_head, book_shape, is_free}
-use Rattle.notary_book.specs.Kept.{StandsFor, Stores, IsFileOf, IsOpen, Holds, IsSettled, calls_held, calls_told, end_held, StandsAt, IsKeptOf, KeepsOf, SettledOf, OpenOf, Knows}
+use Rattle.notary_book.specs.Kept.{StandsFor, Stores, IsFileOf, IsOpen, IsShort, Holds, IsSettled, calls_held, calls_told, end_held, StandsAt, IsKeptOf, KeepsOf, SettledOf, OpenOf, Knows}
 use Rattle.notary_book.proofs.Bytes.{free_unheld}
 
 free_calls : (bytes : List ℕ) → is_free bytes ≡ true → calls_told bytes ≡ []
@@ -28,20 +28,21 @@ stands_at calls at bytes stores = record {
   next = ap (all_next []) (stored_calls calls at bytes stores) ∙ stores.next;
 }
 
-pub kept_of : (calls : List Call) (kept : Kept) (bytes : List ℕ) → StandsFor calls kept.pages → IsFileOf calls kept.journal bytes → IsKeptOf bytes kept
-kept_of calls kept bytes stands f = record {
+pub kept_of : (calls : List Call) (kept : Kept) (bytes : List ℕ) → StandsFor calls kept.pages → IsFileOf calls kept.journal bytes → IsShort kept.journal kept.pages → IsKeptOf bytes kept
+kept_of calls kept bytes stands f short = record {
   stands = subst (λ (cs : List Call). StandsFor cs kept.pages) (sym (file_calls calls kept.journal bytes f)) stands;
   before = λ none. (subst (λ (at : Option Standing). IsFileOf calls at bytes) none f).1;
   behind = λ at some. stands_at calls at bytes (subst (λ (o : Option Standing). IsFileOf calls o bytes) some f);
+  short = short;
 }
 
-pub keeps_some : (calls : List Call) (reads : Option (List ℕ)) (kept : Kept) → IfSome reads (λ b. StandsFor calls kept.pages) → IfSome reads (IsFileOf calls kept.journal) → KeepsOf reads (Some kept)
-keeps_some calls reads kept stands f = λ k bytes is told.
-    let here : IsKeptOf bytes kept = kept_of calls kept bytes (subst (λ (o : Option (List ℕ)). IfSome o (λ b. StandsFor calls kept.pages)) told stands) (subst (λ (o : Option (List ℕ)). IfSome o (IsFileOf calls kept.journal)) told f) in
+pub keeps_some : (calls : List Call) (reads : Option (List ℕ)) (kept : Kept) → IfSome reads (λ b. StandsFor calls kept.pages) → IfSome reads (IsFileOf calls kept.journal) → IfSome reads (λ b. IsShort kept.journal kept.pages) → KeepsOf reads (Some kept)
+keeps_some calls reads kept stands f short = λ k bytes is told.
+    let here : IsKeptOf bytes kept = kept_of calls kept bytes (subst (λ (o : Option (List ℕ)). IfSome o (λ b. StandsFor calls kept.pages)) told stands) (subst (λ (o : Option (List ℕ)). IfSome o (IsFileOf calls kept.journal)) told f) (subst (λ (o : Option (List ℕ)). IfSome o (λ b. IsShort kept.journal kept.pages)) told short) in
     subst (IsKeptOf bytes) (same_Some kept k is) here
 
 pub keeps_read : (reads : Option (List ℕ)) (kept : Kept) → Holds reads kept → KeepsOf reads (Some kept)
-keeps_read reads kept h = keeps_some h.calls reads kept (by reads) h.in_file
+keeps_read reads kept h = keeps_some h.calls reads kept (by reads) h.in_file h.short
   where
     by : (o : Option (List ℕ)) → IfSome o (λ b. StandsFor h.calls kept.pages)
     by None = tt
@@ -96,5 +97,5 @@ pub knows_of : (reads : Option (List ℕ)) (kept : Kept) → KeepsOf reads (Some
 knows_of reads kept keeps = by reads (λ bytes told. keeps kept bytes refl told)
   where
     by : (o : Option (List ℕ)) → ((bytes : List ℕ) → o ≡ Some bytes → IsKeptOf bytes kept) → Knows o kept
-    by None f = record { calls = []; stands = tt; in_file = tt }
-    by (Some bytes) f = let k = f bytes refl in record { calls = calls_told bytes; stands = k.stands; in_file = file_of bytes kept.journal k.before k.behind }
+    by None f = record { calls = []; stands = tt; in_file = tt; short = tt }
+    by (Some bytes) f = let k = f bytes refl in record { calls = calls_told bytes; stands = k.stands; in_file = file_of bytes kept.journal k.before k.behind; short = k.short }

@@ -1,5 +1,6 @@
 pub mod Bytes
 pub mod CallLaws
+pub mod Ends
 pub mod Entries
 pub mod Keeping
 pub mod Leaving
@@ -7,6 +8,7 @@ pub mod Lists
 pub mod Looking
 pub mod Payloads
 pub mod Sizes
+pub mod Refusals
 pub mod Skips
 pub mod Storing
 pub mod Telling

@@ -11,7 +11,7 @@ use Rattle.notary_link.specs.declared.fail.NotaryFail.{NotaryFail}
 use Rattle.notary_link.specs.declared.fail.NotaryFail.TheVariants.{Failed, OutOfTurn, Full, NoMemory}
 use Rattle.notary_link.specs.Notary.{IsAsked}
 use Rattle.notary_book.specs.declared.kept.Kept.{Kept}
-use Rattle.notary_book.specs.Anew.{KeepsBehind, Syncs, IsBook, IsOfBook, Looks, OnRefusal, SyncsFirst, CountsAdding, Alters}
+use Rattle.notary_book.specs.Anew.{KeepsBehind, Syncs, IsBook, IsNoBook, IsOfBook, Looks, OnRefusal, SyncsFirst, CountsReading, Alters}
 use Rattle.notary_book.specs.Books.{lists_told}
 use Rattle.notary_book.specs.Kept.{KeepsOf}
 use Rattle.notary_book.specs.Moments.{LeavesNone}
@@ -39,7 +39,7 @@ looks_kept s kept unreadable only_now keeps some = record {
 -- ---- calls that add
 
 -- behind what is kept
-pub alters_kept : {T : Type 0} (result : Result T NotaryFail) (s s' : State) (kept : Kept) (kept' : Option Kept) (u u' : ℕ) → KeepsBehind result kept' → CountsAdding result s s' u u' → IsOfBook result s.reads → TellsAlike (lists_told s.reads) (lists_told s'.reads) → OnRefusal result (s'.reads ≡ s.reads) → GoesOn s s' → Alters result s s' (Some kept) kept' u u'
+pub alters_kept : {T : Type 0} (result : Result T NotaryFail) (s s' : State) (kept : Kept) (kept' : Option Kept) (u u' : ℕ) → KeepsBehind result kept' → CountsReading result s s' u u' → IsOfBook result s.reads → TellsAlike (lists_told s.reads) (lists_told s'.reads) → OnRefusal result (s'.reads ≡ s.reads) → GoesOn s s' → Alters result s s' (Some kept) kept' u u'
 alters_kept result s s' kept kept' u u' keeps counts finds told same on = record { keeps = keeps; syncs = λ none. absurd cc; counts = counts; finds = finds; told = told; same = same; goes_on = on }
 
 refused_then : {T : Type 0} (result : Result T NotaryFail) {P Q : Type 0} → (P → Q) → OnRefusal result P → OnRefusal result Q
@@ -57,23 +57,23 @@ refused_any (Err Full) p = p
 refused_any (Err NoMemory) p = tt
 
 -- nothing was done
-pub alters_none : {T : Type 0} (result : Result T NotaryFail) (s : State) (kept : Kept) (kept' : Option Kept) (u : ℕ) → KeepsBehind result kept' → CountsAdding result s s u u → IsOfBook result s.reads → Alters result s s (Some kept) kept' u u
+pub alters_none : {T : Type 0} (result : Result T NotaryFail) (s : State) (kept : Kept) (kept' : Option Kept) (u : ℕ) → KeepsBehind result kept' → CountsReading result s s u u → IsOfBook result s.reads → Alters result s s (Some kept) kept' u u
 alters_none result s kept kept' u keeps counts finds = alters_kept result s s kept kept' u u keeps counts finds refl (refused_any result refl) (goes_on_same s)
 
 -- adding stopped
-pub alters_added : (e : NotaryFail) (s s' : State) (kept : Kept) (kept' : Option Kept) (u u' : ℕ) → IsAsked {T = Unit {0}} (Err e) → kept' ≡ None → CountsAdding {T = Unit {0}} (Err e) s s' u u' → TellsAlike (lists_told s.reads) (lists_told s'.reads) → GoesOn s s' → Alters {T = Unit {0}} (Err e) s s' (Some kept) kept' u u'
+pub alters_added : (e : NotaryFail) (s s' : State) (kept : Kept) (kept' : Option Kept) (u u' : ℕ) → IsAsked {T = Unit {0}} (Err e) → kept' ≡ None → CountsReading {T = Unit {0}} (Err e) s s' u u' → TellsAlike (lists_told s.reads) (lists_told s'.reads) → GoesOn s s' → Alters {T = Unit {0}} (Err e) s s' (Some kept) kept' u u'
 alters_added Failed s s' kept kept' u u' only none counts told on = alters_kept (Err Failed) s s' kept kept' u u' none counts tt told tt on
 alters_added NoMemory s s' kept kept' u u' only none counts told on = alters_kept (Err NoMemory) s s' kept kept' u u' none counts tt told tt on
 alters_added (OutOfTurn count) s s' kept kept' u u' only none counts told on = absurd only
 alters_added Full s s' kept kept' u u' only none counts told on = absurd only
 
-stops_apart : {T : Type 0} (result : Result T NotaryFail) (s m s' : State) (u u' : ℕ) → s.faults ≤ m.faults → CountsAdding result m s' u u' → CountsAdding result s s' u u'
-stops_apart (Ok x) s m s' u u' le counts = counts
-stops_apart (Err Failed) s m s' u u' le (inl p) = inl (p.0, omega (arith, le, p.1))
-stops_apart (Err Failed) s m s' u u' le (inr p) = inr p
-stops_apart (Err (OutOfTurn count)) s m s' u u' le counts = counts
-stops_apart (Err Full) s m s' u u' le counts = counts
-stops_apart (Err NoMemory) s m s' u u' le counts = counts
+stops_apart : {T : Type 0} (result : Result T NotaryFail) (s m s' : State) (u u' : ℕ) → m.reads ≡ s.reads → s.faults ≤ m.faults → CountsReading result m s' u u' → CountsReading result s s' u u'
+stops_apart (Ok x) s m s' u u' same le counts = counts
+stops_apart (Err Failed) s m s' u u' same le (inl p) = inl (p.0, omega (arith, le, p.1))
+stops_apart (Err Failed) s m s' u u' same le (inr p) = inr (p.0, subst (λ (o : Option (List ℕ)). IfSome o IsNoBook) same p.1)
+stops_apart (Err (OutOfTurn count)) s m s' u u' same le counts = counts
+stops_apart (Err Full) s m s' u u' same le counts = counts
+stops_apart (Err NoMemory) s m s' u u' same le counts = counts
 
 syncs_first : (s m s' : State) → m.reads ≡ s.reads → GoesOn m s' → WhereTold s.reads m.reads (Syncs {T = Unit {0}} {E = NotaryFail} (Ok tt) s m) → WhereTold s.reads s'.reads (SyncsFirst s s')
 syncs_first s m s' same on syncs = by s.reads m.reads s'.reads same syncs
@@ -92,7 +92,7 @@ pub alters_behind : {T : Type 0} (result : Result T NotaryFail) (s m s' : State)
 alters_behind result s m s' kept kept'' k kept' u u'' u' looks alters = record {
   keeps = alters.keeps;
   syncs = λ none. syncs_first s m s' looks.reads alters.goes_on (looks.syncs none);
-  counts = stops_apart result s m s' u u' looks.goes_on.faults (subst (λ (n : ℕ). CountsAdding result m s' n u') looks.counts alters.counts);
+  counts = stops_apart result s m s' u u' looks.reads looks.goes_on.faults (subst (λ (n : ℕ). CountsReading result m s' n u') looks.counts alters.counts);
   finds = subst (λ (o : Option (List ℕ)). IsOfBook result o) looks.reads alters.finds;
   told = subst (λ (o : Option (List ℕ)). TellsAlike (lists_told o) (lists_told s'.reads)) looks.reads alters.told;
   same = refused_then result (λ e. e ∙ looks.reads) alters.same;

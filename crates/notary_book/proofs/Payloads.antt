@@ -1,12 +1,13 @@
 -- Payloads that are read one by one.
 use Rattle.std.proofs.Common.{◌≡◌, ◌<◌, ◌≤◌, ◌+◌, ℕ, Bool, true, false, List, [], ◌∷◌, ◌++◌, length, take, drop, get_or, sym, ap, ◌∙◌, subst}
 use Rattle.std.proofs.lemmas.List.{take_more, take_all, take-append-drop}
-use Rattle.std.proofs.lemmas.List.Elements.{filter_map-append}
+use Rattle.std.specs.List.{All}
+use Rattle.std.proofs.lemmas.List.Elements.{filter_map-append, All-push}
 use Rattle.notary_link.specs.Notary.{Call}
 use Rattle.notary_book.specs.declared.pages.Pages.{Pages}
 use Rattle.notary_book.specs.Books.{all_next, calls_in}
 use Rattle.notary_book.specs.Calls.{call_of}
-use Rattle.notary_book.specs.Kept.{IsRead, ReadsOn}
+use Rattle.notary_book.specs.Kept.{IsRead, ReadsOn, IsSpelled}
 use Rattle.notary_book.proofs.Lists.{stays_false}
 
 -- the calls up to a payload, and that payload's
@@ -27,3 +28,12 @@ module _ (payloads : List (List ℕ)) (i : ℕ) (item payload : List ℕ) (lt : 
 
 pub read_all : (payloads : List (List ℕ)) (i : ℕ) (pages : Pages) → length payloads ≤ i → IsRead (calls_in (take i payloads)) pages → IsRead (calls_in payloads) pages
 read_all payloads i pages le read = subst (λ (ps : List (List ℕ)). IsRead (calls_in ps) pages) (take_all i payloads le) read
+
+-- ---- each is the spelling of what it says
+
+pub spelled_more : (payloads : List (List ℕ)) (i : ℕ) (item payload : List ℕ) → i < length payloads → item ≡ get_or payloads i item → payload ≡ item → IsSpelled payload → All IsSpelled (take i payloads) → All IsSpelled (take (i + 1) payloads)
+spelled_more payloads i item payload lt is same spelled all =
+    subst (All IsSpelled) (sym (take_more payloads i item lt ∙ ap (λ (p : List ℕ). take i payloads ++ p ∷ []) (sym is ∙ sym same))) (All-push IsSpelled (take i payloads) payload all spelled)
+
+pub spelled_all : (payloads : List (List ℕ)) (i : ℕ) → length payloads ≤ i → All IsSpelled (take i payloads) → All IsSpelled payloads
+spelled_all payloads i le all = subst (All IsSpelled) (take_all i payloads le) all

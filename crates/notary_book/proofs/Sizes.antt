@@ -1,5 +1,5 @@
 -- How long a payload is.
-use Rattle.std.proofs.Common.{◌≡◌, ◌≤◌, ◌*◌, ℕ, List, [], ◌∷◌, ◌++◌, length, refl, arith}
+use Rattle.std.proofs.Common.{◌≡◌, ◌≤◌, ◌+◌, ◌*◌, ℕ, List, [], ◌∷◌, ◌++◌, length, refl, arith}
 use Rattle.std.specs.List.{flat_map, AllByRecursion}
 use Rattle.std.specs.Int.{w16, w32, w64, to_be_bytes}
 use Rattle.std.proofs.lemmas.List.{length-append}
@@ -33,8 +33,13 @@ outcome_length Clean = omega arith
 outcome_length (Altered first) = omega (arith, wide32.len first)
 outcome_length HeaderAltered = omega arith
 
-pub short : (call : Call) (bytes : List ℕ) → Spells call bytes → length bytes ≤ 262144
-short (file id index batch) bytes s =
+-- the most bytes of a call's payload
+abbrev most : Call → ℕ
+most (file id index batch) = 23 + 38 * length batch.seals
+most (note id mark) = 26
+
+at_most : (call : Call) (bytes : List ℕ) → Spells call bytes → length bytes ≤ most call
+at_most (file id index batch) bytes s =
     let seals = batch.seals in
     let body = spell_seals seals in
     let fits = s.0.1.1.1 in
@@ -42,7 +47,6 @@ short (file id index batch) bytes s =
     omega (
       arith,
       is,
-      fits.0.1,
       seals_length seals fits.1,
       wide64.len id,
       wide32.len index,
@@ -53,7 +57,7 @@ short (file id index batch) bytes s =
       length-append (to_be_bytes w32 index) (to_be_bytes w64 batch.moment ++ body),
       length-append (to_be_bytes w64 id) (to_be_bytes w32 index ++ (to_be_bytes w64 batch.moment ++ body)),
     )
-short (note id mark) bytes s =
+at_most (note id mark) bytes s =
     let last = spell_outcome mark.outcome in
     let is : length bytes ≡ length (spell_mark id mark) = rw s.1 refl in
     omega (
@@ -67,6 +71,19 @@ short (note id mark) bytes s =
       length-append (to_be_bytes w64 mark.moment) (to_be_bytes w32 mark.tiles ++ last),
       length-append (to_be_bytes w64 id) (to_be_bytes w64 mark.moment ++ (to_be_bytes w32 mark.tiles ++ last)),
     )
+
+short : (call : Call) (bytes : List ℕ) → Spells call bytes → length bytes ≤ 262144
+short (file id index batch) bytes s = omega (arith, at_most (file id index batch) bytes s, s.0.1.1.1.0.1)
+short (note id mark) bytes s = omega (arith, at_most (note id mark) bytes s)
+
+-- what a call's record takes of the file at most
+abbrev pub weight : Call → ℕ
+weight (file id index batch) = 66 * length batch.seals
+weight (note id mark) = 31
+
+pub weighs : (call : Call) (bytes : List ℕ) → Spells call bytes → 5 + length bytes ≤ weight call
+weighs (file id index batch) bytes s = omega (arith, at_most (file id index batch) bytes s, s.0.1.1.1.0.0)
+weighs (note id mark) bytes s = omega (arith, at_most (note id mark) bytes s)
 
 pub fits_record : (call : Call) (bytes : List ℕ) → Spells call bytes → FitsRecord book_shape bytes
 fits_record call bytes s = record { accepted = spelled_some bytes call s; short = short call bytes s }

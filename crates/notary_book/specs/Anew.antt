@@ -67,16 +67,11 @@ OnRefusal result P = Unit {0}
 abbrev pub SyncsFirst : State → State → List ℕ → List ℕ → Type 0
 SyncsFirst old new before after = (new.trace ≡ old.trace) ⊎ ((new.trace ≡ (sync, false) ∷ old.trace) ⊎ Extends ((sync, true) ∷ old.trace) new.trace)
 
--- a fault is the disk's, or the book counts one more; behind other answers it counts none
-abbrev pub CountsAdding : {T : Type 0} → Result T NotaryFail → State → State → ℕ → ℕ → Type 0
-CountsAdding (Err Failed) old new before after = ((after ≡ before) × Rose old.faults new.faults) ⊎ (after ≡ counted before)
-CountsAdding result old new before after = after ≡ before
-
 -- what a call that adds does beneath
 pub record Alters {T : Type 0} (result : Result T NotaryFail) (old new : State) (kept kept' : Option Kept) (before after : ℕ) : Type 0 where
   pub keeps : KeepsBehind result kept'
   pub syncs : kept ≡ None → WhereTold old.reads new.reads (SyncsFirst old new)
-  pub counts : CountsAdding result old new before after
+  pub counts : CountsReading result old new before after
   pub finds : IsOfBook result old.reads
   pub told : TellsAlike (lists_told old.reads) (lists_told new.reads)
   pub same : OnRefusal result (new.reads ≡ old.reads)

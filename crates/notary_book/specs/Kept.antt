@@ -1,5 +1,5 @@
 -- What a book keeps in memory, and what that stands for.
-use Rattle.std.specs.Prelude.{◌≡◌, ◌==◌, ℕ, Bool, true, false, List, [], ◌++◌, slice_index, Option, None, Some, is_some, IfSome}
+use Rattle.std.specs.Prelude.{◌≡◌, ◌==◌, ◌≤◌, ◌<◌, ◌+◌, ◌*◌, ℕ, Bool, true, false, List, [], ◌++◌, length, slice_index, Option, None, Some, is_some, IfSome}
 use Rattle.disk_words.specs.Disk.{State, Only}
 use Rattle.notary_link.specs.Notary.{Call, seals_in_all, marks_in_all}
 use Rattle.notary_link.specs.Shelves.{StandForLists}
@@ -7,6 +7,8 @@ use Rattle.byte_grammar.specs.Gated.{open_gate}
 use Rattle.txn_journal.specs.Held.{Held, Standing, StandsIn, held_by}
 use Rattle.notary_book.specs.declared.kept.Kept.{Kept}
 use Rattle.notary_book.specs.declared.pages.Pages.{Pages}
+use Rattle.notary_book.specs.Calls.{call_of}
+use Rattle.notary_book.specs.Spelling.{Spells}
 use Rattle.notary_book.specs.Books.{lists_of, all_next, is_book_head, book_shape, calls_in, is_free, told_by}
 
 -- the pages have what stands after these calls
@@ -49,11 +51,29 @@ abbrev pub IsOpen : Option Standing → Type 0
 IsOpen None = Unit {0}
 IsOpen (Some at) = at.is_closed ≡ false
 
+-- the place of the gate at which the next record goes; where the file is still to be made, behind its head
+abbrev pub next_gate : Option Standing → ℕ
+next_gate None = 64
+next_gate (Some at) = at.end
+
+-- the records up to it take at most 66 bytes for each seal and 31 for each mark
+abbrev pub IsShort : Option Standing → Pages → Type 0
+IsShort at pages = next_gate at ≤ 64 + (66 * pages.seals + 31 * pages.marks)
+
+-- behind a payload more, the next gate is below the limit of the file
+abbrev pub HasPlace : Option Standing → List ℕ → Type 0
+HasPlace at payload = next_gate at + 5 + length payload < 2147483648
+
+-- a payload that says a call is that call's spelling
+abbrev pub IsSpelled : List ℕ → Type 0
+IsSpelled payload = (call : Call) → call_of payload ≡ Some call → Spells call payload
+
 -- what is kept stands for what reads give, where that is told
 pub record Holds (reads : Option (List ℕ)) (kept : Kept) : Type 0 where
   pub calls : List Call
   pub stands : StandsFor calls kept.pages
   pub in_file : IfSome reads (IsFileOf calls kept.journal)
+  pub short : IfSome reads (λ bytes. IsShort kept.journal kept.pages)
   pub is_open : IsOpen kept.journal
 
 -- what was read, or the bytes are no book
@@ -92,6 +112,7 @@ pub record IsKeptOf (bytes : List ℕ) (kept : Kept) : Type 0 where
   pub stands : StandsFor (calls_told bytes) kept.pages
   pub before : kept.journal ≡ None → is_free bytes ≡ true
   pub behind : (at : Standing) → kept.journal ≡ Some at → StandsAt bytes at
+  pub short : IsShort kept.journal kept.pages
 
 -- where something is kept, and what reads give is told
 abbrev pub KeepsOf : Option (List ℕ) → Option Kept → Type 0
@@ -110,3 +131,4 @@ pub record Knows (reads : Option (List ℕ)) (kept : Kept) : Type 0 where
   pub calls : List Call
   pub stands : IfSome reads (λ bytes. StandsFor calls kept.pages)
   pub in_file : IfSome reads (IsFileOf calls kept.journal)
+  pub short : IfSome reads (λ bytes. IsShort kept.journal kept.pages)

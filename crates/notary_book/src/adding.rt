@@ -1,6 +1,6 @@
 //! Adding to the file of a book.
 
-ghost use Rattle.std.specs.Prelude.{◌≡◌, false, IfOk};
+ghost use Rattle.std.specs.Prelude.{◌≡◌, ◌+◌, false, length, IfOk, IfErr, IfSome};
 ghost use Rattle.outside_words.specs.Faults.{HasCause};
 ghost use Rattle.outside_words.specs.Told.{WhereTold};
 ghost use Rattle.disk_words.specs.declared.DiskFail.TheVariants.{Failed};
@@ -8,7 +8,8 @@ ghost use Rattle.disk_words.specs.Disk.{GoesOn};
 ghost use Rattle.byte_grammar.specs.Gated.{FitsRecord};
 ghost use Rattle.txn_journal.specs.declared.fail.JournalFail.TheVariants.{DiskFault};
 ghost use Rattle.notary_book.specs.Books.{book_shape};
-ghost use Rattle.notary_book.specs.Kept.{IsOpen};
+ghost use Rattle.txn_journal.specs.Opening.{IsOfDisk};
+ghost use Rattle.notary_book.specs.Kept.{IsOpen, next_gate, HasPlace};
 ghost use Rattle.notary_book.specs.Adding.{Clears, Makes, Starts, Adds};
 
 use crate::shape::{BookShape, book_head};
@@ -28,6 +29,9 @@ pub(crate) fn add_payload<D: Disk>(
     ensures open { IfOk result (λ now. now.is_closed ≡ false) }
     ensures told { WhereTold (D.state disk.old).reads (D.state disk.new).reads
         (Adds journal payload.now result (D.state disk.old) (D.state disk.new)) }
+    ensures only { IfSome (D.state disk.old).reads (λ bytes. HasPlace journal payload.now → IfErr result IsOfDisk) }
+    ensures gate { IfSome (D.state disk.old).reads (λ bytes.
+        IfOk result (λ now. now.end ≡ next_gate journal + 5 + length payload.now)) }
     ensures frame { GoesOn (D.state disk.old) (D.state disk.new) }
     ensures cause { HasCause DiskFault (D.state disk.old).faults (D.state disk.new).faults result }
 {
@@ -46,6 +50,8 @@ fn started<D: Disk>(
     ensures open { IfOk result (λ now. now.is_closed ≡ false) }
     ensures told { WhereTold (D.state disk.old).reads (D.state disk.new).reads
         (Starts journal result (D.state disk.old) (D.state disk.new)) }
+    ensures only { IfSome (D.state disk.old).reads (λ bytes. IfErr result IsOfDisk) }
+    ensures gate { IfSome (D.state disk.old).reads (λ bytes. IfOk result (λ now. now.end ≡ next_gate journal)) }
     ensures frame { GoesOn (D.state disk.old) (D.state disk.new) }
     ensures cause { HasCause DiskFault (D.state disk.old).faults (D.state disk.new).faults result }
 {
@@ -61,6 +67,8 @@ fn make<D: Disk>(alloc: Global, disk: &mut D) -> Result<Journal<BookShape>, Jour
     ensures open { IfOk result (λ now. now.is_closed ≡ false) }
     ensures told { WhereTold (D.state disk.old).reads (D.state disk.new).reads
         (Makes result (D.state disk.old) (D.state disk.new)) }
+    ensures only { IfSome (D.state disk.old).reads (λ bytes. IfErr result IsOfDisk) }
+    ensures gate { IfSome (D.state disk.old).reads (λ bytes. IfOk result (λ now. now.end ≡ 64)) }
     ensures frame { GoesOn (D.state disk.old) (D.state disk.new) }
     ensures cause { HasCause DiskFault (D.state disk.old).faults (D.state disk.new).faults result }
 {

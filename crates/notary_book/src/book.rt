@@ -28,7 +28,7 @@ pub struct Book<D: Disk> {
 }
 
 impl<D: Disk> Book<D> {
-    ghost use Rattle.std.specs.Prelude.{◌≡◌, ◌≤◌, ◌+◌, ◌∷◌, [], false, None, Some, IsSome, IfOk, OnOk};
+    ghost use Rattle.std.specs.Prelude.{◌≡◌, ◌≤◌, ◌+◌, ◌∷◌, [], false, length, None, Some, IsSome, IfSome, IfOk, OnOk};
     ghost use Rattle.outside_words.specs.Faults.{HasCause};
     ghost use Rattle.outside_words.specs.Told.{WhereTold};
     ghost use Rattle.disk_words.specs.Disk.{GoesOn as DiskGoesOn};
@@ -37,9 +37,9 @@ impl<D: Disk> Book<D> {
     ghost use Rattle.notary_link.specs.Batches.{IsBatch};
     ghost use Rattle.notary_link.specs.Notary.{file, note, batch_of, IsAsked, IsNotOutOfTurn, Answers, GoesOn};
     ghost use Rattle.notary_book.specs.Adding.{Adds};
-    ghost use Rattle.notary_book.specs.Anew.{Looks, OnRefusal, CountsAdding, Alters};
+    ghost use Rattle.notary_book.specs.Anew.{Looks, OnRefusal, CountsReading, Alters};
     ghost use Rattle.notary_book.specs.Books.{book_shape};
-    ghost use Rattle.notary_book.specs.Kept.{IsOpen, IsSettled};
+    ghost use Rattle.notary_book.specs.Kept.{IsOpen, next_gate, HasPlace, IsSettled};
     ghost use Rattle.notary_book.specs.Moments.{LeavesNone, LeavesOf};
     ghost use Rattle.notary_book.specs.State.{book_state};
 
@@ -111,8 +111,11 @@ impl<D: Disk> Book<D> {
             (Adds journal payload.now result (D.state self.old.disk) (D.state self.new.disk)) }
         ensures frame { DiskGoesOn (D.state self.old.disk) (D.state self.new.disk) }
         ensures unreadable { self.old.unreadable ≤ self.new.unreadable }
-        ensures counts { CountsAdding result (D.state self.old.disk) (D.state self.new.disk)
+        ensures counts { IfSome (D.state self.old.disk).reads (λ bytes. HasPlace journal payload.now)
+            → CountsReading result (D.state self.old.disk) (D.state self.new.disk)
             self.old.unreadable self.new.unreadable }
+        ensures gate { IfSome (D.state self.old.disk).reads (λ bytes.
+            IfOk result (λ now. now.end ≡ next_gate journal + 5 + length payload.now)) }
         ensures asked { self.new.asked ≡ self.old.asked }
         ensures cause { HasCause Failed ((D.state self.old.disk).faults + self.old.unreadable)
             ((D.state self.new.disk).faults + self.new.unreadable) result }

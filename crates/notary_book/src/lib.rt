@@ -26,7 +26,7 @@
 //! | it reads its file where nothing is kept, and keeps what it read but behind Failed and NoMemory | `keeps` of `Looks` and `Alters` |
 //! | while that is kept, a call that asks is answered, and calls no device; nor does a refused one | `unread`, `answers` |
 //! | before it reads it syncs, and asking makes no other changing call | `syncs` |
-//! | asking counts a fault of the book's own exactly where a reading finds no book | `counts`, `finds` |
+//! | where its disk tells its bytes, a call counts a fault of the book's own exactly where these are no book | `counts`, `finds` of `Looks` and `Alters` |
 //! | asking, and a refused call, leave what reads give | `reads` of `Looks`, `same` of `Alters` |
 //! | what is told of lists stays told | the same, `told` of `Alters` |
 //! | a payload is read as what it spells, and what is spelled is read | `proofs/CallLaws` |
@@ -38,9 +38,10 @@
 //!
 //! A look-up takes the logarithm of the ids and of the names of one id.
 //!
+//! A file is never full before the limits: what a book keeps is short (`IsShort` of `specs/Kept`).
+//!
 //! Tested, and not proved: that calls succeed where there is memory, the bytes of the worked book, and
-//! what a book says where one of its bytes is turned. Neither: that a call that adds counts no fault of
-//! the book's own over a book. It could only where its file is full, and the limits come first.
+//! what a book says where one of its bytes is turned.
 //!
 //! ```text
 //! let mut book = Book::new(alloc, FileDisk::new(rt, path));

@@ -3,6 +3,7 @@ use Rattle.notary_link.specs.declared.fail.NotaryFail.TheVariants.{Full, NoMemor
 use Rattle.notary_link.specs.declared.fail.NotaryFail.{NotaryFail}
 use Rattle.notary_link.specs.Notary.{Call, note}
 use Rattle.notary_book.proofs.Bytes.{told_file}
+use Rattle.notary_book.proofs.Ends.{placed, stays_short}
 use Rattle.notary_book.proofs.Leaving.{leaves_same, leaves_added}
 use Rattle.notary_book.proofs.Keeping.{knows_of, settled_of, open_of, keeps_some, settled_some, opens_some}
 use Rattle.notary_book.proofs.Looking.{found, alters_kept, alters_none, alters_added}
@@ -158,7 +159,9 @@ invariant_of-self-2 g c =
     let in_file = stored k.calls call NotaryFail kept.journal c.in_ok-payload.payload.items c.in_ok-journal.journal s s' c.in_ok-journal.ensures.frame spelled next k.in_file settled told in
     let still = stays_settled k.calls call NotaryFail kept.journal c.in_ok-payload.payload.items c.in_ok-journal.journal s s' c.in_ok-journal.ensures.frame spelled next k.in_file settled told in
     let stands = if_alike _ s.reads s'.reads c.in_ok-journal.ensures.frame.told (if_map s.reads k.stands (λ b stands. c.in_ok-add_mark.ensures.stands k.calls stands)) in
-    record { keeps = keeps_some (k.calls ++ call ∷ []) s'.reads _ stands in_file; settled = settled_some s' _ still; opens = opens_some _ c.in_ok-journal.ensures.open }
+    let end = rw c.deref.ensures.value at c.in_ok-journal.ensures.gate in
+    let short = if_alike _ s.reads s'.reads c.in_ok-journal.ensures.frame.told (stays_short s.reads kept k c.in_ok-payload.payload.items call c.in_ok-journal.journal c.add_mark.new.self c.in_ok-payload.ensures (λ stands. c.in_ok-add_mark.ensures.stands k.calls stands) end) in
+    record { keeps = keeps_some (k.calls ++ call ∷ []) s'.reads _ stands in_file short; settled = settled_some s' _ still; opens = opens_some _ c.in_ok-journal.ensures.open }
 
 pub returns-clause-durable : goal.returns-clause-durable
 returns-clause-durable g c =
@@ -347,9 +350,10 @@ returns-in_err-journal-clause-alters g c =
     let next = mark_next s.reads kept k c.args.id c.args.mark (sym c.has_room_for_mark.ensures.value ∙ room) in
     let e = c.in_err-journal.field-0.0 in
     let told = rw c.deref.ensures.value at c.in_err-journal.ensures.told in
+    let counts = rw c.deref.ensures.value at c.in_err-journal.ensures.counts in
     let after = either k.calls call kept.journal c.in_ok-payload.payload.items (Err e) s s' c.in_err-journal.ensures.frame spelled next k.in_file settled told (g.met.D.Disk.reads_image n.disk) (g.met.D.Disk.counts_now n.disk) in
     let same : c.from_residual-in_err-journal.result ≡ Err e = search rules in
-    rw same (alters_added e s s' kept n.kept self.unreadable n.unreadable c.in_err-journal.ensures.only c.in_err-journal.ensures.none c.in_err-journal.ensures.counts (adds_told k.calls call s s' self.asked self.unreadable n.unreadable c.in_err-journal.ensures.frame c.in_err-journal.ensures.unreadable before after) c.in_err-journal.ensures.frame)
+    rw same (alters_added e s s' kept n.kept self.unreadable n.unreadable c.in_err-journal.ensures.only c.in_err-journal.ensures.none (counts (placed s.reads kept k c.in_ok-payload.payload.items (fits_record call c.in_ok-payload.payload.items c.in_ok-payload.ensures))) (adds_told k.calls call s s' self.asked self.unreadable n.unreadable c.in_err-journal.ensures.frame c.in_err-journal.ensures.unreadable before after) c.in_err-journal.ensures.frame)
 
 pub returns-in_err-add_mark-clause-alters : goal.returns-in_err-add_mark-clause-alters
 returns-in_err-add_mark-clause-alters g c =
@@ -368,9 +372,10 @@ returns-in_err-add_mark-clause-alters g c =
     let settled = settled_of s kept c.requires.settled in
     let next = mark_next s.reads kept k c.args.id c.args.mark (sym c.has_room_for_mark.ensures.value ∙ room) in
     let told = rw c.deref.ensures.value at c.in_ok-journal.ensures.told in
+    let counts = rw c.deref.ensures.value at c.in_ok-journal.ensures.counts in
     let after = either k.calls call kept.journal c.in_ok-payload.payload.items (Ok c.in_ok-journal.journal) s s' c.in_ok-journal.ensures.frame spelled next k.in_file settled told (g.met.D.Disk.reads_image n.disk) (g.met.D.Disk.counts_now n.disk) in
     let same : c.from_residual-in_err-add_mark.result ≡ Err NoMemory = search rules in
-    rw same (alters_kept (Err NoMemory) s s' kept n.kept self.unreadable n.unreadable c.in_ok-journal.ensures.none c.in_ok-journal.ensures.counts tt (adds_told k.calls call s s' self.asked self.unreadable n.unreadable c.in_ok-journal.ensures.frame c.in_ok-journal.ensures.unreadable before after) tt c.in_ok-journal.ensures.frame)
+    rw same (alters_kept (Err NoMemory) s s' kept n.kept self.unreadable n.unreadable c.in_ok-journal.ensures.none (counts (placed s.reads kept k c.in_ok-payload.payload.items (fits_record call c.in_ok-payload.payload.items c.in_ok-payload.ensures))) tt (adds_told k.calls call s s' self.asked self.unreadable n.unreadable c.in_ok-journal.ensures.frame c.in_ok-journal.ensures.unreadable before after) tt c.in_ok-journal.ensures.frame)
 
 pub returns-clause-alters : goal.returns-clause-alters
 returns-clause-alters g c =
@@ -389,5 +394,6 @@ returns-clause-alters g c =
     let settled = settled_of s kept c.requires.settled in
     let next = mark_next s.reads kept k c.args.id c.args.mark (sym c.has_room_for_mark.ensures.value ∙ room) in
     let told = rw c.deref.ensures.value at c.in_ok-journal.ensures.told in
+    let counts = rw c.deref.ensures.value at c.in_ok-journal.ensures.counts in
     let after = either k.calls call kept.journal c.in_ok-payload.payload.items (Ok c.in_ok-journal.journal) s s' c.in_ok-journal.ensures.frame spelled next k.in_file settled told (g.met.D.Disk.reads_image n.disk) (g.met.D.Disk.counts_now n.disk) in
-    alters_kept (Ok tt) s s' kept _ self.unreadable n.unreadable refl c.in_ok-journal.ensures.counts (found s.reads (Some kept) c.requires.keeps refl) (adds_told k.calls call s s' self.asked self.unreadable n.unreadable c.in_ok-journal.ensures.frame c.in_ok-journal.ensures.unreadable before after) tt c.in_ok-journal.ensures.frame
+    alters_kept (Ok tt) s s' kept _ self.unreadable n.unreadable refl (counts (placed s.reads kept k c.in_ok-payload.payload.items (fits_record call c.in_ok-payload.payload.items c.in_ok-payload.ensures))) (found s.reads (Some kept) c.requires.keeps refl) (adds_told k.calls call s s' self.asked self.unreadable n.unreadable c.in_ok-journal.ensures.frame c.in_ok-journal.ensures.unreadable before after) tt c.in_ok-journal.ensures.frame
