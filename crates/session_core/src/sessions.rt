@@ -58,7 +58,7 @@ impl Sessions {
         requires fits { FitsParts line.now }
         ensures open { OnOk result (store.new.at.is_closed ≡ false) }
         ensures header { store.new.header ≡ store.old.header }
-    ensures kept { OnErr result (IsLeft store.old store.new) }
+        ensures kept { OnErr result (IsLeft store.old store.new) }
         ensures same { LeavesBoth result store.old store.new (D.state disk.old) (D.state disk.new) }
         ensures told { WhereTold (D.state disk.old).reads (D.state disk.new).reads
             (StepsTo line.now now result store.old store.new (D.state disk.old) (D.state disk.new)) }

@@ -62,7 +62,13 @@ fn failing(
     let mut out = MemSink::new(alloc, writes.to_vec(alloc)?);
     let mut notary = notary(alloc);
     let status = dragoon(
-        alloc, &words, &mut store, &mut notary, &mut clock, &mut input, &mut out,
+        alloc,
+        &words,
+        &mut store,
+        &mut notary,
+        &mut clock,
+        &mut input,
+        &mut out,
     );
     Ok((status.code(), out.bytes().to_vec(alloc)?))
 }

@@ -33,11 +33,7 @@ fn sealed(
 }
 
 /// The same store with other bytes at these places.
-fn altered(
-    alloc: Global,
-    store: &MemDisk,
-    changes: &[(usize, u8)],
-) -> Result<MemDisk, AllocError> {
+fn altered(alloc: Global, store: &MemDisk, changes: &[(usize, u8)]) -> Result<MemDisk, AllocError> {
     let mut bytes = store.bytes().to_vec(alloc)?;
     for (place, byte) in changes {
         if let Some(changed) = bytes.get_mut(*place) {
@@ -190,10 +186,24 @@ fn a_week_of_a_ledger_is_found_altered(rt: HostRuntime) -> Result<(), Fail> {
     script.extend_from_slice(b"now 604800\nnotarize\n")?;
     let mut store = made(alloc, "init 18 3600 3 ta")?;
     let mut filed = notary(alloc);
-    let answered = audit(alloc, &mut store, &mut filed, "run 18 scripted", &script, &[])?;
+    let answered = audit(
+        alloc,
+        &mut store,
+        &mut filed,
+        "run 18 scripted",
+        &script,
+        &[],
+    )?;
     assert!(rt; answered.1.ends_with(b"ok\nsealed 21\n"));
     let mut other = altered(alloc, &store, &[(6764, 0xe9)])?;
-    let answered = audit(alloc, &mut other, &mut filed, "validate 18", b"", &[605_000])?;
+    let answered = audit(
+        alloc,
+        &mut other,
+        &mut filed,
+        "validate 18",
+        b"",
+        &[605_000],
+    )?;
     assert_eq!(rt; answered.1.as_slice(), b"altered 21 from 6\n".as_slice());
     Ok(())
 }

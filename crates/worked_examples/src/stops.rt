@@ -31,7 +31,10 @@ fn a_disk_that_fails_keeps_what_was_acknowledged(rt: HostRuntime) -> Result<(), 
             let (wanted, count) = match call {
                 1..=4 => (stopped(alloc, b"", b"fault DiskFault\n")?, 0),
                 5..=8 => (stopped(alloc, b"ok 1\n", b"fault DiskFault\n")?, 1),
-                9..=12 => (stopped(alloc, b"ok 1\nok 2\nok\n", b"fault DiskFault\n")?, 2),
+                9..=12 => (
+                    stopped(alloc, b"ok 1\nok 2\nok\n", b"fault DiskFault\n")?,
+                    2,
+                ),
                 _ => (REPLIES.to_vec(alloc)?, 3),
             };
             assert_eq!(rt; answered.1.as_slice(), wanted.as_slice());
@@ -93,7 +96,14 @@ fn a_notary_that_fails_is_asked_again(rt: HostRuntime) -> Result<(), Fail> {
 fn filled(alloc: Global) -> Result<MemDisk, AllocError> {
     let mut store = made(alloc, "init 9 60 2 ta")?;
     let script = b"create t k int\ninsert t 1\n";
-    let _filled = audit(alloc, &mut store, &mut notary(alloc), "run 9 scripted", script, &[])?;
+    let _filled = audit(
+        alloc,
+        &mut store,
+        &mut notary(alloc),
+        "run 9 scripted",
+        script,
+        &[],
+    )?;
     Ok(store)
 }
 
@@ -110,7 +120,14 @@ fn crash_in_notarize(
     let mut device = MemDisk::new(alloc);
     device.failing(Vec::new(alloc), vec![in alloc; of_book]?);
     let mut book = Book::new(alloc, device);
-    let _stopped = audit(alloc, &mut store, &mut book, "run 9 scripted", b"now 240\nnotarize\n", &[])?;
+    let _stopped = audit(
+        alloc,
+        &mut store,
+        &mut book,
+        "run 9 scripted",
+        b"now 240\nnotarize\n",
+        &[],
+    )?;
     store.crash(choice)?;
     let mut device = book.into_disk();
     device.crash(choice)?;
