@@ -1,5 +1,7 @@
+pub mod After
 mod Counted
 mod Entered
+pub mod FewMarks
 mod FiledEach
 mod FiledInTurn
 mod FirstDigests
@@ -8,6 +10,7 @@ pub mod Found
 pub mod Frame
 pub mod InAll
 pub mod Names
+pub mod Quiet
 pub mod Runs
 pub mod Standing
 pub mod Sums

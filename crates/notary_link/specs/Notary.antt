@@ -3,6 +3,7 @@ use Rattle.std.specs.Prelude.{◌≡◌, ◌≢◌, ◌⊎◌, ◌<◌, ◌≤�
 use Rattle.std.specs.List.{slice_get}
 use Rattle.std.specs.Option.{is_some}
 use Rattle.outside_words.specs.Faults.{Rose}
+use Rattle.outside_words.specs.Quiet.{RisesByFailed}
 use Rattle.outside_words.specs.Told.{WhereTold, TellsAlike}
 use Rattle.outside_words.specs.Trace.{Continues}
 use Rattle.notary_link.specs.declared.answer.Answer.{Answer}
@@ -38,6 +39,8 @@ pub record State : Type 0 where
   pub trace : Option (List Entry)
   -- whether the changing call of a turn is to fail, where it is told
   pub plan : Option (ℕ → Bool)
+  -- no asking call is to fail, and memory is all that it may want besides
+  pub sure : Bool
   -- how many questions were asked
   pub asked : ℕ
   -- how often the notary has failed
@@ -206,5 +209,7 @@ pub record GoesOn (old new : State) : Type 0 where
   pub trace : WhereTold old.trace new.trace (Continues is_failed old.plan)
   pub limits : new.limits ≡ old.limits
   pub plan : new.plan ≡ old.plan
+  pub sure : new.sure ≡ old.sure
   pub asked : old.asked ≤ new.asked
   pub faults : old.faults ≤ new.faults
+  pub quiet : old.sure ≡ true → WhereTold old.trace new.trace (RisesByFailed is_failed old.faults new.faults)

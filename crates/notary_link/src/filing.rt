@@ -25,7 +25,8 @@ pub fn file_each<N: Notary>(
     requires batches { All IsBatch batches.now }
     requires few { from + length batches.now < 2 ^ 32 }
     ensures told { WhereTold (N.state notary.old).lists (N.state notary.new).lists
-        (FilesEach id from (N.state notary.old).limits (planned moment batches.now) result) }
+        (FilesEach id from (N.state notary.old).limits (planned moment batches.now) result
+        (N.state notary.old).trace (N.state notary.new).trace) }
     ensures in_turn { WhereTold (N.state notary.old).lists (N.state notary.new).lists
         (λ before after. from ≡ length (before.batches id)
         → FilesInTurn id (N.state notary.old).limits (planned moment batches.now) result before after) }

@@ -12,7 +12,7 @@
 //! | | nothing has changed | `same` |
 //! | | only `ask` raises the number of questions, by at most one | `asked` |
 //! | `file`, `mark` | after Ok one batch or mark more; OutOfTurn exactly where the index is not the count; then Full exactly where there is no room; both have their cause also where the telling of lists ends in the call; after `Failed` or `NoMemory` it is there, in its turn and within the limits, or isn't; nothing else changes | `change` |
-//! | all of them | lists only grow; their telling ends only where faults rose, and for good; the changing calls are added to the trace as planned; the limits stay | `frame` |
+//! | all of them | lists only grow; their telling ends only where faults rose, and for good; the changing calls are added to the trace as planned; the limits stay; over a notary that is sure of its asking calls faults rise only by changing calls that failed | `frame` |
 //! | | `Failed` comes only where the notary counted a fault in that call | `cause` |
 //!
 //! A list of numbers is given to [`MemNotary`] to say which calls are to fail; the frame then says
@@ -31,12 +31,13 @@
 //!
 //! | A call above | After it | Clause |
 //! |---|---|---|
-//! | [`file_each`] | all batches are filed, or those up to one that was not | `told` |
+//! | [`file_each`] | all batches are filed, or those up to one that was not, by as many calls | `told` |
 //! | | from the next index on, those that fit are filed, or after a failure the first of these | `in_turn` |
 //! | | these calls were made in order, and none after one that was not done | `trace` |
 //!
 //! `proofs/Runs` joins such runs of calls, and says which of them failed, where one is planned to;
-//! `proofs/Found` says what is found under a name after one more batch.
+//! `proofs/Found` says what is found under a name after one more batch, `proofs/Quiet` where no fault
+//! came, and `proofs/After` that the lists of a notary in memory follow from its trace.
 //!
 //! Tested, and not proved: that calls succeed where there is memory.
 //!
@@ -58,8 +59,6 @@ mod name;
 mod notary;
 mod seal;
 mod shelf;
-#[cfg(test)]
-mod tests;
 mod untold;
 
 pub use answer::{Answer, compare};

@@ -1,7 +1,8 @@
 //! A notary in memory. It keeps a record of its changing calls, and what it needs to answer at once.
 
-ghost use Rattle.std.specs.Prelude.{◌≡◌, ◌≤◌, ◌+◌, ◌-◌, ◌^◌, ◌↔◌, [], min, ℕ, length, Contains, IsTrue};
+ghost use Rattle.std.specs.Prelude.{◌≡◌, ◌≤◌, ◌+◌, ◌-◌, ◌^◌, ◌↔◌, [], min, true, ℕ, length, Contains, IsTrue};
 ghost use Rattle.outside_words.specs.Faults.{Rose};
+ghost use Rattle.outside_words.specs.Quiet.{none_listed};
 ghost use Rattle.notary_link.specs.Calls.{trace_of, lists_of};
 ghost use Rattle.notary_link.specs.Notary.{seals_in_all, marks_in_all};
 ghost use Rattle.notary_link.specs.Shelves.{StandForLists};
@@ -42,6 +43,7 @@ pub struct MemNotary {
     ghost few: { (id : ℕ) → length ((lists_of made.items).batches id) ≤ seals },
     ghost within: { seals ≤ limits.seals },
     ghost limited: { limits.seals ≤ 4294967295 },
+    ghost few_marks: { marks ≤ 4294967295 },
     ghost begun: { failing_from ≤ length made.items },
 }
 
@@ -78,7 +80,9 @@ impl MemNotary {
         ensures asks { listed_asks_of self.new ≡ record { made = 0; failing = asks.items } }
         ensures changes { (state_of self.new).plan
             ≡ Some (listed_from (turn_of self.old) changes.items) }
-        ensures same { record (state_of self.new) { plan = (state_of self.old).plan } ≡ state_of self.old }
+        ensures sure { (state_of self.new).sure ≡ none_listed asks.items }
+        ensures same { record (state_of self.new) { plan = (state_of self.old).plan; sure = (state_of self.old).sure }
+            ≡ state_of self.old }
     {
         self.asks = 0;
         self.failing_asks = asks;
@@ -97,6 +101,7 @@ impl MemNotary {
 }
 
 impl Notary for MemNotary {
+    ghost use Rattle.std.proofs.Common.{subst};
     ghost use Rattle.std.specs.Prelude.{IsErrOf, OnErr};
     ghost use Rattle.outside_words.specs.Faults.{HasCause};
     ghost use Rattle.outside_words.specs.Listed.{counted, FailsAsListed};
@@ -108,6 +113,8 @@ impl Notary for MemNotary {
     ghost state = { state_of };
 
     ghost limited = { λ n. n.limited };
+
+    ghost few_marks = { λ n. subst (λ (marks : ℕ). marks ≤ 4294967295) n.marks_are n.few_marks };
 
     fn count(&mut self, id: u64) -> Result<u32, NotaryFail>
         ensures value { GivesCount id result (state_of self.old) }
@@ -244,7 +251,7 @@ impl Notary for MemNotary {
 }
 
 impl MemNotary {
-    ghost use Rattle.std.specs.Prelude.{◌⊎◌, true, false, Err, OnErr};
+    ghost use Rattle.std.specs.Prelude.{◌⊎◌, false, Err, OnErr};
     ghost use Rattle.outside_words.specs.Faults.{HasCause};
     ghost use Rattle.outside_words.specs.Listed.{listed_from};
     ghost use Rattle.notary_link.specs.declared.fail.NotaryFail.TheVariants.{Failed, NoMemory};
@@ -293,6 +300,7 @@ fn is_listed(asks: &mut u64, failing: &[u64], faults: &mut u64) -> bool
     ensures value { IsTrue result ↔ Contains failing.now asks.new }
     ensures later { faults.old ≤ faults.new }
     ensures rose { IsTrue result → Rose faults.old faults.new }
+    ensures quiet { none_listed failing.now ≡ true → faults.new ≡ faults.old }
 {
     *asks = asks.saturating_add(1);
     let listed = failing.contains(asks);

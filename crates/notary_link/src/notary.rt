@@ -1,10 +1,10 @@
 //! A notary as its callers see it.
 
-ghost use Rattle.std.specs.Prelude.{◌≡◌, ◌≤◌, ◌+◌};
+ghost use Rattle.std.specs.Prelude.{◌≡◌, ◌≤◌, ◌+◌, IfSome};
 ghost use Rattle.outside_words.specs.Faults.{HasCause};
 ghost use Rattle.notary_link.specs.declared.fail.NotaryFail.TheVariants.{Failed};
 ghost use Rattle.notary_link.specs.Batches.{IsBatch};
-ghost use Rattle.notary_link.specs.Notary.{State, file, note, batch_of, GivesCount, GivesAnswer, GivesMoment, GivesMark, IsAsked, IsNotOutOfTurn, Unchanged, Answers, GoesOn};
+ghost use Rattle.notary_link.specs.Notary.{State, file, note, batch_of, GivesCount, GivesAnswer, GivesMoment, GivesMark, IsAsked, IsNotOutOfTurn, Unchanged, Answers, GoesOn, marks_in_all};
 
 use crate::answer::Answer;
 use crate::fail::NotaryFail;
@@ -25,8 +25,8 @@ pub struct NotaryLimits {
 /// call, what it would add is there, in its turn and within the limits, or isn't; after any other
 /// refusal all is as it was.
 pub trait Notary {
-    /// What is filed and marked, the limits, the changing calls so far and which are to fail, and
-    /// the counts of questions and of faults.
+    /// What is filed and marked, the limits, the changing calls so far and which calls are to fail,
+    /// and the counts of questions and of faults.
     ghost state: { Self → State };
 
     /// How many batches there are under an id.
@@ -82,4 +82,7 @@ pub trait Notary {
 
     /// The number of batches fits a `u32`, since each has a seal.
     ghost limited: { (n : Self) → (state n).limits.seals ≤ 4294967295 };
+
+    /// The number of marks in all fits a `u32`, where they are told.
+    ghost few_marks: { (n : Self) → IfSome (state n).lists (λ lists. marks_in_all lists ≤ 4294967295) };
 }

@@ -43,6 +43,8 @@ impl<N: Notary> Notary for Untold<N> {
 
     ghost limited = { λ n. N.limited n.below };
 
+    ghost few_marks = { λ n. tt };
+
     fn count(&mut self, id: u64) -> Result<u32, NotaryFail>
         ensures value { GivesCount id result (N.state (below self.old)) }
         ensures only { IsAsked result }

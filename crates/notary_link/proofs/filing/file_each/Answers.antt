@@ -4,8 +4,8 @@ use Rattle.notary_link.specs.declared.seal.Seal.{Seal}
 use Rattle.notary_link.specs.Batches.{IsBatch}
 use Rattle.notary_link.specs.Filing.{planned}
 use Rattle.notary_link.proofs.Frame.{goes_on_same, goes_on_then}
-use Rattle.notary_link.proofs.FiledEach.{all_taken, calls_on, filing_stopped, calls_stopped}
-use Rattle.notary_link.proofs.FiledInTurn.{none_filed, front_filed, front_more, all_in_turn, stopped_in_turn}
+use Rattle.notary_link.proofs.FiledEach.{all_taken, calls_on, calls_counted, calls_stopped}
+use Rattle.notary_link.proofs.FiledInTurn.{none_filed, front_filed, front_more, all_in_turn, filing_stopped, stopped_in_turn}
 use Rattle.notary_link.proofs.Runs.{made_none}
 use Rattle.notary_link.proofs.filing.file_each.Goals as goal
 
@@ -51,7 +51,9 @@ returns-in_err-file-clause-told g c =
     let S = g.N.Notary.state in
     let change = rw (c.as_slice.ensures.value, c.loop-batch.invariant.index) at c.in_err-file.ensures.change in
     let same : c.from_residual.result ≡ Err c.in_err-file.field-0.0 = search rules in
-    rw same (filing_stopped c.args.id c.args.from c.args.moment c.args.batches.now c.loop-batch.batch-index c.batch-item.result c.loop-batch-test.true c.batch-item.is (S c.args.notary.now) (S c.loop-batch.notary) (S c.file.new.self) c.loop-batch.invariant.frame c.in_err-file.ensures.frame c.in_err-file.field-0.0 change (front_filed c.args.id (S c.args.notary.now).limits c.loop-batch.batch-index (planned c.args.moment c.args.batches.now) (S c.args.notary.now).lists (S c.loop-batch.notary).lists c.loop-batch.invariant.told))
+    let is_batch : IsBatch c.batch-item.result = subst (λ (seals : List Seal). IsBatch seals) (sym c.batch-item.is) (All-get_or IsBatch c.args.batches.now c.loop-batch.batch-index c.batch-item.result c.loop-batch-test.true c.requires.batches) in
+    let counted = calls_counted c.args.id c.args.from c.args.moment c.args.batches.now c.loop-batch.batch-index c.batch-item.result c.loop-batch-test.true c.batch-item.is (S c.args.notary.now) (S c.loop-batch.notary) (S c.file.new.self) c.loop-batch.invariant.frame c.in_err-file.ensures.frame c.in_err-file.field-0.0 change c.loop-batch.invariant.trace in
+    rw same (filing_stopped c.args.id c.args.from c.args.moment c.args.batches.now c.loop-batch.batch-index c.batch-item.result c.loop-batch-test.true c.batch-item.is c.ranges.id.fits (S c.args.notary.now) (S c.loop-batch.notary) (S c.file.new.self) c.loop-batch.invariant.frame c.in_err-file.ensures.frame c.loop-batch.invariant.told is_batch c.in_err-file.field-0.0 counted change)
 
 pub returns-in_err-file-clause-in_turn : goal.returns-in_err-file-clause-in_turn
 returns-in_err-file-clause-in_turn g c =
