@@ -5,16 +5,18 @@ ghost use Rattle.disk_model.specs.Untold.{TellsOnly};
 
 use disk_model::{Disk, DiskFail, FileDisk, MemDisk};
 use std::alloc::AllocError;
+use std::fs::File;
+use std::io;
 use std::rt::{Files, Runtime};
 
 /// A device of the program.
 #[derive(Drop)]
-pub enum Device<R: Files + Drop> {
+pub enum Device<R: Files<File = File> + Drop> {
     File(FileDisk<R>),
     Memory(MemDisk),
 }
 
-impl<R: Runtime + AllocGlobal + Drop> Device<R> {
+impl<R: Runtime + Files<File = File> + AllocGlobal + Drop> Device<R> {
     /// The file of this path, or an empty device where none is named.
     pub fn named(rt: &R, path: Option<&str>) -> Result<Device<R>, AllocError>
         ensures file { IsSome path.entry → IfOk result (λ device.
@@ -33,7 +35,19 @@ impl<R: Runtime + AllocGlobal + Drop> Device<R> {
     }
 }
 
-impl<R: Files + Drop> Disk for Device<R> {
+impl<R: Files<File = File> + Drop> Device<R> {
+    /// Why the last call of a file that failed did so, where one did.
+    pub(crate) fn error(&self) -> Option<io::Error> {
+        match self {
+            Device::File(file) => file.error(),
+            Device::Memory(_) => None,
+        }
+    }
+}
+
+impl<R: Files<File = File> + Drop> Disk for Device<R> {
+    ghost use Rattle.std.proofs.Common.{ap};
+    ghost use Rattle.std.specs.Prelude.{Some};
     ghost use Rattle.dragoon_cli.specs.declared.device.Device.TheVariants.{File, Memory};
     ghost use Rattle.disk_model.specs.Calls.{first_of, trace_of};
     ghost use Rattle.disk_model.specs.Memory.{state_of};
@@ -44,6 +58,11 @@ impl<R: Files + Drop> Disk for Device<R> {
     ghost state = { elim [
       | File file ↦ ⟦<FileDisk<R> as Disk>⟧.state file
       | Memory memory ↦ state_of memory
+    ] };
+
+    ghost replayed = { elim [
+      | File file ↦ tt
+      | Memory memory ↦ ap Some memory.replayed
     ] };
 
     ghost reads_image = { elim [

@@ -2,20 +2,22 @@
 //! with the words behind them, and ends with the number of the status.
 //!
 //! What the words, the files and the output do is proved below; here stands what is only tested: that
-//! the right file is opened, and the usage page on standard error.
+//! the right file is opened, and what standard error is told.
 #![tactic(auto)]
 
 mod device;
+mod telling;
 mod usage;
 
 use crate::device::Device;
-use crate::usage::USAGE;
+use crate::telling::{Ending, Named, tell};
 use dragoon_app::{Status, dragoon, leading};
 use notary_book::Book;
 use outside_io::{StdSink, StdSource, SystemClock};
 use std::alloc::{AllocError, Global};
+use std::fs::File;
 use std::process::ExitCode;
-use std::rt::Runtime;
+use std::rt::{Files, Runtime};
 use std::{env, io};
 
 /// The words of the process. Where one of them is no text, none: no command has such a word.
@@ -40,7 +42,7 @@ fn path_behind<'a>(prefix: &str, words: &'a [String]) -> Option<&'a str> {
         .find_map(|word| word.as_str().strip_prefix(prefix))
 }
 
-fn run<R: Runtime + AllocGlobal + Drop>(rt: &R) -> Result<Status, AllocError> {
+fn run<R: Runtime + Files<File = File> + AllocGlobal + Drop>(rt: &R) -> Result<Status, AllocError> {
     let words = words_of(rt)?;
     let (devices, call) = words.split_at(leading(&words));
     let mut store = Device::named(rt, path_behind("store=", devices))?;
@@ -51,7 +53,7 @@ fn run<R: Runtime + AllocGlobal + Drop>(rt: &R) -> Result<Status, AllocError> {
     let mut clock = SystemClock::new(rt.clone()?);
     let mut input = StdSource::new(rt.clone()?);
     let mut out = StdSink::new(rt.clone()?);
-    Ok(dragoon(
+    let status = dragoon(
         rt.alloc(),
         call,
         &mut store,
@@ -59,17 +61,32 @@ fn run<R: Runtime + AllocGlobal + Drop>(rt: &R) -> Result<Status, AllocError> {
         &mut clock,
         &mut input,
         &mut out,
-    ))
+    );
+    let ending = Ending {
+        status,
+        store: Named {
+            name: "store",
+            path: path_behind("store=", devices),
+            error: store.error(),
+        },
+        notary: Named {
+            name: "notary's book",
+            path: path_behind("notary=", devices),
+            error: notary.into_disk().error(),
+        },
+        input: input.error(),
+        output: out.error(),
+    };
+    let _ = tell(rt, &ending);
+    Ok(status)
 }
 
 fn main(rt: HostRuntime) -> ExitCode {
     match run(&rt) {
-        Ok(status) => {
-            if status == Status::Usage {
-                let _ = eprint!(rt; "{USAGE}");
-            }
-            ExitCode::from(status.code())
+        Ok(status) => ExitCode::from(status.code()),
+        Err(_) => {
+            let _ = eprintln!(rt; "dragoon: no memory was left for the words of the call");
+            ExitCode::from(9)
         }
-        Err(_) => ExitCode::from(9),
     }
 }

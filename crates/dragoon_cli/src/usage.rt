@@ -3,38 +3,41 @@
 pub const USAGE: &str = "\
 usage: dragoon [store=FILE] [notary=FILE] COMMAND
 
-  store=FILE   the store; without it an empty one in memory, and a missing file counts as empty
+  store=FILE        the store; one process at a time uses it
+  notary=FILE       the notary's book: keep it where whoever writes the store can't write
+                    (a missing file counts as empty, and without these words both stand in memory)
 
-  notary=FILE  the notary's book; without it an empty one in memory, and a missing file counts as
-               empty. It is worth as much as the place where it is kept: whoever can write both
-               files can alter both
+Make and fill
+  init ID W K ALGS  makes a store that begins now, and prints `ready ID`
+                    ID    the number by which a notary knows it
+                    W     the seconds of a granule, 1 to 86400
+                    K     the tile exponent, 0 to 10: a tile has 2^K granules
+                    ALGS  the algorithms: `m`, `t`, `a` or `ta`
+  run ID            carries out standard input, one statement a line, and answers each line in turn
+  run ID scripted   does the same at the moments that lines `now M` set, and asks no clock
 
-  link         reads what the store holds, and prints the number of its transactions and the
-               chain value over all of them: `txns N`, then `link H`
+Ask
+  run ID            takes `get`, `scan` and `history` too, of now or `as of` a moment
+  link              prints `txns N` and `link H`: the number of transactions and the chain over them
 
-  init ID W K ALGS
-               makes a new store that begins now, of this id, with granules of W seconds (1 to
-               86400), tiles of 2^K granules (K to 10), and the algorithms ALGS (`m`,
-               `t`, `a` or `ta`); prints `ready ID`
+File and check
+  notarize ID       files the digests of the tiles that have ended, and prints `sealed N`
+  validate ID       holds the store against what was filed, and prints the verdict:
+                    `unsealed`, `clean N`, `header altered N`, or `altered N from J`, J being a tile
+  analyse ID ALG    reports which granules are altered, and since when, by the algorithm `mono`,
+                    `tiled`, `tiled KAPPA` or `a3d`
 
-  run ID [scripted]
-               carries out the lines of standard input, one statement each, over the store of this
-               id, and writes the reply of each line before the next; with `scripted` a line
-               `now M` sets the moment, and the clock is not asked
+It ends with
+  0  done                          7  the input failed          14  the clock is behind the store
+  1  altered: not what was filed   8  the output failed         15  the clock is too far ahead
+  2  these words are no command    9  no memory was left        16  store or notary is full
+  3  a line was refused           10  nothing filed: altered    17  the input is too long
+  4  no store of this id          11  a digest is missing       18  the store lacks the chains
+  5  the store's file failed      12  somebody else filed       19  the notary contradicts itself
+  6  the notary failed            13  the file is taken
 
-  notarize ID  files the digests of the tiles that have ended, and are not filed yet, with the notary,
-               and prints how many tiles are sealed: `sealed N`
-
-  validate ID  holds the store against what was filed, and prints what it finds: `unsealed`,
-               `clean N`, `header altered N` or `altered N from J`, of N sealed tiles and from tile
-               J on; the notary keeps a mark of it, but for `unsealed`
-
-It ends with 0, or with 1 where the store isn't what was filed, 2 where the words are no command, 3
-where all lines were carried out and a reply was a refusal, 4 where the store has no header or
-another id, 5 where its file fails, 6 where the notary fails, 7 where the input fails, 8 where the
-output fails, 9 for want of memory, 10 where nothing more is filed since what is filed isn't what is
-stored, 11 where the notary has not been given what it would have been, 12 where it has another
-number of batches than was expected, 13 where a store is to be made and its file is taken, 14 where
-the clock stands before the store's last moment, 15 where it is beyond what a store can tell, 16
-where the store or the notary is full, and 17 where the input has 67,108,864 bytes or more.
+docs/COMMANDS.md  the statements, the replies and the statuses
+docs/CRASHES.md   what a crash leaves, and what a lock covers
+docs/NOTARY.md    where to keep the notary's book
+docs/ANALYSIS.md  how to read a report
 ";

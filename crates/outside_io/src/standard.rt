@@ -1,5 +1,7 @@
 //! The standard output as a sink. It tells nothing of itself but its faults.
-ghost use Rattle.std.specs.Prelude.{◌≡◌};
+ghost use Rattle.std.specs.Prelude.{◌≡◌, ◌≤◌, ◌<◌, IsSome};
+ghost use Rattle.outside_words.specs.Faults.{Rose};
+ghost use Rattle.outside_io.specs.declared.sink.StreamFail.TheVariants.{Failed};
 ghost use Rattle.outside_io.specs.Sink.{untold_state};
 
 use crate::{Sink, StreamFail};
@@ -11,6 +13,8 @@ use std::io::Write;
 pub struct StdSink<R: Print + Drop> {
     rt: R,
     faults: u64,
+    error: Option<io::Error>,
+    ghost explained: { 0 < faults → IsSome error },
 }
 
 impl<R: Print + Drop> StdSink<R> {
@@ -18,7 +22,28 @@ impl<R: Print + Drop> StdSink<R> {
     pub fn new(rt: R) -> Self
         ensures fresh { ⟦<StdSink<R> as Sink>⟧.state result ≡ untold_state 0 }
     {
-        StdSink { rt, faults: 0 }
+        StdSink {
+            rt,
+            faults: 0,
+            error: None,
+        }
+    }
+
+    /// Why the last write that failed did so, where one did.
+    pub fn error(&self) -> Option<io::Error>
+        ensures there { 0 < (⟦<StdSink<R> as Sink>⟧.state self.now).faults → IsSome result }
+    {
+        self.error
+    }
+
+    fn failed(&mut self, error: io::Error) -> StreamFail
+        ensures value { result ≡ Failed }
+        ensures counts { Rose self.old.faults self.new.faults }
+        ensures frame { self.old.faults ≤ self.new.faults }
+    {
+        self.error = Some(error);
+        self.faults = self.faults.saturating_add(1);
+        StreamFail::Failed
     }
 }
 
@@ -29,10 +54,8 @@ impl<R: Print + Drop> Sink for StdSink<R> {
     fn write(&mut self, piece: &[u8]) -> Result<usize, StreamFail> {
         match io::writer(&self.rt).write(piece) {
             Ok(count) if count > 0 || piece.is_empty() => Ok(count),
-            _ => {
-                self.faults = self.faults.saturating_add(1);
-                Err(StreamFail::Failed)
-            }
+            Ok(_) => Err(self.failed(io::ErrorKind::WriteZero.into())),
+            Err(error) => Err(self.failed(error)),
         }
     }
 }
