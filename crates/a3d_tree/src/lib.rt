@@ -59,6 +59,3 @@ pub fn roots(granules: u32) -> Roots
         level: 32,
     }
 }
-
-#[cfg(test)]
-mod tests;

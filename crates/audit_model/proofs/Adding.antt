@@ -1,5 +1,5 @@
 -- A history that grows stays the notarized one; a batch more is filed.
-use Rattle.std.proofs.Common.{◌≡◌, ℕ, ◌+◌, ◌*◌, ◌/◌, ◌<◌, ◌≤◌, false, List, [], ◌∷◌, ◌++◌, map, filter, refl, sym, ap, ◌∙◌, arith}
+use Rattle.std.proofs.Common.{◌≡◌, ℕ, ◌+◌, ◌*◌, ◌/◌, ◌<◌, ◌≤◌, false, List, [], ◌∷◌, ◌++◌, map, filter, refl, sym, ap, subst, ◌∙◌, arith}
 use Rattle.std.specs.Prelude.{nat_eq, max}
 use Rattle.std.specs.List.{range_with_len}
 use Rattle.std.proofs.lemmas.Bool.{ne_eqb}
@@ -14,10 +14,11 @@ use Rattle.tuple_bytes.specs.declared.item.Item.TheVariants as items
 use Rattle.tuple_bytes.specs.declared.item.Txn.{Txn}
 use Rattle.notary_link.specs.declared.seal.Seal.{Seal}
 use Rattle.notary_link.specs.Batches.{Batch}
-use Rattle.history_model.specs.History.{history, txn_in, txns, is_in_granule, rows, moment_in, last_moment}
+use Rattle.history_model.specs.History.{history, txn_in, txns, is_in_granule, rows, last_moment, after_last, MayFollow}
 use Rattle.digest_model.specs.Layout.{layout, first_granule}
 use Rattle.audit_model.specs.Names.{batch}
 use Rattle.audit_model.specs.Filing.{AddedStaysNotarized, FrontierStaysFiled, FrontierFilesSame, FilingBegins, FilingExtends}
+use Rattle.digest_model.proofs.Layouts as layouts
 use Rattle.audit_model.proofs.Filed.{same_batch, same_batches}
 
 -- the rows of a history that grows, where none of the new item is among them
@@ -38,36 +39,36 @@ lies_behind : (width moment g limit : ℕ) → 0 < width → g < limit → limit
 lies_behind width moment g limit some below behind e = (let more = le-div limit moment width some behind in omega (arith, more, e, below))
 
 -- a later item has no rows in the granules before
-later_rows : (header : Header) (is : List Item) (item : Item) (g limit : ℕ) → 0 < header.width → g < limit → limit * header.width ≤ moment_in item
+later_rows : (header : Header) (is : List Item) (item : Item) (g limit last : ℕ) → 0 < header.width → g < limit → limit * header.width ≤ last → MayFollow last item
     → rows (history header is) g ≡ rows (history header (is ++ item ∷ [])) g
-later_rows header is (items.Frontier moment) g limit some below behind = frontier_rows header is moment g
-later_rows header is (items.Txn t) g limit some below behind =
-    let other : nat_eq (t.moment / header.width) g ≡ false = ne_eqb (t.moment / header.width) g (lies_behind header.width t.moment g limit some below behind) in
+later_rows header is (items.Frontier moment) g limit last some below behind follows = frontier_rows header is moment g
+later_rows header is (items.Txn t) g limit last some below behind follows =
+    let other : nat_eq (t.moment / header.width) g ≡ false = ne_eqb (t.moment / header.width) g (lies_behind header.width t.moment g limit some below (omega arith)) in
     rows_stay header is (items.Txn t) g (rw other refl)
 
 pub added_stays : AddedStaysNotarized
-added_stays batches id n header is item fits notarized later =
+added_stays batches id n header is item fits notarized follows =
     let width = fits.width.0 in
     let reached = notarized.reached in
-    let last : last_moment (is ++ item ∷ []) ≡ max (last_moment is) (moment_in item) = fold-append (λ (m : ℕ) (i : Item). max m (moment_in i)) 0 is (item ∷ []) in
-    let same = same_batches (history header is) (history header (is ++ item ∷ [])) 0 n refl (λ g below. later_rows header is item g (first_granule (layout (history header is)) n) (omega (arith, width)) (let f = below in omega (arith, f)) (omega (arith, reached, later))) in
+    let last : last_moment (is ++ item ∷ []) ≡ after_last (last_moment is) item = fold-append after_last 0 is (item ∷ []) in
+    let same = same_batches (history header is) (history header (is ++ item ∷ [])) 0 n refl (layouts.header_alike (history header is) (history header (is ++ item ∷ [])) refl (0 + n)) (λ g below. later_rows header is item g (first_granule (layout (history header is)) n) (last_moment is) (omega (arith, width)) (let none : 0 + n ≡ n = omega arith in subst (λ (m : ℕ). g < first_granule (layout (history header is)) m) none below) reached follows) in
     record {
       filed = record { seals = notarized.filed.seals ∙ same; header = notarized.filed.header; within = notarized.filed.within };
-      reached = rw last (omega (arith, reached, later));
+      reached = rw last (omega (arith, reached));
     }
 
 pub frontier_filed : FrontierStaysFiled
 frontier_filed batches id n header is moment filed =
-    let same = same_batches (history header is) (history header (is ++ items.Frontier moment ∷ [])) 0 n refl (λ g below. frontier_rows header is moment g) in
+    let same = same_batches (history header is) (history header (is ++ items.Frontier moment ∷ [])) 0 n refl (layouts.header_alike (history header is) (history header (is ++ items.Frontier moment ∷ [])) refl (0 + n)) (λ g below. frontier_rows header is moment g) in
     record { seals = filed.seals ∙ same; header = filed.header; within = filed.within }
 
 pub frontier_same : FrontierFilesSame
-frontier_same header is moment i = sym (same_batch (history header is) (history header (is ++ items.Frontier moment ∷ [])) i refl (λ g below. frontier_rows header is moment g))
+frontier_same header is moment i = sym (same_batch (history header is) (history header (is ++ items.Frontier moment ∷ [])) i refl (layouts.header_alike (history header is) (history header (is ++ items.Frontier moment ∷ [])) refl i) (λ g below. frontier_rows header is moment g))
 
 -- ---- a batch more
 
 pub filing_begins : FilingBegins
-filing_begins id h b header seals = record { seals = ap (λ (x : List Seal). x ∷ []) seals; header = header; within = omega arith }
+filing_begins id h b header seals = record { seals = ap (λ (x : List Seal). x ∷ []) seals; header = header; within = (let none = layouts.begins (layout h) in omega (arith, none)) }
 
 pub filing_extends : FilingExtends
 filing_extends batches id h n b filed within seals =

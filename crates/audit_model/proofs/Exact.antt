@@ -1,7 +1,6 @@
 -- What is named is altered.
 use Rattle.std.proofs.Common.{◌≡◌, ℕ, zero, suc, ◌+◌, ◌-◌, ◌*◌, ◌^◌, ◌<◌, ◌≤◌, List, [], map, filter, refl, sym, ap, subst, ◌∙◌, ◌⊎◌, inl, inr, Option, Some, None, arith}
 use Rattle.std.specs.List.{Contains, range_with_len}
-use Rattle.std.proofs.lemmas.Nat.{mul-le}
 use Rattle.std.proofs.lemmas.Bool.{cases_eq, cases_lt}
 use Rattle.tuple_bytes.specs.Spelling.{spell_fields}
 use Rattle.notary_link.specs.declared.name.Name.{Name}
@@ -16,29 +15,30 @@ use Rattle.digest_model.specs.Layout.{end_granule, Layout, layout, first_granule
 use Rattle.digest_model.specs.Digests.{header_input, header_digest, granule_digest, node_digest, tile_digest, cum}
 use Rattle.audit_model.specs.Laws.{IsAudit, HasAltered, HeaderIsShown, ChangedChainHasAltered, RegionBeginsAltered, FailingTileIsAltered, TreeIsConsistent, NodesAreConsistent, HeadersAreOneOrOther, RefusedHeaderIsOther, StepIsRegion}
 use Rattle.audit_model.specs.Names.{digest, inputs_of, inputs, planned, batch_names}
-use Rattle.audit_model.specs.Notary.{NotaryOf, answers}
+use Rattle.audit_model.specs.Notary.{NotaryOf, answers, header_answer}
 use Rattle.digest_model.proofs.Clashes.{same_or_clash}
 use mathlib.Core.List.{List-discrete}
 use native.Mathlib.Decide.{ℕ_discrete}
 use Rattle.digest_model.proofs.Spelled.{same_header, same_txns, rows_fit}
 use Rattle.digest_model.proofs.Nodes.{twice, halves_fit}
 use Rattle.audit_model.proofs.Region.{clean_to}
+use Rattle.digest_model.proofs.Layouts as layouts
 use Rattle.digest_model.proofs.Follows.{follow}
-use Rattle.audit_model.specs.Altered.{IsAltered}
+use Rattle.audit_model.specs.Altered.{IsAltered, HasPlacesOf}
 use Rattle.audit_model.specs.Mono.{BeginsRegion, IsStep}
 use Rattle.digest_model.proofs.Lists.{in_range, from_filter}
 use Rattle.audit_model.proofs.Compare.{compare, compared_or_absent, same_of, differs_of, one_answer}
-use Rattle.audit_model.proofs.Planned.{adjoin, part_planned, cum_planned, hashed_for, same_view}
+use Rattle.audit_model.proofs.Planned.{adjoin, part_planned, cum_planned, hashed_for, places_of, same_view}
 use Rattle.audit_model.proofs.TileAudit.{differing, of_differing, not_same_digest, first_of, part_same}
 use Rattle.audit_model.proofs.TreeAudit.{node_planned, reached_within, same_some}
 use Rattle.digest_model.proofs.Members.{here, Contains-flat_map}
 
-header_planned : (l : Layout) (n : ℕ) → Contains (planned l n) names.Header
+pub header_planned : (l : Layout) (n : ℕ) → Contains (planned l n) names.Header
 unfolding planned batch_names
 header_planned l n = Contains-flat_map (batch_names l) (range_with_len 0 (n + 1)) 0 names.Header (in_range 0 (n + 1) 0 (omega arith) (omega arith)) (here names.Header [])
 
 pub header_shown : HeaderIsShown
-unfolding digest inputs_of
+unfolding digest inputs_of header_answer
 header_shown batches id h s n is ours theirs e =
     let plan = header_planned (layout h) n in
     let same : compared (header_digest s.header) (header_digest h.header) ≡ Same = sym (compare batches id h s n names.Header is plan) ∙ e in
@@ -46,25 +46,27 @@ header_shown batches id h s n is ours theirs e =
     let left = hashed_for h n names.Header (header_input h.header) plan (here (header_input h.header) []) in
     let right = hashed_for s n names.Header (header_input s.header) (header_planned (layout s) n) (here (header_input s.header) []) in
     elim (same_or_clash (inputs h n) (inputs s n) (header_input h.header) (header_input s.header) left right alike) [
-      | inl one ↦ inl (same_header h.header s.header ours.header theirs.header (let fields : spell_fields h.header ≡ spell_fields s.header = cc in fields))
+      | inl one ↦
+          (let header = same_header h.header s.header ours.header theirs.header (let fields : spell_fields h.header ≡ spell_fields s.header = cc in fields) in
+          inl (record { header = header; tiles = layouts.header_alike h s header n }))
       | inr c ↦ inr c
     ]
 
 -- a granule whose digests differ is altered
-pub digest_altered : (h s : History) (n g : ℕ) → h.header ≡ s.header → g < first_granule (layout h) n → (granule_digest h g ≡ granule_digest s g → ⊥) → IsAltered h (Some s) n g
+pub digest_altered : (h s : History) (n g : ℕ) → HasPlacesOf h s n → g < first_granule (layout h) n → (granule_digest h g ≡ granule_digest s g → ⊥) → IsAltered h (Some s) n g
 digest_altered h s n g one inside differ = record {
   is_sealed = inside;
-  differs = λ e. differ (sym (follow.granules s h g (same_some (rows s g) (rows h g) (sym (same_view h s g one) ∙ e))));
+  differs = λ e. differ (sym (follow.granules s h g (same_some (rows s g) (rows h g) (sym (same_view h s n g one) ∙ e))));
 }
 
-pub in_tile : (size tile number n : ℕ) → number < size → tile < n → tile * size + number < n * size
-in_tile size tile number n below inside =
-    (let more : (tile + 1) * size ≤ n * size = mul-le (tile + 1) size n size (omega arith) (omega arith) in omega (arith, more, below))
+pub in_tile : (l : Layout) (tile number n : ℕ) → number < tile_size l tile → tile < n → first_granule l tile + number < first_granule l n
+in_tile l tile number n below inside =
+    (let more = layouts.ends_within l n tile inside in omega (arith, more, below))
 
-differing_altered : (h s : History) (n tile number : ℕ) → h.header ≡ s.header → tile < n → Contains (differing h s tile) number → HasAltered h s n tile
+differing_altered : (h s : History) (n tile number : ℕ) → HasPlacesOf h s n → tile < n → Contains (differing h s tile) number → HasAltered h s n tile
 differing_altered h s n tile number one inside is =
     let d = of_differing h s tile number is in
-    (number, (d.0, digest_altered h s n (first_granule (layout h) tile + number) one (in_tile (tile_size (layout h) tile) tile number n d.0 inside) (not_same_digest h s (first_granule (layout h) tile + number) d.1)))
+    (number, (d.0, digest_altered h s n (first_granule (layout h) tile + number) one (in_tile (layout h) tile number n d.0 inside) (not_same_digest h s (first_granule (layout h) tile + number) d.1)))
 
 pub failing_altered : FailingTileIsAltered
 unfolding digest
@@ -73,14 +75,14 @@ failing_altered batches id h s n tile is has inside e =
     let asked : answers batches s (names.Tile tile whole) ≡ compared (tile_digest s tile whole) (tile_digest h tile whole) = compare batches id h s n (names.Tile tile whole) is.filed plan in
     let differ = differs_of (tile_digest s tile whole) (tile_digest h tile whole) (sym asked ∙ e) in
     elim (first_of (filter (is_in_part whole) (differing h s tile))) [
-      | inl none ↦ absurd (differ (sym (part_same h s tile whole is.places none)))
-      | inr x ↦ differing_altered h s n tile x.0 is.header inside (from_filter (is_in_part whole) (differing h s tile) x.0 x.1)
+      | inl none ↦ absurd (differ (sym (part_same h s tile whole (layouts.fewer (layout h) (layout s) n (tile + 1) (omega (arith, inside)) is.places) none)))
+      | inr x ↦ differing_altered h s n tile x.0 (places_of batches id h s n is) inside (from_filter (is_in_part whole) (differing h s tile) x.0 x.1)
     ]
 
 -- ---- the tree
 
-from_children : (h s : History) (level index : ℕ) → node_digest h level (2 * index) ≡ node_digest s level (2 * index) → node_digest h level (2 * index + 1) ≡ node_digest s level (2 * index + 1)
-    → node_digest h (suc level) index ≡ node_digest s (suc level) index
+from_children : (h s : History) (level index : ℕ) → node_digest h 0 level (2 * index) ≡ node_digest s 0 level (2 * index) → node_digest h 0 level (2 * index + 1) ≡ node_digest s 0 level (2 * index + 1)
+    → node_digest h 0 (suc level) index ≡ node_digest s 0 (suc level) index
 unfolding node_digest
 from_children h s level index left right = cc
 
@@ -90,12 +92,12 @@ consistent batches id h s n is has level index r e =
     let limit = first_granule (layout h) n in
     let within = reached_within (first_granule (layout h) n) (λ l i. answers batches s (names.Node l i)) (suc level) index r in
     let fit = halves_fit (2 ^ level) (2 ^ suc level) index (first_granule (layout h) n) (twice level) within in
-    let asked : (l i : ℕ) → (i + 1) * 2 ^ l ≤ first_granule (layout h) n → answers batches s (names.Node l i) ≡ compared (node_digest s l i) (node_digest h l i) =
+    let asked : (l i : ℕ) → (i + 1) * 2 ^ l ≤ first_granule (layout h) n → answers batches s (names.Node l i) ≡ compared (node_digest s 0 l i) (node_digest h 0 l i) =
     λ l i f. compare batches id h s n (names.Node l i) is.filed (node_planned (layout h) n l i has f is.filed.within) in
-    let differ = differs_of (node_digest s (suc level) index) (node_digest h (suc level) index) (sym (asked (suc level) index within) ∙ e) in
-    elim (one_answer (node_digest s level (2 * index)) (node_digest h level (2 * index))) [
+    let differ = differs_of (node_digest s 0 (suc level) index) (node_digest h 0 (suc level) index) (sym (asked (suc level) index within) ∙ e) in
+    elim (one_answer (node_digest s 0 level (2 * index)) (node_digest h 0 level (2 * index))) [
       | inr left ↦ inl (asked level (2 * index) fit.0 ∙ left.1)
-      | inl left ↦ elim (one_answer (node_digest s level (2 * index + 1)) (node_digest h level (2 * index + 1))) [
+      | inl left ↦ elim (one_answer (node_digest s 0 level (2 * index + 1)) (node_digest h 0 level (2 * index + 1))) [
         | inr right ↦ inr (asked level (2 * index + 1) fit.1 ∙ right.1)
         | inl right ↦ absurd (differ (from_children s h level index left.0 right.0))
       ]
@@ -117,9 +119,9 @@ not_own batches id h s n name filed e = elim (compared_or_absent batches id h s 
 
 pub nodes_consistent : NodesAreConsistent
 unfolding digest
-nodes_consistent batches id h s n level index filed e = elim (one_answer (node_digest s level (2 * index)) (node_digest h level (2 * index))) [
+nodes_consistent batches id h s n level index filed e = elim (one_answer (node_digest s 0 level (2 * index)) (node_digest h 0 level (2 * index))) [
   | inr left ↦ inl (not_same batches id h s n (names.Node level (2 * index)) filed left.0)
-  | inl left ↦ elim (one_answer (node_digest s level (2 * index + 1)) (node_digest h level (2 * index + 1))) [
+  | inl left ↦ elim (one_answer (node_digest s 0 level (2 * index + 1)) (node_digest h 0 level (2 * index + 1))) [
     | inr right ↦ inr (not_same batches id h s n (names.Node level (2 * index + 1)) filed right.0)
     | inl right ↦ absurd (not_own batches id h s n (names.Node (suc level) index) filed e (from_children s h level index left.0 right.0))
   ]
@@ -128,13 +130,13 @@ nodes_consistent batches id h s n level index filed e = elim (one_answer (node_d
 -- ---- headers
 
 pub one_or_other : HeadersAreOneOrOther
-one_or_other h s ours theirs = elim (List-discrete ℕ_discrete (spell_fields h.header) (spell_fields s.header)) [
-  | yes same ↦ inl (same_header h.header s.header ours theirs same)
+one_or_other h s n ours theirs = elim (List-discrete ℕ_discrete (spell_fields h.header) (spell_fields s.header)) [
+  | yes same ↦ (let header = same_header h.header s.header ours theirs same in inl (record { header = header; tiles = layouts.header_alike h s header n }))
   | no other ↦ inr other
 ]
 
 pub refused_other : RefusedHeaderIsOther
-unfolding digest
+unfolding digest header_answer
 refused_other batches id h s n filed e fields = not_own batches id h s n names.Header filed e (let same : header_digest s.header ≡ header_digest h.header = cc in same)
 
 -- ---- the region
@@ -190,16 +192,16 @@ each_or_one P decided (suc n) = elim (each_or_one P decided n) [
 ]
 
 -- a granule whose rows differ is altered
-rows_altered : (h s : History) (n g : ℕ) → h.header ≡ s.header → g < first_granule (layout h) n → (rows h g ≡ rows s g → ⊥) → IsAltered h (Some s) n g
+rows_altered : (h s : History) (n g : ℕ) → HasPlacesOf h s n → g < first_granule (layout h) n → (rows h g ≡ rows s g → ⊥) → IsAltered h (Some s) n g
 rows_altered h s n g one inside differ = record {
   is_sealed = inside;
-  differs = λ e. differ (sym (same_some (rows s g) (rows h g) (sym (same_view h s g one) ∙ e)));
+  differs = λ e. differ (sym (same_some (rows s g) (rows h g) (sym (same_view h s n g one) ∙ e)));
 }
 
 -- a granule before the end of a sealed tile is sealed
 ends_within : (l : Layout) (n tile g : ℕ) → tile < n → g < end_granule l tile → g < first_granule l n
 ends_within l n tile g inside below =
-    (let more : (tile + 1) * 2 ^ l.k ≤ n * 2 ^ l.k = mul-le (tile + 1) (2 ^ l.k) n (2 ^ l.k) (omega arith) (omega arith) in omega (arith, more, below))
+    (let more = layouts.ends_within l n tile inside in omega (arith, more, below))
 
 -- where nothing differs before a tile, and the chain differs at its end, a granule of the tile is altered
 differs_in : (batches : List Batch) (id : ℕ) (h s : History) (n tile : ℕ) → IsAudit batches id h s n → tile < n
@@ -211,7 +213,7 @@ differs_in batches id h s n tile is inside e before =
     let asked : answers batches s (names.Cum tile) ≡ compared (cum s tile) (cum h tile) = compare batches id h s n (names.Cum tile) is.filed (cum_planned (layout h) n tile inside) in
     let differ = differs_of (cum s tile) (cum h tile) (sym asked ∙ e) in
     elim (each_or_one (λ i. rows h (first_granule (layout h) tile + i) ≡ rows s (first_granule (layout h) tile + i)) (λ i. rows_decided h s (first_granule (layout h) tile + i) is.ours is.theirs) (tile_size (layout h) tile)) [
-      | inl all ↦ absurd (differ (sym (follow.cums h s tile is.places (record {
+      | inl all ↦ absurd (differ (sym (follow.cums h s tile (layouts.fewer (layout h) (layout s) n (tile + 1) (omega (arith, inside)) is.places) (record {
         header = is.header;
         rows = λ g below. elim (cases_lt g (first_granule (layout h) tile)) [
           | inl early ↦ before g early
@@ -222,7 +224,7 @@ differs_in batches id h s n tile is inside e before =
       }))))
       | inr one ↦ (
         one.0,
-        (one.1, rows_altered h s n (first_granule (layout h) tile + one.0) is.header (in_tile (tile_size (layout h) tile) tile one.0 n one.1 inside) one.2),
+        (one.1, rows_altered h s n (first_granule (layout h) tile + one.0) (places_of batches id h s n is) (in_tile (layout h) tile one.0 n one.1 inside) one.2),
       )
     ]
 
@@ -232,12 +234,12 @@ changed_altered batches id h s n tile is inside e =
     let asked : answers batches s (names.Cum tile) ≡ compared (cum s tile) (cum h tile) = compare batches id h s n (names.Cum tile) is.filed (cum_planned (layout h) n tile inside) in
     let differ = differs_of (cum s tile) (cum h tile) (sym asked ∙ e) in
     elim (each_or_one (λ g. rows h g ≡ rows s g) (λ g. rows_decided h s g is.ours is.theirs) (end_granule (layout h) tile)) [
-      | inl all ↦ absurd (differ (sym (follow.cums h s tile is.places (record { header = is.header; rows = all }))))
-      | inr one ↦ (one.0, one.1, rows_altered h s n one.0 is.header (ends_within (layout h) n tile one.0 inside one.1) one.2)
+      | inl all ↦ absurd (differ (sym (follow.cums h s tile (layouts.fewer (layout h) (layout s) n (tile + 1) (omega (arith, inside)) is.places) (record { header = is.header; rows = all }))))
+      | inr one ↦ (one.0, one.1, rows_altered h s n one.0 (places_of batches id h s n is) (ends_within (layout h) n tile one.0 inside one.1) one.2)
     ]
 
 pub begins_altered : RegionBeginsAltered
-begins_altered batches id h s n zero is bad = inl (differs_in batches id h s n 0 is bad.within bad.differs (λ g below. absurd (omega arith)))
+begins_altered batches id h s n zero is bad = inl (differs_in batches id h s n 0 is bad.within bad.differs (λ g below. absurd (let none = layouts.begins (layout h) in omega (arith, none, below))))
 begins_altered batches id h s n (suc tile) is bad = elim bad.before [
   | inl none ↦ absurd (omega (arith, none))
   | inr same ↦

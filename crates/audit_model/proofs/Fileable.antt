@@ -12,7 +12,9 @@ use Rattle.std.proofs.lemmas.List.Elements.{All-nil, All-cons, All-map}
 use Rattle.notary_link.specs.declared.name.Name.TheVariants as names
 use Rattle.notary_link.specs.declared.seal.Seal.{Seal}
 use Rattle.notary_link.specs.Batches.{IsName}
-use Rattle.digest_model.specs.Layout.{Layout, layout, exponent, has_tile_chains, has_tree}
+use Rattle.history_model.specs.History.{History}
+use Rattle.digest_model.specs.Layout.{layout, exponent, has_tile_chains, has_tree}
+use Rattle.digest_model.proofs.Layouts as layouts
 use Rattle.digest_model.proofs.Nodes.{twice}
 use Rattle.audit_model.specs.Filing.{BatchesMayBeFiled}
 use Rattle.audit_model.specs.Names.{tile_names, node_ending_at, nodes_ending_at, node_names, sealed_names, batch_names, seal, batch}
@@ -127,34 +129,34 @@ nodes_of_tile k t =
 
 -- ---- the batch
 
-node_count : (l : Layout) (tile : ℕ) → l.k ≤ 10 → length (cond (has_tree l tile) (node_names l tile) []) ≤ 2067
+node_count : (h : History) (tile : ℕ) → h.header.k ≤ 10 → length (cond (has_tree (layout h) tile) (node_names (layout h) tile) []) ≤ 2067
 unfolding node_names ending
-node_count l tile small = elim (cases_Bool (has_tree l tile)) [
+node_count h tile small = elim (cases_Bool (has_tree (layout h) tile)) [
   | inl has ↦
-      (let few : length (node_names l tile) ≤ 2 * 2 ^ l.k + 19 = nodes_of_tile l.k tile in
-      let size : 2 ^ l.k ≤ 2 ^ 10 = pow_mono small in
+      (let few : length (node_names (layout h) tile) ≤ 2 * 2 ^ h.header.k + 19 = rw (layouts.even h tile, layouts.one_exponent h tile) (nodes_of_tile h.header.k tile) in
+      let size : 2 ^ h.header.k ≤ 2 ^ 10 = pow_mono small in
       rw has (omega (arith, few, size)))
   | inr has_not ↦ rw has_not (omega arith)
 ]
 
-part_count : (l : Layout) (tile : ℕ) → l.k ≤ 10 → length (cond (has_tile_chains l tile) (tile_names l tile) []) ≤ 11
+part_count : (h : History) (tile : ℕ) → h.header.k ≤ 10 → length (cond (has_tile_chains (layout h) tile) (tile_names (layout h) tile) []) ≤ 11
 unfolding tile_names
-part_count l tile small = elim (cases_Bool (has_tile_chains l tile)) [
-  | inl has ↦ (let bits = length-map-range_with_len (λ bit. names.Tile tile bit) 0 (exponent l tile) in rw has (omega (arith, bits, small)))
+part_count h tile small = elim (cases_Bool (has_tile_chains (layout h) tile)) [
+  | inl has ↦ (let bits = length-map-range_with_len (λ bit. names.Tile tile bit) 0 (exponent (layout h) tile) in let one = layouts.one_exponent h tile in rw has (omega (arith, bits, small, one)))
   | inr has_not ↦ rw has_not (omega arith)
 ]
 
-sealed_count : (l : Layout) (tile : ℕ) → l.k ≤ 10 → (1 ≤ length (sealed_names l tile)) × (length (sealed_names l tile) ≤ 4096)
+sealed_count : (h : History) (tile : ℕ) → h.header.k ≤ 10 → (1 ≤ length (sealed_names (layout h) tile)) × (length (sealed_names (layout h) tile) ≤ 4096)
 unfolding sealed_names
-sealed_count l tile small =
-    let parts = part_count l tile small in
-    let nodes = node_count l tile small in
-    let both = length-append (cond (has_tile_chains l tile) (tile_names l tile) []) (cond (has_tree l tile) (node_names l tile) []) in
+sealed_count h tile small =
+    let parts = part_count h tile small in
+    let nodes = node_count h tile small in
+    let both = length-append (cond (has_tile_chains (layout h) tile) (tile_names (layout h) tile) []) (cond (has_tree (layout h) tile) (node_names (layout h) tile) []) in
     (omega arith, omega (arith, parts, nodes, both))
 
-sealed_are_names : (l : Layout) (tile : ℕ) → l.k ≤ 10 → All IsName (sealed_names l tile)
-sealed_are_names l tile small = each_sealed IsName l tile tt
-    (λ part is. elim is [ inl e ↦ inr e | inr bit ↦ inl (omega (arith, bit, small)) ])
+sealed_are_names : (h : History) (tile : ℕ) → h.header.k ≤ 10 → All IsName (sealed_names (layout h) tile)
+sealed_are_names h tile small = each_sealed IsName (layout h) tile tt
+    (λ part is. elim is [ inl e ↦ inr e | inr bit ↦ inl (let one = layouts.one_exponent h tile in omega (arith, bit, small, one)) ])
     (λ level index low within. omega (arith, low))
 
 pub fileable : BatchesMayBeFiled
@@ -167,9 +169,9 @@ fileable h zero fits = record {
 fileable h (suc tile) fits =
     let small : h.header.k ≤ 10 = fits.k in
     let long = length-map (sealed_names (layout h) tile) (seal h) in
-    let count = sealed_count (layout h) tile small in
+    let count = sealed_count h tile small in
     record {
       some = omega (arith, long, count);
       not_many = omega (arith, long, count);
-      names = All-map (λ (x : Seal). IsName x.name) (seal h) (sealed_names (layout h) tile) (sealed_are_names (layout h) tile small);
+      names = All-map (λ (x : Seal). IsName x.name) (seal h) (sealed_names (layout h) tile) (sealed_are_names h tile small);
     }

@@ -3,18 +3,19 @@ use Rattle.std.proofs.Common.{◌≡◌, ℕ, zero, suc, ◌+◌, ◌-◌, ◌*�
 use Rattle.std.specs.Prelude.{nat_eq}
 use Rattle.std.specs.List.{All, Contains, flat_map, range_with_len}
 use Rattle.std.proofs.lemmas.Bool.{cases_Bool, eqb-true}
-use Rattle.std.proofs.lemmas.Nat.{mul-le, shr_split}
+use Rattle.std.proofs.lemmas.Nat.{shr_split}
 use Rattle.std.proofs.lemmas.List.Elements.{All-nil, All-cons, All-head, All-tail, All-append, All-map, All-weaker, All-contains_itself}
 use Rattle.notary_link.specs.declared.name.Name.{Name}
 use Rattle.notary_link.specs.declared.name.Name.TheVariants as names
 use Rattle.tuple_bytes.specs.declared.header.Header.{Header}
 use Rattle.history_model.specs.History.{History, rows}
-use Rattle.digest_model.specs.Layout.{Layout, layout, exponent, first_granule, end_granule, tile_size, whole, has_tile_chains, has_tree, part_granules, is_in_part}
+use Rattle.digest_model.specs.Layout.{Layout, layout, SameTiles, exponent, first_granule, end_granule, tile_size, whole, has_tile_chains, has_tree, part_granules, is_in_part}
 use Rattle.digest_model.specs.Digests.{header_digest}
 use Rattle.audit_model.specs.Names.{tile_names, nodes_ending_at, node_names, sealed_names, batch_names, digest, seal, batch}
+use Rattle.digest_model.proofs.Layouts as layouts
 use Rattle.digest_model.proofs.Follows.{follow}
 use Rattle.digest_model.proofs.Lists.{passes, from_filter, from_map, from_range}
-use Rattle.audit_model.proofs.Planned.{adjoin}
+use Rattle.audit_model.proofs.Planned.{adjoin, same_sealed}
 
 pub each : {X : Type 0} (P : X → Type 0) (xs : List X) → ((x : X) → Contains xs x → P x) → All P xs
 each P xs h = All-weaker (Contains xs) P h xs (All-contains_itself xs)
@@ -90,32 +91,32 @@ same_seals h s (name ∷ rest) same =
     let others = same_seals h s rest (All-tail (λ x. digest h x ≡ digest s x) name rest same) in
     cc
 
-sealed_alike : (h s : History) (tile : ℕ) → h.header ≡ s.header → layout h ≡ layout s → ((g : ℕ) → g < end_granule (layout h) tile → rows h g ≡ rows s g)
+sealed_alike : (h s : History) (tile : ℕ) → h.header ≡ s.header → SameTiles (tile + 1) (layout h) (layout s) → ((g : ℕ) → g < end_granule (layout h) tile → rows h g ≡ rows s g)
     → All (λ name. digest h name ≡ digest s name) (sealed_names (layout h) tile)
 unfolding digest
 sealed_alike h s tile one places same = each_sealed (λ name. digest h name ≡ digest s name) (layout h) tile
     (follow.cums h s tile places (record { header = one; rows = same }))
     (λ part is. follow.tiles h s tile part places (each (λ g. rows h g ≡ rows s g) (part_granules (layout h) tile part) (λ g in'. same g (part_below (layout h) tile part g in'))))
-    (λ level index low within. follow.nodes h s level index (λ g under. same g (let below = under.1 in omega (arith, below, within))))
+    (λ level index low within. follow.nodes h s 0 level index (λ g under. (let own : 0 + g ≡ g = omega arith in rw own (same g (let below = under.1 in omega (arith, below, within))))))
 
 -- with the transactions of the granules before the end of its tile, a batch is the same
-pub same_batch : (h s : History) (i : ℕ) → h.header ≡ s.header → ((g : ℕ) → g < first_granule (layout h) i → rows h g ≡ rows s g) → batch h i ≡ batch s i
+pub same_batch : (h s : History) (i : ℕ) → h.header ≡ s.header → SameTiles i (layout h) (layout s) → ((g : ℕ) → g < first_granule (layout h) i → rows h g ≡ rows s g) → batch h i ≡ batch s i
 unfolding batch batch_names digest
-same_batch h s zero one same = ap (λ (header : Header). record { name = names.Header; digest = header_digest header } ∷ []) one
-same_batch h s (suc tile) one same =
-    let places : layout h ≡ layout s = ap (λ (header : Header). record { k = header.k; algs = header.algs }) one in
+same_batch h s zero one alike same = ap (λ (header : Header). record { name = names.Header; digest = header_digest header } ∷ []) one
+same_batch h s (suc tile) one alike same =
+    let places = layouts.fewer (layout h) (layout s) (suc tile) (tile + 1) (omega arith) alike in
     let next : tile + 1 ≡ suc tile = omega arith in
     same_seals h s (sealed_names (layout h) tile) (sealed_alike h s tile one places (λ g below. same g (subst (λ (m : ℕ). g < first_granule (layout h) m) next (subst (λ (m : ℕ). g < m) (adjoin (layout h) tile) below))))
-    ∙ ap (λ (l : Layout). map (seal s) (sealed_names l tile)) places
+    ∙ ap (map (seal s)) (same_sealed (layout h) (layout s) (tile + 1) tile (omega arith) places)
 
 -- so are the batches of as many tiles
-pub same_batches : (h s : History) (a n : ℕ) → h.header ≡ s.header → ((g : ℕ) → g < first_granule (layout h) (a + n) → rows h g ≡ rows s g)
+pub same_batches : (h s : History) (a n : ℕ) → h.header ≡ s.header → SameTiles (a + n) (layout h) (layout s) → ((g : ℕ) → g < first_granule (layout h) (a + n) → rows h g ≡ rows s g)
     → map (batch h) (range_with_len a (n + 1)) ≡ map (batch s) (range_with_len a (n + 1))
-same_batches h s a zero one same =
-    let first = same_batch h s a one (λ g below. same g (let more : a * 2 ^ h.header.k ≤ (a + 0) * 2 ^ h.header.k = mul-le a (2 ^ h.header.k) (a + 0) (2 ^ h.header.k) (omega arith) (omega arith) in omega (arith, more, below))) in
+same_batches h s a zero one alike same =
+    let first = same_batch h s a one (layouts.fewer (layout h) (layout s) (a + 0) a (omega arith) alike) (λ g below. same g (let more = layouts.ascends (layout h) a (a + 0) (omega arith) in omega (arith, more, below))) in
     cc
-same_batches h s a (suc n) one same =
-    let first = same_batch h s a one (λ g below. same g (let more : a * 2 ^ h.header.k ≤ (a + suc n) * 2 ^ h.header.k = mul-le a (2 ^ h.header.k) (a + suc n) (2 ^ h.header.k) (omega arith) (omega arith) in omega (arith, more, below))) in
-    let rest = same_batches h s (a + 1) n one (λ g below. same g (let place : a + 1 + n ≡ a + suc n = omega arith in subst (λ (m : ℕ). g < first_granule (layout h) m) place below)) in
+same_batches h s a (suc n) one alike same =
+    let first = same_batch h s a one (layouts.fewer (layout h) (layout s) (a + suc n) a (omega arith) alike) (λ g below. same g (let more = layouts.ascends (layout h) a (a + suc n) (omega arith) in omega (arith, more, below))) in
+    let rest = same_batches h s (a + 1) n one (layouts.fewer (layout h) (layout s) (a + suc n) (a + 1 + n) (omega arith) alike) (λ g below. same g (let place : a + 1 + n ≡ a + suc n = omega arith in subst (λ (m : ℕ). g < first_granule (layout h) m) place below)) in
     let longer : suc n + 1 ≡ suc (n + 1) = omega arith in
     rw longer (let heads : batch h a ∷ map (batch h) (range_with_len (a + 1) (n + 1)) ≡ batch s a ∷ map (batch s) (range_with_len (a + 1) (n + 1)) = cc in heads)

@@ -12,7 +12,7 @@ use Rattle.notary_link.specs.declared.name.Name.TheVariants as names
 use Rattle.notary_link.specs.declared.answer.Answer.TheVariants.{Same, Differs}
 use Rattle.history_model.specs.History.{History, rows}
 use Rattle.notary_link.specs.Batches.{Batch, compared}
-use Rattle.digest_model.specs.Layout.{exponent, first_granule, tile_size, whole, is_in_part, part_granules, layout, Layout, has_tile_chains}
+use Rattle.digest_model.specs.Layout.{exponent, first_granule, tile_size, whole, is_in_part, part_granules, layout, SameTiles, has_tile_chains}
 use Rattle.digest_model.specs.Digests.{granule_digest, part_input, part_over, part_digests, tile_digest}
 use Rattle.digest_model.specs.Inputs.{tile_inputs, hashed}
 use Rattle.audit_model.specs.Laws.{IsAudit, CandidatesHaveAltered}
@@ -21,13 +21,14 @@ use Rattle.audit_model.specs.Notary.{answers}
 use Rattle.digest_model.proofs.Members.{here, there, Contains-map}
 use Rattle.digest_model.proofs.Granules.{granule_or_clash}
 use Rattle.digest_model.proofs.Tiles.{tiles_apart}
+use Rattle.digest_model.proofs.Layouts as layouts
 use Rattle.digest_model.proofs.Follows.{follow}
 use Rattle.audit_model.specs.Altered.{IsAltered, HashClash}
 use Rattle.audit_model.specs.Tiled.{Explains}
 use Rattle.digest_model.proofs.Lists.{none_of, Any-of, Any-from, passes, from_filter, in_filter, in_range, from_range, increasing_range, from_map}
 use Rattle.audit_model.proofs.Among.{all_of}
 use Rattle.audit_model.proofs.Compare.{compare, one_answer}
-use Rattle.audit_model.proofs.Planned.{part_planned, clash_of, not_same_rows}
+use Rattle.audit_model.proofs.Planned.{part_planned, clash_of, places_of, not_same_rows}
 
 -- whether the digests of a granule differ
 pub digests_differ : History → History → ℕ → Bool
@@ -95,7 +96,7 @@ module _ (h s : History) (tile : ℕ) where
       )
 
   -- where no granule of a part differs, its digests are the same
-  pub part_same : (part : ℕ) → layout h ≡ layout s → (filter (is_in_part part) differing ≡ []) → tile_digest h tile part ≡ tile_digest s tile part
+  pub part_same : (part : ℕ) → SameTiles (tile + 1) (layout h) (layout s) → (filter (is_in_part part) differing ≡ []) → tile_digest h tile part ≡ tile_digest s tile part
   unfolding tile_digest part_digests
   part_same part one none =
       let each_same : (g : ℕ) → Contains (part_granules (layout h) tile part) g → granule_digest h g ≡ granule_digest s g =
@@ -105,7 +106,7 @@ module _ (h s : History) (tile : ℕ) where
         | inr no_it ↦ subst (λ (x : ℕ). granule_digest h x ≡ granule_digest s x) r.3 (same_digest h s (first_granule (layout h) tile + r.0) no_it)
       ]) in
       ap (part_over tile part) (all_digests h s (part_granules (layout h) tile part) each_same)
-      ∙ ap (λ (x : Layout). part_over tile part (map (granule_digest s) (part_granules x tile part))) one
+      ∙ ap (λ (gs : List ℕ). part_over tile part (map (granule_digest s) gs)) (layouts.same_parts (layout h) (layout s) (tile + 1) tile part (omega arith) one)
 
 pub first_of : {X : Type 0} (xs : List X) → (xs ≡ []) ⊎ ((x : X) × Contains xs x)
 first_of [] = inl refl
@@ -119,7 +120,7 @@ part_answer batches id h s n tile part is has below kind =
     let plan = part_planned (layout h) n tile part has below kind in
     let asked : answers batches s (names.Tile tile part) ≡ compared (tile_digest s tile part) (tile_digest h tile part) = compare batches id h s n (names.Tile tile part) is.filed plan in
     elim (one_answer (tile_digest s tile part) (tile_digest h tile part)) [
-      | inl same ↦ elim (tiles_apart h s tile part is.ours is.theirs is.places (sym same.0)) [
+      | inl same ↦ elim (tiles_apart h s tile part is.ours is.theirs (layouts.fewer (layout h) (layout s) n (tile + 1) (omega (arith, below)) is.places) (sym same.0)) [
         | inl all ↦ inl (
           (λ differs. absurd (let a : answers batches s (names.Tile tile part) ≡ Same = asked ∙ same.1 in cc)),
           (λ some. absurd
@@ -132,7 +133,7 @@ part_answer batches id h s n tile part is has below kind =
       ]
       | inr differ ↦ inl (
         (λ _. elim (first_of (filter (is_in_part part) (differing h s tile))) [
-          | inl none ↦ absurd (differ.0 (sym (part_same h s tile part is.places none)))
+          | inl none ↦ absurd (differ.0 (sym (part_same h s tile part (layouts.fewer (layout h) (layout s) n (tile + 1) (omega (arith, below)) is.places) none)))
           | inr x ↦ Any-from (λ i. is_in_part part i ≡ true) (differing h s tile) x.0 (from_filter (is_in_part part) (differing h s tile) x.0 x.1) (passes (is_in_part part) (differing h s tile) x.0 x.1)
         ]),
         (λ _. asked ∙ differ.1),
@@ -164,12 +165,12 @@ altered_differs batches id h s n tile i is has below within alt =
           (let gs = part_granules (layout h) tile whole in
           let ks = part_granules (layout s) tile whole in
           let among = in_part h s tile whole i within (whole_part i) in
-          let also : Contains (part_granules (layout s) tile whole) (first_granule (layout h) tile + i) = subst (λ (x : Layout). Contains (part_granules x tile whole) (first_granule (layout h) tile + i)) is.places among in
+          let also : Contains (part_granules (layout s) tile whole) (first_granule (layout h) tile + i) = subst (λ (gs : List ℕ). Contains gs (first_granule (layout h) tile + i)) (layouts.same_parts (layout h) (layout s) n tile whole below is.places) among in
           elim (granule_or_clash h s g (tile_inputs h tile whole) (tile_inputs s tile whole) is.ours is.theirs
           (there (part_input tile whole (part_digests h tile whole)) (hashed h g) (map (hashed h) (part_granules (layout h) tile whole)) (Contains-map (hashed h) (part_granules (layout h) tile whole) g among))
           (there (part_input tile whole (part_digests s tile whole)) (hashed s g) (map (hashed s) (part_granules (layout s) tile whole)) (Contains-map (hashed s) (part_granules (layout s) tile whole) g also))
           (same_digest h s g no_it)) [
-            | inl same ↦ absurd (not_same_rows h s n g is.header alt same)
+            | inl same ↦ absurd (not_same_rows h s n g (places_of batches id h s n is) alt same)
             | inr c ↦ inr (clash_of h s n (names.Tile tile whole) is.places plan c)
           ])
     ]
@@ -178,7 +179,7 @@ altered_differs batches id h s n tile i is has below within alt =
 pub differing_explain : (batches : List Batch) (id : ℕ) (h s : History) (n tile number : ℕ) → IsAudit batches id h s n → has_tile_chains (layout h) tile ≡ true → tile < n
     → Contains (differing h s tile) number → Explains (exponent (layout h) tile) (λ part. answers batches s (names.Tile tile part)) (differing h s tile) ⊎ HashClash h (Some s) n
 differing_explain batches id h s n tile number is has below member =
-    let k_small = is.ours.header.k in
+    let k_small = layouts.exponents_fit h tile is.ours.header in
     elim (part_answer batches id h s n tile whole is has below (inl refl)) [
       | inr c ↦ inr c
       | inl tile_answer ↦ elim (each_or (λ bit. (answers batches s (names.Tile tile bit) ≡ Differs) ↔ Any (λ i. is_in_part bit i ≡ true) (differing h s tile)) (HashClash h (Some s) n) (exponent (layout h) tile)

@@ -14,7 +14,7 @@ use Rattle.notary_link.specs.declared.answer.Answer.{Answer}
 use Rattle.notary_link.specs.declared.answer.Answer.TheVariants.{Differs}
 use Rattle.history_model.specs.History.{History, rows}
 use Rattle.notary_link.specs.Batches.{Batch, compared}
-use Rattle.digest_model.specs.Layout.{Layout, layout, first_granule, tile_size, has_tile_chains, has_tree}
+use Rattle.digest_model.specs.Layout.{Layout, layout, first_granule, tile_size, tile_of, has_tile_chains, has_tree}
 use Rattle.digest_model.specs.Digests.{node_digest}
 use Rattle.audit_model.specs.Laws.{IsAudit, HasTree, DescentHasAltered, DescentIsAltered}
 use Rattle.audit_model.specs.Names.{digest, inputs_of, tile_names, nodes_ending_at, node_names, sealed_names, planned}
@@ -22,12 +22,13 @@ use Rattle.audit_model.specs.Notary.{answers}
 use Rattle.audit_model.specs.Tree.{Reached, as_root, as_child, IsFound}
 use Rattle.digest_model.proofs.Members.{there, Contains-map, Contains-flat_map}
 use Rattle.digest_model.proofs.Nodes.{twice, nodes_apart}
+use Rattle.digest_model.proofs.Layouts as layouts
 use Rattle.digest_model.proofs.Follows.{follow}
 use Rattle.audit_model.specs.Altered.{IsAltered, HashClash}
 use Rattle.digest_model.proofs.Lists.{in_range, in_filter}
 use Rattle.digest_model.proofs.Roots.{root_fits, root_over, under_own}
 use Rattle.audit_model.proofs.Compare.{compare, one_answer, differs_of}
-use Rattle.audit_model.proofs.Planned.{in_planned, clash_of, not_same_rows, same_view}
+use Rattle.audit_model.proofs.Planned.{in_planned, clash_of, places_of, not_same_rows, same_view}
 
 -- the nodes under n sealed tiles are planned
 tree_names_in : (l : Layout) (n tile : ℕ) (name : Name) → has_tree l tile ≡ true → tile < n → Contains (node_names l tile) name → Contains (planned l n) name
@@ -59,17 +60,15 @@ pub node_planned : (l : Layout) (n level index : ℕ) → ((tile : ℕ) → tile
 unfolding node_names
 node_planned l n level index has within small =
     let some = pow_pos level in
-    let size = pow_pos l.k in
     let g : ℕ = (index + 1) * 2 ^ level - 1 in
     let next : (index + 1) * 2 ^ level - 1 + 1 ≡ (index + 1) * 2 ^ level = omega (arith, some) in
-    let below : (index + 1) * 2 ^ level - 1 < n * 2 ^ l.k = omega (arith, within, next) in
-    let tile : ℕ = ((index + 1) * 2 ^ level - 1) / 2 ^ l.k in
-    let tile_in : ((index + 1) * 2 ^ level - 1) / 2 ^ l.k < n = div_below ((index + 1) * 2 ^ level - 1) (2 ^ l.k) n size below in
-    let split = shr_split ((index + 1) * 2 ^ level - 1) l.k in
-    let rest = mod_below ((index + 1) * 2 ^ level - 1) (2 ^ l.k) size in
-    tree_names_in l n (((index + 1) * 2 ^ level - 1) / 2 ^ l.k) (names.Node level index) (has (((index + 1) * 2 ^ level - 1) / 2 ^ l.k) tile_in) tile_in
-    (Contains-flat_map nodes_ending_at (range_with_len (first_granule l (((index + 1) * 2 ^ level - 1) / 2 ^ l.k)) (tile_size l (((index + 1) * 2 ^ level - 1) / 2 ^ l.k))) ((index + 1) * 2 ^ level - 1) (names.Node level index)
-    (in_range (first_granule l (((index + 1) * 2 ^ level - 1) / 2 ^ l.k)) (tile_size l (((index + 1) * 2 ^ level - 1) / 2 ^ l.k)) ((index + 1) * 2 ^ level - 1) (omega (arith, split)) (omega (arith, split, rest)))
+    let below : (index + 1) * 2 ^ level - 1 < first_granule l n = omega (arith, within, next) in
+    let from = layouts.tile_begins l ((index + 1) * 2 ^ level - 1) in
+    let to = layouts.tile_ends l ((index + 1) * 2 ^ level - 1) in
+    let tile_in = layouts.tile_within l n (tile_of l ((index + 1) * 2 ^ level - 1)) ((index + 1) * 2 ^ level - 1) from below in
+    tree_names_in l n (tile_of l ((index + 1) * 2 ^ level - 1)) (names.Node level index) (has (tile_of l ((index + 1) * 2 ^ level - 1)) tile_in) tile_in
+    (Contains-flat_map nodes_ending_at (range_with_len (first_granule l (tile_of l ((index + 1) * 2 ^ level - 1))) (tile_size l (tile_of l ((index + 1) * 2 ^ level - 1)))) ((index + 1) * 2 ^ level - 1) (names.Node level index)
+    (in_range (first_granule l (tile_of l ((index + 1) * 2 ^ level - 1))) (tile_size l (tile_of l ((index + 1) * 2 ^ level - 1))) ((index + 1) * 2 ^ level - 1) from to)
     (ends_at level index ((index + 1) * 2 ^ level - 1) next (low_level level index (first_granule l n) within small)))
 
 -- ---- roots
@@ -89,10 +88,10 @@ module _ (batches : List Batch) (id : ℕ) (h s : History) (n g : ℕ) (is : IsA
   node_differs level within =
       let index = g / 2 ^ level in
       let plan = node_planned (layout h) n level (g / 2 ^ level) has within is.filed.within in
-      let asked : answers batches s (names.Node level (g / 2 ^ level)) ≡ compared (node_digest s level (g / 2 ^ level)) (node_digest h level (g / 2 ^ level)) = compare batches id h s n (names.Node level (g / 2 ^ level)) is.filed plan in
-      elim (one_answer (node_digest s level (g / 2 ^ level)) (node_digest h level (g / 2 ^ level))) [
-        | inl same ↦ elim (nodes_apart h s level (g / 2 ^ level) is.ours is.theirs (sym same.0)) [
-          | inl all ↦ absurd (not_same_rows h s n g is.header alt (all g (under_own level g)))
+      let asked : answers batches s (names.Node level (g / 2 ^ level)) ≡ compared (node_digest s 0 level (g / 2 ^ level)) (node_digest h 0 level (g / 2 ^ level)) = compare batches id h s n (names.Node level (g / 2 ^ level)) is.filed plan in
+      elim (one_answer (node_digest s 0 level (g / 2 ^ level)) (node_digest h 0 level (g / 2 ^ level))) [
+        | inl same ↦ elim (nodes_apart h s 0 level (g / 2 ^ level) is.ours is.theirs (sym same.0)) [
+          | inl all ↦ absurd (not_same_rows h s n g (places_of batches id h s n is) alt (let own : 0 + g ≡ g = omega arith in rw own at (all g (under_own level g))))
           | inr c ↦ inr (clash_of h s n (names.Node level (g / 2 ^ level)) is.places plan c)
         ]
         | inr differ ↦ inl (asked ∙ differ.1)
@@ -135,9 +134,9 @@ module _ (batches : List Batch) (id : ℕ) (h s : History) (n g : ℕ) (is : IsA
 pub descent_has : DescentHasAltered
 descent_has batches id h s n g is has alt = found_or_clash batches id h s n g is has alt
 
-pub leaf_same : (a b : History) (g : ℕ) → rows a g ≡ rows b g → node_digest a 0 g ≡ node_digest b 0 g
+pub leaf_same : (a b : History) (g : ℕ) → rows a g ≡ rows b g → node_digest a 0 0 g ≡ node_digest b 0 0 g
 unfolding node_digest
-leaf_same a b g e = follow.granules a b g e
+leaf_same a b g e = (let own : 0 + g ≡ g = omega arith in rw own (follow.granules a b g e))
 
 pub same_some : (xs ys : List Txn) → Some xs ≡ Some ys → xs ≡ ys
 same_some xs ys e = cc
@@ -147,9 +146,9 @@ unfolding digest
 descent_is batches id h s n g is has f =
     let within = reached_within (first_granule (layout h) n) (λ l i. answers batches s (names.Node l i)) 0 g f.reached in
     let plan = node_planned (layout h) n 0 g has within is.filed.within in
-    let asked : answers batches s (names.Node 0 g) ≡ compared (node_digest s 0 g) (node_digest h 0 g) = compare batches id h s n (names.Node 0 g) is.filed plan in
-    let differ = differs_of (node_digest s 0 g) (node_digest h 0 g) (sym asked ∙ f.differs) in
+    let asked : answers batches s (names.Node 0 g) ≡ compared (node_digest s 0 0 g) (node_digest h 0 0 g) = compare batches id h s n (names.Node 0 g) is.filed plan in
+    let differ = differs_of (node_digest s 0 0 g) (node_digest h 0 0 g) (sym asked ∙ f.differs) in
     record {
       is_sealed = omega (arith, within);
-      differs = λ e. differ (leaf_same s h g (same_some (rows s g) (rows h g) (sym (same_view h s g is.header) ∙ e)));
+      differs = λ e. differ (leaf_same s h g (same_some (rows s g) (rows h g) (sym (same_view h s n g (places_of batches id h s n is)) ∙ e)));
     }

@@ -1,5 +1,5 @@
 -- Which granules of a file differ from the notarized ones.
-use Rattle.std.specs.Prelude.{◌≢◌, ℕ, ◌<◌, nat_eq, if◌then◌else◌, Bool, ⊤, List, [], Option, Some, None}
+use Rattle.std.specs.Prelude.{◌≡◌, ◌≢◌, ℕ, ◌<◌, nat_eq, if◌then◌else◌, Bool, ⊤, List, [], Option, Some, None}
 use Rattle.std.specs.Cmp.Lexicographic.{pointwise}
 use Rattle.std.specs.Option.{option_map}
 use Rattle.tuple_bytes.specs.declared.header.Header.{Header}
@@ -7,7 +7,7 @@ use Rattle.tuple_bytes.specs.declared.item.Txn.{Txn}
 use Rattle.tuple_bytes.specs.Spelling.{spell_fields}
 use Rattle.history_model.specs.declared.stored.Stored.{Stored}
 use Rattle.history_model.specs.History.{History, history, rows}
-use Rattle.digest_model.specs.Layout.{layout, first_granule}
+use Rattle.digest_model.specs.Layout.{layout, SameTiles, first_granule}
 use Rattle.digest_model.specs.Inputs.{Clash}
 use Rattle.audit_model.specs.Names.{inputs}
 
@@ -19,20 +19,25 @@ history_in s = option_map (λ header. history header s.items) s.header
 abbrev pub has_fields_of : Header → Header → Bool
 has_fields_of a b = pointwise nat_eq (spell_fields a) (spell_fields b)
 
--- what a file holds in a granule of h: nothing comparable, where it has no header or another one
-abbrev pub view : History → Option History → ℕ → Option (List Txn)
-view h None g = None
-view h (Some s) g = if has_fields_of h.header s.header then Some (rows s g) else None
+-- what a file holds in a granule of h, over n sealed tiles: nothing comparable, where it has no header or another one
+abbrev pub view : History → Option History → ℕ → ℕ → Option (List Txn)
+view h None n g = None
+view h (Some s) n g = if has_fields_of h.header s.header then Some (rows s g) else None
+
+-- over n sealed tiles: two histories have one header, and these tiles alike
+pub record HasPlacesOf (h s : History) (n : ℕ) : Type 0 where
+  pub header : h.header ≡ s.header
+  pub tiles : SameTiles n (layout h) (layout s)
 
 -- a file without the header of h
-abbrev pub HasOtherHeader : History → Option History → Type 0
-HasOtherHeader h None = ⊤
-HasOtherHeader h (Some s) = spell_fields h.header ≢ spell_fields s.header
+abbrev pub HasOtherHeader : History → Option History → ℕ → Type 0
+HasOtherHeader h None n = ⊤
+HasOtherHeader h (Some s) n = spell_fields h.header ≢ spell_fields s.header
 
 -- a sealed granule that the file shows otherwise
 pub record IsAltered (h : History) (s : Option History) (n g : ℕ) : Type 0 where
   pub is_sealed : g < first_granule (layout h) n
-  pub differs : view h s g ≢ Some (rows h g)
+  pub differs : view h s n g ≢ Some (rows h g)
 
 -- what is hashed for what a file holds
 abbrev pub stored_inputs : Option History → ℕ → List (List ℕ)

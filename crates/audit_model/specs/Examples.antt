@@ -16,7 +16,7 @@ use Rattle.audit_model.specs.Spans.{changed_from, first_changed_until}
 
 -- tiles of eight granules, with all chains
 abbrev pub layout_of_eight : Layout
-layout_of_eight = record { k = 3; algs = 3 }
+layout_of_eight = record { exponents = λ tile. 3; algorithms = λ tile. 3 }
 
 -- the answers for nodes where exactly these granules are altered
 abbrev pub nodes_over : List ℕ → ℕ → ℕ → Answer

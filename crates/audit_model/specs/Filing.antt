@@ -5,7 +5,7 @@ use Rattle.tuple_bytes.specs.declared.item.Item.{Item}
 use Rattle.tuple_bytes.specs.declared.item.Item.TheVariants.{Frontier}
 use Rattle.tuple_bytes.specs.Spelling.{FitsHeader}
 use Rattle.notary_link.specs.Batches.{Batch, IsBatch}
-use Rattle.history_model.specs.History.{History, history, last_moment, moment_in}
+use Rattle.history_model.specs.History.{History, history, last_moment, MayFollow}
 use Rattle.digest_model.specs.Layout.{layout, first_granule, max_granules}
 use Rattle.audit_model.specs.Names.{batch}
 use Rattle.audit_model.specs.Notary.{NotaryOf}
@@ -15,7 +15,7 @@ use Rattle.audit_model.specs.Sound.{IsNotarized}
 abbrev pub AddedStaysNotarized : Type 0
 AddedStaysNotarized = (batches : List Batch) (id n : ℕ) (header : Header) (items : List Item) (item : Item) → FitsHeader header
     → IsNotarized batches id n (history header items)
-    → last_moment items ≤ moment_in item
+    → MayFollow (last_moment items) item
     → IsNotarized batches id n (history header (items ++ item ∷ []))
 
 -- A frontier, of any moment, leaves what is filed.

@@ -2,19 +2,19 @@
 use Rattle.std.specs.Prelude.{◌≡◌, ◌≢◌, ◌↔◌, ◌⊎◌, ℕ, suc, ◌+◌, ◌*◌, ◌^◌, ◌<◌, ◌≤◌, true, List, Contains, length, Option, Some, None}
 use Rattle.std.specs.List.Sorted.{IsStrictlyIncreasing}
 use Rattle.notary_link.specs.declared.name.Name.{Name}
-use Rattle.notary_link.specs.declared.name.Name.TheVariants.{Header, Cum, Tile, Node}
+use Rattle.notary_link.specs.declared.name.Name.TheVariants.{Cum, Tile, Node}
 use Rattle.notary_link.specs.declared.answer.Answer.{Answer}
 use Rattle.notary_link.specs.declared.answer.Answer.TheVariants.{Same, Differs, Absent}
 use Rattle.notary_link.specs.Batches.{Batch, compared}
 use Rattle.tuple_bytes.specs.Spelling.{FitsHeader}
 use Rattle.history_model.specs.History.{History}
 use Rattle.history_model.specs.Stored.{stored}
-use Rattle.digest_model.specs.Layout.{layout, exponent, first_granule, end_granule, tile_size, whole, has_tile_chains, has_tree}
+use Rattle.digest_model.specs.Layout.{layout, SameTiles, exponent, first_granule, end_granule, tile_size, whole, has_tile_chains, has_tree}
 use Rattle.digest_model.specs.Roots.{roots_of}
 use Rattle.digest_model.specs.Laws.{HasSpelling, SameBelow}
 use Rattle.audit_model.specs.Names.{planned, digest}
-use Rattle.audit_model.specs.Notary.{NotaryOf, answers}
-use Rattle.audit_model.specs.Altered.{history_in, HasOtherHeader, IsAltered, HashClash}
+use Rattle.audit_model.specs.Notary.{NotaryOf, answers, header_answer}
+use Rattle.audit_model.specs.Altered.{history_in, HasPlacesOf, HasOtherHeader, IsAltered, HashClash}
 use Rattle.audit_model.specs.Sound.{HoldsNotarized}
 use Rattle.audit_model.specs.Mono.{BeginsRegion, IsFirstBad, IsStep}
 use Rattle.audit_model.specs.Tree.{IsFound, IsConsistent, found, checks, digit_count}
@@ -47,7 +47,7 @@ pub record IsAudit (batches : List Batch) (id : ℕ) (h s : History) (n : ℕ) :
   pub ours : HasSpelling h
   pub theirs : HasSpelling s
   pub header : h.header ≡ s.header
-  pub places : layout h ≡ layout s
+  pub places : SameTiles n (layout h) (layout s)
 
 -- for a planned name the two digests are compared
 abbrev pub AnswersCompare : Type 0
@@ -68,7 +68,7 @@ BatchesAreCounted = (batches : List Batch) (id : ℕ) (h : History) (n : ℕ) �
 
 -- Under another header, or none, every sealed granule is altered.
 abbrev pub OtherHeaderIsAltered : Type 0
-OtherHeaderIsAltered = (h : History) (s : Option History) (n g : ℕ) → HasOtherHeader h s → g < first_granule (layout h) n
+OtherHeaderIsAltered = (h : History) (s : Option History) (n g : ℕ) → HasOtherHeader h s n → g < first_granule (layout h) n
     → IsAltered h s n g
 
 -- Where the chain is the same at the end of a tile, nothing is altered up to there.
@@ -115,19 +115,19 @@ DescentIsAltered = (batches : List Batch) (id : ℕ) (h s : History) (n g : ℕ)
 -- The header's answer shows whether the file has the notarized header.
 abbrev pub HeaderIsShown : Type 0
 HeaderIsShown = (batches : List Batch) (id : ℕ) (h s : History) (n : ℕ) → NotaryOf batches id h n → HasSpelling h → HasSpelling s
-    → answers batches s Header ≡ Same
-    → (h.header ≡ s.header) ⊎ HashClash h (Some s) n
+    → header_answer batches s n ≡ Same
+    → HasPlacesOf h s n ⊎ HashClash h (Some s) n
 
 -- A file has the notarized header or another one.
 abbrev pub HeadersAreOneOrOther : Type 0
-HeadersAreOneOrOther = (h s : History) → FitsHeader h.header → FitsHeader s.header
-    → (h.header ≡ s.header) ⊎ HasOtherHeader h (Some s)
+HeadersAreOneOrOther = (h s : History) (n : ℕ) → FitsHeader h.header → FitsHeader s.header
+    → HasPlacesOf h s n ⊎ HasOtherHeader h (Some s) n
 
 -- Where the header's answer differs, the file has another one, without exception.
 abbrev pub RefusedHeaderIsOther : Type 0
 RefusedHeaderIsOther = (batches : List Batch) (id : ℕ) (h s : History) (n : ℕ) → NotaryOf batches id h n
-    → answers batches s Header ≡ Differs
-    → HasOtherHeader h (Some s)
+    → header_answer batches s n ≡ Differs
+    → HasOtherHeader h (Some s) n
 
 -- the granule of this number within a tile is altered
 abbrev pub IsAlteredIn : History → History → ℕ → ℕ → ℕ → Type 0
@@ -199,6 +199,7 @@ pub record IsAnsweredSame (batches : List Batch) (id n : ℕ) (bytes : List ℕ)
   pub history : History
   pub is_stored : history_in (stored bytes) ≡ Some history
   pub header : history.header.id ≡ id
+  pub shown : header_answer batches history n ≡ Same
   pub same : (name : Name) → Contains (planned (layout history) n) name → answers batches history name ≡ Same
 
 -- Bytes that hold what is filed, as each image of a sound store, are answered the same for each planned name.

@@ -48,7 +48,7 @@ unfoldable pub digest : History → Name → List ℕ
 digest h names.Header = header_digest h.header
 digest h (names.Cum tile) = cum h tile
 digest h (names.Tile tile part) = tile_digest h tile part
-digest h (names.Node level index) = node_digest h level index
+digest h (names.Node level index) = node_digest h 0 level index
 
 abbrev pub seal : History → Name → Seal
 seal h name = record { name = name; digest = digest h name }
@@ -64,7 +64,7 @@ unfoldable pub inputs_of : History → Name → List (List ℕ)
 inputs_of h names.Header = header_input h.header ∷ []
 inputs_of h (names.Cum tile) = cum_inputs h tile
 inputs_of h (names.Tile tile part) = tile_inputs h tile part
-inputs_of h (names.Node level index) = node_inputs h level index
+inputs_of h (names.Node level index) = node_inputs h 0 level index
 
 -- all that is hashed for the planned names
 unfoldable pub inputs : History → ℕ → List (List ℕ)

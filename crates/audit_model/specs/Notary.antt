@@ -2,6 +2,7 @@
 use Rattle.std.specs.Prelude.{◌≡◌, ℕ, ◌+◌, ◌≤◌, List, map}
 use Rattle.std.specs.List.{range_with_len}
 use Rattle.notary_link.specs.declared.name.Name.{Name}
+use Rattle.notary_link.specs.declared.name.Name.TheVariants.{Header}
 use Rattle.notary_link.specs.declared.answer.Answer.{Answer}
 use Rattle.notary_link.specs.Batches.{Batch, answer}
 use Rattle.history_model.specs.History.{History}
@@ -11,6 +12,10 @@ use Rattle.audit_model.specs.Names.{digest, batch}
 -- the answer for the digest of a history under a name
 abbrev pub answers : List Batch → History → Name → Answer
 answers batches s name = answer batches name (digest s name)
+
+-- what the answers show of a file's header, with n sealed tiles: the same, another one, or that the seal is missing
+unfoldable pub header_answer : List Batch → History → ℕ → Answer
+header_answer batches s n = answers batches s Header
 
 -- the batches under an id are those of a history with n sealed tiles
 pub record NotaryOf (batches : List Batch) (id : ℕ) (h : History) (n : ℕ) : Type 0 where

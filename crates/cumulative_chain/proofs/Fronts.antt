@@ -86,15 +86,3 @@ below_grows (g ∷ gs) m n le =
         | inr out_n ↦ rw out_n rest
       ])
     ]
-
--- ---- the end of a tile
-
--- tiles below the last granule have few granules
-pub small_exponent : (tiles k : ℕ) → 0 < tiles → tiles * 2 ^ k ≤ 1048576 → k < 21
-small_exponent tiles k some within = elim (cases_lt k 21) [
-  | inl low ↦ low
-  | inr high ↦ absurd (let more : 2 ^ 21 ≤ 2 ^ k = pow_mono high in let all : 1 * 2 ^ k ≤ tiles * 2 ^ k = mul-le 1 (2 ^ k) tiles (2 ^ k) some (omega arith) in omega (arith, more, all, within))
-]
-
-pub end_within : (tile tiles k : ℕ) → tile < tiles → tiles * 2 ^ k ≤ 1048576 → (tile + 1) * 2 ^ k ≤ 1048576
-end_within tile tiles k below within = (let all : (tile + 1) * 2 ^ k ≤ tiles * 2 ^ k = mul-le (tile + 1) (2 ^ k) tiles (2 ^ k) (omega arith) (omega arith) in omega (arith, all, within))

@@ -22,8 +22,8 @@ unfoldable pub spelled_below : List Granule → ℕ → List (List ℕ)
 spelled_below granules end = flat_map (λ g. g.1) (filter (λ g. nat_lt g.0 end) granules)
 
 -- the value of the chain at the end of a tile
-abbrev pub link_at : Header → List Granule → ℕ → List ℕ
-link_at header granules tile = link_of_spelled header (spelled_below granules (end_granule (layout_of header) tile))
+abbrev pub link_at : Header → Layout → List Granule → ℕ → List ℕ
+link_at header l granules tile = link_of_spelled header (spelled_below granules (end_granule l tile))
 
 -- ---- going from granule to granule
 

@@ -71,6 +71,3 @@ pub fn link<L: Ledger>(previous: &[u8; 32], txn_bytes: &[u8], steps: &mut Steps<
     steps.tick();
     hasher.finalize()
 }
-
-#[cfg(test)]
-mod tests;

@@ -5,9 +5,11 @@ ghost use Rattle.std.specs.List.{range_with_len};
 ghost use Rattle.std.specs.List.Sorted.{IsStrictlyIncreasing};
 ghost use Rattle.digest_model.specs.Digests.{next_link};
 ghost use Rattle.digest_model.specs.Layout.{first_granule, max_granules};
-ghost use Rattle.cumulative_chain.specs.Tiles.{layout_of, numbers_of, spelled_below, link_at, front, AreBelow, IsSplit};
+ghost use Rattle.policy_eras.specs.Policy.{layout_by};
+ghost use Rattle.cumulative_chain.specs.Tiles.{numbers_of, spelled_below, link_at, front, AreBelow, IsSplit};
 
 use crate::{link, seed};
+use policy_eras::Eras;
 use std::alloc::{AllocError, Global};
 use step_count::{Ledger, Steps};
 use tuple_bytes::{Granules, Header, Payloads};
@@ -54,21 +56,22 @@ fn link_below<L: Ledger>(
 pub fn links_at_tiles<L: Ledger>(
     alloc: Global,
     header: &Header,
+    eras: &Eras,
     granules: &Granules,
     tiles: u32,
     steps: &mut Steps<L>,
 ) -> Result<Vec<[u8; 32]>, AllocError>
     requires ascend { IsStrictlyIncreasing (numbers_of granules.now) }
-    requires within { first_granule (layout_of header.now) tiles ≤ max_granules }
-    ensures value { IfOk result (λ links. links.items ≡ map (link_at header.now granules.now) (range_with_len 0 tiles)) }
-    ensures steps { OnOk result (steps.new ≡ steps.old + length (spelled_below granules.now (first_granule (layout_of header.now) tiles))) }
-    ensures few { steps.new ≤ steps.old + length (spelled_below granules.now (first_granule (layout_of header.now) tiles)) }
+    requires within { first_granule (layout_by eras.now) tiles ≤ max_granules }
+    ensures value { IfOk result (λ links. links.items ≡ map (link_at header.now (layout_by eras.now) granules.now) (range_with_len 0 tiles)) }
+    ensures steps { OnOk result (steps.new ≡ steps.old + length (spelled_below granules.now (first_granule (layout_by eras.now) tiles))) }
+    ensures few { steps.new ≤ steps.old + length (spelled_below granules.now (first_granule (layout_by eras.now) tiles)) }
 {
     let mut links = Vec::with_capacity(alloc, tiles as usize)?;
     let mut value = seed(header);
     let mut place = 0;
     for tile in 0..tiles {
-        let end = (tile + 1) << header.k;
+        let end = eras.first(tile + 1) as u32;
         place = link_below(&mut value, granules.as_slice(), place, end, steps);
         links.push(value)?;
     }

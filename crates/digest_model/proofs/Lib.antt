@@ -16,3 +16,4 @@ pub mod Roots
 pub mod Picked
 pub mod Steps
 pub mod Chains
+pub mod Layouts

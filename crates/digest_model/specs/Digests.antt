@@ -84,7 +84,7 @@ node_input level index left right = 4 ∷ level ∷ (to_be_bytes w32 index ++ (l
 abbrev pub node_over : ℕ → ℕ → List ℕ → List ℕ → List ℕ
 node_over level index left right = sha256 (node_input level index left right)
 
--- a leaf is a granule
-unfoldable pub node_digest : History → ℕ → ℕ → List ℕ
-node_digest h zero index = granule_digest h index
-node_digest h (suc level) index = node_over (suc level) index (node_digest h level (2 * index)) (node_digest h level (2 * index + 1))
+-- in the tree whose leaves are the granules from this first one on
+unfoldable pub node_digest : History → ℕ → ℕ → ℕ → List ℕ
+node_digest h first zero index = granule_digest h (first + index)
+node_digest h first (suc level) index = node_over (suc level) index (node_digest h first level (2 * index)) (node_digest h first level (2 * index + 1))

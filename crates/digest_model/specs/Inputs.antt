@@ -44,8 +44,8 @@ unfoldable pub tile_inputs : History → ℕ → ℕ → List (List ℕ)
 tile_inputs h tile part = part_input tile part (part_digests h tile part) ∷ map (hashed h) (part_granules (layout h) tile part)
 
 -- of a node and of the nodes below it
-unfoldable pub node_inputs : History → ℕ → ℕ → List (List ℕ)
-node_inputs h zero index = hashed h index ∷ []
-node_inputs h (suc level) index =
-    node_input (suc level) index (node_digest h level (2 * index)) (node_digest h level (2 * index + 1))
-    ∷ (node_inputs h level (2 * index) ++ node_inputs h level (2 * index + 1))
+unfoldable pub node_inputs : History → ℕ → ℕ → ℕ → List (List ℕ)
+node_inputs h first zero index = hashed h (first + index) ∷ []
+node_inputs h first (suc level) index =
+    node_input (suc level) index (node_digest h first level (2 * index)) (node_digest h first level (2 * index + 1))
+    ∷ (node_inputs h first level (2 * index) ++ node_inputs h first level (2 * index + 1))

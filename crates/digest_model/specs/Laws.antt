@@ -1,11 +1,11 @@
 -- What equal digests say, unless two inputs clash; and that digests go by the transactions.
-use Rattle.std.specs.Prelude.{◌≡◌, ◌⊎◌, ℕ, ◌<◌, List, [], ◌∷◌}
+use Rattle.std.specs.Prelude.{◌≡◌, ◌⊎◌, ℕ, ◌+◌, ◌<◌, List, [], ◌∷◌}
 use Rattle.std.specs.List.{All}
 use Rattle.tuple_bytes.specs.declared.header.Header.{Header}
 use Rattle.tuple_bytes.specs.Spelling.{spell_fields, FitsHeader, FitsItem}
 use Rattle.history_model.specs.History.{History, txns, rows}
 use Rattle.history_model.specs.StoredHistory.{IsHistory}
-use Rattle.digest_model.specs.Layout.{layout, end_granule, part_granules}
+use Rattle.digest_model.specs.Layout.{layout, SameTiles, end_granule, part_granules}
 use Rattle.digest_model.specs.Roots.{IsUnder}
 use Rattle.digest_model.specs.Digests.{link_of_spelled, link_of, header_digest, header_input, granule_digest, tile_digest, node_digest, cum}
 use Rattle.digest_model.specs.Inputs.{Clash, link_inputs_of_spelled, link_inputs, cum_inputs, hashed, tile_inputs, node_inputs}
@@ -52,7 +52,7 @@ pub record SameBelow (h s : History) (m : ℕ) : Type 0 where
 
 -- equal links at the end of a tile are of the same transactions up to there
 abbrev pub CumsTellApart : Type 0
-CumsTellApart = (h s : History) (tile : ℕ) → HasSpelling h → HasSpelling s → layout h ≡ layout s
+CumsTellApart = (h s : History) (tile : ℕ) → HasSpelling h → HasSpelling s → SameTiles (tile + 1) (layout h) (layout s)
     → cum h tile ≡ cum s tile
     → SameBelow h s (end_granule (layout h) tile) ⊎ Clash (cum_inputs h tile) (cum_inputs s tile)
 
@@ -68,26 +68,26 @@ SameIn h s granules = All (λ g. rows h g ≡ rows s g) granules
 
 -- equal digests of a part of a tile are of the same transactions in each of its granules
 abbrev pub TilesTellApart : Type 0
-TilesTellApart = (h s : History) (tile part : ℕ) → HasSpelling h → HasSpelling s → layout h ≡ layout s
+TilesTellApart = (h s : History) (tile part : ℕ) → HasSpelling h → HasSpelling s → SameTiles (tile + 1) (layout h) (layout s)
     → tile_digest h tile part ≡ tile_digest s tile part
     → SameIn h s (part_granules (layout h) tile part) ⊎ Clash (tile_inputs h tile part) (tile_inputs s tile part)
 
--- two histories have the same transactions in each granule below a node
-abbrev pub SameUnder : History → History → ℕ → ℕ → Type 0
-SameUnder h s level index = (g : ℕ) → IsUnder level index g → rows h g ≡ rows s g
+-- two histories have the same transactions in each granule below a node, in the tree over the granules from the first on
+abbrev pub SameUnder : History → History → ℕ → ℕ → ℕ → Type 0
+SameUnder h s first level index = (leaf : ℕ) → IsUnder level index leaf → rows h (first + leaf) ≡ rows s (first + leaf)
 
 -- equal digests of a node are of the same transactions in each granule below it
 abbrev pub NodesTellApart : Type 0
-NodesTellApart = (h s : History) (level index : ℕ) → HasSpelling h → HasSpelling s
-    → node_digest h level index ≡ node_digest s level index
-    → SameUnder h s level index ⊎ Clash (node_inputs h level index) (node_inputs s level index)
+NodesTellApart = (h s : History) (first level index : ℕ) → HasSpelling h → HasSpelling s
+    → node_digest h first level index ≡ node_digest s first level index
+    → SameUnder h s first level index ⊎ Clash (node_inputs h first level index) (node_inputs s first level index)
 
 -- the same transactions have the same digests
 pub record SameDigests : Type 0 where
   pub granules : (h s : History) (g : ℕ) → rows h g ≡ rows s g → granule_digest h g ≡ granule_digest s g
-  pub cums : (h s : History) (tile : ℕ) → layout h ≡ layout s
+  pub cums : (h s : History) (tile : ℕ) → SameTiles (tile + 1) (layout h) (layout s)
       → SameBelow h s (end_granule (layout h) tile) → cum h tile ≡ cum s tile
-  pub tiles : (h s : History) (tile part : ℕ) → layout h ≡ layout s
+  pub tiles : (h s : History) (tile part : ℕ) → SameTiles (tile + 1) (layout h) (layout s)
       → SameIn h s (part_granules (layout h) tile part) → tile_digest h tile part ≡ tile_digest s tile part
-  pub nodes : (h s : History) (level index : ℕ)
-      → SameUnder h s level index → node_digest h level index ≡ node_digest s level index
+  pub nodes : (h s : History) (first level index : ℕ)
+      → SameUnder h s first level index → node_digest h first level index ≡ node_digest s first level index

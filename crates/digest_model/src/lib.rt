@@ -50,6 +50,3 @@ pub use laws::{
     links_tell_apart, nodes_tell_apart, roots_cover, same_digests, stores_tell_apart,
     tiles_tell_apart, worked_roots,
 };
-
-#[cfg(test)]
-mod tests;

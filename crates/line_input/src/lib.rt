@@ -46,8 +46,6 @@ mod laws;
 mod limits;
 mod piece;
 mod reader;
-#[cfg(test)]
-mod tests;
 
 pub use fail::InputFail;
 pub use laws::lines_are_the_only_ones;

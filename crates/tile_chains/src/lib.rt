@@ -31,6 +31,3 @@ mod tile;
 
 pub use granule::{GranuleHash, granule_digest};
 pub use tile::{WHOLE, tile_digest};
-
-#[cfg(test)]
-mod tests;

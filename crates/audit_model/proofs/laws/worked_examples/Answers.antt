@@ -1,12 +1,13 @@
 use Rattle.std.proofs.Common.{refl}
 use Rattle.audit_model.specs.Names.{batch_names, sealed_names, tile_names, node_names, nodes_ending_at}
 use Rattle.audit_model.specs.Tiled.{candidates_of, exactly_of}
+use Rattle.digest_model.specs.Layout.{exponent, first_granule, has_tile_chains, has_tree}
 use Rattle.digest_model.specs.Roots.{roots_of, down_from}
 use Rattle.audit_model.specs.Tree.{found, found_from, forks_from, checks}
 use Rattle.audit_model.proofs.laws.worked_examples.Goals as goal
 
 pub returns : goal.returns
-unfolding batch_names sealed_names tile_names node_names nodes_ending_at candidates_of exactly_of found found_from forks_from checks roots_of down_from
+unfolding batch_names sealed_names tile_names node_names nodes_ending_at candidates_of exactly_of found found_from forks_from checks roots_of down_from exponent first_granule has_tile_chains has_tree
 returns c = record {
   first_batch = refl;
   twenty_seals = refl;
