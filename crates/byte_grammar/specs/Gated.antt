@@ -23,6 +23,10 @@ named_length bytes = from_be_bytes w32 (take 4 (drop 1 bytes))
 abbrev pub named_payload : List ℕ → List ℕ
 named_payload bytes = take (named_length bytes) (drop 5 bytes)
 
+-- the place of the gate behind a record of so many bytes, which begins at this place: a gate, four bytes of length, the payload
+abbrev pub end_behind : ℕ → ℕ → ℕ
+end_behind place size = place + 5 + size
+
 -- at the front of the bytes, which stand at this place, is an open gate, a length, and so many bytes with a gate behind them
 abbrev pub is_framed : Shape → ℕ → List ℕ → Bool
 is_framed shape place bytes =

@@ -8,11 +8,12 @@ use Rattle.std.proofs.lemmas.Option.{same_Some}
 use Rattle.std.proofs.lemmas.Slice.Eq.{slice_eq-Decides}
 use Rattle.byte_grammar.specs.Gated.{open_gate}
 use Rattle.notary_link.specs.Notary.{Call}
-use Rattle.txn_journal.specs.Create.{IsFree, IsTaken, IsHalfMade}
+use Rattle.txn_journal.specs.Create.{is_free, IsFree, IsTaken, IsHalfMade}
+use Rattle.txn_journal.proofs.Free.{free_is, is_free_if}
 use Rattle.txn_journal.specs.Held.{Held, Standing, held_under, held_by}
 use Rattle.txn_journal.specs.Reading.{head_of, left}
 use Rattle.notary_book.specs.Adding.{Tells}
-use Rattle.notary_book.specs.Books.{lists_of, all_next, book_head, is_book_head, book_shape, calls_in, lists_held, book_of, is_free, told_by}
+use Rattle.notary_book.specs.Books.{lists_of, all_next, book_head, is_book_head, book_shape, calls_in, lists_held, book_of, told_by}
 use Rattle.notary_book.specs.Kept.{IsFileOf}
 
 -- ---- the head
@@ -86,38 +87,6 @@ told_free bytes e = ap (λ (b : Bool). cond b (Some (lists_of [])) (book_of byte
 pub told_file : (calls : List Call) (at : Option Standing) (bytes : List ℕ) → IsFileOf calls at bytes → Tells calls bytes
 told_file calls None bytes f = told_free bytes f.1 ∙ ap (λ (cs : List Call). Some (lists_of cs)) (sym f.0)
 told_file calls (Some at) bytes f = told_held bytes f.held calls f.stands.holds f.calls_are f.next
-
-pub free_is : (bytes : List ℕ) → IsFree bytes → is_free bytes ≡ true
-free_is bytes (inl few) = or_left _ _ (le-leb (length bytes) 1 few)
-free_is bytes (inr h) =
-    let few : length bytes ≤ 65 = h.0 in
-    let closed : slice_index bytes 0 ≢ open_gate = h.1 in
-    let test : (slice_index bytes 0 == open_gate) ≡ false = grind (arith, nat_tests) in
-    or_right _ _ (and_from _ _ (le-leb (length bytes) 65 few) (not_from_false _ test))
-
-pub is_free_if : (bytes : List ℕ) → is_free bytes ≡ true → IsFree bytes
-is_free_if bytes e = by (leb (length bytes) 1) (leb (length bytes) 65) (slice_index bytes 0 == open_gate) refl refl refl e
-  where
-    by : (short few gate : Bool) → leb (length bytes) 1 ≡ short → leb (length bytes) 65 ≡ few → (slice_index bytes 0 == open_gate) ≡ gate → (short || (few && not gate)) ≡ true → IsFree bytes
-    by true few gate s f g h = inl (leb-true (length bytes) 1 s)
-    by false true false s f g h = let closed : slice_index bytes 0 ≢ open_gate = grind (arith, nat_tests) in inr (leb-true (length bytes) 65 f, closed)
-    by false true true s f g h = absurd cc
-    by false false gate s f g h = absurd cc
-
-pub taken_is : (bytes : List ℕ) → IsTaken bytes → is_free bytes ≡ false
-taken_is bytes taken = by (is_free bytes) refl
-  where
-    none : IsFree bytes → ⊥
-    none (inl few) = omega (arith, few, taken.0)
-    none (inr h) = other taken.1
-      where
-        other : (65 < length bytes) ⊎ (slice_index bytes 0 ≡ open_gate) → ⊥
-        other (inl long) = omega (arith, long, h.0)
-        other (inr gate) = h.1 gate
-
-    by : (b : Bool) → is_free bytes ≡ b → is_free bytes ≡ false
-    by true e = absurd (none (is_free_if bytes e))
-    by false e = e
 
 -- a front of a free device is free
 pub free_front : (before c : List ℕ) → is_free before ≡ true → c ≡ take (length c) before → is_free c ≡ true

@@ -5,8 +5,9 @@ use Rattle.std.proofs.lemmas.Option.{same_Some}
 use Rattle.disk_words.specs.Disk.{State, Only}
 use Rattle.notary_link.specs.Notary.{Call}
 use Rattle.txn_journal.specs.Held.{Held, Standing, held_by}
+use Rattle.txn_journal.specs.Create.{is_free}
 use Rattle.notary_book.specs.declared.kept.Kept.{Kept}
-use Rattle.notary_book.specs.Books.{all_next, is_book_head, book_shape, is_free}
+use Rattle.notary_book.specs.Books.{all_next, is_book_head, book_shape}
 use Rattle.notary_book.specs.Kept.{StandsFor, Stores, IsFileOf, IsOpen, IsShort, Holds, IsSettled, calls_held, calls_told, end_held, StandsAt, IsKeptOf, KeepsOf, SettledOf, OpenOf, Knows}
 use Rattle.notary_book.proofs.Bytes.{free_unheld}
 

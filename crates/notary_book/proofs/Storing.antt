@@ -12,11 +12,11 @@ use Rattle.disk_model.proofs.Moments.{started, one_more, stays, weaker, joined, 
 use Rattle.notary_link.specs.Notary.{Call}
 use Rattle.txn_journal.specs.declared.fail.JournalFail.{JournalFail}
 use Rattle.txn_journal.specs.Append.{Appends}
-use Rattle.txn_journal.specs.Create.{IsFree, IsHalfMade, Creates}
+use Rattle.txn_journal.specs.Create.{is_free, IsFree, IsHalfMade, Creates}
 use Rattle.txn_journal.specs.Held.{Held, Standing, StandsIn, held_by, new_file, with_payload, HoldsOldOrNew, behind}
 use Rattle.txn_journal.specs.Opening.{held_of}
 use Rattle.notary_book.specs.Adding.{Tells, TellsEither, Clears, Makes, Starts, Adds}
-use Rattle.notary_book.specs.Books.{all_next, book_head, is_book_head, book_shape, calls_in, is_free}
+use Rattle.notary_book.specs.Books.{all_next, book_head, is_book_head, book_shape, calls_in}
 use Rattle.notary_book.specs.Kept.{Stores, IsFileOf}
 use Rattle.notary_book.proofs.Bytes.{told_held, told_free, told_file, free_front, half_tells}
 

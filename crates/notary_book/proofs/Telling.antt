@@ -63,8 +63,10 @@ module _ (s s' : DiskState) (a a' u u' : ℕ) (same : s'.reads ≡ s.reads) wher
     trace = tt;
     limits = refl;
     plan = refl;
+    sure = refl;
     asked = asked;
     faults = omega (arith, faults, unreadable);
+    quiet = λ sure. tt;
   }
 
   pub unchanged : Unchanged (book_state s a u) (book_state s' a' u')
@@ -143,8 +145,10 @@ module _ (calls : List Call) (call : Call) where
       trace = tt;
       limits = refl;
       plan = refl;
+      sure = refl;
       asked = omega arith;
       faults = omega (arith, on.faults, later);
+      quiet = λ sure. tt;
     }
       where
         by : (o : Option (List ℕ)) → is_some o ≡ false → is_some (lists_told o) ≡ false

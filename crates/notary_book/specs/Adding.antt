@@ -6,7 +6,8 @@ use Rattle.disk_model.specs.Moments.{EveryImage}
 use Rattle.notary_link.specs.Notary.{Call}
 use Rattle.txn_journal.specs.declared.fail.JournalFail.{JournalFail}
 use Rattle.txn_journal.specs.Held.{Standing}
-use Rattle.notary_book.specs.Books.{lists_of, all_next, calls_in, is_free, told_by}
+use Rattle.txn_journal.specs.Create.{is_free}
+use Rattle.notary_book.specs.Books.{lists_of, all_next, calls_in, told_by}
 use Rattle.notary_book.specs.Kept.{Stores, IsFileOf}
 
 -- the bytes say that these calls were done

@@ -1,11 +1,12 @@
 -- What the bytes of a book say: the calls that were done, one after another, and the lists that they leave.
-use Rattle.std.specs.Prelude.{◌==◌, ◌&&◌, ◌||◌, ◌+◌, ℕ, not, nat_eq, nat_le, nat_lt, Bool, true, List, [], ◌∷◌, ◌++◌, length, slice_index, codes, replicate, Option, None, Some, is_some, Ok, if◌then◌else◌}
+use Rattle.std.specs.Prelude.{◌==◌, ◌&&◌, ◌+◌, ℕ, nat_eq, nat_le, nat_lt, Bool, true, List, [], ◌∷◌, ◌++◌, length, codes, replicate, Option, None, Some, is_some, Ok, if◌then◌else◌}
 use Rattle.std.specs.Cmp.Lexicographic.{pointwise}
 use Rattle.std.specs.List.{flat_map, filter_map}
 use Rattle.notary_link.specs.declared.notary.NotaryLimits.{NotaryLimits}
 use Rattle.notary_link.specs.Calls.{batches_by, marks_by}
 use Rattle.notary_link.specs.Notary.{Call, file, note, Lists, seals_in_all, marks_in_all}
 use Rattle.byte_grammar.specs.Gated.{Shape, open_gate}
+use Rattle.txn_journal.specs.Create.{is_free}
 use Rattle.txn_journal.specs.Held.{Held, held_by}
 use Rattle.notary_book.specs.Calls.{call_of}
 
@@ -64,10 +65,6 @@ lists_held (Some held) = if all_next [] (calls_in held.payloads) then Some (list
 -- the lists that the bytes of a book say
 abbrev pub book_of : List ℕ → Option Lists
 book_of bytes = lists_held (held_by is_book_head book_shape bytes)
-
--- bytes of a device on which a book may be made
-abbrev pub is_free : List ℕ → Bool
-is_free bytes = nat_le (length bytes) 1 || (nat_le (length bytes) 65 && not (slice_index bytes 0 == open_gate))
 
 -- what the bytes of a device say; one on which a book may be made stands for an empty book
 abbrev pub told_by : List ℕ → Option Lists

@@ -5,11 +5,12 @@ use Rattle.notary_link.specs.Notary.{Call, seals_in_all, marks_in_all}
 use Rattle.notary_link.specs.Shelves.{StandForLists}
 use Rattle.byte_grammar.specs.Gated.{open_gate}
 use Rattle.txn_journal.specs.Held.{Held, Standing, StandsIn, held_by}
+use Rattle.txn_journal.specs.Create.{is_free}
 use Rattle.notary_book.specs.declared.kept.Kept.{Kept}
 use Rattle.notary_book.specs.declared.pages.Pages.{Pages}
 use Rattle.notary_book.specs.Calls.{call_of}
 use Rattle.notary_book.specs.Spelling.{Spells}
-use Rattle.notary_book.specs.Books.{lists_of, all_next, is_book_head, book_shape, calls_in, is_free, told_by}
+use Rattle.notary_book.specs.Books.{lists_of, all_next, is_book_head, book_shape, calls_in, told_by}
 
 -- the pages have what stands after these calls
 pub record StandsFor (calls : List Call) (pages : Pages) : Type 0 where

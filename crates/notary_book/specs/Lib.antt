@@ -3,6 +3,7 @@ pub mod Anew
 pub mod Books
 pub mod Calls
 pub mod Entries
+pub mod FewMarks
 pub mod Kept
 pub mod Moments
 pub mod Spelling

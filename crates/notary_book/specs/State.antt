@@ -1,5 +1,5 @@
 -- A book as a notary.
-use Rattle.std.specs.Prelude.{ℕ, ◌+◌, None}
+use Rattle.std.specs.Prelude.{ℕ, ◌+◌, false, None}
 use Rattle.disk_words.specs.Disk.{State as DiskState}
 use Rattle.notary_link.specs.Notary.{State}
 use Rattle.notary_book.specs.Books.{book_limits, lists_told}
@@ -11,6 +11,7 @@ book_state s asked unreadable = record {
   limits = book_limits;
   trace = None;
   plan = None;
+  sure = false;
   asked = asked;
   faults = s.faults + unreadable;
 }

@@ -230,11 +230,14 @@ impl<D: Disk> Notary for Book<D> {
     ghost use Rattle.notary_book.specs.Anew.{Looks, OnRefusal, Alters};
     ghost use Rattle.notary_book.specs.Kept.{IsSettled};
     ghost use Rattle.notary_book.specs.Moments.{LeavesOf};
+    ghost use Rattle.notary_book.specs.FewMarks.{few_told};
     ghost use Rattle.notary_book.specs.State.{book_state};
 
     ghost state = { λ b. book_state (D.state b.disk) b.asked b.unreadable };
 
     ghost limited = { λ b. lit≤ tt };
+
+    ghost few_marks = { λ b. few_told (D.state b.disk).reads };
 
     fn count(&mut self, id: u64) -> Result<u32, NotaryFail>
         ensures value { GivesCount id result (book_state (D.state self.old.disk) self.old.asked self.old.unreadable) }

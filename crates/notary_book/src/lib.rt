@@ -66,6 +66,3 @@ mod writing;
 
 pub use book::Book;
 pub use shape::BookShape;
-
-#[cfg(test)]
-mod tests;

@@ -6,7 +6,6 @@ ghost use Rattle.outside_words.specs.Told.{WhereTold};
 ghost use Rattle.disk_words.specs.declared.DiskFail.TheVariants.{Failed};
 ghost use Rattle.disk_words.specs.Disk.{Unchanged, GoesOn};
 ghost use Rattle.notary_book.specs.Anew.{Syncs};
-ghost use Rattle.notary_book.specs.Books.{is_free};
 ghost use Rattle.notary_book.specs.Kept.{IsReadFrom, IsSettled};
 ghost use Rattle.notary_book.specs.Moments.{LeavesNone};
 
@@ -16,10 +15,7 @@ use crate::replay::read_pages;
 use crate::shape::BookShape;
 use disk_model::{Disk, DiskFail};
 use std::alloc::Global;
-use txn_journal::{JournalFail, open_journal};
-
-/// The byte of an open gate.
-const OPEN: u8 = 0xA7;
+use txn_journal::{JournalFail, is_free, open_journal};
 
 /// Syncs, so that what is read is the only image, and reads. Nothing comes back where the bytes are no
 /// book and no device on which one may be made.
@@ -66,24 +62,4 @@ fn read_book<D: Disk>(alloc: Global, disk: &mut D) -> Result<Option<Kept>, DiskF
         Err(JournalFail::NoMemory) => Err(DiskFail::NoMemory),
         Err(_) => Err(DiskFail::Failed),
     }
-}
-
-/// Whether a book may be made on the device.
-#[tactic(auto, using(disk_words::proofs::Frame::goes_on_then, disk_words::proofs::Steady::unchanged_then))]
-fn is_free<D: Disk>(disk: &mut D) -> Result<bool, DiskFail>
-    ensures value { IfSome (D.state disk.old).reads (λ bytes. IfOk result (λ free. free ≡ is_free bytes)) }
-    ensures same { Unchanged (D.state disk.old) (D.state disk.new) }
-    ensures frame { GoesOn (D.state disk.old) (D.state disk.new) }
-    ensures cause { HasCause Failed (D.state disk.old).faults (D.state disk.new).faults result }
-{
-    let length = disk.length()?;
-    if length <= 1 {
-        return Ok(true);
-    }
-    if length > 65 {
-        return Ok(false);
-    }
-    let mut first = [0];
-    disk.read_at(0, &mut first)?;
-    Ok(first[0] != OPEN)
 }

@@ -4,6 +4,7 @@ use Rattle.outside_words.specs.Told.{WhereTold}
 use Rattle.outside_words.proofs.Told.{told_map}
 use Rattle.disk_words.specs.Disk.{State, turn, Unchanged}
 use Rattle.disk_model.proofs.Moments.{weaker}
+use Rattle.byte_grammar.specs.Gated.{end_behind}
 use Rattle.tuple_bytes.specs.declared.header.Header.{Header}
 use Rattle.tuple_bytes.specs.declared.op.Op.{Op}
 use Rattle.tuple_bytes.specs.declared.item.Txn.{Txn}
@@ -78,7 +79,7 @@ module _ (stand new_stand : Opened) (ops : List Op) (now : ℕ) (is_open : stand
           reply = ap (λ (k : ℕ). replies.Committed k) number;
           stands = record {
             header = ap (λ (s : Opened). s.header) stands ∙ i.header;
-            end = ap (λ (s : Opened). s.at.end) stands ∙ ap (λ (e : ℕ). e + 5 + length (spell_txn txn)) i.end;
+            end = ap (λ (s : Opened). s.at.end) stands ∙ ap (λ (e : ℕ). end_behind e (length (spell_txn txn))) i.end;
             open_on = adds.added w.items i.open_on;
           };
           settled = λ only. adds.durable;

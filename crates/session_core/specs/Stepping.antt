@@ -59,8 +59,8 @@ abbrev pub StepsTo : Line → ℕ → Result Reply StepFail → Opened → Opene
 StepsTo line now = DoesAs (λ w. step w line now)
 
 -- the store is closed, or is as it was
-abbrev pub IsLeft : Opened → Opened → Type 0
-IsLeft old new = (new.at.is_closed ≡ true) ⊎ (new ≡ old)
+abbrev pub StaysOrCloses : Opened → Opened → Type 0
+StaysOrCloses old new = (new.at.is_closed ≡ true) ⊎ (new ≡ old)
 
 -- the store and its disk are as they were
 abbrev pub AreBothLeft : Opened → Opened → State → State → Type 0

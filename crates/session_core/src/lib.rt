@@ -48,6 +48,3 @@ mod writing;
 pub use laws::steps_keep_promises;
 pub use reply::{Refusal, Reply, print_reply};
 pub use sessions::{Sessions, StepFail, is_table_line};
-
-#[cfg(test)]
-mod tests;

@@ -7,7 +7,7 @@ ghost use Rattle.disk_words.specs.Disk.{GoesOn};
 ghost use Rattle.stmt_text.specs.Fits.{FitsParts, FitsStmt};
 ghost use Rattle.session_core.specs.declared.sessions.StepFail.TheVariants.{DiskFault, NoMemory};
 ghost use Rattle.session_core.specs.Steps.{IsOnTables, IsTableLine, write_in, write_or_read};
-ghost use Rattle.session_core.specs.Stepping.{DoesAs, IsLeft, LeavesBoth, StepsTo};
+ghost use Rattle.session_core.specs.Stepping.{DoesAs, StaysOrCloses, LeavesBoth, StepsTo};
 
 use crate::reading::read;
 use crate::reply::Reply;
@@ -58,7 +58,7 @@ impl Sessions {
         requires fits { FitsParts line.now }
         ensures open { OnOk result (store.new.at.is_closed ≡ false) }
         ensures header { store.new.header ≡ store.old.header }
-        ensures kept { OnErr result (IsLeft store.old store.new) }
+        ensures kept { OnErr result (StaysOrCloses store.old store.new) }
         ensures same { LeavesBoth result store.old store.new (D.state disk.old) (D.state disk.new) }
         ensures told { WhereTold (D.state disk.old).reads (D.state disk.new).reads
             (StepsTo line.now now result store.old store.new (D.state disk.old) (D.state disk.new)) }
@@ -114,7 +114,7 @@ fn write_or_read<D: Disk>(
     requires fits { FitsStmt stmt.now }
     ensures open { OnOk result (store.new.at.is_closed ≡ false) }
     ensures header { store.new.header ≡ store.old.header }
-    ensures kept { OnErr result (IsLeft store.old store.new) }
+    ensures kept { OnErr result (StaysOrCloses store.old store.new) }
     ensures same { LeavesBoth result store.old store.new (D.state disk.old) (D.state disk.new) }
     ensures told { WhereTold (D.state disk.old).reads (D.state disk.new).reads
         (DoesAs (λ w. write_or_read w (write_in stmt.now) stmt.now now) result store.old store.new (D.state disk.old) (D.state disk.new)) }

@@ -10,7 +10,7 @@ ghost use Rattle.history_model.specs.Answers.{op_of};
 ghost use Rattle.stmt_text.specs.Fits.{FitsStmt};
 ghost use Rattle.session_core.specs.declared.sessions.StepFail.TheVariants.{DiskFault};
 ghost use Rattle.session_core.specs.Steps.{commit, write, write_in};
-ghost use Rattle.session_core.specs.Stepping.{DoesAs, IsLeft, LeavesBoth};
+ghost use Rattle.session_core.specs.Stepping.{DoesAs, StaysOrCloses, LeavesBoth};
 
 use crate::refusing::{answered, refused_by_tables};
 use crate::reply::Reply;
@@ -61,7 +61,7 @@ fn commit<D: Disk>(
     requires counted { All IsCountedOp ops.now }
     ensures open { OnOk result (store.new.at.is_closed ≡ false) }
     ensures header { store.new.header ≡ store.old.header }
-    ensures kept { OnErr result (IsLeft store.old store.new) }
+    ensures kept { OnErr result (StaysOrCloses store.old store.new) }
     ensures same { LeavesBoth result store.old store.new (D.state disk.old) (D.state disk.new) }
     ensures told { WhereTold (D.state disk.old).reads (D.state disk.new).reads
         (DoesAs (λ w. commit w ops.now now) result store.old store.new (D.state disk.old) (D.state disk.new)) }
@@ -83,7 +83,7 @@ pub(crate) fn write<D: Disk>(
     requires counted { IsCountedOp (op_of change) }
     ensures open { OnOk result (store.new.at.is_closed ≡ false) }
     ensures header { store.new.header ≡ store.old.header }
-    ensures kept { OnErr result (IsLeft store.old store.new) }
+    ensures kept { OnErr result (StaysOrCloses store.old store.new) }
     ensures same { LeavesBoth result store.old store.new (D.state disk.old) (D.state disk.new) }
     ensures told { WhereTold (D.state disk.old).reads (D.state disk.new).reads
         (DoesAs (λ w. write w change now) result store.old store.new (D.state disk.old) (D.state disk.new)) }

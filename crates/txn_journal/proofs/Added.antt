@@ -3,20 +3,20 @@ use Rattle.std.proofs.Common.{◌≡◌, ◌≢◌, inl, inr, ℕ, ◌+◌, ◌<
 use Rattle.std.proofs.lemmas.Bool.{cases_eq, eqb-true, eqb-false}
 use Rattle.disk_words.specs.declared.DiskFail.{DiskFail}
 use Rattle.disk_words.specs.declared.DiskFail.TheVariants.{Failed, NoMemory}
-use Rattle.disk_words.specs.Disk.{State, turn, Torn, Only}
+use Rattle.disk_words.specs.Disk.{State, turn, written, Torn, Only}
 use Rattle.disk_words.proofs.Images.{Torn-written}
 use Rattle.disk_words.proofs.TornParts.{torn_front, torn_back}
 use Rattle.outside_words.specs.Told.{WhereTold}
 use Rattle.disk_model.specs.Moments.{written_all, AllWithin, CutShort, MakesCalls, Secures}
 use Rattle.disk_model.proofs.Moments.{weaker}
-use Rattle.byte_grammar.specs.Gated.{Shape, FitsRecord}
+use Rattle.byte_grammar.specs.Gated.{Shape, FitsRecord, end_behind}
 use Rattle.txn_journal.specs.Held.{Standing, behind, Held, held_by, with_payload, HoldsOldOrNew, StandsIn}
-use Rattle.txn_journal.specs.Append.{addition, append_calls, MakesOf, Appends}
+use Rattle.txn_journal.specs.Append.{addition, append_calls, KeepsFront, MakesOf, Appends}
 use Rattle.txn_journal.proofs.Lifted.{lifted, on_lifted}
 use Rattle.txn_journal.proofs.InFile.{HasParts, parts_of, held_from, end_inside, keeps}
 use Rattle.txn_journal.proofs.Appending.{split_at, over, at_over, all_within, each, added, added_gate}
 
-module _ (is_head : List ℕ → Bool) (shape : Shape) (held : Held) (payload : List ℕ) (small : shape.max_payload < 2 ^ 32) (fits : FitsRecord shape payload) (within : held.end + 5 + length payload < shape.max_file) (x : List ℕ) (p : HasParts is_head shape held x) where
+module _ (is_head : List ℕ → Bool) (shape : Shape) (held : Held) (payload : List ℕ) (small : shape.max_payload < 2 ^ 32) (fits : FitsRecord shape payload) (within : end_behind held.end (length payload) < shape.max_file) (x : List ℕ) (p : HasParts is_head shape held x) where
   abbrev end : ℕ
   end = held.end
 
@@ -51,16 +51,16 @@ module _ (is_head : List ℕ → Bool) (shape : Shape) (held : Held) (payload : 
       let torn = Torn-written end (0 ∷ []) x in
       parts_of is_head shape held (over end 0 x) (keeps is_head shape held x (over end 0 x) p (omega (arith, room, torn.no_shorter)) (torn_front end end 1 x (over end 0 x) (omega arith) (omega (arith, room)) torn) (omega (arith, y_shut)))
 
-  within_any : (g : Bool) → g ≡ eqb (get_or x end 0) 0xA7 → AllWithin (addition g end payload) x
+  pub within_any : (g : Bool) → g ≡ eqb (get_or x end 0) 0xA7 → AllWithin (addition g end payload) x
   within_any true gate = (omega (arith, room), all_within is_head shape held payload small fits within (over end 0 x) y_parts (omega (arith, y_shut)))
   within_any false gate = all_within is_head shape held payload small fits within x p (eqb-false _ _ (sym gate))
 
-  each_any : (g : Bool) → g ≡ eqb (get_or x end 0) 0xA7 → (c : List ℕ) → CutShort (addition g end payload) x c → HoldsOldOrNew is_head shape held payload c
+  pub each_any : (g : Bool) → g ≡ eqb (get_or x end 0) 0xA7 → (c : List ℕ) → CutShort (addition g end payload) x c → HoldsOldOrNew is_head shape held payload c
   each_any true gate c (inl torn) = inl (closing (eqb-true _ _ (sym gate)) c torn)
   each_any true gate c (inr cut) = each is_head shape held payload small fits within (over end 0 x) y_parts (omega (arith, y_shut)) c cut
   each_any false gate c cut = each is_head shape held payload small fits within x p (eqb-false _ _ (sym gate)) c cut
 
-  added_any : (g : Bool) → g ≡ eqb (get_or x end 0) 0xA7 → (a : List ℕ) → a ≡ written_all (addition g end payload) x → (held_by is_head shape a ≡ Some (with_payload held payload)) × (get_or a (end + 5 + length payload) 0 ≡ 0)
+  pub added_any : (g : Bool) → g ≡ eqb (get_or x end 0) 0xA7 → (a : List ℕ) → a ≡ written_all (addition g end payload) x → (held_by is_head shape a ≡ Some (with_payload held payload)) × (get_or a (end_behind end (length payload)) 0 ≡ 0)
   added_any true gate a is =
       let shut : get_or (over end 0 x) end 0 ≢ 0xA7 = omega (arith, y_shut) in
       (added is_head shape held payload small fits within (over end 0 x) y_parts shut a is, added_gate is_head shape held payload small fits within (over end 0 x) y_parts shut a is)
@@ -68,12 +68,37 @@ module _ (is_head : List ℕ → Bool) (shape : Shape) (held : Held) (payload : 
       let shut : get_or x end 0 ≢ 0xA7 = eqb-false _ _ (sym gate) in
       (added is_head shape held payload small fits within x p shut a is, added_gate is_head shape held payload small fits within x p shut a is)
 
+-- ---- what lies before the gate
+
+-- each write begins at the place or behind it
+AllFrom : ℕ → List (ℕ × List ℕ) → Type 0
+AllFrom e [] = Unit {0}
+AllFrom e ((place, piece) ∷ writes) = (e ≤ place) × AllFrom e writes
+
+front_of : (writes : List (ℕ × List ℕ)) (e : ℕ) (x c : List ℕ) → AllFrom e writes → e ≤ length x → CutShort writes x c → KeepsFront e x c
+unfolding AllFrom
+front_of [] e x c from within is = ap (take e) is
+front_of ((place, piece) ∷ writes) e x c from within (inl torn) = torn_front e place (length piece) x c from.0 within torn
+front_of ((place, piece) ∷ writes) e x c from within (inr cut) =
+    let torn = Torn-written place piece x in
+    front_of writes e (written place piece x) c from.1 (let more = torn.no_shorter in omega (arith, within, more)) cut
+    ∙ torn_front e place (length piece) x (written place piece x) from.0 within torn
+
+addition_from : (g : Bool) (end : ℕ) (payload : List ℕ) → AllFrom end (addition g end payload)
+unfolding AllFrom
+addition_from true end payload = (omega arith, (omega arith, (omega arith, tt)))
+addition_from false end payload = (omega arith, (omega arith, tt))
+
+-- the writes of an append, cut short anywhere, leave the bytes before the gate
+pub front_stays : (g : Bool) (end : ℕ) (payload x c : List ℕ) → end ≤ length x → CutShort (addition g end payload) x c → KeepsFront end x c
+front_stays g end payload x c = front_of (addition g end payload) end x c (addition_from g end payload)
+
 makes_lifted : (at : Standing) (payload : List ℕ) (r : Result (Unit {0}) DiskFail) (old new : State) → MakesCalls (append_calls at payload) r old new → MakesOf (append_calls at payload) (lifted r) old new
 makes_lifted at payload (Ok u) old new made = made
 makes_lifted at payload (Err Failed) old new made = made
 makes_lifted at payload (Err NoMemory) old new made = made
 
-module _ (is_head : List ℕ → Bool) (shape : Shape) (at : Standing) (payload : List ℕ) (small : shape.max_payload < 2 ^ 32) (fits : FitsRecord shape payload) (within : at.end + 5 + length payload < shape.max_file) where
+module _ (is_head : List ℕ → Bool) (shape : Shape) (at : Standing) (payload : List ℕ) (small : shape.max_payload < 2 ^ 32) (fits : FitsRecord shape payload) (within : end_behind at.end (length payload) < shape.max_file) where
   -- with the journal's end in place of the file's
   abbrev writes : List (ℕ × List ℕ)
   writes = addition at.gate_is_open at.end payload
@@ -82,7 +107,7 @@ module _ (is_head : List ℕ → Bool) (shape : Shape) (at : Standing) (payload 
     p : HasParts is_head shape held x
     p = parts_of is_head shape held x s.holds
 
-    in_file : held.end + 5 + length payload < shape.max_file
+    in_file : end_behind held.end (length payload) < shape.max_file
     in_file = omega (arith, within, s.end)
 
     gate : at.gate_is_open ≡ eqb (get_or x held.end 0) 0xA7
@@ -94,13 +119,16 @@ module _ (is_head : List ℕ → Bool) (shape : Shape) (at : Standing) (payload 
     each_at : (c : List ℕ) → CutShort writes x c → HoldsOldOrNew is_head shape held payload c
     each_at c cut = each_any is_head shape held payload small fits in_file x p at.gate_is_open gate c (subst (λ (e : ℕ). CutShort (addition at.gate_is_open e payload) x c) (sym s.end) cut)
 
+    front_at : (c : List ℕ) → CutShort writes x c → KeepsFront at.end x c
+    front_at c = front_stays at.gate_is_open at.end payload x c (let room = end_inside is_head shape held x p in let end = s.end in omega (arith, room, end))
+
     added_at : (a : List ℕ) → a ≡ written_all writes x → StandsIn is_head shape (behind at payload) (with_payload held payload) a
     added_at a is =
         let r = added_any is_head shape held payload small fits in_file x p at.gate_is_open gate a (is ∙ ap (λ (e : ℕ). written_all (addition at.gate_is_open e payload) x) (sym s.end)) in
-        let next : get_or a (at.end + 5 + length payload) 0 ≡ 0 = ap (λ (e : ℕ). get_or a (e + 5 + length payload) 0) (sym s.end) ∙ r.1 in
+        let next : get_or a (end_behind at.end (length payload)) 0 ≡ 0 = ap (λ (e : ℕ). get_or a (end_behind e (length payload)) 0) (sym s.end) ∙ r.1 in
         record {
           holds = r.0;
-          end = ap (λ (e : ℕ). e + 5 + length payload) s.end;
+          end = ap (λ (e : ℕ). end_behind e (length payload)) s.end;
           gate = sym (ap (λ (g : ℕ). eqb g 0xA7) next);
         }
 
@@ -114,6 +142,7 @@ module _ (is_head : List ℕ → Bool) (shape : Shape) (at : Standing) (payload 
         durable = on_lifted r (λ only. only) run.durable;
         images = images;
         kept = λ held s only. let every = images held s only in every.each a (counts_now (turn old) a every.later now);
+        front = λ held s only. let every = run.images only (within_at b held s) in front_at b held s a (every.each a (counts_now (turn old) a every.later now));
         trace = makes_lifted at payload r old new run.calls;
       }
 

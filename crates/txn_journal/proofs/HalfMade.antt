@@ -107,8 +107,8 @@ module _ (shape : Shape) (rest x : List ℕ) (long : length rest ≡ 63) (free :
   made : written_all (creation head) x ≡ head ++ 0 ∷ []
   made = ap (written 0 (0xA7 ∷ [])) fills
 
--- the same of any head with an open gate
-each_of : (shape : Shape) (head x : List ℕ) → length head ≡ 64 → get_or head 0 0 ≡ 0xA7 → IsFree x → (c : List ℕ) → CutShort (creation head) x c → IsHalfMade shape head x c
+-- so of any head with an open gate
+pub each_of : (shape : Shape) (head x : List ℕ) → length head ≡ 64 → get_or head 0 0 ≡ 0xA7 → IsFree x → (c : List ℕ) → CutShort (creation head) x c → IsHalfMade shape head x c
 each_of shape [] x long is_open free c cut = absurd (omega arith)
 each_of shape (gate ∷ rest) x long is_open free c cut = subst (λ (g : ℕ). IsHalfMade shape (g ∷ rest) x c) (sym is_open) (each shape rest x (omega arith) free c cut)
 

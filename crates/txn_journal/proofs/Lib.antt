@@ -10,3 +10,5 @@ pub mod Lifted
 pub mod HalfMade
 pub mod StoreHeads
 pub mod Gathering
+pub mod Replaced
+pub mod Free

@@ -1,11 +1,11 @@
 -- A payload is added behind all others.
-use Rattle.std.specs.Prelude.{◌≡◌, ◌⊎◌, ◌+◌, ◌≤◌, ℕ, Bool, true, false, List, [], ◌∷◌, ◌++◌, length, Result, Ok, Err, OnOk}
+use Rattle.std.specs.Prelude.{◌≡◌, ◌⊎◌, ◌≤◌, ℕ, Bool, true, false, List, [], ◌∷◌, ◌++◌, length, take, Result, Ok, Err, OnOk}
 use Rattle.std.specs.Int.{w32, to_be_bytes}
 use Rattle.disk_words.specs.declared.DiskFail.TheVariants.{Failed, NoMemory}
 use Rattle.disk_words.specs.Disk.{Call, State, Only}
 use Rattle.disk_model.specs.Gate.{gated_writes}
 use Rattle.disk_model.specs.Moments.{EveryImage, MakesCalls, calls_of}
-use Rattle.byte_grammar.specs.Gated.{Shape, open_gate}
+use Rattle.byte_grammar.specs.Gated.{Shape, open_gate, end_behind}
 use Rattle.txn_journal.specs.declared.fail.JournalFail.{JournalFail}
 use Rattle.txn_journal.specs.declared.fail.JournalFail.TheVariants as fails
 use Rattle.txn_journal.specs.Held.{Standing, behind, closed, Held, with_payload, HoldsOldOrNew, StandsIn}
@@ -26,13 +26,17 @@ writes_at false end bytes = gated_writes end open_gate bytes
 abbrev pub addition : Bool → ℕ → List ℕ → List (ℕ × List ℕ)
 addition gate_is_open end payload = writes_at gate_is_open end (behind_gate payload)
 
--- the calls that append a payload, in order
+-- the writes that append a payload, in order
+abbrev pub append_writes : Standing → List ℕ → List (ℕ × List ℕ)
+append_writes at payload = addition at.gate_is_open at.end payload
+
+-- the calls that do: each write, and a sync behind it
 abbrev pub append_calls : Standing → List ℕ → List Call
-append_calls at payload = calls_of (addition at.gate_is_open at.end payload)
+append_calls at payload = calls_of (append_writes at payload)
 
 -- the next gate would reach the limit, and the journal is not closed
 abbrev pub IsRefusedAsFull : ℕ → Standing → List ℕ → Type 0
-IsRefusedAsFull whole at payload = (whole ≤ at.end + 5 + length payload) × (at.is_closed ≡ false)
+IsRefusedAsFull whole at payload = (whole ≤ end_behind at.end (length payload)) × (at.is_closed ≡ false)
 
 -- The calls were made in order, and none after one that failed; after a refusal, none at all.
 abbrev pub MakesOf : List Call → Result (Unit {0}) JournalFail → State → State → Type 0
@@ -54,6 +58,10 @@ StandsAfter payload (Err fails.Closed) old new = new ≡ old
 StandsAfter payload (Err fails.AlreadyThere) old new = ⊥
 StandsAfter payload (Err fails.NotAStore) old new = ⊥
 
+-- the bytes before a place are as they were
+abbrev pub KeepsFront : ℕ → List ℕ → List ℕ → Type 0
+KeepsFront place before after = take place after ≡ take place before
+
 -- what an append does with the bytes of its file
 pub record Appends (is_head : List ℕ → Bool) (shape : Shape) (at : Standing) (payload : List ℕ) (result : Result (Unit {0}) JournalFail) (old new : State) (before after : List ℕ) : Type 0 where
   pub added : OnOk result ((held : Held) → StandsIn is_head shape at held before → StandsIn is_head shape (behind at payload) (with_payload held payload) after)
@@ -61,4 +69,5 @@ pub record Appends (is_head : List ℕ → Bool) (shape : Shape) (at : Standing)
   pub images : (held : Held) → StandsIn is_head shape at held before → Only before old → EveryImage old new (HoldsOldOrNew is_head shape held payload)
   -- whatever was answered
   pub kept : (held : Held) → StandsIn is_head shape at held before → Only before old → HoldsOldOrNew is_head shape held payload after
+  pub front : (held : Held) → StandsIn is_head shape at held before → Only before old → KeepsFront at.end before after
   pub trace : MakesOf (append_calls at payload) result old new

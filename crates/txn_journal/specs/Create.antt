@@ -1,5 +1,5 @@
 -- How a file of gated records begins.
-use Rattle.std.specs.Prelude.{◌≡◌, ◌≢◌, ◌⊎◌, ◌<◌, ◌≤◌, ℕ, Bool, true, false, List, [], ◌∷◌, ◌++◌, length, take, drop, slice_index, Some, Result, Ok, Err, OnOk}
+use Rattle.std.specs.Prelude.{◌≡◌, ◌≢◌, ◌⊎◌, ◌<◌, ◌≤◌, ◌==◌, ◌&&◌, ◌||◌, not, nat_le, ℕ, Bool, true, false, List, [], ◌∷◌, ◌++◌, length, take, drop, slice_index, Some, Result, Ok, Err, OnOk}
 use Rattle.disk_words.specs.declared.DiskFail.TheVariants.{Failed, NoMemory}
 use Rattle.disk_words.specs.Disk.{State, Only, Unchanged}
 use Rattle.disk_model.specs.Moments.{EveryImage, MakesCalls, calls_of}
@@ -9,6 +9,10 @@ use Rattle.txn_journal.specs.declared.fail.JournalFail.TheVariants as fails
 use Rattle.txn_journal.specs.Reading.{head_length, left}
 use Rattle.txn_journal.specs.Held.{held_by, new_file}
 use Rattle.txn_journal.specs.Append.{closed_gate}
+
+-- whether a file may be made on a device: it has at most one byte, or at most 65 of which the first is no open gate
+abbrev pub is_free : List ℕ → Bool
+is_free bytes = nat_le (length bytes) 1 || (nat_le (length bytes) 65 && not (slice_index bytes 0 == open_gate))
 
 -- a device on which a file may be made
 abbrev pub IsFree : List ℕ → Type 0

@@ -1,6 +1,6 @@
 -- What a file of gated records holds, and where a journal stands in it.
-use Rattle.std.specs.Prelude.{◌≡◌, ◌⊎◌, ◌+◌, ◌==◌, ℕ, Bool, true, false, List, [], ◌∷◌, ◌++◌, length, slice_index, Option, Some, None}
-use Rattle.byte_grammar.specs.Gated.{Shape, open_gate}
+use Rattle.std.specs.Prelude.{◌≡◌, ◌⊎◌, ◌==◌, ℕ, Bool, true, false, List, [], ◌∷◌, ◌++◌, length, slice_index, Option, Some, None}
+use Rattle.byte_grammar.specs.Gated.{Shape, open_gate, end_behind}
 use Rattle.txn_journal.specs.Reading.{head_length, head_of, left}
 
 -- its head, the payloads behind it, and the place of the gate behind these
@@ -23,7 +23,7 @@ new_file head = record { head = head; payloads = []; end = head_length }
 
 -- one payload more
 abbrev pub with_payload : Held → List ℕ → Held
-with_payload held payload = record { head = held.head; payloads = held.payloads ++ payload ∷ []; end = held.end + 5 + length payload }
+with_payload held payload = record held { payloads = held.payloads ++ payload ∷ []; end = end_behind held.end (length payload) }
 
 -- the bytes hold what they held, or that and one payload more
 abbrev pub HoldsOldOrNew : (List ℕ → Bool) → Shape → Held → List ℕ → List ℕ → Type 0
@@ -38,13 +38,17 @@ pub record Standing : Type 0 where
   -- whether a call has failed
   pub is_closed : Bool
 
+-- a journal that is opened over these bytes, where the gate behind all payloads stands at this place
+abbrev pub standing : ℕ → List ℕ → Standing
+standing end bytes = record { end = end; gate_is_open = slice_index bytes end == open_gate; is_closed = false }
+
 -- behind one payload more
 abbrev pub behind : Standing → List ℕ → Standing
-behind at payload = record { end = at.end + 5 + length payload; gate_is_open = false; is_closed = at.is_closed }
+behind at payload = record at { end = end_behind at.end (length payload); gate_is_open = false }
 
 -- until the file is opened anew
 abbrev pub closed : Standing → Standing
-closed at = record { end = at.end; gate_is_open = at.gate_is_open; is_closed = true }
+closed at = record at { is_closed = true }
 
 -- A journal stands in a file of these bytes, which hold this.
 pub record StandsIn (is_head : List ℕ → Bool) (shape : Shape) (at : Standing) (held : Held) (bytes : List ℕ) : Type 0 where

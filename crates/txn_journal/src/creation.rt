@@ -13,7 +13,7 @@ ghost use Rattle.disk_model.specs.Moments.{Secures};
 ghost use Rattle.byte_grammar.specs.Gated.{open_gate};
 ghost use Rattle.txn_journal.specs.declared.fail.JournalFail.TheVariants.{DiskFault};
 ghost use Rattle.txn_journal.specs.Append.{closed_gate};
-ghost use Rattle.txn_journal.specs.Create.{IsFreeOrTaken, IsOfCreation, creation, Creates};
+ghost use Rattle.txn_journal.specs.Create.{is_free, IsFreeOrTaken, IsOfCreation, creation, Creates};
 
 use crate::gate::{CLOSED, OPEN};
 use crate::{JournalFail, Shape};
@@ -37,10 +37,11 @@ pub fn create<D: Disk, S: Shape>(disk: &mut D, head: &[u8; 64]) -> Result<(), Jo
     Ok(())
 }
 
-/// Whether a file may be made here.
-#[tactic(auto, using(disk_words::proofs::Frame::goes_on_then))]
-fn is_free<D: Disk>(disk: &mut D) -> Result<bool, DiskFail>
-    ensures value { IfSome (D.state disk.old).reads (λ bytes.
+/// Whether a file may be made on the device.
+#[tactic(auto, using(disk_words::proofs::Frame::goes_on_then, disk_words::proofs::Steady::unchanged_then))]
+pub fn is_free<D: Disk>(disk: &mut D) -> Result<bool, DiskFail>
+    ensures value { IfSome (D.state disk.old).reads (λ bytes. IfOk result (λ free. free ≡ is_free bytes)) }
+    ensures meaning { IfSome (D.state disk.old).reads (λ bytes.
         IfOk result (λ free. IsFreeOrTaken free bytes)) }
     ensures same { Unchanged (D.state disk.old) (D.state disk.new) }
     ensures frame { GoesOn (D.state disk.old) (D.state disk.new) }

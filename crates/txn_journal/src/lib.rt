@@ -38,6 +38,7 @@
 //! | on a settled disk a crash leaves no payload, and no head but the new one or one that stood there | `images` of `Creates` |
 //! | after Ok the file holds the old payloads and the new one, and is durable | `added`, `durable` of `Appends` |
 //! | on a settled disk a crash at any moment leaves the old payloads, with the new one or without | `images` of `Appends` |
+//! | the bytes before the gate are as they were, whatever was answered | `front` of `Appends` |
 //! | the changing calls are made in their order, and none after one that failed | `trace` of both |
 //!
 //! `open_journal` gives the journal of a file with its head and payloads, or `NotAStore` exactly where
@@ -76,7 +77,7 @@ mod store_shape;
 mod stored;
 mod window;
 
-pub use creation::create;
+pub use creation::{create, is_free};
 pub use fail::JournalFail;
 pub use journal::Journal;
 pub use opening::{Opened, open_journal};
@@ -84,8 +85,3 @@ pub use records::Records;
 pub use shape::Shape;
 pub use store_shape::StoreShape;
 pub use stored::read_stored;
-
-#[cfg(test)]
-mod tests;
-#[cfg(test)]
-mod writing_tests;

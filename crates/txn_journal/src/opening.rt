@@ -72,7 +72,7 @@ fn open_behind_head<D: Disk, S: Shape>(
         keep(alloc, &mut payloads, records.payload())?;
     }
     Ok(Opened {
-        journal: Journal::standing(records.place(), records.is_at_open_gate()),
+        journal: records.journal(),
         head: *records.head(),
         payloads,
     })

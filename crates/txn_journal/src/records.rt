@@ -1,6 +1,6 @@
 //! Reading a gated file record by record.
 
-ghost use Rattle.std.specs.Prelude.{◌≡◌, ◌==◌, ◌≤◌, ◌-◌, ◌+◌, Bool, Some, IfOk, IfSome, OnOk, OnErr, List, ℕ, ◌<◌, take, slice_index};
+ghost use Rattle.std.specs.Prelude.{◌≡◌, ◌==◌, ◌≤◌, ◌-◌, ◌+◌, Bool, Some, false, IfOk, IfSome, OnOk, OnErr, List, ℕ, ◌<◌, take, slice_index};
 ghost use Rattle.outside_words.specs.Faults.{HasCause};
 ghost use Rattle.disk_words.specs.declared.DiskFail.TheVariants.{Failed};
 ghost use Rattle.disk_words.specs.Disk.{Unchanged, GoesOn};
@@ -8,10 +8,10 @@ ghost use Rattle.byte_grammar.specs.Gated.{open_gate};
 ghost use Rattle.txn_journal.specs.Window.{seen_by, room_of};
 ghost use Rattle.txn_journal.specs.Reading.{ReadsNext, Moves, IsSeenIn, IsFilled, StepsOver, Opens, Begins, ahead, head_of};
 
-use crate::Shape;
 use crate::gate::OPEN;
 use crate::payload::payload_of;
 use crate::window::Window;
+use crate::{Journal, Shape};
 use disk_model::{Disk, DiskFail};
 use std::alloc::Global;
 use std::marker::{Model, PhantomData};
@@ -111,6 +111,13 @@ impl<S: Shape> Records<S> {
         ensures value { result ≡ (slice_index (ahead self.now) 0 == open_gate) }
     {
         self.window.from(self.place).first() == Some(&OPEN)
+    }
+
+    /// A journal that stands at the place, so behind all payloads once there is no next record.
+    pub fn journal(&self) -> Journal<S>
+        ensures value { result ≡ record { end = self.now.place; gate_is_open = (slice_index (ahead self.now) 0 == open_gate); is_closed = false } }
+    {
+        Journal::standing(self.place, self.is_at_open_gate())
     }
 
     /// Reads the next record, and answers whether there is one. At the end it stands at the gate that

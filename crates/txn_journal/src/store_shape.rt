@@ -4,21 +4,22 @@ ghost use Rattle.std.specs.Prelude.{is_some, refl};
 ghost use Rattle.std.proofs.Common.{lit<};
 ghost use Rattle.history_model.specs.Stored.{store_shape};
 ghost use Rattle.tuple_bytes.specs.HeaderBytes.{header_of};
+ghost use Rattle.tuple_bytes.specs.Limits.{max_payload, max_file};
 
 use crate::Shape;
-use tuple_bytes::{decode_header, is_item};
+use tuple_bytes::{MAX_FILE, MAX_PAYLOAD, decode_header, is_item};
 
 /// The store: behind its header each payload spells an item.
 pub struct StoreShape;
 
 impl Shape for StoreShape {
-    const PAYLOAD: u32 = 32_768;
+    const PAYLOAD: u32 = MAX_PAYLOAD as u32;
 
-    const WHOLE: u64 = 67_108_864;
+    const WHOLE: u64 = MAX_FILE as u64;
 
-    ghost PAYLOAD = { 32768 };
+    ghost PAYLOAD = { max_payload };
 
-    ghost WHOLE = { 67108864 };
+    ghost WHOLE = { max_file };
 
     ghost shape = { store_shape };
 

@@ -8,10 +8,7 @@ ghost use Rattle.history_model.specs.Stored.{IsStorable, IsStored, front_header,
 use crate::stored::Stored;
 use byte_grammar::{byte_of, u32_of};
 use std::alloc::{AllocError, Global};
-use tuple_bytes::{Header, Item, Items, MAX_PAYLOAD, decode_header, decode_item};
-
-/// The place that no gate reaches.
-const MAX_FILE: usize = 67_108_864;
+use tuple_bytes::{Header, Item, Items, MAX_FILE, MAX_PAYLOAD, decode_header, decode_item};
 
 /// The payload of the framed record at the front of the bytes, which stand at this place.
 fn framed_payload(place: usize, bytes: &[u8]) -> Option<&[u8]>

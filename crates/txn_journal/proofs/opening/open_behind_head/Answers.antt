@@ -38,6 +38,6 @@ returns-clause-value g c =
     let reads = rw done at c.in_ok-advance.ensures.value in
     let place = rw done at c.in_ok-advance.ensures.moves in
     let all = all_gathered (λ (p : List ℕ). Some p) g.S.Shape.shape (S c.args.disk.now) (S c.records.disk) c.args.records c.records.records s c.records.payloads c.records.invariant.gathering c.requires.begins.place reads place in
-    let end : c.standing.result.end ≡ s.place = ap (λ (at : Standing). at.end) c.standing.ensures.value ∙ c.place.ensures.value in
-    let gate : c.standing.result.gate_is_open ≡ (slice_index (ahead s) 0 == open_gate) = ap (λ (at : Standing). at.gate_is_open) c.standing.ensures.value ∙ c.is_at_open_gate.ensures.value in
-    rw c.head.ensures.value (stands g.S.Shape.is_head g.S.Shape.shape (S c.args.disk.now).reads c.args.records s c.records.payloads c.standing.result (c.advance.ensures.head ∙ c.records.invariant.gathering.head) end gate all)
+    let end : c.journal.result.end ≡ s.place = ap (λ (at : Standing). at.end) c.journal.ensures.value in
+    let gate : c.journal.result.gate_is_open ≡ (slice_index (ahead s) 0 == open_gate) = ap (λ (at : Standing). at.gate_is_open) c.journal.ensures.value in
+    rw c.head.ensures.value (stands g.S.Shape.is_head g.S.Shape.shape (S c.args.disk.now).reads c.args.records s c.records.payloads c.journal.result (c.advance.ensures.head ∙ c.records.invariant.gathering.head) end gate all)

@@ -1,8 +1,8 @@
-use Rattle.std.proofs.Common.{◌≡◌, ◌∙◌, length, Some}
+use Rattle.std.proofs.Common.{◌≡◌, ◌∙◌, length, Some, arith}
 use Rattle.notary_link.specs.Notary.{Lists}
 use Rattle.notary_book.proofs.Keeping.{knows_of}
 use Rattle.notary_book.proofs.Lists.{count_is}
-use Rattle.notary_book.proofs.Telling.{gives}
+use Rattle.notary_book.proofs.Telling.{gives, quiet, unchanged}
 use Rattle.notary_book.proofs.book.BookNotary.count.Goals as goal
 
 pub returns-in-Some-clause-value : goal.returns-in-Some-clause-value
@@ -15,3 +15,15 @@ returns-in-Some-clause-value g c =
     let is : now.kept ≡ Some kept = cc in
     let k = knows_of (S now.disk).reads kept (λ x bytes e told. now.keeps x bytes (is ∙ e) told) in
     gives old.reads (S now.disk).reads kept k (λ (lists : Lists). c.count.result ≡ length (lists.batches c.args.id)) c.in_ok-read.ensures.reads (λ stands. c.count.ensures.value ∙ count_is k.calls kept.pages stands c.args.id)
+
+pub returns-in-Some-clause-same : goal.returns-in-Some-clause-same
+returns-in-Some-clause-same g c =
+    let was = c.args.self.now in
+    let now = c.read.new.self in
+    unchanged (g.D.Disk.state was.disk) (g.D.Disk.state now.disk) was.asked now.asked was.unreadable now.unreadable c.in_ok-read.ensures.reads
+
+pub returns-in-Some-clause-frame : goal.returns-in-Some-clause-frame
+returns-in-Some-clause-frame g c =
+    let was = c.args.self.now in
+    let now = c.read.new.self in
+    quiet (g.D.Disk.state was.disk) (g.D.Disk.state now.disk) was.asked now.asked was.unreadable now.unreadable c.in_ok-read.ensures.reads c.in_ok-read.ensures.faults (omega arith) c.in_ok-read.ensures.unreadable
