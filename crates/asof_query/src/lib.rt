@@ -34,6 +34,3 @@ pub use laws::answers_stand_for_transactions;
 pub use rows::Rows;
 pub use tt_table::{Version, Versions};
 pub use tuple_bytes::{Compare, Filter};
-
-#[cfg(test)]
-mod tests;

@@ -1,10 +1,10 @@
 -- What an append does to a store, by its items.
-use Rattle.std.proofs.Common.{◌≡◌, inr, ℕ, ◌+◌, ◌==◌, Bool, false, List, [], ◌∷◌, ◌++◌, length, Some, Result, Ok, Err, refl, sym, ap, subst, ◌∙◌}
+use Rattle.std.proofs.Common.{◌≡◌, inr, ℕ, ◌==◌, Bool, false, List, [], ◌∷◌, ◌++◌, length, Some, Result, Ok, Err, refl, sym, ap, subst, ◌∙◌}
 use Rattle.std.specs.Prelude.{slice_index}
 use Rattle.disk_words.specs.Disk.{State, Only, Unchanged, Call}
 use Rattle.disk_model.specs.Moments.{EveryImage, calls_of}
 use Rattle.disk_model.proofs.Moments.{weaker}
-use Rattle.byte_grammar.specs.Gated.{open_gate}
+use Rattle.byte_grammar.specs.Gated.{open_gate, end_behind}
 use Rattle.tuple_bytes.specs.declared.header.Header.{Header}
 use Rattle.tuple_bytes.specs.declared.item.Item.{Item}
 use Rattle.tuple_bytes.specs.Items.{item_of}
@@ -15,7 +15,7 @@ use Rattle.txn_journal.specs.declared.fail.JournalFail.{JournalFail}
 use Rattle.txn_journal.specs.declared.fail.JournalFail.TheVariants as journals
 use Rattle.txn_journal.specs.Held.{Standing, with_payload}
 use Rattle.txn_journal.specs.Append as journal
-use Rattle.txn_journal.specs.Append.{Appends, append_calls, addition}
+use Rattle.txn_journal.specs.Append.{Appends, KeepsFront, append_calls, addition}
 use Rattle.store_engine.specs.declared.fail.StoreFail.{StoreFail}
 use Rattle.store_engine.specs.Fail.{fail_of_journal}
 use Rattle.store_engine.specs.Opened.{Opened, Knows, Stores, StoresOldOrNew, IsOpenOn}
@@ -25,7 +25,7 @@ use Rattle.store_engine.proofs.StoredFiles.{is_header, stored_of_held, stands_he
 -- what a store behind one item more has to be
 pub record IsBehind (item : Item) (payload : List ℕ) (old new : Opened) : Type 0 where
   pub header : new.header ≡ old.header
-  pub end : new.at.end ≡ old.at.end + 5 + length payload
+  pub end : new.at.end ≡ end_behind old.at.end (length payload)
   pub gate : new.at.gate_is_open ≡ false
   pub knows : (items : List Item) → Knows old items → Knows new (items ++ item ∷ [])
 
@@ -64,6 +64,11 @@ module _ (item : Item) (payload : List ℕ) (is : payload ≡ spell_item item) (
         let s = stands_held stand.header before items open_on.stores in
         stores_either stand.header before items open_on.stores s.0 s.1 payload item spelled after (appends.kept s.0 (stands_in stand items before open_on at end gate s.0 s.1) only)
 
+    front_of : (items : List Item) → IsOpenOn stand items before → Only before old → KeepsFront stand.at.end before after
+    front_of items open_on only =
+        let s = stands_held stand.header before items open_on.stores in
+        subst (λ (e : ℕ). KeepsFront e before after) end (appends.front s.0 (stands_in stand items before open_on at end gate s.0 s.1) only)
+
     -- nothing was stored, or it is not known
     pub adds_failed : (new_stand : Opened) (e : StoreFail) → MakesOf {A = Unit {0}} (append_calls at payload) (Err e) old new → Adds {A = Unit {0}} item (Err e) stand new_stand old new before after
     adds_failed new_stand e made = record {
@@ -71,6 +76,7 @@ module _ (item : Item) (payload : List ℕ) (is : payload ≡ spell_item item) (
       durable = tt;
       images = images_of;
       kept = kept_of;
+      front = front_of;
       trace = subst (λ (calls : List Call). MakesOf {A = Unit {0}} calls (Err e) old new) calls_are made;
     }
 
@@ -80,7 +86,7 @@ module _ (item : Item) (payload : List ℕ) (is : payload ≡ spell_item item) (
         let s = stands_held stand.header before items open_on.stores in
         let now = appends.added s.0 (stands_in stand items before open_on at end gate s.0 s.1) in
         let stored_is = stored_of_held after (with_payload s.0 payload) stand.header now.holds s.1.header in
-        let place : at.end + 5 + length payload ≡ new_stand.at.end = ap (λ (e : ℕ). e + 5 + length payload) end ∙ sym behind_item.end in
+        let place : end_behind at.end (length payload) ≡ new_stand.at.end = ap (λ (e : ℕ). end_behind e (length payload)) end ∙ sym behind_item.end in
         record {
           stores = subst (λ (h : Header). Stores h (items ++ item ∷ []) after) (sym behind_item.header) (stores_new stand.header before items open_on.stores s.0 s.1 payload item spelled after now.holds);
           end = ap (λ (s : Stored). s.end) stored_is ∙ now.end ∙ place;
@@ -94,5 +100,6 @@ module _ (item : Item) (payload : List ℕ) (is : payload ≡ spell_item item) (
       durable = appends.durable;
       images = images_of (Ok tt) appends;
       kept = kept_of (Ok tt) appends;
+      front = front_of (Ok tt) appends;
       trace = subst (λ (calls : List Call). MakesOf {A = Unit {0}} calls (Ok tt) old new) calls_are appends.trace;
     }

@@ -15,9 +15,7 @@ use Rattle.txn_journal.specs.Reading.{head_of, left}
 use Rattle.txn_journal.specs.Held.{Held, held_under, held_by, with_payload, HoldsOldOrNew, Standing, StandsIn}
 use Rattle.txn_journal.proofs.StoreHeads.{header_of_head}
 use Rattle.store_engine.specs.Opened.{Opened, Stores, StoresOldOrNew, IsOpenOn}
-
-abbrev pub is_header : List ℕ → Bool
-is_header bytes = is_some (header_of bytes)
+pub use Rattle.store_engine.specs.Replay.{is_header}
 
 abbrev found_in : List ℕ → List (List ℕ) × ℕ
 found_in bytes = left store_shape 64 bytes

@@ -10,7 +10,7 @@ use Rattle.tuple_bytes.specs.declared.item.Item.TheVariants as kinds
 use Rattle.tuple_bytes.specs.declared.item.Txn.{Txn}
 use Rattle.tuple_bytes.specs.Items.{item_of}
 use Rattle.history_model.specs.Stored.{items_of}
-use Rattle.history_model.specs.History.{txn_in, txns, moment_in, last_moment}
+use Rattle.history_model.specs.History.{txn_in, txns, after_last, last_moment}
 use Rattle.tt_table.specs.Stands.{StandsFor}
 use Rattle.tt_table.specs.Versions.{TablesVersions}
 use Rattle.store_engine.specs.declared.contents.Contents.{Contents}
@@ -20,8 +20,8 @@ use Rattle.store_engine.specs.Replay.{IsRead, IsGathered}
 use Rattle.store_engine.proofs.StoredFiles.{item_more, no_item_more}
 
 -- the greatest moment behind one item more
-pub last_more : (items : List Item) (item : Item) → last_moment (items ++ item ∷ []) ≡ max (last_moment items) (moment_in item)
-last_more items item = fold-append (λ m i. max m (moment_in i)) 0 items (item ∷ [])
+pub last_more : (items : List Item) (item : Item) → last_moment (items ++ item ∷ []) ≡ after_last (last_moment items) item
+last_more items item = fold-append after_last 0 items (item ∷ [])
 
 pub txns_more : (items : List Item) (t : Txn) → txns (items ++ kinds.Txn t ∷ []) ≡ txns items ++ t ∷ []
 txns_more items t = filter_map-append txn_in items (kinds.Txn t ∷ [])
@@ -80,14 +80,11 @@ none_later_before xs i t rise lt is =
 
 -- ---- the last moment is the greatest
 
-abbrev later : ℕ → Item → ℕ
-later m i = max m (moment_in i)
-
-no_less : (items : List Item) (a : ℕ) → a ≤ fold later a items
+no_less : (items : List Item) (a : ℕ) → a ≤ fold after_last a items
 no_less [] a = omega arith
-no_less (i ∷ items) a = omega (arith, no_less items (max a (moment_in i)))
+no_less (i ∷ items) a = omega (arith, no_less items (after_last a i))
 
-pub none_above : (items : List Item) (a : ℕ) → AllByRecursion (λ (t : Txn). t.moment ≤ fold later a items) (txns items)
+pub none_above : (items : List Item) (a : ℕ) → AllByRecursion (λ (t : Txn). t.moment ≤ fold after_last a items) (txns items)
 none_above [] a = tt
 none_above (kinds.Txn t ∷ items) a = (omega (arith, no_less items (max a t.moment)), none_above items (max a t.moment))
 none_above (kinds.Frontier m ∷ items) a = none_above items (max a m)

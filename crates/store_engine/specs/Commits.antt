@@ -9,7 +9,7 @@ use Rattle.tuple_bytes.specs.declared.item.Txn.{Txn}
 use Rattle.tuple_bytes.specs.Spelling.{spell_txn, spell_frontier, spell_item}
 use Rattle.tt_table.specs.Versions.{TablesVersions, applied}
 use Rattle.txn_journal.specs.Held.{behind, closed}
-use Rattle.txn_journal.specs.Append.{append_calls}
+use Rattle.txn_journal.specs.Append.{append_calls, KeepsFront}
 use Rattle.store_engine.specs.declared.fail.StoreFail.{StoreFail}
 use Rattle.store_engine.specs.declared.fail.StoreFail.TheVariants as fails
 use Rattle.store_engine.specs.Opened.{Opened, IsOpenOn, StoresOldOrNew}
@@ -18,8 +18,7 @@ use Rattle.store_engine.specs.Opened.{Opened, IsOpenOn, StoresOldOrNew}
 
 -- the store with a transaction more, or with a Frontier
 abbrev pub with_txn : Opened → Txn → Opened
-with_txn s t = record {
-  header = s.header;
+with_txn s t = record s {
   count = s.count + 1;
   last = t.moment;
   tables = applied t.moment t.ops s.tables;
@@ -27,13 +26,7 @@ with_txn s t = record {
 }
 
 abbrev pub with_frontier : Opened → ℕ → Opened
-with_frontier s moment = record {
-  header = s.header;
-  count = s.count;
-  last = moment;
-  tables = s.tables;
-  at = behind s.at (spell_frontier moment);
-}
+with_frontier s moment = record s { last = moment; at = behind s.at (spell_frontier moment) }
 
 -- with the one or the other
 abbrev pub with_item : Opened → Item → Opened
@@ -87,4 +80,5 @@ pub record Adds {A : Type 0} (item : Item) (result : Result A StoreFail) (stand 
   pub images : (stored_items : List Item) → IsOpenOn stand stored_items before → Only before old → EveryImage old new (StoresOldOrNew stand.header stored_items item)
   -- whatever was answered
   pub kept : (stored_items : List Item) → IsOpenOn stand stored_items before → Only before old → StoresOldOrNew stand.header stored_items item after
+  pub front : (stored_items : List Item) → IsOpenOn stand stored_items before → Only before old → KeepsFront stand.at.end before after
   pub trace : MakesOf (append_calls stand.at (spell_item item)) result old new

@@ -17,16 +17,16 @@ pub record Tells (c : Contents) (items : List Item) : Type 0 where
 abbrev pub IsInTime : Contents → Type 0
 IsInTime c = c.tables.last ≤ c.last
 
--- the item may come next: a transaction is not before the last one
-abbrev pub MayFollow : Contents → Item → Type 0
-MayFollow c (items.Txn t) = c.tables.last ≤ t.moment
-MayFollow c (items.Frontier moment) = Unit {0}
+-- the tables take the item next: a transaction is not before the last one
+abbrev pub FollowsTables : Contents → Item → Type 0
+FollowsTables c (items.Txn t) = c.tables.last ≤ t.moment
+FollowsTables c (items.Frontier moment) = Unit {0}
 
 -- with one item more
 abbrev pub after_item : Contents → Item → Contents
 after_item c (items.Txn t) = record { count = c.count + 1; last = max c.last t.moment; tables = applied t.moment t.ops c.tables }
-after_item c (items.Frontier moment) = record { count = c.count; last = max c.last moment; tables = c.tables }
+after_item c (items.Frontier moment) = record c { last = max c.last moment }
 
 -- with other tables
 abbrev pub with_tables : TablesVersions → Contents → Contents
-with_tables tables c = record { count = c.count; last = c.last; tables = tables }
+with_tables tables c = record c { tables = tables }

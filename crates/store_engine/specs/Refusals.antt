@@ -5,8 +5,9 @@ use Rattle.tuple_bytes.specs.declared.item.Item.{Item}
 use Rattle.tuple_bytes.specs.declared.item.Item.TheVariants as items
 use Rattle.tuple_bytes.specs.declared.item.Txn.{Txn}
 use Rattle.tuple_bytes.specs.declared.op.Op.{Op}
-use Rattle.tuple_bytes.specs.Limits.{max_ops, max_payload}
+use Rattle.tuple_bytes.specs.Limits.{max_ops, max_payload, max_granules}
 use Rattle.tuple_bytes.specs.Spelling.{spell_item, spell_frontier}
+use Rattle.byte_grammar.specs.Gated.{end_behind}
 use Rattle.history_model.specs.History.{granule_of}
 use Rattle.history_model.specs.Stored.{max_file}
 use Rattle.store_engine.specs.declared.fail.StoreFail.{StoreFail}
@@ -24,10 +25,6 @@ pub record Tail : Type 0 where
 abbrev pub tail_of : Opened → Tail
 tail_of s = record { header = s.header; count = s.count; last = s.last; end = s.at.end }
 
--- no granule has this number or a greater one
-abbrev pub max_granules : ℕ
-max_granules = 1048576
-
 -- the moment of these clock seconds, counted from the store's first second
 abbrev pub moment_at : Header → ℕ → ℕ
 moment_at header now = now - header.epoch
@@ -40,9 +37,9 @@ is_back t now = nat_lt now (t.header.epoch + t.last)
 abbrev pub is_late : Tail → ℕ → Bool
 is_late t now = nat_le max_granules (granule_of t.header.width (moment_at t.header now))
 
--- the gate behind a record of so many bytes would reach the limit of the file
-abbrev pub is_full : Tail → ℕ → Bool
-is_full t bytes = nat_le max_file (t.end + 5 + bytes)
+-- the gate behind a record of so many bytes, which begins at this place, would reach the limit of the file
+abbrev pub is_full : ℕ → ℕ → Bool
+is_full end size = nat_le max_file (end_behind end size)
 
 -- the transaction that these operations become
 abbrev pub next_txn : Tail → List Op → ℕ → Txn
@@ -63,7 +60,7 @@ abbrev pub item_fault : Tail → Bool → Item → Option StoreFail
 item_fault t is_closed item =
     where_true (nat_lt max_payload (length (spell_item item))) fails.TooLong
     (where_true is_closed fails.Closed
-    (where_true (is_full t (length (spell_item item))) fails.StoreFull None))
+    (where_true (is_full t.end (length (spell_item item))) fails.StoreFull None))
 
 -- why operations are not committed at these clock seconds
 abbrev pub commit_fault : Tail → Bool → List Op → ℕ → Option StoreFail
@@ -77,7 +74,7 @@ commit_fault t is_closed ops now =
 abbrev pub frontier_fault : Tail → Bool → ℕ → Option StoreFail
 frontier_fault t is_closed moment =
     if nat_le moment t.last then None
-    else where_true is_closed fails.Closed (where_true (is_full t (length (spell_frontier moment))) fails.StoreFull None)
+    else where_true is_closed fails.Closed (where_true (is_full t.end (length (spell_frontier moment))) fails.StoreFull None)
 
 -- Refused is exactly what has a cause, by the first cause, but for a fault of the disk and want of memory.
 abbrev pub IsRefusedBy : {A : Type 0} → Option StoreFail → Result A StoreFail → Type 0

@@ -3,7 +3,7 @@
 ghost use Rattle.std.specs.Prelude.{◌≡◌, ◌+◌, ◌<◌, ◌≤◌, ◌^◌, ◌++◌, ◌∷◌, [], List, length, IsTrue, ◌↔◌, OnOk, OnErr};
 ghost use Rattle.tuple_bytes.specs.declared.item.Item.{Item as AnItem};
 ghost use Rattle.tt_table.specs.Versions.{TablesVersions};
-ghost use Rattle.store_engine.specs.Contents.{Tells, MayFollow, IsInTime, after_item, with_tables};
+ghost use Rattle.store_engine.specs.Contents.{Tells, FollowsTables, IsInTime, after_item, with_tables};
 
 use std::alloc::{AllocError, Global};
 use tt_table::Tables;
@@ -32,7 +32,7 @@ impl Contents {
 
     /// Whether the item may come next: a transaction that isn't before the last one, or a Frontier.
     pub fn may_follow(&self, item: &Item) -> bool
-        ensures value { IsTrue result ↔ MayFollow self.now item.now }
+        ensures value { IsTrue result ↔ FollowsTables self.now item.now }
     {
         match item {
             Item::Txn(txn) => self.tables.last() <= txn.moment,
@@ -42,7 +42,7 @@ impl Contents {
 
     /// Adds an item. After want of memory some of its operations may be missing in the tables.
     pub fn add(&mut self, alloc: Global, item: &Item) -> Result<(), AllocError>
-        requires follows { MayFollow self.old item.now }
+        requires follows { FollowsTables self.old item.now }
         requires room { self.old.count + 1 < 2 ^ 32 }
         ensures ok { OnOk result (self.new ≡ after_item self.old item.now) }
         ensures err { OnErr result ((tables : TablesVersions)

@@ -1,6 +1,6 @@
 //! An open store: its tables in memory, and its file behind them, which is written first.
 //!
-//! A store is opened from its bytes alone, whatever they are: all items are gone over once, and what is
+//! A store is opened from its bytes alone, whatever they are: its records are read once, and what is
 //! kept of them is how many transactions there are, the greatest moment, the tables with every version
 //! of their rows, and where the next record goes (`Opened`). That this is what the bytes say is
 //! `IsOpenOn`. Then items are added, each behind all others: it is written, and only once it is durable
@@ -33,7 +33,11 @@
 //! | after Ok the file holds the item, and is durable: it is in every image | `added`, `durable` of `told` |
 //! | on a settled disk a crash at any moment leaves the old items, with the new one or without | `images` of `told` |
 //! | the changing calls are those of one append, in order, and none after one that failed; a refusal makes none | `trace` of `told` |
+//! | on a settled disk the bytes before the gate are as they were, whatever is answered | `front` of `told` |
 //! | a fault of the disk has its cause | `cause` |
+//!
+//! Of the bytes alone, without a disk, `appends_leave_old_or_new` says what the writes of an append leave,
+//! whole (`whole`, `puts`, `within`) and cut short anywhere (`cut`, `front`).
 //!
 //! Readers take no memory. `frontier_calls` tells how many changing calls a Frontier would make.
 //!
@@ -48,11 +52,11 @@
 
 mod contents;
 mod fail;
+mod laws;
+mod opening;
 mod replay;
 mod store;
 
 pub use fail::StoreFail;
+pub use laws::appends_leave_old_or_new;
 pub use store::Store;
-
-#[cfg(test)]
-mod tests;

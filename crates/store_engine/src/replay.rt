@@ -1,8 +1,8 @@
-//! What the payloads of a file say, by going over them once.
+//! What the payloads of a file say.
 //!
 //! Tables take transactions in the order of their moments. In a file that this program wrote they stand in
 //! that order, so each is applied as it is read. In any other file their moments may fall: then all are
-//! read, and sorted by moment, those of one moment in file order.
+//! gathered, and sorted by moment, those of one moment in file order.
 
 ghost use Rattle.std.specs.Prelude.{◌≡◌, ◌+◌, ◌<◌, ◌≤◌, ◌^◌, ◌++◌, ◌∷◌, [], ℕ, true, List, length, IfOk, IfSome, OnOk};
 ghost use Rattle.std.specs.List.{AllByRecursion};
@@ -17,34 +17,12 @@ use std::alloc::{AllocError, Global};
 use tt_table::Tables;
 use tuple_bytes::{Blob, Item, Txn, decode_item};
 
-/// What the items say that the payloads spell.
-pub(crate) fn read_contents(alloc: Global, payloads: &[Blob]) -> Result<Contents, AllocError>
-    requires few { length payloads.now + 1 < 2 ^ 32 }
-    ensures value { IfOk result (IsRead payloads.now) }
-{
-    match read_in_file_order(alloc, payloads)? {
-        Some(contents) => Ok(contents),
-        None => read_in_order_of_moments(alloc, payloads),
-    }
-}
-
-/// The same, as far as each item may come next. Nothing comes back where one may not.
-fn read_in_file_order(alloc: Global, payloads: &[Blob]) -> Result<Option<Contents>, AllocError>
-    requires few { length payloads.now + 1 < 2 ^ 32 }
-    ensures value { IfOk result (λ found. IfSome found (IsRead payloads.now)) }
-{
-    let mut contents = Contents::new(alloc);
-    for payload in payloads {
-        let follows = read_next(alloc, &mut contents, payload.as_slice())?;
-        if !follows {
-            return Ok(None);
-        }
-    }
-    Ok(Some(contents))
-}
-
 /// Adds the item that a payload spells, and answers whether it may come next.
-fn read_next(alloc: Global, contents: &mut Contents, payload: &[u8]) -> Result<bool, AllocError>
+pub(crate) fn read_next(
+    alloc: Global,
+    contents: &mut Contents,
+    payload: &[u8],
+) -> Result<bool, AllocError>
     requires room { contents.old.count + 1 < 2 ^ 32 }
     ensures value { IfOk result (λ follows. follows ≡ true → (payloads : List (List ℕ))
         → IsRead payloads contents.old → IsRead (payloads ++ payload.now ∷ []) contents.new) }
@@ -61,8 +39,8 @@ fn read_next(alloc: Global, contents: &mut Contents, payload: &[u8]) -> Result<b
     }
 }
 
-/// The same, whatever the moments are.
-fn read_in_order_of_moments(alloc: Global, payloads: &[Blob]) -> Result<Contents, AllocError>
+/// What the items say that the payloads spell, whatever their moments are.
+pub(crate) fn in_order_of_moments(alloc: Global, payloads: &[Blob]) -> Result<Contents, AllocError>
     requires few { length payloads.now + 1 < 2 ^ 32 }
     ensures value { IfOk result (IsRead payloads.now) }
 {

@@ -10,7 +10,7 @@ ghost use Rattle.tuple_bytes.specs.Writing.{IsCounted, IsCountedOp, op_count_of}
 ghost use Rattle.tuple_bytes.specs.Limits.{max_ops, max_payload};
 ghost use Rattle.tuple_bytes.specs.Spelling.{FitsHeader, Spells, spell_frontier};
 ghost use Rattle.history_model.specs.Stored.{stored, max_file};
-ghost use Rattle.history_model.specs.History.{moment_in};
+ghost use Rattle.history_model.specs.History.{MayFollow};
 ghost use Rattle.txn_journal.specs.Append.{append_calls};
 ghost use Rattle.store_engine.specs.declared.fail.StoreFail.TheVariants.{DiskFault};
 ghost use Rattle.store_engine.specs.Opened.{IsOpenOn};
@@ -19,16 +19,13 @@ ghost use Rattle.store_engine.specs.Commits.{with_txn, with_item, frontier_at, S
 
 use crate::StoreFail;
 use crate::contents::Contents;
-use crate::replay::read_contents;
+use crate::opening::open_file;
 use disk_model::Disk;
 use std::alloc::Global;
 use std::marker::Model;
 use tt_table::Tables;
-use tuple_bytes::{Header, Item, MAX_OPS, Ops, Txn, decode_header, encode_item, granule};
-use txn_journal::{Journal, StoreShape, open_journal};
-
-/// No granule has this number or a greater one.
-const MAX_GRANULES: u64 = 1_048_576;
+use tuple_bytes::{Header, Item, MAX_GRANULES, MAX_OPS, Ops, Txn, encode_item, granule};
+use txn_journal::{Journal, StoreShape};
 
 /// A store that is open: what its file holds, as tables, and where the next record goes. Each call on
 /// it is lent the disk, whose bytes have to be as the last call left them.
@@ -72,23 +69,15 @@ impl Store {
         ensures frame { GoesOn (D.state disk.old) (D.state disk.new) }
         ensures cause { HasCause DiskFault (D.state disk.old).faults (D.state disk.new).faults result }
     {
-        let opened = match open_journal::<D, StoreShape>(alloc, disk) {
-            Ok(opened) => opened,
-            Err(fail) => return Err(StoreFail::from(fail)),
-        };
-        let Some(header) = decode_header(&opened.head) else {
-            return Err(StoreFail::NotAStore);
-        };
-        if header.id != id {
-            return Err(StoreFail::NotAStore);
+        match open_file(alloc, disk, id) {
+            Ok((header, replayed)) => Ok(Store {
+                header,
+                contents: replayed.contents,
+                journal: replayed.journal,
+                is_closed: false,
+            }),
+            Err(fail) => Err(StoreFail::from(fail)),
         }
-        let contents = read_contents(alloc, opened.payloads.as_slice())?;
-        Ok(Store {
-            header,
-            contents,
-            journal: opened.journal,
-            is_closed: false,
-        })
     }
 
     /// Stores these operations as one transaction of these clock seconds, and answers its number.
@@ -120,7 +109,7 @@ impl Store {
             let last = self.contents.last;
             return Err(StoreFail::ClockBack { last });
         };
-        if granule(moment, self.header.width) >= MAX_GRANULES {
+        if granule(moment, self.header.width) >= u64::from(MAX_GRANULES) {
             return Err(StoreFail::TooLate);
         }
         if ops.as_slice().len() > usize::from(MAX_OPS) {
@@ -190,7 +179,7 @@ impl Store {
     ) -> Result<(), StoreFail>
         requires counted { IsCounted item.now }
         requires few_ops { op_count_of item.now ≤ max_ops }
-        requires follows { self.old.last ≤ moment_in item.now }
+        requires follows { MayFollow self.old.last item.now }
         ensures refused { IsRefusedBy
             (item_fault (tail_of self.old) self.old.at.is_closed item.now) result }
         ensures stands { StandsAfter result self.old (with_item self.old item.now) self.new }
@@ -221,7 +210,7 @@ impl Store {
     ) -> Result<(), StoreFail>
         requires spelled { Spells item.now payload.now }
         requires short { length payload.now ≤ max_payload }
-        requires follows { self.old.last ≤ moment_in item.now }
+        requires follows { MayFollow self.old.last item.now }
         ensures refused { IsRefusedBy
             (item_fault (tail_of self.old) self.old.at.is_closed item.now) result }
         ensures stands { StandsAfter result self.old (with_item self.old item.now) self.new }

@@ -173,8 +173,7 @@ fn put_row(
     match keys.get_mut(key) {
         Some(versions) => versions.start(moment, row),
         None => {
-            let mut versions = Versions::new(alloc);
-            versions.start(moment, row)?;
+            let versions = Versions::first(alloc, moment, row)?;
             keys.insert(key.copy(alloc)?, versions)?;
             Ok(())
         }

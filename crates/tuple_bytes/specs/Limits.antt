@@ -32,3 +32,11 @@ max_exponent = 10
 -- the algorithms, one bit each: tile chains, and the tree
 abbrev pub max_algorithms : ℕ
 max_algorithms = 3
+
+-- the place in a store that no gate reaches
+abbrev pub max_file : ℕ
+max_file = 67108864
+
+-- granules of a store: none has this number or a greater one
+abbrev pub max_granules : ℕ
+max_granules = 1048576

@@ -23,3 +23,9 @@ pub const MAX_EXPONENT: u8 = 10;
 
 /// The algorithms, one bit each: 1 for tile chains, 2 for the tree.
 pub const MAX_ALGORITHMS: u8 = 3;
+
+/// The place in a store that no gate reaches.
+pub const MAX_FILE: usize = 67_108_864;
+
+/// Granules of a store: none has this number or a greater one.
+pub const MAX_GRANULES: u32 = 1_048_576;

@@ -30,10 +30,9 @@ returns-in_ok-insert-in-None-clause-ok c =
     let m = c.args.moment in
     let key = c.args.key.now in
     let row = c.args.row.now in
-    let new = c.start-in-None.new.self in
-    let first : c.start-in-None.new.self ≡ record { start = c.args.moment; stop = None; row = c.args.row.now } ∷ [] =
-    c.in_ok-start-in-None.ensures.ok
-    ∙ ap (λ l. map (stopped m) l ++ record { start = m; stop = None; row = c.in_ok-row.row } ∷ []) c.new-versions.ensures.value
+    let new = c.in_ok-versions-in-None.versions in
+    let first : c.in_ok-versions-in-None.versions ≡ record { start = c.args.moment; stop = None; row = c.args.row.now } ∷ [] =
+    c.in_ok-versions-in-None.ensures.value
     ∙ ap (λ r. record { start = m; stop = None; row = r } ∷ []) c.in_ok-row.ensures.value in
     ap (map keyed) (c.in_ok-insert-in-None.ensures.entries
     ∙ ap (λ k. insert_entry value_cmp c.get_mut.follows.lender-at-none.entries k new) c.in_ok-copy-in-None.ensures.value

@@ -4,8 +4,8 @@ use Rattle.store_engine.proofs.store.Store.commit.Goals as goal
 pub returns-in_default-clause-frame : goal.returns-in_default-clause-frame
 returns-in_default-clause-frame g c = goes_on_same _
 
-pub returns-then-granule-ge-MAX_GRANULES-clause-frame : goal.returns-then-granule-ge-MAX_GRANULES-clause-frame
-returns-then-granule-ge-MAX_GRANULES-clause-frame g c = goes_on_same _
+pub returns-then-granule-from-clause-frame : goal.returns-then-granule-from-clause-frame
+returns-then-granule-from-clause-frame g c = goes_on_same _
 
 pub returns-then-as_slice-from-clause-frame : goal.returns-then-as_slice-from-clause-frame
 returns-then-as_slice-from-clause-frame g c = goes_on_same _

@@ -6,7 +6,7 @@ use Rattle.history_model.specs.Stored.{items_of}
 use Rattle.tt_table.specs.Stands.{StandsFor}
 use Rattle.store_engine.proofs.Telling.{few_txns, none_above}
 use Rattle.store_engine.proofs.Reordering.{all_reordered, stands_reordered}
-use Rattle.store_engine.proofs.replay.read_in_order_of_moments.Goals as goal
+use Rattle.store_engine.proofs.replay.in_order_of_moments.Goals as goal
 
 pub overflow_cast-result : goal.overflow_cast-result
 overflow_cast-result c =

@@ -1,0 +1,54 @@
+-- What an append leaves of a store, by its bytes alone: over the list of its writes, whole and cut short.
+use Rattle.std.specs.Prelude.{◌≡◌, ℕ, false, List, [], ◌∷◌, ◌++◌, length}
+use Rattle.disk_model.specs.Gate.{with_piece}
+use Rattle.disk_model.specs.Moments.{written_all, AllWithin, CutShort}
+use Rattle.byte_grammar.specs.Gated.{open_gate, end_behind}
+use Rattle.tuple_bytes.specs.declared.header.Header.{Header}
+use Rattle.tuple_bytes.specs.declared.item.Item.{Item}
+use Rattle.tuple_bytes.specs.Spelling.{spell_item}
+use Rattle.history_model.specs.Stored.{stored, IsStorable}
+use Rattle.txn_journal.specs.Held.{standing}
+use Rattle.txn_journal.specs.Append.{append_writes, behind_gate, KeepsFront}
+use Rattle.store_engine.specs.Opened.{Stores, StoresOldOrNew}
+use Rattle.store_engine.specs.Refusals.{is_full}
+
+-- the writes that append an item to the store that these bytes hold
+abbrev pub item_writes : Item → List ℕ → List (ℕ × List ℕ)
+item_writes item bytes = append_writes (standing (stored bytes).end bytes) (spell_item item)
+
+-- the bytes from this place on are replaced by an open gate, the record of an item, and a closed gate; those behind stay
+abbrev pub with_record : ℕ → Item → List ℕ → List ℕ
+with_record end item bytes = with_piece end open_gate (behind_gate (spell_item item)) bytes
+
+-- the store that these bytes hold takes the item: a record can hold it, and there is room behind all others
+pub record Takes (bytes : List ℕ) (item : Item) : Type 0 where
+  pub storable : IsStorable item
+  pub room : is_full (stored bytes).end (length (spell_item item)) ≡ false
+
+-- Cut short anywhere, the writes leave the header and the items, or these and the new one.
+abbrev pub CutAppendLeavesOldOrNew : Type 0
+CutAppendLeavesOldOrNew = (header : Header) (items : List Item) (item : Item) (x c : List ℕ) → Stores header items x → Takes x item
+    → CutShort (item_writes item x) x c
+    → StoresOldOrNew header items item c
+
+-- All of them leave these and the new one, and the next gate behind its record.
+abbrev pub AppendAddsItem : Type 0
+AppendAddsItem = (header : Header) (items : List Item) (item : Item) (x : List ℕ) → Stores header items x → Takes x item
+    → Stores header (items ++ item ∷ []) (written_all (item_writes item x) x)
+    × ((stored (written_all (item_writes item x) x)).end ≡ end_behind (stored x).end (length (spell_item item)))
+
+-- Each begins within the file.
+abbrev pub AppendIsWithin : Type 0
+AppendIsWithin = (header : Header) (items : List Item) (item : Item) (x : List ℕ) → Stores header items x → Takes x item
+    → AllWithin (item_writes item x) x
+
+-- Cut short anywhere, they leave the bytes before the gate.
+abbrev pub CutAppendLeavesFront : Type 0
+CutAppendLeavesFront = (header : Header) (items : List Item) (item : Item) (x c : List ℕ) → Stores header items x
+    → CutShort (item_writes item x) x c
+    → KeepsFront (stored x).end x c
+
+-- All of them put the record at the gate, and change nothing else.
+abbrev pub AppendPutsRecord : Type 0
+AppendPutsRecord = (header : Header) (items : List Item) (item : Item) (x : List ℕ) → Stores header items x
+    → written_all (item_writes item x) x ≡ with_record (stored x).end item x
