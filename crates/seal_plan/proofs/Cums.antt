@@ -1,9 +1,8 @@
 -- The canonical order, granule by granule.
-use Rattle.std.proofs.Common.{◌≡◌, ℕ, zero, suc, ◌+◌, ◌*◌, ◌^◌, ◌<◌, ◌≤◌, true, false, ltb, eqb, List, [], ◌∷◌, ◌++◌, length, get_or, take, drop, map, filter, refl, sym, ap, subst, ◌∙◌, inl, inr, arith}
+use Rattle.std.proofs.Common.{◌≡◌, ℕ, zero, suc, ◌+◌, ◌<◌, ◌≤◌, true, false, ltb, eqb, List, [], ◌∷◌, ◌++◌, length, get_or, take, drop, map, filter, refl, sym, ap, subst, ◌∙◌, inl, inr, arith}
 use Rattle.std.specs.List.{range_with_len, flat_map, All}
 use Rattle.std.specs.List.Sorted.{IsStrictlyIncreasing}
 use Rattle.std.proofs.lemmas.Bool.{cases_Bool, cases_eq, ltb-true, ltb-false, lt-ltb, le-ltb, ne_eqb, eq-eqb}
-use Rattle.std.proofs.lemmas.Nat.{mul-le}
 use Rattle.std.proofs.lemmas.List.{map-append, length-append, length-map, take-append-drop}
 use Rattle.std.proofs.lemmas.List.Concat.{flat_map-append}
 use Rattle.std.proofs.lemmas.List.FromFn.{length-map-range_with_len, get_or-map-range_with_len, take-map-range_with_len}
@@ -18,6 +17,7 @@ use Rattle.history_model.proofs.Orders.{canon_more}
 use Rattle.digest_model.specs.Layout.{layout, first_granule, end_granule}
 use Rattle.digest_model.specs.Digests.{cum, link_of_spelled, granule_digest, granule_over}
 use Rattle.digest_model.proofs.Spelled.{rows_storable}
+use Rattle.digest_model.proofs.Layouts.{ends_within}
 use Rattle.digest_model.proofs.Lists.{increasing_range}
 use Rattle.cumulative_chain.specs.Tiles.{Granule, numbers_of, spelled_below, front, IsSplit, link_at}
 use Rattle.cumulative_chain.proofs.Fronts.{split_front}
@@ -63,13 +63,10 @@ split_at h m e within =
 pub below_is : (h : History) (m e : ℕ) → e ≤ m → spelled_below (numbered h m) e ≡ map spell_txn (canon h e)
 below_is h m e within = split_front (numbered h m) e e (numbers_ascend h m) (split_at h m e within) ∙ front_is h m e within
 
-end_within : (tile tiles k : ℕ) → tile < tiles → tile * 2 ^ k + 2 ^ k ≤ tiles * 2 ^ k
-end_within tile tiles k below = (let all : (tile + 1) * 2 ^ k ≤ tiles * 2 ^ k = mul-le (tile + 1) (2 ^ k) tiles (2 ^ k) (omega arith) (omega arith) in omega (arith, all))
-
-pub cums_are : (h : History) (tiles : ℕ) → map (link_at h.header (numbered h (first_granule (layout h) tiles))) (range_with_len 0 tiles) ≡ map (cum h) (range_with_len 0 tiles)
+pub cums_are : (h : History) (tiles : ℕ) → map (link_at h.header (layout h) (numbered h (first_granule (layout h) tiles))) (range_with_len 0 tiles) ≡ map (cum h) (range_with_len 0 tiles)
 unfolding cum
-cums_are h tiles = map_same (link_at h.header (numbered h (first_granule (layout h) tiles))) (cum h) 0 tiles
-    (λ tile from below. ap (link_of_spelled h.header) (below_is h (first_granule (layout h) tiles) (end_granule (layout h) tile) (end_within tile tiles h.header.k (omega arith))))
+cums_are h tiles = map_same (link_at h.header (layout h) (numbered h (first_granule (layout h) tiles))) (cum h) 0 tiles
+    (λ tile from below. ap (link_of_spelled h.header) (below_is h (first_granule (layout h) tiles) (end_granule (layout h) tile) (ends_within (layout h) tiles tile (omega arith))))
 
 pub leaves_are : (h : History) (m : ℕ) → map (λ (g : Granule). granule_over g.0 g.1) (numbered h m) ≡ leaves_of h m
 unfolding granule_digest

@@ -16,6 +16,7 @@ use Rattle.digest_model.specs.Digests.{cum, tile_digest, node_digest}
 use Rattle.audit_model.specs.Names.{planned, digest, batch_names}
 use Rattle.audit_model.proofs.Planned.{cum_planned, part_planned}
 use Rattle.audit_model.proofs.TreeAudit.{node_planned}
+use Rattle.digest_model.proofs.Layouts.{one_exponent, one_chains, one_tree}
 use Rattle.digest_model.proofs.Members.{here, Contains-flat_map}
 use Rattle.digest_model.proofs.Lists.{in_range}
 use Rattle.seal_plan.specs.Plan.{Planned}
@@ -76,10 +77,15 @@ abbrev IsPart : History → ℕ → ℕ → ℕ → Type 0
 IsPart h tiles tile part = (has_tile_chains (layout h) 0 ≡ true) × (tile < tiles) × ((part ≡ whole) ⊎ (part < h.header.k))
 
 to_planned : (h : History) (tiles tile part : ℕ) → IsPart h tiles tile part → Contains (planned (layout h) tiles) (names.Tile tile part)
-to_planned h tiles tile part is = part_planned (layout h) tiles tile part is.0 is.1 is.2
+to_planned h tiles tile part is =
+    let k = one_exponent h tile in
+    part_planned (layout h) tiles tile part (one_chains h tile 0 ∙ is.0) is.1 (elim is.2 [ inl e ↦ inl e | inr lt ↦ inr (omega (arith, lt, k)) ])
 
 from_planned : (h : History) (tiles tile part : ℕ) → Contains (planned (layout h) tiles) (names.Tile tile part) → IsPart h tiles tile part
-from_planned h tiles tile part is = named (layout h) tiles (names.Tile tile part) is
+from_planned h tiles tile part is =
+    let k = one_exponent h tile in
+    let n = named (layout h) tiles (names.Tile tile part) is in
+    (one_chains h 0 tile ∙ n.0, n.1, elim n.2 [ inl e ↦ inl e | inr lt ↦ inr (omega (arith, lt, k)) ])
 
 in_row : (tile tiles size p : ℕ) → p < size → tile * size + p < tiles * size → tile < tiles
 in_row tile tiles size p small below = elim (cases_lt tile tiles) [
@@ -155,18 +161,24 @@ part_is_found h tiles tile part small = by (has_tile_chains (layout h) 0) refl
 
 -- ---- nodes
 
-no_node : (h : History) (tiles level index : ℕ) → ((has_tree (layout h) 0 ≡ true) × ((index + 1) * 2 ^ level ≤ first_granule (layout h) tiles) → ⊥) → IsFound h tiles (names.Node level index) None
-no_node h tiles level index never = none_if (digest h (names.Node level index)) (Contains (planned (layout h) tiles) (names.Node level index)) (λ c. never (named (layout h) tiles (names.Node level index) c))
+abbrev IsNode : History → ℕ → ℕ → ℕ → Type 0
+IsNode h tiles level index = (has_tree (layout h) 0 ≡ true) × ((index + 1) * 2 ^ level ≤ first_granule (layout h) tiles)
+
+node_from : (h : History) (tiles level index : ℕ) → Contains (planned (layout h) tiles) (names.Node level index) → IsNode h tiles level index
+node_from h tiles level index is = (let n = named (layout h) tiles (names.Node level index) is in (one_tree h 0 n.0.0 ∙ n.0.2, n.1))
+
+no_node : (h : History) (tiles level index : ℕ) → (IsNode h tiles level index → ⊥) → IsFound h tiles (names.Node level index) None
+no_node h tiles level index never = none_if (digest h (names.Node level index)) (Contains (planned (layout h) tiles) (names.Node level index)) (λ c. never (node_from h tiles level index c))
 
 level_found : (h : History) (tiles level index : ℕ) → first_granule (layout h) tiles ≤ 1048576 → has_tree (layout h) 0 ≡ true
     → IsFound h tiles (names.Node level index) (slice_get (level_of h (first_granule (layout h) tiles) level) index)
 unfolding digest
 level_found h tiles level index within has =
-    turned (slice_get (level_of h (first_granule (layout h) tiles) level) index) (node_digest h level index) (node_digest h level index)
+    turned (slice_get (level_of h (first_granule (layout h) tiles) level) index) (node_digest h 0 level index) (node_digest h 0 level index)
     (index < first_granule (layout h) tiles / 2 ^ level) (Contains (planned (layout h) tiles) (names.Node level index))
-    (at_place (node_digest h level) (first_granule (layout h) tiles / 2 ^ level) index) refl
-    (λ below. node_planned (layout h) tiles level index (λ tile lt. has) ((le-div_iff_mul-le (pow_pos level)).0 (omega (arith, below))) within)
-    (λ c. (let n = named (layout h) tiles (names.Node level index) c in let le : index + 1 ≤ first_granule (layout h) tiles / 2 ^ level = (le-div_iff_mul-le (pow_pos level)).1 n.1 in omega (arith, le)))
+    (at_place (node_digest h 0 level) (first_granule (layout h) tiles / 2 ^ level) index) refl
+    (λ below. node_planned (layout h) tiles level index (λ tile lt. one_tree h tile 0 ∙ has) ((le-div_iff_mul-le (pow_pos level)).0 (omega (arith, below))) within)
+    (λ c. (let n = node_from h tiles level index c in let le : index + 1 ≤ first_granule (layout h) tiles / 2 ^ level = (le-div_iff_mul-le (pow_pos level)).1 n.1 in omega (arith, le)))
 
 in_levels : (h : History) (tiles level index : ℕ) → first_granule (layout h) tiles ≤ 1048576 → has_tree (layout h) 0 ≡ true
     → IsFound h tiles (names.Node level index) (node_found (levels_of h (first_granule (layout h) tiles)) level index)

@@ -6,35 +6,39 @@ use Rattle.std.proofs.lemmas.List.FromFn.{length-map-range_with_len, get_or-map-
 use Rattle.history_model.specs.History.{History}
 use Rattle.digest_model.specs.Digests.{granule_digest, node_over, node_digest}
 use Rattle.seal_plan.specs.Places.{leaves_of, level_of}
+use Rattle.seal_plan.proofs.Ranges.{map_same}
 
 -- the granules are the lowest level
 pub lowest : (h : History) (m : ℕ) → leaves_of h m ≡ level_of h m 0
 unfolding node_digest
-lowest h m = (let e : m ≡ m / 1 = omega arith in ap (λ (n : ℕ). map (granule_digest h) (range_with_len 0 n)) e)
+lowest h m =
+    let e : m ≡ m / 1 = omega arith in
+    ap (λ (n : ℕ). map (granule_digest h) (range_with_len 0 n)) e
+    ∙ map_same (granule_digest h) (λ (g : ℕ). granule_digest h (0 + g)) 0 (m / 1) (λ g from below. (let own : g ≡ 0 + g = omega arith in ap (granule_digest h) own))
 
 pub level_size : (h : History) (m level : ℕ) → length (level_of h m level) ≡ m / 2 ^ level
-level_size h m level = length-map-range_with_len (node_digest h level) 0 (m / 2 ^ level)
+level_size h m level = length-map-range_with_len (node_digest h 0 level) 0 (m / 2 ^ level)
 
 pub halved : (m lower : ℕ) → m / 2 ^ lower / 2 ≡ m / 2 ^ suc lower
 halved m lower = shr-shr m lower 1 ∙ (let e : lower + 1 ≡ suc lower = omega arith in ap (λ (n : ℕ). m / 2 ^ n) e)
 
-node_next : (h : History) (lower index : ℕ) → node_digest h (suc lower) index ≡ node_over (suc lower) index (node_digest h lower (2 * index)) (node_digest h lower (2 * index + 1))
+node_next : (h : History) (lower index : ℕ) → node_digest h 0 (suc lower) index ≡ node_over (suc lower) index (node_digest h 0 lower (2 * index)) (node_digest h 0 lower (2 * index + 1))
 unfolding node_digest
 node_next h lower index = refl
 
-child : (h : History) (m lower i : ℕ) (below : List (List ℕ)) → below ≡ level_of h m lower → i < length below → get_or below i [] ≡ node_digest h lower i
+child : (h : History) (m lower i : ℕ) (below : List (List ℕ)) → below ≡ level_of h m lower → i < length below → get_or below i [] ≡ node_digest h 0 lower i
 child h m lower i below is lt =
     let size = ap length is ∙ level_size h m lower in
-    ap (λ (x : List (List ℕ)). get_or x i []) is ∙ get_or-map-range_with_len (node_digest h lower) 0 (m / 2 ^ lower) i i [] (omega (arith, lt, size)) (omega arith)
+    ap (λ (x : List (List ℕ)). get_or x i []) is ∙ get_or-map-range_with_len (node_digest h 0 lower) 0 (m / 2 ^ lower) i i [] (omega (arith, lt, size)) (omega arith)
 
 -- a node over two of the level below
 pub node_is : (h : History) (m level lower index : ℕ) (below : List (List ℕ)) → level ≡ suc lower → below ≡ level_of h m lower → index < length below / 2
-    → node_over level index (get_or below (2 * index) []) (get_or below (2 * index + 1) []) ≡ node_digest h level index
+    → node_over level index (get_or below (2 * index) []) (get_or below (2 * index + 1) []) ≡ node_digest h 0 level index
 node_is h m level lower index below e is lt =
     ap (λ (x : List ℕ). node_over level index x (get_or below (2 * index + 1) [])) (child h m lower (2 * index) below is (omega arith))
-    ∙ ap (λ (x : List ℕ). node_over level index (node_digest h lower (2 * index)) x) (child h m lower (2 * index + 1) below is (omega arith))
-    ∙ ap (λ (l : ℕ). node_over l index (node_digest h lower (2 * index)) (node_digest h lower (2 * index + 1))) e
-    ∙ sym (node_next h lower index) ∙ ap (λ (l : ℕ). node_digest h l index) (sym e)
+    ∙ ap (λ (x : List ℕ). node_over level index (node_digest h 0 lower (2 * index)) x) (child h m lower (2 * index + 1) below is (omega arith))
+    ∙ ap (λ (l : ℕ). node_over l index (node_digest h 0 lower (2 * index)) (node_digest h 0 lower (2 * index + 1))) e
+    ∙ sym (node_next h lower index) ∙ ap (λ (l : ℕ). node_digest h 0 l index) (sym e)
 
 pub count_is : (h : History) (m level lower index : ℕ) (below : List (List ℕ)) → level ≡ suc lower → below ≡ level_of h m lower → index ≡ length below / 2 → index ≡ m / 2 ^ level
 count_is h m level lower index below e is all =

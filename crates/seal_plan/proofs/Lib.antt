@@ -1,6 +1,7 @@
 pub mod Ranges
 pub mod Rows
 pub mod Cums
+pub mod Seen
 pub mod Naming
 pub mod Finding
 pub mod Levels

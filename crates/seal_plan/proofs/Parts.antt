@@ -4,7 +4,8 @@ use Rattle.std.proofs.lemmas.Nat.{mul-le}
 use Rattle.std.proofs.lemmas.List.{get_or-take, get_or-drop, length-take-le}
 use Rattle.std.proofs.lemmas.List.FromFn.{length-map-range_with_len, get_or-map-range_with_len}
 use Rattle.history_model.specs.History.{History}
-use Rattle.digest_model.specs.Layout.{is_in_part, numbers_in_part, part_granules}
+use Rattle.digest_model.proofs.Layouts.{even, one_exponent}
+use Rattle.digest_model.specs.Layout.{layout, first_granule, is_in_part, numbers_in_part, part_granules}
 use Rattle.digest_model.specs.Digests.{granule_digest, part_over, part_digests, tile_digest}
 use Rattle.tile_chains.specs.Part.{digest_at, digests_among, digests_in_part}
 use Rattle.seal_plan.specs.Places.{leaves_of}
@@ -36,7 +37,9 @@ part_is h tile tiles part gs below is =
     ∙ ap (part_over tile part)
     (filtered_same (is_in_part part) (digest_at (take (2 ^ h.header.k) (drop (tile * 2 ^ h.header.k) (leaves_of h (tiles * 2 ^ h.header.k))))) (λ (n : ℕ). granule_digest h (tile * 2 ^ h.header.k + n)) 0 (2 ^ h.header.k)
     (λ n from lt. at_number h (tiles * 2 ^ h.header.k) (tile * 2 ^ h.header.k) (2 ^ h.header.k) n (omega arith) end)
-    ∙ sym (map-map (granule_digest h) (λ (n : ℕ). tile * 2 ^ h.header.k + n) (numbers_in_part part (2 ^ h.header.k))))
+    ∙ sym (map-map (granule_digest h) (λ (n : ℕ). tile * 2 ^ h.header.k + n) (numbers_in_part part (2 ^ h.header.k)))
+    ∙ ap (λ (f : ℕ). map (granule_digest h) (map (λ n. f + n) (numbers_in_part part (2 ^ h.header.k)))) (sym (even h tile))
+    ∙ ap (λ (e : ℕ). map (granule_digest h) (map (λ n. first_granule (layout h) tile + n) (numbers_in_part part (2 ^ e)))) (sym (one_exponent h tile)))
 
 pub part_is_at : (h : History) (k tile tiles part : ℕ) (gs : List (List ℕ)) → h.header.k ≡ k → tile < tiles → gs ≡ leaves_of h (tiles * 2 ^ k)
     → part_over tile part (digests_in_part part (take (2 ^ k) (drop (tile * 2 ^ k) gs))) ≡ tile_digest h tile part

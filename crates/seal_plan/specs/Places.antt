@@ -22,7 +22,7 @@ parts_of h tiles = map (part_digest_at h) (range_with_len 0 (tiles * (h.header.k
 
 -- the nodes of a level over m granules
 abbrev pub level_of : History → ℕ → ℕ → List (List ℕ)
-level_of h m level = map (node_digest h level) (range_with_len 0 (m / 2 ^ level))
+level_of h m level = map (node_digest h 0 level) (range_with_len 0 (m / 2 ^ level))
 
 abbrev pub levels_of : History → ℕ → List (List (List ℕ))
 levels_of h m = map (level_of h m) (range_with_len 0 21)

@@ -18,6 +18,7 @@
 //! | it answers exactly the digest of a planned name, and none for another | `digest`: `value`, `planned` |
 //! | the batches are the planned seals in their order, and each may be filed | `batch`: `value`, `fileable` |
 //! | each transaction is hashed at most twice, once for its link and once for its granule | `new`: `steps` |
+//! | the chain alone is had for one hash a transaction | `links_of`: `value`, `steps` |
 //! | `digest` and the readers take no memory | they answer no want of it |
 //!
 //! Each digest is computed once; an empty granule costs one hash, since its number is hashed. Only
@@ -32,11 +33,10 @@
 mod chains;
 mod digests;
 mod grouping;
+mod links;
 mod lookup;
 mod plan;
 mod trees;
 
+pub use links::links_of;
 pub use plan::Plan;
-
-#[cfg(test)]
-mod tests;

@@ -2,33 +2,16 @@
 
 ghost use Rattle.std.specs.Prelude.{◌≡◌, ◌≤◌, ◌<◌, ◌^◌, ℕ};
 ghost use Rattle.std.specs.List.{slice_get};
-ghost use Rattle.digest_model.specs.Layout.{has_tile_chains, has_tree};
-ghost use Rattle.cumulative_chain.specs.Tiles.{layout_of};
 ghost use Rattle.seal_plan.specs.Found.{part_found, node_found};
 
 use crate::digests::Digests;
 use tile_chains::WHOLE;
-use tuple_bytes::Header;
 
 pub(crate) fn power_of_two(exponent: u8) -> u32
     requires { exponent < 32 }
     ensures { result ≡ 2 ^ exponent }
 {
     1u32 << exponent
-}
-
-/// Whether the tiles have the chains of their parts.
-pub(crate) fn has_tile_chains(header: &Header) -> bool
-    ensures { (tile : ℕ) → result ≡ has_tile_chains (layout_of header.now) tile }
-{
-    header.algs & 1 == 1
-}
-
-/// Whether the granules are leaves of the tree.
-pub(crate) fn has_tree(header: &Header) -> bool
-    ensures { (tile : ℕ) → result ≡ has_tree (layout_of header.now) tile }
-{
-    (header.algs >> 1) & 1 == 1
 }
 
 pub(crate) fn digest_at(digests: &[[u8; 32]], place: usize) -> Option<[u8; 32]>

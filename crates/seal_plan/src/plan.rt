@@ -9,6 +9,7 @@ ghost use Rattle.digest_model.specs.Digests.{cum};
 ghost use Rattle.audit_model.specs.Names.{planned, digest};
 ghost use Rattle.cumulative_chain.specs.Tiles.{layout_of};
 ghost use Rattle.tuple_bytes.specs.Spelling.{FitsHeader};
+ghost use Rattle.policy_eras.specs.Policy.{policy_of, layout_by};
 ghost use Rattle.seal_plan.specs.Plan.{planned_of};
 ghost use Rattle.seal_plan.specs.Places.{leaves_of, planned_parts, planned_levels};
 
@@ -17,10 +18,11 @@ mod batch;
 use crate::chains::{leaves, part_digests};
 use crate::digests::Digests;
 use crate::grouping::group;
-use crate::lookup::{digest_at, has_tile_chains, has_tree, node_in, part_in};
+use crate::lookup::{digest_at, node_in, part_in};
 use crate::trees::levels_over;
 use cumulative_chain::{header_digest, links_at_tiles};
 use notary_link::Name;
+use policy_eras::Eras;
 use std::alloc::{AllocError, Global};
 use std::marker::Model;
 use std::snapshot::Snapshot;
@@ -31,6 +33,7 @@ use tuple_bytes::{Header, Items};
 #[derive(Drop)]
 pub struct Plan {
     header: Header,
+    eras: Eras,
     tiles: u32,
     items: Snapshot<Items>,
     header_digest: [u8; 32],
@@ -47,59 +50,56 @@ impl Model for Plan {
 
     ghost view = { λ p. planned_of (history p.header p.items.value) p.tiles };
 
-    ghost invariant = { λ p. Keeps (history p.header p.items.value) p.tiles p.header_digest p.links.items p.parts p.levels.items };
+    ghost invariant = { λ p. Keeps (history p.header p.items.value) p.tiles p.eras p.header_digest p.links.items p.parts p.levels.items };
 }
 
 /// The chain's values and the granules' digests, over each transaction spelled once.
 fn hash_txns<L: Ledger>(
     alloc: Global,
     header: &Header,
+    eras: &Eras,
     items: &Items,
     tiles: u32,
     steps: &mut Steps<L>,
 ) -> Result<(Vec<[u8; 32]>, Digests), AllocError>
     requires history { IsHistory (history header.now items.now) }
+    requires eras { eras.now ≡ policy_of (history header.now items.now) }
     requires within { first_granule (layout_of header.now) tiles ≤ max_granules }
     ensures links { IfOk result (λ r. r.0.items ≡ map (cum (history header.now items.now)) (range_with_len 0 tiles)) }
     ensures leaves { IfOk result (λ r. header.now.algs ≢ 0 → r.1 ≡ leaves_of (history header.now items.now) (first_granule (layout_of header.now) tiles)) }
     ensures short { IfOk result (λ r. length r.1 ≤ max_granules) }
     ensures steps { steps.new ≤ steps.old + 2 * length (txns items.now) }
 {
-    let granules = group(alloc, header, items.as_slice(), tiles << header.k)?;
-    let links = links_at_tiles(alloc, header, &granules, tiles, steps)?;
+    let granules = group(alloc, header, items.as_slice(), eras.first(tiles) as u32)?;
+    let links = links_at_tiles(alloc, header, eras, &granules, tiles, steps)?;
     let digests = leaves(alloc, header, &granules, steps)?;
     Ok((links, digests))
 }
 
-/// The parts of all tiles, where the header has tile chains.
+/// The parts of all tiles, where they have tile chains.
 fn planned_parts(
     alloc: Global,
-    header: &Header,
+    eras: &Eras,
     tiles: u32,
     granules: &Digests,
 ) -> Result<Digests, AllocError>
-    requires fits { FitsHeader header.now }
-    requires within { first_granule (layout_of header.now) tiles ≤ max_granules }
-    requires granules { header.now.algs ≢ 0 → length granules.now ≡ first_granule (layout_of header.now) tiles }
-    ensures value { (h : History) → h.header ≡ header.now → (header.now.algs ≢ 0 → granules.now ≡ leaves_of h (first_granule (layout h) tiles)) → IfOk result (λ digests. digests ≡ planned_parts h tiles) }
+    requires within { first_granule (layout_by eras.now) tiles ≤ max_granules }
+    requires granules { eras.now.algs ≢ 0 → length granules.now ≡ first_granule (layout_by eras.now) tiles }
+    ensures value { (h : History) → eras.now ≡ policy_of h → (eras.now.algs ≢ 0 → granules.now ≡ leaves_of h (first_granule (layout h) tiles)) → IfOk result (λ digests. digests ≡ planned_parts h tiles) }
 {
-    if has_tile_chains(header) {
-        part_digests(alloc, header.k, tiles, granules.as_slice())
+    if eras.has_tile_chains(0) {
+        part_digests(alloc, eras.exponent(0), tiles, granules.as_slice())
     } else {
         Ok(Digests::new(alloc))
     }
 }
 
-/// The nodes of all levels, where the header has the tree.
-fn planned_levels(
-    alloc: Global,
-    header: &Header,
-    granules: Digests,
-) -> Result<Vec<Digests>, AllocError>
+/// The nodes of all levels, where the tiles have the tree.
+fn planned_levels(alloc: Global, eras: &Eras, granules: Digests) -> Result<Vec<Digests>, AllocError>
     requires short { length granules ≤ max_granules }
-    ensures value { (h : History) (tiles : ℕ) → h.header ≡ header.now → (header.now.algs ≢ 0 → granules ≡ leaves_of h (first_granule (layout h) tiles)) → IfOk result (λ levels. levels.items ≡ planned_levels h tiles) }
+    ensures value { (h : History) (tiles : ℕ) → eras.now ≡ policy_of h → (eras.now.algs ≢ 0 → granules ≡ leaves_of h (first_granule (layout h) tiles)) → IfOk result (λ levels. levels.items ≡ planned_levels h tiles) }
 {
-    if has_tree(header) {
+    if eras.has_tree(0) {
         levels_over(alloc, granules)
     } else {
         Ok(Vec::new(alloc))
@@ -120,11 +120,13 @@ impl Plan {
         ensures value { IfOk result (λ plan. plan ≡ planned_of (history header.now items.now) tiles) }
         ensures steps { steps.new ≤ steps.old + 2 * length (txns items.now) }
     {
-        let (links, digests) = hash_txns(alloc, header, items, tiles, steps)?;
-        let parts = planned_parts(alloc, header, tiles, &digests)?;
-        let levels = planned_levels(alloc, header, digests)?;
+        let eras = Eras::of(header, items);
+        let (links, digests) = hash_txns(alloc, header, &eras, items, tiles, steps)?;
+        let parts = planned_parts(alloc, &eras, tiles, &digests)?;
+        let levels = planned_levels(alloc, &eras, digests)?;
         Ok(Plan {
             header: *header,
+            eras,
             tiles,
             items: Snapshot::of(items),
             header_digest: header_digest(header),
@@ -137,13 +139,22 @@ impl Plan {
     /// The header that the plan was made for.
     pub fn header(&self) -> &Header
         ensures value { result.now ≡ self.now.history.header }
+        ensures fits { FitsHeader result.now }
     {
         &self.header
+    }
+
+    /// Where the tiles lie.
+    pub fn eras(&self) -> &Eras
+        ensures value { result.now ≡ policy_of self.now.history }
+    {
+        &self.eras
     }
 
     /// How many tiles are planned.
     pub fn tiles(&self) -> u32
         ensures value { result ≡ self.now.tiles }
+        ensures within { first_granule (layout self.now.history) self.now.tiles ≤ max_granules }
     {
         self.tiles
     }
@@ -163,7 +174,12 @@ impl Plan {
         match name {
             Name::Header => Some(self.header_digest),
             Name::Cum { tile } => digest_at(&self.links, tile as usize),
-            Name::Tile { tile, part } => part_in(self.parts.as_slice(), self.header.k, tile, part),
+            Name::Tile { tile, part } => part_in(
+                self.parts.as_slice(),
+                self.eras.exponent(tile),
+                tile,
+                part,
+            ),
             Name::Node { level, index } => node_in(&self.levels, level, index),
         }
     }

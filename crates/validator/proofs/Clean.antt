@@ -16,7 +16,7 @@ use Rattle.notary_link.specs.declared.answer.Answer.TheVariants.{Same}
 use Rattle.notary_link.specs.declared.name.Name.TheVariants as names
 use Rattle.notary_link.specs.Batches.{Batch}
 use Rattle.audit_model.specs.Names.{planned, batch_names}
-use Rattle.audit_model.specs.Notary.{NotaryOf, answers}
+use Rattle.audit_model.specs.Notary.{NotaryOf, answers, header_answer}
 use Rattle.audit_model.specs.Mono.{BeginsRegion}
 use Rattle.audit_model.specs.Altered.{history_in}
 use Rattle.audit_model.specs.Sound.{HoldsNotarized}
@@ -37,8 +37,9 @@ unfolding planned batch_names
 header_planned l n = Contains-flat_map (batch_names l) (range_with_len 0 (n + 1)) 0 names.Header (in_range 0 (n + 1) 0 (omega arith) (omega arith)) (here names.Header [])
 
 module _ (batches : List Batch) (id n : ℕ) (h : History) (filed : NotaryOf batches id h n) where
-  header_same : answers batches h names.Header ≡ Same
-  header_same = own_same batches id h n names.Header filed (header_planned (layout h) n)
+  header_same : (m : ℕ) → header_answer batches h m ≡ Same
+  unfolding header_answer
+  header_same m = own_same batches id h n names.Header filed (header_planned (layout h) n)
 
   cum_same : (tile : ℕ) → tile < n → answers batches h (names.Cum tile) ≡ Same
   cum_same tile below = own_same batches id h n (names.Cum tile) filed (cum_planned (layout h) n tile below)
@@ -47,11 +48,11 @@ module _ (batches : List Batch) (id n : ℕ) (h : History) (filed : NotaryOf bat
 
 not_refused : (batches : List Batch) (id n : ℕ) (h : History) → NotaryOf batches id h n → filed_fault batches h ≡ None
 not_refused [] id n h filed = refl
-not_refused (first ∷ []) id n h filed = ap (fault_by names.Header) (header_same (first ∷ []) id n h filed)
+not_refused (first ∷ []) id n h filed = ap (fault_by names.Header) (header_same (first ∷ []) id n h filed 0)
 not_refused (first ∷ second ∷ batches) id n h filed =
     let many : suc (length batches) ≡ n = omega (arith, counted (first ∷ second ∷ batches) id h n filed) in
     let within : first_granule (layout h) (suc (length batches)) ≤ max_granules = subst (λ (m : ℕ). first_granule (layout h) m ≤ max_granules) (sym many) filed.within in
-    ap (λ (a : Answer). else_cause (fault_by names.Header a) (chain_fault (first ∷ second ∷ batches) h (length batches))) (header_same (first ∷ second ∷ batches) id n h filed)
+    ap (λ (a : Answer). else_cause (fault_by names.Header a) (chain_fault (first ∷ second ∷ batches) h (length batches))) (header_same (first ∷ second ∷ batches) id n h filed (suc (length batches)))
     ∙ chain_within (first ∷ second ∷ batches) h (length batches) within
     ∙ ap (fault_by (names.Cum (length batches))) (cum_same (first ∷ second ∷ batches) id n h filed (length batches) (omega (arith, many)))
 
@@ -96,7 +97,7 @@ clean_in [] id n h o found is filed shows = absurd (let many = counted [] id h n
 clean_in (first ∷ batches) id n h o found is filed shows =
     let many : length batches ≡ n = omega (arith, counted (first ∷ batches) id h n filed) in
     let at = subst (λ (x : Option History). IsVerdict (first ∷ batches) (length batches) x found) is shows in
-    let under = subst (λ (a : Answer). IsFoundAt a (first ∷ batches) (length batches) h found) (header_same (first ∷ batches) id n h filed) at in
+    let under = subst (λ (a : Answer). IsFoundAt a (first ∷ batches) (length batches) h found) (header_same (first ∷ batches) id n h filed (length batches)) at in
     let at_n = subst (λ (m : ℕ). IsFoundWithin (nat_le (first_granule (layout h) m) max_granules) (first ∷ batches) m h found) many under in
     let test : nat_le (first_granule (layout h) n) max_granules ≡ true = grind (arith, nat_tests, filed.within) in
     only_clean (cums (first ∷ batches) h) n (cum_same (first ∷ batches) id n h filed) found (subst (λ (b : Bool). IsFoundWithin b (first ∷ batches) n h found) test at_n)

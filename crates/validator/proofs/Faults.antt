@@ -1,13 +1,12 @@
 -- Why nothing is filed, from step to step.
-use Rattle.std.proofs.Common.{◌≡◌, ℕ, zero, suc, ◌+◌, ◌-◌, ◌<◌, ◌≤◌, List, [], ◌∷◌, length, Option, Some, None, Result, Ok, Err, true, false, refl, sym, ap, subst, ◌∙◌, arith}
-use Rattle.std.specs.Prelude.{nat_le, nat_lt}
+use Rattle.std.proofs.Common.{◌≡◌, ℕ, suc, ◌-◌, ◌<◌, ◌≤◌, List, [], ◌∷◌, length, Option, Some, None, Result, Err, refl, sym, ap, subst, ◌∙◌, arith}
 use Rattle.std.proofs.lemmas.Bool.Decides.{nat_tests}
 use Rattle.tuple_bytes.specs.declared.item.Item.{Item}
 use Rattle.history_model.specs.History.{History, history}
 use Rattle.digest_model.specs.Layout.{layout, first_granule, max_granules}
 use Rattle.notary_link.specs.declared.name.Name.TheVariants as names
 use Rattle.notary_link.specs.Batches.{Batch}
-use Rattle.audit_model.specs.Notary.{answers}
+use Rattle.audit_model.specs.Notary.{answers, header_answer}
 use Rattle.store_engine.specs.Opened.{Opened}
 use Rattle.store_engine.specs.Refusals.{tail_of}
 use Rattle.validator.specs.declared.fail.AuditFail.{AuditFail}
@@ -20,7 +19,7 @@ use Rattle.validator.specs.Steps.{header_fault, sealed_fault, frontier_to, IsOfA
 
 pub in_parts : (batches : List Batch) (h : History) → filed_fault batches h ≡ else_cause (header_fault batches h) (sealed_fault batches h)
 in_parts [] h = refl
-in_parts (first ∷ []) h = by (fault_by names.Header (answers (first ∷ []) h names.Header))
+in_parts (first ∷ []) h = by (fault_by names.Header (header_answer (first ∷ []) h 0))
   where
     by : (fault : Option AuditFail) → fault ≡ else_cause fault None
     by None = refl
@@ -28,9 +27,9 @@ in_parts (first ∷ []) h = by (fault_by names.Header (answers (first ∷ []) h 
 in_parts (first ∷ second ∷ batches) h = refl
 
 -- where a batch is filed
-pub header_asked : (batches : List Batch) (h : History) → 0 < length batches → header_fault batches h ≡ fault_by names.Header (answers batches h names.Header)
+pub header_asked : (batches : List Batch) (h : History) → 0 < length batches → header_fault batches h ≡ fault_by names.Header (header_answer batches h (length batches - 1))
 header_asked [] h some = absurd (omega (arith, some))
-header_asked (first ∷ batches) h some = refl
+header_asked (first ∷ batches) h some = let e : length batches ≡ length (first ∷ batches) - 1 = omega arith in ap (λ (n : ℕ). fault_by names.Header (header_answer (first ∷ batches) h n)) e
 
 pub header_not_asked : (batches : List Batch) (h : History) → 0 ≡ length batches → header_fault batches h ≡ None
 header_not_asked [] h none = refl
@@ -91,18 +90,18 @@ refused_alike A B fault fails.NoMemory refused = refused
 
 module _ (s : Opened) (now : ℕ) (items : List Item) (batches : List Batch) where
   abbrev need : Option ℕ
-  need = frontier_for (tail_of s) now batches
+  need = frontier_for (layout (history s.header items)) (tail_of s) now batches
 
   -- nothing speaks against what is filed
   pub only_room : early_fault (tail_of s) s.at.is_closed now ≡ None → filed_fault batches (history s.header items) ≡ None → notarize_fault (tail_of s) s.at.is_closed now items batches ≡ room_fault (tail_of s) need
   only_room early filed = ap (λ (f : Option AuditFail). else_cause f (else_cause (filed_fault batches (history s.header items)) (room_fault (tail_of s) need))) early ∙ ap (λ (f : Option AuditFail). else_cause f (room_fault (tail_of s) need)) filed
 
   -- what is needed, where a batch is to be filed, and where none is
-  pub needed : (ended : ℕ) → ended ≡ tiles_at s.header now → length batches ≤ ended → frontier_to s ended ≡ need
-  needed ended is some = rw is (let le : length batches ≤ tiles_at s.header now = omega (arith, is, some) in grind (arith, nat_tests, le))
+  pub needed : (ended : ℕ) → ended ≡ tiles_at (layout (history s.header items)) s.header now → length batches ≤ ended → frontier_to s (end_of (layout (history s.header items)) s.header ended) ≡ need
+  needed ended is some = rw is (let le : length batches ≤ tiles_at (layout (history s.header items)) s.header now = omega (arith, is, some) in grind (arith, nat_tests, le))
 
-  pub not_needed : (ended : ℕ) → ended ≡ tiles_at s.header now → ended < length batches → need ≡ None
-  not_needed ended is none = let lt : tiles_at s.header now < length batches = omega (arith, is, none) in grind (arith, nat_tests, lt)
+  pub not_needed : (ended : ℕ) → ended ≡ tiles_at (layout (history s.header items)) s.header now → ended < length batches → need ≡ None
+  not_needed ended is none = let lt : tiles_at (layout (history s.header items)) s.header now < length batches = omega (arith, is, none) in grind (arith, nat_tests, lt)
 
   -- an early refusal
   pub refused_early : (A : Type 0) (e : AuditFail) → IsOfClock e → early_fault (tail_of s) s.at.is_closed now ≡ Some e → IsRefusedBy {A = A} (notarize_fault (tail_of s) s.at.is_closed now items batches) (Err e)

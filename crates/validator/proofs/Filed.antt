@@ -10,7 +10,7 @@ use Rattle.notary_link.specs.declared.notary.NotaryLimits.{NotaryLimits}
 use Rattle.notary_link.specs.Batches.{Batch}
 use Rattle.notary_link.specs.Notary.{Call, Entry, Lists, State, Keeps, seals_of, seals_in_all}
 use Rattle.notary_link.specs.Filing.{filings, fitting, room_in, FilesAll, FilesWhole, FilesFitting, FilesSome, FilesInTurn}
-use Rattle.notary_link.specs.Runs.{MakesCalls, is_done, was_answered}
+use Rattle.notary_link.specs.Runs.{StopsAfter}
 use Rattle.notary_link.proofs.Sums.{same_below}
 use Rattle.validator.specs.declared.fail.AuditFail.{AuditFail}
 use Rattle.validator.specs.declared.fail.AuditFail.TheVariants as fails
@@ -50,18 +50,18 @@ module _ (id : ℕ) where
   files_none A limits batches (fails.SealMissing name) lists later still keeps = keeps
   files_none A limits batches (fails.OutOfTurn count) lists later still keeps = keeps
 
-  pub calls_none : (A : Type 0) (from : ℕ) (batches : List Batch) (e : AuditFail) (old new : List Entry) → IsStill e → new ≡ old → CallsFor {A = A} id from batches (Err e) old new
-  calls_none A from batches fails.Full old new still same = absurd still
-  calls_none A from batches fails.NotaryFault old new still same = inl same
-  calls_none A from batches fails.NoMemory old new still same = inl same
-  calls_none A from batches fails.DiskFault old new still same = same
-  calls_none A from batches (fails.ClockBack last) old new still same = same
-  calls_none A from batches fails.TooLate old new still same = same
-  calls_none A from batches fails.StoreFull old new still same = same
-  calls_none A from batches fails.Closed old new still same = same
-  calls_none A from batches fails.Broken old new still same = same
-  calls_none A from batches (fails.SealMissing name) old new still same = same
-  calls_none A from batches (fails.OutOfTurn count) old new still same = same
+  pub calls_none : (A : Type 0) (from fit : ℕ) (batches : List Batch) (e : AuditFail) (old new : List Entry) → IsStill e → new ≡ old → CallsFor {A = A} id from fit batches (Err e) old new
+  calls_none A from fit batches fails.Full old new still same = absurd still
+  calls_none A from fit batches fails.NotaryFault old new still same = inl same
+  calls_none A from fit batches fails.NoMemory old new still same = inl same
+  calls_none A from fit batches fails.DiskFault old new still same = same
+  calls_none A from fit batches (fails.ClockBack last) old new still same = same
+  calls_none A from fit batches fails.TooLate old new still same = same
+  calls_none A from fit batches fails.StoreFull old new still same = same
+  calls_none A from fit batches fails.Closed old new still same = same
+  calls_none A from fit batches fails.Broken old new still same = same
+  calls_none A from fit batches (fails.SealMissing name) old new still same = same
+  calls_none A from fit batches (fails.OutOfTurn count) old new still same = same
 
   -- nothing was to be filed
   pub files_nothing : {A : Type 0} (limits : NotaryLimits) (done : A) (lists later : Lists) → Keeps lists later → FilesFor id limits [] (Ok done) lists later
@@ -77,7 +77,7 @@ module _ (id : ℕ) where
       marks = λ any. files.marks any ∙ keeps.marks any;
     }
 
-    same_room : room_in limits mid ≡ room_in limits old
+    pub same_room : room_in limits mid ≡ room_in limits old
     same_room = ap (λ (seals : ℕ). limits.seals - seals) (same_below (λ id. seals_of (old.batches id)) (λ id. seals_of (mid.batches id)) (2 ^ 64) (λ i less. ap seals_of (keeps.batches i)))
 
     in_turn_behind : (r : Result (Unit {0}) NotaryFail) → FilesInTurn id limits batches r mid new → FilesInTurn id limits batches r old new
@@ -132,18 +132,18 @@ module _ (id : ℕ) where
   files_alike A B limits batches (fails.SealMissing name) lists later files = files
   files_alike A B limits batches (fails.OutOfTurn count) lists later files = files
 
-  pub calls_alike : (A B : Type 0) (from : ℕ) (batches : List Batch) (e : AuditFail) (old new : List Entry) → CallsFor {A = A} id from batches (Err e) old new → CallsFor {A = B} id from batches (Err e) old new
-  calls_alike A B from batches fails.Full old new calls = calls
-  calls_alike A B from batches fails.NotaryFault old new calls = calls
-  calls_alike A B from batches fails.NoMemory old new calls = calls
-  calls_alike A B from batches fails.DiskFault old new calls = calls
-  calls_alike A B from batches (fails.ClockBack last) old new calls = calls
-  calls_alike A B from batches fails.TooLate old new calls = calls
-  calls_alike A B from batches fails.StoreFull old new calls = calls
-  calls_alike A B from batches fails.Closed old new calls = calls
-  calls_alike A B from batches fails.Broken old new calls = calls
-  calls_alike A B from batches (fails.SealMissing name) old new calls = calls
-  calls_alike A B from batches (fails.OutOfTurn count) old new calls = calls
+  pub calls_alike : (A B : Type 0) (from fit : ℕ) (batches : List Batch) (e : AuditFail) (old new : List Entry) → CallsFor {A = A} id from fit batches (Err e) old new → CallsFor {A = B} id from fit batches (Err e) old new
+  calls_alike A B from fit batches fails.Full old new calls = calls
+  calls_alike A B from fit batches fails.NotaryFault old new calls = calls
+  calls_alike A B from fit batches fails.NoMemory old new calls = calls
+  calls_alike A B from fit batches fails.DiskFault old new calls = calls
+  calls_alike A B from fit batches (fails.ClockBack last) old new calls = calls
+  calls_alike A B from fit batches fails.TooLate old new calls = calls
+  calls_alike A B from fit batches fails.StoreFull old new calls = calls
+  calls_alike A B from fit batches fails.Closed old new calls = calls
+  calls_alike A B from fit batches fails.Broken old new calls = calls
+  calls_alike A B from fit batches (fails.SealMissing name) old new calls = calls
+  calls_alike A B from fit batches (fails.OutOfTurn count) old new calls = calls
 
   -- what the notary's answer says, as it is told here
   pub in_turn : (limits : NotaryLimits) (batches : List Batch) (e : NotaryFail) (lists later : Lists) → FilesInTurn id limits batches (Err e) lists later → IsOfFiling (of_notary e) × FilesFor {A = Unit {0}} id limits batches (Err (of_notary e)) lists later
@@ -152,11 +152,11 @@ module _ (id : ℕ) where
   in_turn limits batches notary_fails.NoMemory lists later files = (tt, files)
   in_turn limits batches (notary_fails.OutOfTurn count) lists later files = absurd files
 
-  pub calls_in_turn : (from : ℕ) (batches : List Batch) (e : NotaryFail) (old new : List Entry) → IsOfFiling (of_notary e) → MakesCalls (filings id from batches) (Err e) old new → CallsFor {A = Unit {0}} id from batches (Err (of_notary e)) old new
-  calls_in_turn from batches notary_fails.Full old new of_it calls = calls
-  calls_in_turn from batches notary_fails.Failed old new of_it calls = inr calls
-  calls_in_turn from batches notary_fails.NoMemory old new of_it calls = inr calls
-  calls_in_turn from batches (notary_fails.OutOfTurn count) old new of_it calls = absurd of_it
+  pub calls_in_turn : (from fit done : ℕ) (batches : List Batch) (e : NotaryFail) (old new : List Entry) → IsOfFiling (of_notary e) → done ≤ fit → (e ≡ notary_fails.Full → done ≡ fit) → StopsAfter done (filings id from batches) e old new → CallsFor {A = Unit {0}} id from fit batches (Err (of_notary e)) old new
+  calls_in_turn from fit done batches notary_fails.Full old new of_it within full calls = subst (λ (k : ℕ). StopsAfter k (filings id from batches) notary_fails.Full old new) (full refl) calls
+  calls_in_turn from fit done batches notary_fails.Failed old new of_it within full calls = inr (done, within, calls)
+  calls_in_turn from fit done batches notary_fails.NoMemory old new of_it within full calls = inr (done, within, calls)
+  calls_in_turn from fit done batches (notary_fails.OutOfTurn count) old new of_it within full calls = absurd of_it
 
 -- ---- how many were filed
 
@@ -187,5 +187,5 @@ module _ (id : ℕ) (limits : NotaryLimits) (batches : List Batch) (lists later 
   files_first (Err (fails.OutOfTurn count)) files = none_first files
 
 -- the calls are those since the trace was the same
-pub calls_behind : {A : Type 0} (id from : ℕ) (batches : List Batch) (r : Result A AuditFail) (old mid new : List Entry) → mid ≡ old → CallsFor id from batches r mid new → CallsFor id from batches r old new
-calls_behind id from batches r old mid new same made = subst (λ (t : List Entry). CallsFor id from batches r t new) same made
+pub calls_behind : {A : Type 0} (id from fit : ℕ) (batches : List Batch) (r : Result A AuditFail) (old mid new : List Entry) → mid ≡ old → CallsFor id from fit batches r mid new → CallsFor id from fit batches r old new
+calls_behind id from fit batches r old mid new same made = subst (λ (t : List Entry). CallsFor id from fit batches r t new) same made

@@ -1,79 +1,66 @@
 -- A notarized history stays so with a batch more of each tile that it has reached.
-use Rattle.std.proofs.Common.{◌≡◌, ◌≢◌, ◌⊎◌, inl, inr, ℕ, zero, suc, max, ◌+◌, ◌-◌, ◌*◌, ◌^◌, ◌<◌, ◌≤◌, Bool, true, false, List, [], ◌∷◌, ◌++◌, length, take, map, Option, Some, None, Result, Ok, Err, refl, sym, ap, subst, ◌∙◌, arith, length-append, length-take-le}
+use Rattle.std.proofs.Common.{◌≡◌, ℕ, zero, suc, ◌+◌, ◌-◌, ◌<◌, ◌≤◌, Bool, true, false, List, [], ◌∷◌, ◌++◌, length, take, map, Option, Some, None, refl, sym, ap, subst, ◌∙◌, arith, length-append, length-take-le}
 use Rattle.std.specs.Prelude.{unwrap_or, nat_le, nat_lt, ◌&&◌, if◌then◌else◌}
 use Rattle.std.specs.List.{range_with_len}
-use Rattle.std.specs.Option.{option_map}
-use Rattle.std.proofs.lemmas.Bool.{cases_lt}
 use Rattle.std.proofs.lemmas.Bool.Decides.{nat_tests}
-use Rattle.std.proofs.lemmas.List.{append-nil, map-append}
+use Rattle.std.proofs.lemmas.List.{map-append}
 use Rattle.std.proofs.lemmas.List.FromFn.{take-map-range_with_len, length-map-range_with_len}
-use Rattle.std.proofs.Math.Nat.{div-mul-le_self}
 use Rattle.std.proofs.lemmas.Nat.{mul-le}
-use Rattle.outside_words.specs.Told.{WhereTold}
-use Rattle.disk_words.specs.Disk.{State, turn, Only, Unchanged}
-use Rattle.disk_model.specs.Moments.{EveryImage}
 use Rattle.tuple_bytes.specs.declared.header.Header.{Header}
 use Rattle.tuple_bytes.specs.declared.item.Item.{Item}
 use Rattle.tuple_bytes.specs.declared.item.Item.TheVariants as items
-use Rattle.tuple_bytes.specs.Spelling.{FitsHeader}
-use Rattle.history_model.specs.declared.stored.Stored.{Stored}
-use Rattle.history_model.specs.Stored.{stored}
-use Rattle.history_model.specs.History.{History, history, granule_of, last_moment}
-use Rattle.digest_model.specs.Layout.{layout, first_granule, max_granules}
+use Rattle.history_model.specs.History.{History, history, last_moment}
+use Rattle.digest_model.specs.Layout.{Layout, layout, first_granule, max_granules}
+use Rattle.digest_model.proofs.Layouts.{ascends}
 use Rattle.notary_link.specs.declared.seal.Seal.{Seal}
 use Rattle.notary_link.specs.Batches.{Batch}
-use Rattle.notary_link.specs.Notary as notaries
-use Rattle.notary_link.specs.Notary.{Lists, Keeps, batch_of}
-use Rattle.notary_link.specs.Filing.{FilesAll}
+use Rattle.notary_link.specs.Notary.{batch_of}
 use Rattle.audit_model.specs.Names.{batch}
 use Rattle.audit_model.specs.Notary.{NotaryOf}
-use Rattle.audit_model.specs.Altered.{history_in}
-use Rattle.audit_model.specs.Sound.{IsNotarized, HoldsNotarized, AllNotarized, IsSound}
-use Rattle.audit_model.proofs.Adding.{added_stays, frontier_filed}
-use Rattle.store_engine.specs.Opened.{Opened, Stores, IsOpenOn}
-use Rattle.store_engine.specs.Refusals.{Tail, is_late, moment_at}
+use Rattle.audit_model.specs.Sound.{IsNotarized}
+use Rattle.audit_model.proofs.Adding.{frontier_filed}
+use Rattle.store_engine.specs.Refusals.{Tail, is_late}
 use Rattle.store_engine.proofs.Telling.{last_more}
-use Rattle.validator.specs.declared.fail.AuditFail.{AuditFail}
-use Rattle.validator.specs.Tiles.{tiles_at, end_of}
+use Rattle.validator.specs.Tiles.{granule_at, tiles_at, end_of}
+use Rattle.validator.proofs.Within.{tiles_in}
 use Rattle.validator.specs.Notarizing.{next_batches, frontier_for}
-use Rattle.validator.specs.Reaching.{Notarizes, StoresAround, IsReached, with_frontier_for, reached}
+use Rattle.validator.specs.Reaching.{with_frontier_for}
 
 -- ---- the Frontier
 
 some_is : (a b : ℕ) → Some a ≡ Some b → a ≡ b
 some_is a b same = ap (λ (o : Option ℕ). unwrap_or o a) same
 
-module _ (t : Tail) (is : List Item) (last : t.last ≡ last_moment is) where
+module _ (l : Layout) (t : Tail) (is : List Item) (last : t.last ≡ last_moment is) where
   later_by : (x end moment : ℕ) (b : Bool) → b ≡ nat_lt t.last end → (if b then Some end else None) ≡ Some moment → last_moment is ≤ moment
   later_by x end moment true tells same = let lt : t.last < end = grind (arith, nat_tests, tells) in omega (arith, lt, last, some_is end moment same)
   later_by x end moment false tells same = absurd cc
 
   -- what is needed is not before the last moment
-  pub need_follows : (now : ℕ) (batches : List Batch) (moment : ℕ) → frontier_for t now batches ≡ Some moment → last_moment is ≤ moment
-  need_follows now batches moment same = by (nat_le (length batches) (tiles_at t.header now)) same
+  pub need_follows : (now : ℕ) (batches : List Batch) (moment : ℕ) → frontier_for l t now batches ≡ Some moment → last_moment is ≤ moment
+  need_follows now batches moment same = by (nat_le (length batches) (tiles_at l t.header now)) same
     where
-      by : (b : Bool) → (if b && nat_lt t.last (end_of t.header (tiles_at t.header now)) then Some (end_of t.header (tiles_at t.header now)) else None) ≡ Some moment → last_moment is ≤ moment
-      by true same = later_by 0 (end_of t.header (tiles_at t.header now)) moment (nat_lt t.last (end_of t.header (tiles_at t.header now))) refl same
+      by : (b : Bool) → (if b && nat_lt t.last (end_of l t.header (tiles_at l t.header now)) then Some (end_of l t.header (tiles_at l t.header now)) else None) ≡ Some moment → last_moment is ≤ moment
+      by true same = later_by 0 (end_of l t.header (tiles_at l t.header now)) moment (nat_lt t.last (end_of l t.header (tiles_at l t.header now))) refl same
       by false same = absurd cc
 
   -- the Frontier that reaches the end of a tile
   abbrev frontier_at : ℕ → Option ℕ
-  frontier_at n = if nat_lt t.last (end_of t.header n) then Some (end_of t.header n) else None
+  frontier_at n = if nat_lt t.last (end_of l t.header n) then Some (end_of l t.header n) else None
 
   -- with it the end is reached
-  end_reached : (n : ℕ) → end_of t.header n ≤ last_moment (with_frontier_for (frontier_at n) is)
-  end_reached n = by (nat_lt t.last (end_of t.header n)) refl
+  end_reached : (n : ℕ) → end_of l t.header n ≤ last_moment (with_frontier_for (frontier_at n) is)
+  end_reached n = by (nat_lt t.last (end_of l t.header n)) refl
     where
-      by : (b : Bool) → b ≡ nat_lt t.last (end_of t.header n) → end_of t.header n ≤ last_moment (with_frontier_for (if b then Some (end_of t.header n) else None) is)
-      by true tells = omega (arith, last_more is (items.Frontier (end_of t.header n)))
-      by false tells = let le : end_of t.header n ≤ t.last = grind (arith, nat_tests, tells) in omega (arith, le, last)
+      by : (b : Bool) → b ≡ nat_lt t.last (end_of l t.header n) → end_of l t.header n ≤ last_moment (with_frontier_for (if b then Some (end_of l t.header n) else None) is)
+      by true tells = omega (arith, last_more is (items.Frontier (end_of l t.header n)))
+      by false tells = let le : end_of l t.header n ≤ t.last = grind (arith, nat_tests, tells) in omega (arith, le, last)
 
 -- the tiles that have ended end at most behind the last granule
-pub ended_within : (t : Tail) (now : ℕ) → is_late t now ≡ false → first_granule (layout (history t.header [])) (tiles_at t.header now) ≤ max_granules
-ended_within t now early =
-    let g : granule_of t.header.width (moment_at t.header now) < 1048576 = grind (arith, nat_tests, early) in
-    let le = div-mul-le_self (granule_of t.header.width (moment_at t.header now)) (2 ^ t.header.k) in
-    omega (arith, g, le)
+pub ended_within : (l : Layout) (t : Tail) (now : ℕ) → is_late t now ≡ false → first_granule l (tiles_at l t.header now) ≤ max_granules
+ended_within l t now early =
+    let g : granule_at t.header now < 1048576 = grind (arith, nat_tests, early) in
+    tiles_in l (granule_at t.header now) (omega (arith, g))
 
 -- ---- the batches
 
@@ -108,13 +95,16 @@ filed_around batches id n header is (Some moment) filed = frontier_filed batches
 
 -- some batches more, where the store has reached what they need
 module _ (t : Tail) (is : List Item) (last : t.last ≡ last_moment is) (now : ℕ) (batches : List Batch)
-    (within : first_granule (layout (history t.header [])) (tiles_at t.header now) ≤ max_granules) (filed_before : IsFiledUpTo batches (history t.header is) (length batches))
+    (within : first_granule (layout (history t.header is)) (tiles_at (layout (history t.header is)) t.header now) ≤ max_granules) (filed_before : IsFiledUpTo batches (history t.header is) (length batches))
     (done : ℕ) (some : 0 < done) (most : done ≤ length (next_batches (history t.header is) now batches)) where
+  abbrev l : Layout
+  l = layout (history t.header is)
+
   abbrev ended : ℕ
-  ended = tiles_at t.header now
+  ended = tiles_at l t.header now
 
   abbrev need : Option ℕ
-  need = frontier_for t now batches
+  need = frontier_for l t now batches
 
   abbrev next : List Batch
   next = next_batches (history t.header is) now batches
@@ -129,11 +119,11 @@ module _ (t : Tail) (is : List Item) (last : t.last ≡ last_moment is) (now : �
   few : sealed ≤ ended
   few = omega (arith, most, many, some)
 
-  need_is : frontier_at t is last ended ≡ need
-  need_is = let le : length batches ≤ tiles_at t.header now = omega (arith, most, many, some) in grind (arith, nat_tests, le)
+  need_is : frontier_at l t is last ended ≡ need
+  need_is = let le : length batches ≤ tiles_at l t.header now = omega (arith, most, many, some) in grind (arith, nat_tests, le)
 
-  last_is : end_of t.header ended ≤ last_moment (with_frontier_for need is)
-  last_is = subst (λ (o : Option ℕ). end_of t.header ended ≤ last_moment (with_frontier_for o is)) need_is (end_reached t is last ended)
+  last_is : end_of l t.header ended ≤ last_moment (with_frontier_for need is)
+  last_is = subst (λ (o : Option ℕ). end_of l t.header ended ≤ last_moment (with_frontier_for o is)) need_is (end_reached l t is last ended)
 
   pub counted_more : length (batches ++ take done next) ≡ sealed + 1
   counted_more = length-append batches (take done next) ∙ ap (λ (n : ℕ). length batches + n) (length-take-le done next most) ∙ omega (arith, some)
@@ -149,7 +139,7 @@ module _ (t : Tail) (is : List Item) (last : t.last ≡ last_moment is) (now : �
     filed = filed_around (batches ++ take done next) t.header.id sealed t.header is need (record {
       seals = seals_are;
       header = refl;
-      within = let le = mul-le sealed (2 ^ t.header.k) ended (2 ^ t.header.k) few (omega arith) in omega (arith, le, within);
+      within = let le = ascends l sealed ended few in omega (arith, le, within);
     });
-    reached = let le = mul-le (sealed * 2 ^ t.header.k) t.header.width (ended * 2 ^ t.header.k) t.header.width (mul-le sealed (2 ^ t.header.k) ended (2 ^ t.header.k) few (omega arith)) (omega arith) in omega (arith, le, last_is);
+    reached = let le = mul-le (first_granule l sealed) t.header.width (first_granule l ended) t.header.width (ascends l sealed ended few) (omega arith) in omega (arith, le, last_is);
   }

@@ -3,6 +3,7 @@ use Rattle.std.proofs.Common.{◌≡◌, ◌⊎◌, inl, inr, ℕ, zero, suc, �
 use Rattle.std.specs.List.{range_with_len}
 use Rattle.std.proofs.lemmas.List.FromFn.{length-map-range_with_len, get_or-map-range_with_len}
 use Rattle.outside_words.specs.Told.{WhereTold}
+use Rattle.outside_words.proofs.Told.{told_map}
 use Rattle.history_model.specs.History.{History}
 use Rattle.digest_model.specs.Digests.{cum}
 use Rattle.notary_link.specs.declared.answer.Answer.{Answer}
@@ -14,7 +15,6 @@ use Rattle.notary_link.specs.Batches.{answer}
 use Rattle.notary_link.specs.Notary.{Lists}
 use Rattle.audit_model.specs.Mono.{BeginsRegion}
 use Rattle.audit_model.specs.Names.{digest}
-use Rattle.seal_plan.specs.Plan.{Planned, planned_of}
 use Rattle.mono_forensics.specs.Finds.{Finds, IsFindFail, cums as link_answers}
 use Rattle.validator.specs.declared.verdict.Verdict.{Verdict}
 use Rattle.validator.specs.declared.verdict.Verdict.TheVariants as verdicts
@@ -47,10 +47,6 @@ found_of n (Ok None) = Ok (verdicts.Clean n)
 found_of n (Ok (Some tile)) = Ok (verdicts.Altered n tile)
 found_of n (Err fail) = Err (of_asking fail)
 
--- the links of a plan
-pub links_are : (h : History) (n : ℕ) (plan : Planned) (links : List (List ℕ)) → links ≡ map (cum plan.history) (range_with_len 0 plan.tiles) → plan ≡ planned_of h n → links ≡ map (cum h) (range_with_len 0 n)
-links_are h n plan links are is = are ∙ ap (λ (p : Planned). map (cum p.history) (range_with_len 0 p.tiles)) is
-
 digest_is : (h : History) (tile : ℕ) → digest h (names.Cum tile) ≡ cum h tile
 unfolding digest
 digest_is h tile = refl
@@ -77,12 +73,22 @@ module _ (h : History) (n : ℕ) (links : List (List ℕ)) (are : links ≡ map 
   search_shows lists id (Err ask_fails.NotSealedSo) only is = absurd only
   search_shows lists id (Err (ask_fails.NotaryInconsistent level index)) only is = absurd only
 
-  pub told_search : (o m : Option Lists) (id : ℕ) (r : Result (Option ℕ) AskFail) (result : Result Verdict AuditFail) → result ≡ found_of n r → IsFindFail (length links) r
-      → WhereTold o m (λ before after. Finds (link_answers before id links) (length links) r)
-      → WhereTold o m (λ before after. OrGivesUp (IsFoundBy (cums (before.batches id) h) n) result)
-  told_search (Some b) (Some a) id r result is only found =
-      let only_n : IsFindFail n r = subst (λ (m : ℕ). IsFindFail m r) as_many only in
-      let found_n : Finds (link_answers b id links) n r = subst (λ (m : ℕ). Finds (link_answers b id links) m r) as_many found in
-      subst (λ (x : Result Verdict AuditFail). OrGivesUp (IsFoundBy (cums (b.batches id) h) n) x) (sym is) (search_shows b id r only_n found_n)
-  told_search (Some b) None id r result is only found = tt
-  told_search None m id r result is only found = tt
+  -- as many links as there are
+  pub as_linked : links ≡ map (cum h) (range_with_len 0 (length links))
+  as_linked = are ∙ ap (λ (m : ℕ). map (cum h) (range_with_len 0 m)) (sym as_many)
+
+pub told_search : (o m : Option Lists) (links : List (List ℕ)) (id : ℕ) (r : Result (Option ℕ) AskFail) (result : Result Verdict AuditFail) → result ≡ found_of (length links) r → IsFindFail (length links) r
+    → WhereTold o m (λ before after. Finds (link_answers before id links) (length links) r)
+    → WhereTold o m (λ before after. (h : History) → links ≡ map (cum h) (range_with_len 0 (length links)) → OrGivesUp (IsFoundBy (cums (before.batches id) h) (length links)) result)
+told_search o m links id r result is only found = told_map o m (λ before after. Finds (link_answers before id links) (length links) r)
+    (λ before after. (h : History) → links ≡ map (cum h) (range_with_len 0 (length links)) → OrGivesUp (IsFoundBy (cums (before.batches id) h) (length links)) result) found
+    (λ before after finds h are. subst (λ (x : Result Verdict AuditFail). OrGivesUp (IsFoundBy (cums (before.batches id) h) (length links)) x) (sym is) (search_shows h (length links) links are before id r only finds))
+
+-- of a history's chain
+pub told_linked : (o m : Option Lists) (h : History) (n : ℕ) (links : List (List ℕ)) (id : ℕ) (result : Result Verdict AuditFail) → links ≡ map (cum h) (range_with_len 0 n)
+    → WhereTold o m (λ before after. (k : History) → links ≡ map (cum k) (range_with_len 0 (length links)) → OrGivesUp (IsFoundBy (cums (before.batches id) k) (length links)) result)
+    → WhereTold o m (λ before after. OrGivesUp (IsFoundBy (cums (before.batches id) h) n) result)
+told_linked o m h n links id result are told = told_map o m
+    (λ before after. (k : History) → links ≡ map (cum k) (range_with_len 0 (length links)) → OrGivesUp (IsFoundBy (cums (before.batches id) k) (length links)) result)
+    (λ before after. OrGivesUp (IsFoundBy (cums (before.batches id) h) n) result) told
+    (λ before after found. subst (λ (m : ℕ). OrGivesUp (IsFoundBy (cums (before.batches id) h) m) result) (as_many h n links are) (found h (as_linked h n links are)))

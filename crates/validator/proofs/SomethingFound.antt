@@ -6,7 +6,7 @@ use Rattle.notary_link.specs.declared.answer.Answer.{Answer}
 use Rattle.notary_link.specs.declared.answer.Answer.TheVariants.{Same, Differs, Absent}
 use Rattle.notary_link.specs.declared.name.Name.TheVariants as names
 use Rattle.notary_link.specs.Batches.{Batch}
-use Rattle.audit_model.specs.Notary.{answers}
+use Rattle.audit_model.specs.Notary.{header_answer}
 use Rattle.validator.specs.declared.verdict.Verdict.{Verdict}
 use Rattle.validator.specs.declared.verdict.Verdict.TheVariants as verdicts
 use Rattle.validator.specs.declared.fail.AuditFail.{AuditFail}
@@ -56,4 +56,4 @@ by_header Absent batches n s = (Err (fails.SealMissing names.Header), refl)
 pub something_is_found : (batches : List Batch) (s : Option History) → (found : Result Verdict AuditFail) × IsFoundIn batches s found
 something_is_found [] s = (Ok verdicts.Unsealed, refl)
 something_is_found (batch ∷ batches) None = (Ok (verdicts.HeaderAltered (length batches)), refl)
-something_is_found (batch ∷ batches) (Some s) = by_header (answers (batch ∷ batches) s names.Header) (batch ∷ batches) (length batches) s
+something_is_found (batch ∷ batches) (Some s) = by_header (header_answer (batch ∷ batches) s (length batches)) (batch ∷ batches) (length batches) s

@@ -1,11 +1,10 @@
 -- Which tiles end at most behind the last granule.
-use Rattle.std.proofs.Common.{◌≡◌, ◌⊎◌, inl, inr, ℕ, zero, suc, ◌/◌, ◌^◌, ◌+◌, ◌<◌, ◌≤◌, ◌==◌, nat_le, Bool, true, false, List, Result, Ok, Err, refl, ap, subst, arith, le-div_iff_mul-le}
+use Rattle.std.proofs.Common.{◌≡◌, ℕ, zero, suc, ◌+◌, ◌<◌, ◌≤◌, ◌==◌, nat_le, Bool, true, false, List, Result, Ok, Err, refl, ap, subst, arith}
 use Rattle.std.specs.Prelude.{if◌then◌else◌}
-use Rattle.std.proofs.lemmas.Bool.{cases_lt}
 use Rattle.std.proofs.lemmas.Bool.Decides.{nat_tests}
-use Rattle.std.proofs.lemmas.Nat.{pow_pos, shr_le}
 use Rattle.history_model.specs.History.{History}
-use Rattle.digest_model.specs.Layout.{Layout, layout, first_granule, max_granules}
+use Rattle.digest_model.specs.Layout.{Layout, layout, first_granule, tile_of, max_granules}
+use Rattle.digest_model.proofs.Layouts.{ascends, ends_within, counts, tile_begins, tile_ends}
 use Rattle.notary_link.specs.Batches.{Batch}
 use Rattle.notary_link.specs.declared.name.Name.TheVariants as names
 use Rattle.notary_link.specs.declared.answer.Answer.{Answer}
@@ -17,23 +16,20 @@ use Rattle.validator.specs.Tiles.{first_past, cums}
 use Rattle.audit_model.specs.Tree.{digit_count}
 use Rattle.validator.specs.Verdicts.{questions, IsFoundBy, IsFoundUnder}
 
+module _ (l : Layout) where
+  -- the tiles that have ended before the last granule
+  pub tiles_in : (granule : ℕ) → granule ≤ max_granules → first_granule l (tile_of l granule) ≤ max_granules
+  tiles_in granule within = let from = tile_begins l granule in omega (arith, from, within)
+
 module _ (l : Layout) (n : ℕ) where
   pub tiles_within : n ≤ first_past l → first_granule l n ≤ max_granules
-  tiles_within few = (le-div_iff_mul-le {k = 2 ^ l.k} {x = n} {y = 1048576} (pow_pos l.k)).0 few
+  tiles_within few = let up = ascends l n (tile_of l max_granules) few in let last = tiles_in l max_granules (omega arith) in omega (arith, up, last)
 
   pub tiles_past : first_past l < n → max_granules < first_granule l n
-  tiles_past many = by (cases_lt max_granules (first_granule l n))
-    where
-      by : (max_granules < first_granule l n) ⊎ (first_granule l n ≤ max_granules) → max_granules < first_granule l n
-      by (inl past) = past
-      by (inr within) =
-          let few : n ≤ 1048576 / 2 ^ l.k = (le-div_iff_mul-le {k = 2 ^ l.k} {x = n} {y = 1048576} (pow_pos l.k)).1 within in
-          absurd (omega (arith, few, many))
+  tiles_past many = let end = tile_ends l max_granules in let up = ends_within l n (tile_of l max_granules) many in omega (arith, end, up)
 
   pub tiles_few : first_granule l n ≤ max_granules → n ≤ 1048576
-  tiles_few within =
-      let few : n ≤ 1048576 / 2 ^ l.k = (le-div_iff_mul-le {k = 2 ^ l.k} {x = n} {y = 1048576} (pow_pos l.k)).1 within in
-      omega (arith, few, shr_le 1048576 l.k)
+  tiles_few within = let few = counts l n in omega (arith, few, within)
 
 module _ (batches : List Batch) (n : ℕ) (h : History) where
   pub found_within : (found : Result Verdict AuditFail) → first_granule (layout h) n ≤ max_granules → IsFoundBy (cums batches h) n found → IsFoundUnder batches n h found

@@ -1,10 +1,10 @@
+pub mod Desk
 pub mod Fails
 pub mod Tiles
 pub mod Verdicts
 pub mod Notarizing
 pub mod Filing
 pub mod Reaching
-pub mod Safe
 pub mod Steps
 pub mod Texts
 pub mod Laws

@@ -1,10 +1,10 @@
 -- What a notarization files, and why it files nothing.
-use Rattle.std.specs.Prelude.{◌≡◌, ◌⊎◌, ◌<◌, ℕ, ◌+◌, ◌-◌, suc, max, nat_lt, nat_le, ◌&&◌, if◌then◌else◌, Bool, false, List, [], ◌∷◌, length, map, Option, Some, None, IfSome, Result, Ok, Err, IfOk}
+use Rattle.std.specs.Prelude.{◌≡◌, ℕ, ◌-◌, suc, max, nat_lt, nat_le, ◌&&◌, if◌then◌else◌, Bool, false, List, [], ◌∷◌, length, map, Option, Some, None, Result, Ok, Err}
 use Rattle.std.specs.List.{range_with_len}
 use Rattle.tuple_bytes.specs.declared.header.Header.{Header}
 use Rattle.tuple_bytes.specs.declared.item.Item.{Item}
 use Rattle.history_model.specs.History.{History, history}
-use Rattle.digest_model.specs.Layout.{layout, first_granule, max_granules}
+use Rattle.digest_model.specs.Layout.{Layout, layout, first_granule, max_granules}
 use Rattle.notary_link.specs.declared.answer.Answer.{Answer}
 use Rattle.notary_link.specs.declared.answer.Answer.TheVariants.{Same, Differs, Absent}
 use Rattle.notary_link.specs.declared.name.Name.{Name}
@@ -12,7 +12,7 @@ use Rattle.notary_link.specs.declared.name.Name.TheVariants as names
 use Rattle.notary_link.specs.Batches.{Batch}
 use Rattle.notary_link.specs.Notary.{batch_of}
 use Rattle.audit_model.specs.Names.{batch}
-use Rattle.audit_model.specs.Notary.{answers}
+use Rattle.audit_model.specs.Notary.{answers, header_answer}
 use Rattle.store_engine.specs.declared.fail.StoreFail.TheVariants as stores
 use Rattle.store_engine.specs.declared.fail.StoreFail.{StoreFail}
 use Rattle.store_engine.specs.Refusals.{Tail, is_back, is_late, frontier_fault}
@@ -25,17 +25,17 @@ use Rattle.validator.specs.Tiles.{tiles_at, end_of, first_past}
 -- the next tiles' batches, of these clock seconds: those behind the ones that are filed, up to the last tile that has ended
 abbrev pub next_batches : History → ℕ → List Batch → List Batch
 next_batches h now batches =
-    map (λ index. batch_of now (batch h index)) (range_with_len (length batches) (suc (tiles_at h.header now) - length batches))
+    map (λ index. batch_of now (batch h index)) (range_with_len (length batches) (suc (tiles_at (layout h) h.header now) - length batches))
 
 -- how many tiles are sealed then
-abbrev pub sealed_after : Header → ℕ → List Batch → ℕ
-sealed_after header now batches = max (tiles_at header now) (length batches - 1)
+abbrev pub sealed_after : Layout → Header → ℕ → List Batch → ℕ
+sealed_after l header now batches = max (tiles_at l header now) (length batches - 1)
 
 -- the moment of the Frontier that is stored before, where a batch is filed whose tile the store's last moment has not ended
-abbrev pub frontier_for : Tail → ℕ → List Batch → Option ℕ
-frontier_for t now batches =
-    if nat_le (length batches) (tiles_at t.header now) && nat_lt t.last (end_of t.header (tiles_at t.header now))
-    then Some (end_of t.header (tiles_at t.header now))
+abbrev pub frontier_for : Layout → Tail → ℕ → List Batch → Option ℕ
+frontier_for l t now batches =
+    if nat_le (length batches) (tiles_at l t.header now) && nat_lt t.last (end_of l t.header (tiles_at l t.header now))
+    then Some (end_of l t.header (tiles_at l t.header now))
     else None
 
 -- ---- why nothing is filed
@@ -70,9 +70,9 @@ chain_fault batches h tile =
 -- the header where a batch is filed, and the chain where a tile is sealed
 abbrev pub filed_fault : List Batch → History → Option AuditFail
 filed_fault [] h = None
-filed_fault (first ∷ []) h = fault_by names.Header (answers (first ∷ []) h names.Header)
+filed_fault (first ∷ []) h = fault_by names.Header (header_answer (first ∷ []) h 0)
 filed_fault (first ∷ second ∷ batches) h =
-    else_cause (fault_by names.Header (answers (first ∷ second ∷ batches) h names.Header))
+    else_cause (fault_by names.Header (header_answer (first ∷ second ∷ batches) h (suc (length batches))))
     (chain_fault (first ∷ second ∷ batches) h (length batches))
 
 -- a Frontier's refusal, as it is called here
@@ -90,7 +90,31 @@ abbrev pub notarize_fault : Tail → Bool → ℕ → List Item → List Batch �
 notarize_fault t is_closed now items batches =
     else_cause (early_fault t is_closed now)
     (else_cause (filed_fault batches (history t.header items))
-    (room_fault t (frontier_for t now batches)))
+    (room_fault t (frontier_for (layout (history t.header items)) t now batches)))
+
+-- ---- all of it
+
+-- what a notarization is to do
+pub record Intent : Type 0 where
+  -- why nothing is done
+  pub fault : Option AuditFail
+  -- the moment of the Frontier that is stored first, where one is
+  pub frontier : Option ℕ
+  -- the index of the first batch, and the batches
+  pub first : ℕ
+  pub batches : List Batch
+  -- how many tiles are sealed then
+  pub sealed : ℕ
+
+-- of a history at these clock seconds, where these batches are filed
+abbrev pub intent_of : Tail → Bool → ℕ → List Item → List Batch → Intent
+intent_of t is_closed now items batches = record {
+  fault = notarize_fault t is_closed now items batches;
+  frontier = frontier_for (layout (history t.header items)) t now batches;
+  first = length batches;
+  batches = next_batches (history t.header items) now batches;
+  sealed = sealed_after (layout (history t.header items)) t.header now batches;
+}
 
 -- ---- answers
 

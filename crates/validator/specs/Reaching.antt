@@ -1,5 +1,5 @@
 -- What becomes of the store when a history is notarized: it is as it was, or has a Frontier more.
-use Rattle.std.specs.Prelude.{◌≡◌, ◌⊎◌, ℕ, true, List, [], ◌∷◌, ◌++◌, length, Option, Some, None, IsSome, Result, Ok, Err, IfOk}
+use Rattle.std.specs.Prelude.{◌≡◌, ◌⊎◌, ℕ, true, List, [], ◌∷◌, ◌++◌, Option, Some, None, IsSome, Result, Ok, Err, IfOk}
 use Rattle.outside_words.specs.Told.{WhereTold}
 use Rattle.disk_words.specs.declared.DiskFail.TheVariants as disk_fails
 use Rattle.disk_words.specs.Disk as disks
@@ -8,15 +8,16 @@ use Rattle.tuple_bytes.specs.declared.header.Header.{Header}
 use Rattle.tuple_bytes.specs.declared.item.Item.{Item}
 use Rattle.tuple_bytes.specs.declared.item.Item.TheVariants as items
 use Rattle.tuple_bytes.specs.Spelling.{spell_frontier}
-use Rattle.history_model.specs.History.{history}
 use Rattle.txn_journal.specs.Append.{append_calls}
 use Rattle.notary_link.specs.Notary as notaries
+use Rattle.notary_link.specs.Filing.{fitting, room_in}
 use Rattle.store_engine.specs.Opened.{Opened, Stores, StoresOldOrNew, IsOpenOn}
 use Rattle.store_engine.specs.Refusals.{tail_of}
 use Rattle.store_engine.specs.Commits.{with_frontier}
 use Rattle.validator.specs.declared.fail.AuditFail.{AuditFail}
 use Rattle.validator.specs.declared.fail.AuditFail.TheVariants as fails
-use Rattle.validator.specs.Notarizing.{notarize_fault, IsRefusedBy, sealed_after, frontier_for, next_batches}
+use Rattle.validator.specs.Desk.{Desk, Content}
+use Rattle.validator.specs.Notarizing.{Intent, intent_of, IsRefusedBy}
 use Rattle.validator.specs.Filing.{FilesFor, CallsFor, HasFiledMore}
 
 -- ---- with a Frontier
@@ -70,6 +71,10 @@ MakesFor calls (Err fails.DiskFault) old new = (new.trace ≡ old.trace) ⊎ Mak
 MakesFor calls (Err fails.NoMemory) old new = (new.trace ≡ old.trace) ⊎ MakesCalls calls (Ok tt) old new ⊎ MakesCalls calls (Err disk_fails.NoMemory) old new
 MakesFor calls (Err fail) old new = new.trace ≡ old.trace
 
+-- a notary's trace is as it was, or all of these calls of the disk were made
+abbrev pub CallsBehind : List disks.Call → disks.State → disks.State → List notaries.Entry → List notaries.Entry → Type 0
+CallsBehind calls old new was is = (is ≡ was) ⊎ MakesCalls calls (Ok tt) old new
+
 -- ---- whatever is told
 
 -- The store keeps its header, and stays as open as it was. Only a fault of the disk and want of memory may shut it.
@@ -84,19 +89,26 @@ AsksNothing filed later = later ≡ filed
 
 -- ---- all of it
 
--- A notarization at these clock seconds of an open store that stands for these items and bytes.
-pub record Notarizes (now : ℕ) (stored_items : List Item) (result : Result ℕ AuditFail) (s later_s : Opened) (old new : disks.State) (before after : List ℕ) (filed later : notaries.State) (lists later_lists : notaries.Lists) : Type 0 where
-  -- where something speaks against it, nothing is stored and nothing is filed, whatever is answered
-  pub free : IsSome (notarize_fault (tail_of s) s.at.is_closed now stored_items (lists.batches s.header.id)) → disks.Unchanged old new × notaries.Keeps lists later_lists
-  pub refused : IsRefusedBy (notarize_fault (tail_of s) s.at.is_closed now stored_items (lists.batches s.header.id)) result
-  pub value : IfOk result (λ n. n ≡ sealed_after s.header now (lists.batches s.header.id))
-  pub files : FilesFor s.header.id filed.limits (next_batches (history s.header stored_items) now (lists.batches s.header.id)) result lists later_lists
-  pub calls : WhereTold filed.trace later.trace (CallsFor s.header.id (length (lists.batches s.header.id)) (next_batches (history s.header stored_items) now (lists.batches s.header.id)) result)
-  pub stands : StandsAfter result (IsReached (frontier_for (tail_of s) now (lists.batches s.header.id)) s later_s stored_items old new before after) (IsLeft s later_s old new) (later_s.at.is_closed ≡ true)
+-- What a notarization is to do was done over an open store that stands for these items.
+pub record Does (intent : Intent) (stored_items : List Item) (result : Result ℕ AuditFail) (s later_s : Opened) (old new : Desk) (before after : Content) : Type 0 where
+  -- where something speaks against it, nothing is stored and nothing is filed, and no changing call is made, whatever is answered
+  pub free : IsSome intent.fault → disks.Unchanged old.disk new.disk × notaries.Keeps before.lists after.lists × WhereTold old.notary.trace new.notary.trace (λ was is. is ≡ was)
+  pub refused : IsRefusedBy intent.fault result
+  pub value : IfOk result (λ n. n ≡ intent.sealed)
+  pub files : FilesFor s.header.id old.notary.limits intent.batches result before.lists after.lists
+  pub calls : WhereTold old.notary.trace new.notary.trace (CallsFor s.header.id intent.first (fitting (room_in old.notary.limits before.lists) intent.batches) intent.batches result)
+  pub stands : StandsAfter result (IsReached intent.frontier s later_s stored_items old.disk new.disk before.bytes after.bytes) (IsLeft s later_s old.disk new.disk) (later_s.at.is_closed ≡ true)
   -- a batch is filed only where the store has reached the end of its tile
-  pub ordered : HasFiledMore s.header.id lists later_lists → IsReached (frontier_for (tail_of s) now (lists.batches s.header.id)) s later_s stored_items old new before after
+  pub ordered : HasFiledMore s.header.id before.lists after.lists → IsReached intent.frontier s later_s stored_items old.disk new.disk before.bytes after.bytes
   -- a crash at any moment leaves the items, or those and the Frontier
-  pub images : disks.Only before old → EveryImage old new (StoresAround s.header stored_items (frontier_for (tail_of s) now (lists.batches s.header.id)))
+  pub images : disks.Only before.bytes old.disk → EveryImage old.disk new.disk (StoresAround s.header stored_items intent.frontier)
   -- whatever was answered
-  pub kept : disks.Only before old → StoresAround s.header stored_items (frontier_for (tail_of s) now (lists.batches s.header.id)) after
-  pub trace : MakesFor (frontier_calls s (frontier_for (tail_of s) now (lists.batches s.header.id))) result old new
+  pub kept : disks.Only before.bytes old.disk → StoresAround s.header stored_items intent.frontier after.bytes
+  pub trace : MakesFor (frontier_calls s intent.frontier) result old.disk new.disk
+  -- the notary is called behind all calls of the disk
+  pub order : WhereTold old.notary.trace new.notary.trace (CallsBehind (frontier_calls s intent.frontier) old.disk new.disk)
+
+-- A notarization at these clock seconds.
+abbrev pub Notarizes : ℕ → List Item → Result ℕ AuditFail → Opened → Opened → Desk → Desk → Content → Content → Type 0
+Notarizes now stored_items result s later_s old new before after =
+    Does (intent_of (tail_of s) s.at.is_closed now stored_items (before.lists.batches s.header.id)) stored_items result s later_s old new before after

@@ -1,5 +1,5 @@
 -- The steps of a notarization.
-use Rattle.std.specs.Prelude.{◌≡◌, ◌≤◌, ℕ, ◌-◌, suc, max, nat_lt, if◌then◌else◌, Bool, true, List, [], ◌∷◌, map, length, Option, Some, None, IsSome, Result, Ok, Err, IfErr, IfOk}
+use Rattle.std.specs.Prelude.{◌≡◌, ◌≤◌, ℕ, ◌-◌, suc, nat_lt, if◌then◌else◌, Bool, true, List, [], ◌∷◌, map, length, Option, Some, None, IsSome, Result, Ok, Err, IfErr, IfOk}
 use Rattle.std.specs.List.{range_with_len}
 use Rattle.outside_words.specs.Told.{WhereTold}
 use Rattle.disk_words.specs.Disk as disks
@@ -8,12 +8,13 @@ use Rattle.tuple_bytes.specs.declared.header.Header.{Header}
 use Rattle.tuple_bytes.specs.declared.item.Item.{Item}
 use Rattle.tuple_bytes.specs.Spelling.{FitsHeader}
 use Rattle.history_model.specs.History.{History, history}
-use Rattle.digest_model.specs.Layout.{layout, first_granule, max_granules}
+use Rattle.digest_model.specs.Layout.{layout, first_granule, tile_of, max_granules}
 use Rattle.notary_link.specs.declared.name.Name.TheVariants as names
 use Rattle.notary_link.specs.Batches.{Batch}
+use Rattle.notary_link.specs.Filing.{fitting, room_in}
 use Rattle.notary_link.specs.Notary.{State, Lists, batch_of}
 use Rattle.audit_model.specs.Names.{batch}
-use Rattle.audit_model.specs.Notary.{answers}
+use Rattle.audit_model.specs.Notary.{header_answer}
 use Rattle.seal_plan.specs.Plan.{Planned, planned_of}
 use Rattle.store_engine.specs.declared.fail.StoreFail.{StoreFail}
 use Rattle.store_engine.specs.declared.fail.StoreFail.TheVariants as stores
@@ -21,16 +22,16 @@ use Rattle.store_engine.specs.Opened.{Opened}
 use Rattle.store_engine.specs.Refusals.{Tail, tail_of}
 use Rattle.validator.specs.declared.fail.AuditFail.{AuditFail}
 use Rattle.validator.specs.declared.fail.AuditFail.TheVariants as fails
-use Rattle.validator.specs.Tiles.{tiles_at, end_of, first_past}
+use Rattle.validator.specs.Tiles.{granule_at, tiles_at, first_past}
 use Rattle.validator.specs.Notarizing.{fault_by, chain_fault, filed_fault, room_fault, early_fault, IsRefusedBy}
 use Rattle.validator.specs.Filing.{FilesFor, CallsFor}
 use Rattle.validator.specs.Reaching.{IsLeft, IsReached, StandsAfter, StoresAround, MakesFor, frontier_calls}
 
 -- ---- the early refusals
 
--- there is none, and so many tiles have ended
-abbrev pub IsEnded : Tail → Bool → ℕ → ℕ → Type 0
-IsEnded t is_closed now n = (early_fault t is_closed now ≡ None) × (n ≡ tiles_at t.header now)
+-- there is none, and this is the granule of the clock
+abbrev pub IsTimely : Tail → Bool → ℕ → ℕ → Type 0
+IsTimely t is_closed now granule = (early_fault t is_closed now ≡ None) × (granule ≡ granule_at t.header now)
 
 -- the refusals of the clock, and of a store that is closed
 abbrev pub IsOfClock : AuditFail → Type 0
@@ -83,7 +84,7 @@ IsOfHolding fail = ⊥
 -- what the header's answer says, where a batch is filed
 abbrev pub header_fault : List Batch → History → Option AuditFail
 header_fault [] h = None
-header_fault (first ∷ batches) h = fault_by names.Header (answers (first ∷ batches) h names.Header)
+header_fault (first ∷ batches) h = fault_by names.Header (header_answer (first ∷ batches) h (length batches))
 
 -- what the chain's says, where a tile is sealed
 abbrev pub sealed_fault : List Batch → History → Option AuditFail
@@ -91,31 +92,39 @@ sealed_fault [] h = None
 sealed_fault (first ∷ []) h = None
 sealed_fault (first ∷ second ∷ batches) h = chain_fault (first ∷ second ∷ batches) h (length batches)
 
--- all digests are planned; where the tiles go past the last granule, none is
-abbrev pub IsPlanned : History → ℕ → Result Planned AuditFail → Type 0
-IsPlanned h tiles (Ok plan) = (first_granule (layout h) tiles ≤ max_granules) × (plan ≡ planned_of h tiles)
-IsPlanned h tiles (Err (fails.SealMissing name)) = (first_granule (layout h) tiles ≤ max_granules → ⊥) × (name ≡ names.Cum (first_past (layout h)))
-IsPlanned h tiles (Err fails.NoMemory) = Unit {0}
-IsPlanned h tiles (Err fail) = ⊥
+-- the chain of so many tiles is not computed: they go past the last granule, or memory is wanting
+abbrev pub IsPast : History → ℕ → AuditFail → Type 0
+IsPast h tiles (fails.SealMissing name) = (first_granule (layout h) tiles ≤ max_granules → ⊥) × (name ≡ names.Cum (first_past (layout h)))
+IsPast h tiles fails.NoMemory = Unit {0}
+IsPast h tiles fail = ⊥
 
--- a plan of a store's tiles, with what is filed so often
-pub record IsPlanFor (header : Header) (ended : ℕ) (plan : Planned) (count : ℕ) : Type 0 where
+-- the plan of the tiles that have ended at a granule, where a batch of them is to be filed behind so many
+abbrev pub plan_for : History → ℕ → ℕ → Option Planned
+plan_for h granule count = if nat_lt (tile_of (layout h) granule) count then None else Some (planned_of h (tile_of (layout h) granule))
+
+-- a plan of a store's tiles, of which one has no batch among so many
+pub record IsNextPlan (header : Header) (plan : Planned) (count : ℕ) : Type 0 where
   pub fits : FitsHeader header
   pub header_is : plan.history.header ≡ header
-  pub tiles_are : plan.tiles ≡ max ended (count - 1)
+  pub some : count ≤ plan.tiles
   pub within : first_granule (layout plan.history) plan.tiles ≤ max_granules
 
--- what is filed for these items, and their plan
-pub record IsHeld (h : History) (batches : List Batch) (plan : Planned) (count : ℕ) : Type 0 where
+-- such a plan, or none, and then there are batches
+abbrev pub IsPlanFor : Header → Option Planned → ℕ → Type 0
+IsPlanFor header None count = 1 ≤ count
+IsPlanFor header (Some plan) count = IsNextPlan header plan count
+
+-- what is filed for these items, and the plan of what is to be filed
+pub record IsHeld (h : History) (batches : List Batch) (granule : ℕ) (plan : Option Planned) (count : ℕ) : Type 0 where
   pub counted : count ≡ length batches
-  pub history_is : plan.history ≡ h
+  pub plan_is : plan ≡ plan_for h granule count
   pub no_fault : filed_fault batches h ≡ None
 
 -- ---- reaching
 
--- the moment of the Frontier that is stored, where the last moment has not ended so many tiles
+-- the moment of the Frontier that is stored, where the last moment is before it
 abbrev pub frontier_to : Opened → ℕ → Option ℕ
-frontier_to s ended = if nat_lt s.last (end_of s.header ended) then Some (end_of s.header ended) else None
+frontier_to s moment = if nat_lt s.last moment then Some moment else None
 
 -- how a Frontier's refusal is told: an open store has only these three
 abbrev pub fail_of_frontier : StoreFail → AuditFail
@@ -178,17 +187,19 @@ IsOfFilingAfter fail = Unit {0}
 pub record FilesNext (id from : ℕ) (batches : List Batch) (result : Result (Unit {0}) AuditFail) (filed later : State) (lists later_lists : Lists) : Type 0 where
   pub in_turn : IfErr result IsOfFiling
   pub files : FilesFor id filed.limits batches result lists later_lists
-  pub calls : WhereTold filed.trace later.trace (CallsFor id from batches result)
+  pub calls : WhereTold filed.trace later.trace (CallsFor id from (fitting (room_in filed.limits lists) batches) batches result)
 
 -- ---- all that is known before
 
--- The store stands for these items, of which so many tiles have ended, and nothing that is filed speaks against them.
-pub record IsChecked (now : ℕ) (s : Opened) (stored_items : List Item) (batches : List Batch) (ended count : ℕ) (plan : Planned) : Type 0 where
-  pub open_on : early_fault (tail_of s) s.at.is_closed now ≡ None
-  pub ended_is : ended ≡ tiles_at s.header now
-  pub held : IsHeld (history s.header stored_items) batches plan count
+-- The store stands for these items, of which so many tiles have ended, so many batches are filed, and nothing that is filed speaks
+-- against them.
+pub record IsChecked (now : ℕ) (s : Opened) (stored_items : List Item) (batches : List Batch) (ended count : ℕ) : Type 0 where
+  pub not_early : early_fault (tail_of s) s.at.is_closed now ≡ None
+  pub ended_is : ended ≡ tiles_at (layout (history s.header stored_items)) s.header now
+  pub counted : count ≡ length batches
+  pub no_fault : filed_fault batches (history s.header stored_items) ≡ None
 
 -- what holding the notary's batches against the stored items gives
-pub record Holds (header : Header) (stored_items : List Item) (batches : List Batch) (result : Result (Planned × ℕ) AuditFail) : Type 0 where
+pub record Holds (header : Header) (stored_items : List Item) (batches : List Batch) (granule : ℕ) (result : Result (Option Planned × ℕ) AuditFail) : Type 0 where
   pub refused : IsRefusedBy (filed_fault batches (history header stored_items)) result
-  pub held : IfOk result (λ held. IsHeld (history header stored_items) batches held.0 held.1)
+  pub held : IfOk result (λ held. IsHeld (history header stored_items) batches granule held.0 held.1)

@@ -6,6 +6,8 @@ use Rattle.history_model.specs.History.{History, history}
 use Rattle.digest_model.specs.Layout.{layout, first_granule, max_granules}
 use Rattle.notary_link.specs.declared.answer.Answer.{Answer}
 use Rattle.notary_link.specs.declared.answer.Answer.TheVariants.{Same, Differs, Absent}
+use Rattle.outside_words.specs.Told.{WhereTold}
+use Rattle.notary_link.specs.declared.fail.NotaryFail.{NotaryFail}
 use Rattle.notary_link.specs.declared.fail.NotaryFail.TheVariants as notary_fails
 use Rattle.notary_link.specs.declared.mark.Mark.{Mark}
 use Rattle.notary_link.specs.declared.mark.Outcome.{Outcome}
@@ -16,7 +18,7 @@ use Rattle.notary_link.specs.Batches.{Batch}
 use Rattle.notary_link.specs.Notary.{Lists, Entry, Keeps, Notes, HasRoom, AddsWithin, note}
 use Rattle.notary_link.specs.Runs.{is_done, was_answered}
 use Rattle.audit_model.specs.Mono.{BeginsRegion}
-use Rattle.audit_model.specs.Notary.{answers}
+use Rattle.audit_model.specs.Notary.{header_answer}
 use Rattle.audit_model.specs.Tree.{digit_count}
 use Rattle.validator.specs.declared.verdict.Verdict.{Verdict}
 use Rattle.validator.specs.declared.verdict.Verdict.TheVariants as verdicts
@@ -60,7 +62,7 @@ IsFoundAt Absent batches n s found = found ≡ Err (fails.SealMissing names.Head
 -- with n sealed tiles; where there is no such history, its header is altered
 abbrev pub IsVerdict : List Batch → ℕ → Option History → Result Verdict AuditFail → Type 0
 IsVerdict batches n None found = found ≡ Ok (verdicts.HeaderAltered n)
-IsVerdict batches n (Some s) found = IsFoundAt (answers batches s names.Header) batches n s found
+IsVerdict batches n (Some s) found = IsFoundAt (header_answer batches s n) batches n s found
 
 -- What these batches, the header's and one for each sealed tile, show of a history, or of bytes that have none of it.
 abbrev pub IsFoundIn : List Batch → Option History → Result Verdict AuditFail → Type 0
@@ -98,19 +100,29 @@ abbrev pub MayBeMarked : Option Mark → ℕ → NotaryLimits → Lists → List
 MayBeMarked None id limits lists later = Keeps lists later
 MayBeMarked (Some mark) id limits lists later = AddsWithin (note id mark) limits lists later ⊎ Keeps lists later
 
+-- the call that adds it was answered so
+abbrev pub AnswersMark : Option Mark → ℕ → NotaryFail → List Entry → List Entry → Type 0
+AnswersMark None id fail old new = ⊥
+AnswersMark (Some mark) id fail old new = new ≡ was_answered fail (note id mark) ∷ old
+
+-- no call was made
+abbrev pub MakesNone : List Entry → List Entry → Type 0
+MakesNone old new = new ≡ old
+
 -- a verdict of which P holds was found
 abbrev pub AfterVerdict : ℕ → List Batch → Stored → (Verdict → Type 0) → Type 0
 AfterVerdict id batches s P = (verdict : Verdict) × IsFound id batches s (Ok verdict) × P verdict
 
--- What a validation at these clock seconds answers of what is stored, and what becomes of the notary's lists.
-abbrev pub Validates : ℕ → ℕ → NotaryLimits → Stored → Result Verdict AuditFail → Lists → Lists → Type 0
-Validates id now limits s (Ok verdict) lists later = IsFound id (lists.batches id) s (Ok verdict) × IsMarked (mark_of verdict now) id limits lists later
-Validates id now limits s (Err (fails.SealMissing name)) lists later = IsFound id (lists.batches id) s (Err (fails.SealMissing name)) × Keeps lists later
-Validates id now limits s (Err fails.Full) lists later = AfterVerdict id (lists.batches id) s (λ verdict. IsNotMarked (mark_of verdict now) id limits lists later)
-Validates id now limits s (Err fails.NotaryFault) lists later = Keeps lists later ⊎ AfterVerdict id (lists.batches id) s (λ verdict. MayBeMarked (mark_of verdict now) id limits lists later)
-Validates id now limits s (Err fails.NoMemory) lists later = Keeps lists later ⊎ AfterVerdict id (lists.batches id) s (λ verdict. MayBeMarked (mark_of verdict now) id limits lists later)
-Validates id now limits s (Err fails.DiskFault) lists later = Keeps lists later
-Validates id now limits s (Err fail) lists later = ⊥
+-- What a validation at these clock seconds answers of what is stored, and what becomes of the notary's lists. Where the notary
+-- refuses the mark, its call was that of the verdict that was found.
+abbrev pub Validates : ℕ → ℕ → NotaryLimits → Stored → Result Verdict AuditFail → Option (List Entry) → Option (List Entry) → Lists → Lists → Type 0
+Validates id now limits s (Ok verdict) was is lists later = IsFound id (lists.batches id) s (Ok verdict) × IsMarked (mark_of verdict now) id limits lists later
+Validates id now limits s (Err (fails.SealMissing name)) was is lists later = IsFound id (lists.batches id) s (Err (fails.SealMissing name)) × Keeps lists later
+Validates id now limits s (Err fails.Full) was is lists later = AfterVerdict id (lists.batches id) s (λ verdict. IsNotMarked (mark_of verdict now) id limits lists later × WhereTold was is (AnswersMark (mark_of verdict now) id notary_fails.Full))
+Validates id now limits s (Err fails.NotaryFault) was is lists later = (Keeps lists later × WhereTold was is MakesNone) ⊎ AfterVerdict id (lists.batches id) s (λ verdict. MayBeMarked (mark_of verdict now) id limits lists later × WhereTold was is (AnswersMark (mark_of verdict now) id notary_fails.Failed))
+Validates id now limits s (Err fails.NoMemory) was is lists later = Keeps lists later ⊎ AfterVerdict id (lists.batches id) s (λ verdict. MayBeMarked (mark_of verdict now) id limits lists later)
+Validates id now limits s (Err fails.DiskFault) was is lists later = Keeps lists later
+Validates id now limits s (Err fail) was is lists later = ⊥
 
 -- ---- the answers, whatever is told
 

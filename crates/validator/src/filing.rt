@@ -7,16 +7,17 @@ ghost use Rattle.outside_words.specs.Told.{WhereTold};
 ghost use Rattle.disk_words.specs.Disk as disks;
 ghost use Rattle.tuple_bytes.specs.declared.item.Item.{Item};
 ghost use Rattle.tuple_bytes.specs.Spelling.{FitsHeader};
+ghost use Rattle.history_model.specs.History.{history};
 ghost use Rattle.digest_model.specs.Layout.{layout, first_granule, max_granules};
-ghost use Rattle.cumulative_chain.specs.Tiles.{layout_of};
 ghost use Rattle.audit_model.specs.Names.{batch};
 ghost use Rattle.notary_link.specs.Batches.{IsBatch};
 ghost use Rattle.notary_link.specs.Notary as notaries;
 ghost use Rattle.store_engine.specs.Opened.{IsOpenOn};
+ghost use Rattle.validator.specs.Desk.{WhereBothTell, desk};
 ghost use Rattle.validator.specs.declared.fail.AuditFail.TheVariants.{DiskFault, NotaryFault};
 ghost use Rattle.validator.specs.Reaching.{StaysOpen, Notarizes};
 ghost use Rattle.validator.specs.Tiles.{end_of};
-ghost use Rattle.validator.specs.Steps.{fail_of_frontier, frontier_to, IsOfReaching, IsOfNotary, IsOfFilingAfter, Reaches, batches_from, FilesNext, IsPlanFor, IsChecked};
+ghost use Rattle.validator.specs.Steps.{fail_of_frontier, frontier_to, IsOfReaching, IsOfNotary, IsOfFilingAfter, Reaches, batches_from, FilesNext, IsNextPlan, IsChecked};
 
 use crate::fail::AuditFail;
 use crate::holding::refusal;
@@ -25,15 +26,14 @@ use notary_link::{Notary, Seals, file_each};
 use seal_plan::Plan;
 use std::alloc::{AllocError, Global};
 use store_engine::{Store, StoreFail};
-use tuple_bytes::Header;
 
-/// The moment at which so many tiles have ended.
-fn end_of(header: &Header, tiles: u32) -> u64
-    requires fits { FitsHeader header.now }
-    requires within { first_granule (layout_of header.now) tiles ≤ max_granules }
-    ensures value { result ≡ end_of header.now tiles }
+/// The moment at which so many of the planned tiles have ended.
+fn end_of(plan: &Plan, tiles: u32) -> u64
+    requires fits { FitsHeader plan.now.history.header }
+    requires within { first_granule (layout plan.now.history) tiles ≤ max_granules }
+    ensures value { result ≡ end_of (layout plan.now.history) plan.now.history.header tiles }
 {
-    (u64::from(tiles) << header.k) * u64::from(header.width)
+    plan.eras().first(tiles) * u64::from(plan.header().width)
 }
 
 /// A Frontier's refusal, as it is told here. An open store refuses it only for these three causes.
@@ -47,24 +47,22 @@ fn frontier_refusal(fail: StoreFail) -> AuditFail
     }
 }
 
-/// Makes the store reach the end of so many tiles, by a Frontier where its last moment is earlier.
+/// Makes the store reach a moment, by a Frontier where its last moment is earlier.
 fn reach<D: Disk>(
     alloc: Global,
     store: &mut Store,
     disk: &mut D,
-    ended: u32,
+    moment: u64,
 ) -> Result<(), AuditFail>
-    requires within { first_granule (layout_of store.old.header) ended ≤ max_granules }
     ensures told { WhereTold (D.state disk.old).reads (D.state disk.new).reads (λ before after.
         (items : List Item) → IsOpenOn store.old items before → store.old.at.is_closed ≡ false
-        → Reaches (frontier_to store.old ended) items result store.old store.new
+        → Reaches (frontier_to store.old moment) items result store.old store.new
         (D.state disk.old) (D.state disk.new) before after) }
     ensures only { IfErr result IsOfReaching }
     ensures open { StaysOpen result store.old store.new }
     ensures frame { disks.GoesOn (D.state disk.old) (D.state disk.new) }
     ensures cause { HasCause DiskFault (D.state disk.old).faults (D.state disk.new).faults result }
 {
-    let moment = end_of(store.header(), ended);
     match store.frontier(alloc, disk, moment) {
         Ok(()) => Ok(()),
         Err(fail) => Err(frontier_refusal(fail)),
@@ -120,25 +118,25 @@ fn file_batches<N: Notary>(
     }
 }
 
-/// Reaches the end of the last tile that has ended, and then files the batches up to it.
-fn file_ended<D: Disk, N: Notary>(
+/// Reaches the end of the last tile that has ended, then files the batches up to it, and answers how many
+/// tiles are sealed then.
+pub(crate) fn file_ended<D: Disk, N: Notary>(
     alloc: Global,
     store: &mut Store,
     disk: &mut D,
     notary: &mut N,
     plan: &Plan,
     count: u32,
-    ended: u32,
     now: u64,
 ) -> Result<u32, AuditFail>
-    requires plan { IsPlanFor store.old.header ended plan.now count }
-    requires some { count ≤ ended }
-    ensures told { WhereTold (D.state disk.old).reads (D.state disk.new).reads (λ before after.
-        WhereTold (N.state notary.old).lists (N.state notary.new).lists (λ lists later.
-        (items : List Item) → IsOpenOn store.old items before
-        → IsChecked now store.old items (lists.batches store.old.header.id) ended count plan.now
+    requires plan { IsNextPlan store.old.header plan.now count }
+    ensures told { WhereBothTell
+        (desk (D.state disk.old) (N.state notary.old)) (desk (D.state disk.new) (N.state notary.new)) (λ before after.
+        (items : List Item) → IsOpenOn store.old items before.bytes
+        → plan.now.history ≡ history store.old.header items
+        → IsChecked now store.old items (before.lists.batches store.old.header.id) plan.now.tiles count
         → Notarizes now items result store.old store.new
-        (D.state disk.old) (D.state disk.new) before after (N.state notary.old) (N.state notary.new) lists later)) }
+        (desk (D.state disk.old) (N.state notary.old)) (desk (D.state disk.new) (N.state notary.new)) before after) }
     ensures only { IfErr result IsOfFilingAfter }
     ensures open { StaysOpen result store.old store.new }
     ensures asked { (N.state notary.new).asked ≡ (N.state notary.old).asked }
@@ -147,40 +145,8 @@ fn file_ended<D: Disk, N: Notary>(
     ensures disk_cause { HasCause DiskFault (D.state disk.old).faults (D.state disk.new).faults result }
     ensures notary_cause { HasCause NotaryFault (N.state notary.old).faults (N.state notary.new).faults result }
 {
-    reach(alloc, store, disk, ended)?;
+    let ended = plan.tiles();
+    reach(alloc, store, disk, end_of(plan, ended))?;
     file_batches(alloc, notary, plan, count, ended, now)?;
     Ok(ended)
-}
-
-/// Files the batches that are not filed yet, where there are any, and answers how many tiles are
-/// sealed then.
-pub(crate) fn file_rest<D: Disk, N: Notary>(
-    alloc: Global,
-    store: &mut Store,
-    disk: &mut D,
-    notary: &mut N,
-    plan: &Plan,
-    count: u32,
-    ended: u32,
-    now: u64,
-) -> Result<u32, AuditFail>
-    requires plan { IsPlanFor store.old.header ended plan.now count }
-    ensures told { WhereTold (D.state disk.old).reads (D.state disk.new).reads (λ before after.
-        WhereTold (N.state notary.old).lists (N.state notary.new).lists (λ lists later.
-        (items : List Item) → IsOpenOn store.old items before
-        → IsChecked now store.old items (lists.batches store.old.header.id) ended count plan.now
-        → Notarizes now items result store.old store.new
-        (D.state disk.old) (D.state disk.new) before after (N.state notary.old) (N.state notary.new) lists later)) }
-    ensures only { IfErr result IsOfFilingAfter }
-    ensures open { StaysOpen result store.old store.new }
-    ensures asked { (N.state notary.new).asked ≡ (N.state notary.old).asked }
-    ensures disk_frame { disks.GoesOn (D.state disk.old) (D.state disk.new) }
-    ensures notary_frame { notaries.GoesOn (N.state notary.old) (N.state notary.new) }
-    ensures disk_cause { HasCause DiskFault (D.state disk.old).faults (D.state disk.new).faults result }
-    ensures notary_cause { HasCause NotaryFault (N.state notary.old).faults (N.state notary.new).faults result }
-{
-    if ended < count {
-        return Ok(count - 1);
-    }
-    file_ended(alloc, store, disk, notary, plan, count, ended, now)
 }

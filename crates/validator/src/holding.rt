@@ -1,32 +1,35 @@
 //! Holding what is stored against what is filed already.
 
-ghost use Rattle.std.specs.Prelude.{◌≡◌, ◌≢◌, true, false, ◌≤◌, ◌+◌, ◌-◌, ℕ, List, max, length, IfOk, IfErr, IfSome, Some, MatchResult};
+ghost use Rattle.std.specs.Prelude.{◌≡◌, ◌≢◌, true, false, ◌≤◌, ◌<◌, ◌+◌, ◌*◌, ◌-◌, ℕ, List, length, map, IfOk, IfErr, IfSome, Some};
+ghost use Rattle.std.specs.List.{range_with_len};
 ghost use Rattle.outside_words.specs.Faults.{HasCause};
 ghost use Rattle.outside_words.specs.Told.{WhereTold};
 ghost use Rattle.disk_words.specs.Disk as disks;
 ghost use Rattle.tuple_bytes.specs.declared.item.Item.{Item};
 ghost use Rattle.tuple_bytes.specs.Spelling.{FitsHeader};
-ghost use Rattle.history_model.specs.History.{history};
+ghost use Rattle.history_model.specs.History.{History, history, txns};
 ghost use Rattle.history_model.specs.Stored.{stored};
 ghost use Rattle.history_model.specs.StoredHistory.{IsHistory};
-ghost use Rattle.digest_model.specs.Layout.{layout, first_granule, max_granules};
-ghost use Rattle.cumulative_chain.specs.Tiles.{layout_of};
+ghost use Rattle.digest_model.specs.Layout.{layout, first_granule, tile_of, max_granules};
+ghost use Rattle.digest_model.specs.Digests.{cum};
+ghost use Rattle.policy_eras.specs.Policy.{policy_of};
 ghost use Rattle.step_count.specs.Blank.{IsBlankOf};
 ghost use Rattle.notary_link.specs.Batches.{answer};
 ghost use Rattle.notary_link.specs.Notary as notaries;
-ghost use Rattle.seal_plan.specs.Plan.{planned_of};
 ghost use Rattle.store_engine.specs.Opened.{Stores};
+ghost use Rattle.validator.specs.Desk.{WhereBothTell, desk};
 ghost use Rattle.validator.specs.declared.fail.AuditFail.TheVariants.{DiskFault, NotaryFault};
 ghost use Rattle.validator.specs.Fails.{of_notary};
 ghost use Rattle.validator.specs.Notarizing.{fault_by, filed_fault, IsRefusedBy};
-ghost use Rattle.validator.specs.Steps.{IsReadAs, IsOfReading, IsOfCounting, IsOfAsking, IsOfHolding, header_fault, sealed_fault, IsPlanned, IsPlanFor, Holds};
+ghost use Rattle.validator.specs.Steps.{IsReadAs, IsOfReading, IsOfCounting, IsOfAsking, IsOfHolding, header_fault, sealed_fault, IsPast, plan_for, IsPlanFor, Holds};
 
 use crate::fail::AuditFail;
-use crate::tiles::{MAX_GRANULES, first_past};
+use crate::tiles::first_past;
 use cumulative_chain::header_digest;
 use disk_model::Disk;
 use notary_link::{Answer, Name, Notary, NotaryFail};
-use seal_plan::Plan;
+use policy_eras::{Eras, MAX_GRANULES};
+use seal_plan::{Plan, links_of};
 use std::alloc::Global;
 use step_count::{Blank, Ledger, Steps};
 use tuple_bytes::{Header, Items};
@@ -112,36 +115,44 @@ fn hold_header<N: Notary>(notary: &mut N, header: &Header, count: u32) -> Result
     ask_same(notary, header.id, Name::Header, &header_digest(header))
 }
 
-/// All digests of so many tiles. A tile past the last granule was never filed.
-fn plan_tiles<L: Ledger>(
+/// The chain at the end of each of so many tiles. A tile past the last granule was never filed.
+fn link_tiles<L: Ledger>(
     alloc: Global,
     header: &Header,
     items: &Items,
+    eras: &Eras,
     tiles: u32,
-    blank: Blank,
-) -> Result<Plan, AuditFail>
-    requires blank { IsBlankOf L.name L.parts blank }
+    steps: &mut Steps<L>,
+) -> Result<Vec<[u8; 32]>, AuditFail>
     requires history { IsHistory (history header.now items.now) }
-    ensures value { IsPlanned (history header.now items.now) tiles result }
+    requires eras { eras.now ≡ policy_of (history header.now items.now) }
+    ensures value { IfOk result (λ links. links.items ≡ map (cum (history header.now items.now)) (range_with_len 0 tiles)) }
+    ensures within { IfOk result (λ links. first_granule (layout (history header.now items.now)) tiles ≤ max_granules) }
+    ensures past { IfErr result (IsPast (history header.now items.now) tiles) }
+    ensures steps { steps.new ≤ steps.old + length (txns items.now) }
 {
-    if u64::from(tiles) << header.k > u64::from(MAX_GRANULES) {
-        let tile = first_past(header);
+    if eras.first(tiles) > u64::from(MAX_GRANULES) {
+        let tile = first_past(eras);
         return Err(AuditFail::SealMissing {
             name: Name::Cum { tile },
         });
     }
-    let mut steps = Steps::<L>::new(blank);
-    let plan = Plan::new(alloc, header, items, tiles, &mut steps)?;
-    Ok(plan)
+    let links = links_of(alloc, header, eras, items, tiles, steps)?;
+    Ok(links)
 }
 
 /// Whether the chain at the end of the last sealed tile is the one that was filed, where one is.
-fn hold_chain<N: Notary>(notary: &mut N, plan: &Plan, count: u32) -> Result<(), AuditFail>
-    requires planned { count - 1 ≤ plan.now.tiles }
+fn hold_chain<N: Notary>(
+    notary: &mut N,
+    id: u64,
+    links: &[[u8; 32]],
+    count: u32,
+) -> Result<(), AuditFail>
+    requires linked { count - 1 ≤ length links.now }
     ensures told { WhereTold (N.state notary.old).lists (N.state notary.new).lists
-        (λ before after. count ≡ length (before.batches plan.now.history.header.id)
-        → first_granule (layout plan.now.history) (count - 1) ≤ max_granules
-        → IsRefusedBy (sealed_fault (before.batches plan.now.history.header.id) plan.now.history) result) }
+        (λ before after. (h : History) → links.now ≡ map (cum h) (range_with_len 0 (length links.now))
+        → count ≡ length (before.batches id) → first_granule (layout h) (count - 1) ≤ max_granules
+        → IsRefusedBy (sealed_fault (before.batches id) h) result) }
     ensures only { IfErr result IsOfAsking }
     ensures same { notaries.Unchanged (N.state notary.old) (N.state notary.new) }
     ensures asked { (N.state notary.new).asked ≤ (N.state notary.old).asked + 1 }
@@ -152,40 +163,45 @@ fn hold_chain<N: Notary>(notary: &mut N, plan: &Plan, count: u32) -> Result<(), 
         return Ok(());
     }
     let tile = count - 2;
-    let id = plan.header().id;
-    ask_same(notary, id, Name::Cum { tile }, &plan.links()[tile as usize])
+    ask_same(notary, id, Name::Cum { tile }, &links[tile as usize])
 }
 
-/// Whether what is filed already is what is stored, and then all digests of the tiles that are
-/// sealed or have ended.
+/// Whether what is filed already is what is stored. Gives all digests of the tiles that have ended, where
+/// a batch of them is to be filed; where none is, the chain alone is computed.
 fn hold_filed<N: Notary, L: Ledger>(
     alloc: Global,
     notary: &mut N,
     header: &Header,
     items: &Items,
     count: u32,
-    ended: u32,
-    blank: Blank,
-) -> Result<Plan, AuditFail>
-    requires blank { IsBlankOf L.name L.parts blank }
+    granule: u32,
+    steps: &mut Steps<L>,
+) -> Result<Option<Plan>, AuditFail>
     requires history { IsHistory (history header.now items.now) }
-    requires within { first_granule (layout_of header.now) ended ≤ max_granules }
+    requires within { granule < max_granules }
     ensures told { WhereTold (N.state notary.old).lists (N.state notary.new).lists
         (λ before after. count ≡ length (before.batches header.now.id)
         → IsRefusedBy (filed_fault (before.batches header.now.id) (history header.now items.now)) result) }
-    ensures plan { IfOk result (λ plan. plan ≡ planned_of (history header.now items.now) (max ended (count - 1))) }
-    ensures within { IfOk result (λ plan. first_granule (layout plan.history) plan.tiles ≤ max_granules) }
+    ensures plan { IfOk result (λ plan. plan ≡ plan_for (history header.now items.now) granule count) }
     ensures only { IfErr result IsOfAsking }
     ensures same { notaries.Unchanged (N.state notary.old) (N.state notary.new) }
     ensures asked { (N.state notary.new).asked ≤ (N.state notary.old).asked + 2 }
+    ensures steps { steps.new ≤ steps.old + 2 * length (txns items.now) }
+    ensures few { tile_of (layout (history header.now items.now)) granule < count → steps.new ≤ steps.old + length (txns items.now) }
     ensures frame { notaries.GoesOn (N.state notary.old) (N.state notary.new) }
     ensures cause { HasCause NotaryFault (N.state notary.old).faults (N.state notary.new).faults result }
 {
     hold_header(notary, header, count)?;
-    let tiles = ended.max(count.saturating_sub(1));
-    let plan = plan_tiles::<L>(alloc, header, items, tiles, blank)?;
-    hold_chain(notary, &plan, count)?;
-    Ok(plan)
+    let eras = Eras::of(header, items);
+    let ended = eras.tiles(granule);
+    if ended < count {
+        let links = link_tiles(alloc, header, items, &eras, count - 1, steps)?;
+        hold_chain(notary, header.id, &links, count)?;
+        return Ok(None);
+    }
+    let plan = Plan::new(alloc, header, items, ended, steps)?;
+    hold_chain(notary, header.id, plan.links(), count)?;
+    Ok(Some(plan))
 }
 
 /// How many batches are filed under an id.
@@ -204,24 +220,24 @@ fn count_filed<N: Notary>(notary: &mut N, id: u64) -> Result<u32, AuditFail>
     }
 }
 
-/// Reads the store anew, and holds what is filed already against it. Gives all digests of the tiles
-/// that are sealed or have ended, and how many batches there are.
+/// Reads the store anew, and holds what is filed already against it. Gives how many batches there are,
+/// and all digests of the tiles that have ended, where a batch of them is to be filed.
 pub(crate) fn hold_stored<D: Disk, N: Notary, L: Ledger>(
     alloc: Global,
     disk: &mut D,
     notary: &mut N,
     header: &Header,
-    ended: u32,
+    granule: u32,
     blank: Blank,
-) -> Result<(Plan, u32), AuditFail>
+) -> Result<(Option<Plan>, u32), AuditFail>
     requires blank { IsBlankOf L.name L.parts blank }
     requires fits { FitsHeader header.now }
-    requires within { first_granule (layout_of header.now) ended ≤ max_granules }
-    ensures told { WhereTold (D.state disk.old).reads (D.state disk.new).reads (λ before after.
-        WhereTold (N.state notary.old).lists (N.state notary.new).lists (λ lists later.
-        (items : List Item) → Stores header.now items before
-        → Holds header.now items (lists.batches header.now.id) result)) }
-    ensures plan { IfOk result (λ held. IsPlanFor header.now ended held.0 held.1) }
+    requires within { granule < max_granules }
+    ensures told { WhereBothTell
+        (desk (D.state disk.old) (N.state notary.old)) (desk (D.state disk.new) (N.state notary.new)) (λ before after.
+        (items : List Item) → Stores header.now items before.bytes
+        → Holds header.now items (before.lists.batches header.now.id) granule result) }
+    ensures plan { IfOk result (λ held. IsPlanFor header.now held.0 held.1) }
     ensures only { IfErr result IsOfHolding }
     ensures same { disks.Unchanged (D.state disk.old) (D.state disk.new) }
     ensures unasked { notaries.Unchanged (N.state notary.old) (N.state notary.new) }
@@ -233,6 +249,7 @@ pub(crate) fn hold_stored<D: Disk, N: Notary, L: Ledger>(
 {
     let items = read_anew(alloc, disk, header)?;
     let count = count_filed(notary, header.id)?;
-    let plan = hold_filed::<N, L>(alloc, notary, header, &items, count, ended, blank)?;
+    let mut steps = Steps::<L>::new(blank);
+    let plan = hold_filed(alloc, notary, header, &items, count, granule, &mut steps)?;
     Ok((plan, count))
 }

@@ -1,11 +1,11 @@
 //! Filing the digests of a store with a notary, and holding the store against them later.
 //!
-//! [`validate`] reads the store once, and its plan hashes each transaction at most twice. It asks for the
-//! header, and searches the chain by halves for the first bad tile.
+//! [`validate`] reads the store, and hashes each transaction at most once: the chain alone is computed
+//! (the inner `find`: `steps`; that it is called once is by the body alone). It asks for the header, and searches the chain by halves for the first bad tile.
 //!
 //! | Found | Where |
 //! |---|---|
-//! | unsealed | nothing was filed under the id; nothing is read then |
+//! | unsealed | nothing was filed under the id |
 //! | header altered | no header is stored, one of another id, or one whose digest differs |
 //! | clean | the chain at the end of the last sealed tile is the same |
 //! | altered | it differs; told is a tile that differs, and is 0 or follows one that is the same |
@@ -14,24 +14,26 @@
 //! | The layer above may rely on | Clause of `validate` |
 //! |---|---|
 //! | what is found is what the answers to the questions show of what is stored (`IsFound`) | `told` |
-//! | then the mark of the verdict is added by one call, and nothing else; none where nothing was filed; a call that was refused had a verdict's mark | `told`, `trace` |
+//! | then the mark of the verdict is added by one call, and nothing else; none where nothing was filed; a call that was refused had the mark of what was found, where both tell | `told`, `trace` |
 //! | `Full` comes only where there is no room for the mark, and no other cause refuses | `told`, `none_other` |
 //! | the disk is as it was, and a sound store stays sound | `same`, `sound` |
-//! | few questions are asked: one for the header, and where a tile is sealed the number of binary digits of the tiles and two more | `asked` |
+//! | where a verdict is answered few questions were asked: one for the header, and where a tile is sealed the number of binary digits of the tiles and two more | `asked` |
 //! | a fault is answered only where the disk or the notary counted it | `disk_cause`, `notary_cause` |
 //!
-//! [`notarize`] reads the store once, holds what is filed already against it, stores a Frontier where the
-//! last moment has not reached the end of the last tile that has ended, and only then files the batches up
-//! to it, one after another. It may be called again after every refusal.
+//! [`notarize`] reads the store anew, and holds what is filed already against it. Where a batch is to be filed
+//! and the last moment has not reached the end of the last tile that has ended, it stores a Frontier, and only
+//! then files the batches up to it, one after another. It may be called again after every refusal. Each transaction is hashed at most
+//! twice, and where no batch is to be filed once, for the chain alone (`hold_filed`: `steps`, `few`).
 //!
 //! | The layer above may rely on | Clause of `notarize` |
 //! |---|---|
 //! | a closed store, an earlier clock and a granule too late are refused first, and nothing is asked or changed | `early`, `untouched` |
 //! | any other refusal has its cause (`notarize_fault`): `Broken` and `SealMissing` of what is filed, `StoreFull` of the Frontier | `told`: `refused` |
-//! | where there is such a cause, nothing is stored and nothing is filed, also where a fault or want of memory is answered | `told`: `free` |
+//! | where there is such a cause, nothing is stored and nothing is filed, and no changing call is made, also where a fault or want of memory is answered | `told`: `free` |
 //! | Ok tells how many tiles are sealed then, and their batches are filed, of the clock's moment | `told`: `value`, `files`, `calls` |
-//! | after `Full` as many batches are filed as there is room for | `told`: `files` |
+//! | after `Full` as many batches are filed as there is room for, and as many calls are done | `told`: `files`, `calls` |
 //! | no batch is filed before the store has reached the end of its tile on a settled disk | `told`: `ordered` |
+//! | no batch is filed before all changing calls of the disk | `told`: `order` |
 //! | a crash leaves the items, or those and the Frontier | `told`: `images`, `kept` |
 //! | a sound store stays sound under each id, whatever is answered | `sound` |
 //! | at most two questions are asked | `asked` |
@@ -62,13 +64,9 @@ mod holding;
 mod laws;
 mod marking;
 mod notarizing;
-#[cfg(test)]
-mod notarizing_tests;
 mod printing;
 mod tiles;
 mod validating;
-#[cfg(test)]
-mod validating_tests;
 mod verdict;
 
 pub use fail::AuditFail;

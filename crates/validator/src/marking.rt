@@ -39,7 +39,8 @@ pub(crate) fn add_mark<N: Notary>(
     ensures value { IfOk result (λ marked. marked ≡ verdict) }
     ensures told { WhereTold (N.state notary.old).lists (N.state notary.new).lists (λ lists later.
         (s : Stored) → IsFound id (lists.batches id) s (Ok verdict)
-        → Validates id now (N.state notary.old).limits s result lists later) }
+        → Validates id now (N.state notary.old).limits s result
+        (N.state notary.old).trace (N.state notary.new).trace lists later) }
     ensures none_other { IfErr result IsOfJudging }
     ensures batches { WhereTold (N.state notary.old).lists (N.state notary.new).lists KeepsBatches }
     ensures trace { WhereTold (N.state notary.old).trace (N.state notary.new).trace (MakesMark id now result) }

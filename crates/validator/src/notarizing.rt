@@ -1,8 +1,7 @@
 //! Filing the digests of a store's tiles.
 
-ghost use Rattle.std.specs.Prelude.{◌≡◌, ◌≤◌, ◌+◌, List, Some, IsSome, IfOk, IfErr, MatchResult};
+ghost use Rattle.std.specs.Prelude.{◌≡◌, ◌≤◌, ◌<◌, ◌+◌, List, Some, IsSome, IfOk, IfErr, MatchResult};
 ghost use Rattle.outside_words.specs.Faults.{HasCause};
-ghost use Rattle.outside_words.specs.Told.{WhereTold};
 ghost use Rattle.disk_words.specs.Disk as disks;
 ghost use Rattle.notary_link.specs.Notary as notaries;
 ghost use Rattle.tuple_bytes.specs.declared.item.Item.{Item};
@@ -11,18 +10,17 @@ ghost use Rattle.store_engine.specs.Refusals.{tail_of};
 ghost use Rattle.validator.specs.declared.fail.AuditFail.TheVariants.{DiskFault, NotaryFault};
 ghost use Rattle.validator.specs.Notarizing.{early_fault, IsEarly};
 ghost use Rattle.validator.specs.Reaching.{Notarizes, IsLeft, StaysOpen, AsksNothing};
-ghost use Rattle.validator.specs.Safe.{KeepsSound};
-ghost use Rattle.validator.specs.Steps.{IsEnded, IsOfClock};
+ghost use Rattle.validator.specs.Desk.{KeepsSound, WhereBothTell, desk};
+ghost use Rattle.validator.specs.Steps.{IsTimely, IsOfClock};
 ghost use Rattle.tuple_bytes.specs.Spelling.{FitsHeader};
-ghost use Rattle.digest_model.specs.Layout.{first_granule, max_granules};
-ghost use Rattle.cumulative_chain.specs.Tiles.{layout_of};
+ghost use Rattle.digest_model.specs.Layout.{max_granules};
 
 use crate::fail::AuditFail;
-use crate::filing::file_rest;
+use crate::filing::file_ended;
 use crate::holding::hold_stored;
-use crate::tiles::MAX_GRANULES;
 use disk_model::Disk;
 use notary_link::Notary;
+use policy_eras::MAX_GRANULES;
 use std::alloc::Global;
 use std::marker::Brand;
 use step_count::Blank;
@@ -45,35 +43,39 @@ pub fn notarize<D: Disk, N: Notary>(
     ensures early { IsEarly (early_fault (tail_of store.old) store.old.at.is_closed now) result }
     ensures untouched { IsSome (early_fault (tail_of store.old) store.old.at.is_closed now) → IsLeft store.old store.new (D.state disk.old) (D.state disk.new) × AsksNothing (N.state notary.old) (N.state notary.new) }
     ensures open { StaysOpen result store.old store.new }
-    ensures told { WhereTold (D.state disk.old).reads (D.state disk.new).reads (λ before after.
-        WhereTold (N.state notary.old).lists (N.state notary.new).lists (λ lists later.
-        (items : List Item) → IsOpenOn store.old items before → Notarizes now items result store.old store.new
-        (D.state disk.old) (D.state disk.new) before after (N.state notary.old) (N.state notary.new) lists later)) }
+    ensures told { WhereBothTell
+        (desk (D.state disk.old) (N.state notary.old)) (desk (D.state disk.new) (N.state notary.new)) (λ before after.
+        (items : List Item) → IsOpenOn store.old items before.bytes → Notarizes now items result store.old store.new
+        (desk (D.state disk.old) (N.state notary.old)) (desk (D.state disk.new) (N.state notary.new)) before after) }
     ensures sound { KeepsSound (λ before. (items : List Item) × IsOpenOn store.old items before)
-        (D.state disk.old) (D.state disk.new) (N.state notary.old) (N.state notary.new) }
+        (desk (D.state disk.old) (N.state notary.old)) (desk (D.state disk.new) (N.state notary.new)) }
     ensures asked { (N.state notary.new).asked ≤ (N.state notary.old).asked + 2 }
     ensures disk_frame { disks.GoesOn (D.state disk.old) (D.state disk.new) }
     ensures notary_frame { notaries.GoesOn (N.state notary.old) (N.state notary.new) }
     ensures disk_cause { HasCause DiskFault (D.state disk.old).faults (D.state disk.new).faults result }
     ensures notary_cause { HasCause NotaryFault (N.state notary.old).faults (N.state notary.new).faults result }
 {
-    let ended = ended_tiles(store, now)?;
+    let granule = granule_at(store, now)?;
+    let header = store.header();
     let (plan, count) = hold_stored::<D, N, Brand>(
         alloc,
         disk,
         notary,
-        store.header(),
-        ended,
+        header,
+        granule,
         Blank::new(1),
     )?;
-    file_rest(alloc, store, disk, notary, &plan, count, ended, now)
+    match plan {
+        Some(plan) => file_ended(alloc, store, disk, notary, &plan, count, now),
+        None => Ok(count - 1),
+    }
 }
 
-/// How many tiles have ended at these clock seconds, which are a moment of the open store.
-fn ended_tiles(store: &Store, now: u64) -> Result<u32, AuditFail>
-    ensures value { MatchResult result (IsEnded (tail_of store.now) store.now.at.is_closed now)
+/// The granule of these clock seconds, which are a moment of the open store.
+fn granule_at(store: &Store, now: u64) -> Result<u32, AuditFail>
+    ensures value { MatchResult result (IsTimely (tail_of store.now) store.now.at.is_closed now)
         (λ fail. early_fault (tail_of store.now) store.now.at.is_closed now ≡ Some fail) }
-    ensures within { IfOk result (λ n. first_granule (layout_of store.now.header) n ≤ max_granules) }
+    ensures within { IfOk result (λ granule. granule < max_granules) }
     ensures only { IfErr result IsOfClock }
     ensures fits { FitsHeader store.now.header }
 {
@@ -90,5 +92,5 @@ fn ended_tiles(store: &Store, now: u64) -> Result<u32, AuditFail>
     if granule >= u64::from(MAX_GRANULES) {
         return Err(AuditFail::TooLate);
     }
-    Ok(granule as u32 >> header.k)
+    Ok(granule as u32)
 }

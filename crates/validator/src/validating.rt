@@ -5,12 +5,13 @@ ghost use Rattle.outside_words.specs.Faults.{HasCause};
 ghost use Rattle.outside_words.specs.Told.{WhereTold};
 ghost use Rattle.disk_words.specs.Disk as disks;
 ghost use Rattle.notary_link.specs.Notary as notaries;
-ghost use Rattle.history_model.specs.History.{history};
+ghost use Rattle.step_count.specs.Blank.{IsBlankOf};
+ghost use Rattle.history_model.specs.History.{history, txns};
 ghost use Rattle.history_model.specs.Stored.{stored};
 ghost use Rattle.history_model.specs.StoredHistory.{IsHistory};
 ghost use Rattle.validator.specs.declared.fail.AuditFail.TheVariants.{DiskFault, NotaryFault};
 ghost use Rattle.validator.specs.Verdicts.{Validates, MakesMark, KeepsBatches, IsOfValidation, IsOfJudging, questions};
-ghost use Rattle.validator.specs.Safe.{KeepsSound};
+ghost use Rattle.validator.specs.Desk.{KeepsSound, desk};
 
 use crate::fail::AuditFail;
 use crate::finding::find;
@@ -20,6 +21,8 @@ use disk_model::Disk;
 use history_model::Stored;
 use notary_link::Notary;
 use std::alloc::Global;
+use std::marker::Brand;
+use step_count::{Blank, Ledger, Steps};
 use txn_journal::read_stored;
 
 /// Hashes what is stored under the id, and asks the notary whether it is what was filed. The verdict
@@ -33,12 +36,13 @@ pub fn validate<D: Disk, N: Notary>(
 ) -> Result<Verdict, AuditFail>
     ensures told { IfSome (D.state disk.old).reads (λ bytes.
         WhereTold (N.state notary.old).lists (N.state notary.new).lists
-        (Validates id now (N.state notary.old).limits (stored bytes) result)) }
+        (Validates id now (N.state notary.old).limits (stored bytes) result
+        (N.state notary.old).trace (N.state notary.new).trace)) }
     ensures none_other { IfErr result IsOfValidation }
     ensures trace { WhereTold (N.state notary.old).trace (N.state notary.new).trace (MakesMark id now result) }
     ensures same { disks.Unchanged (D.state disk.old) (D.state disk.new) }
     ensures sound { KeepsSound (λ before. ⊤)
-        (D.state disk.old) (D.state disk.new) (N.state notary.old) (N.state notary.new) }
+        (desk (D.state disk.old) (N.state notary.old)) (desk (D.state disk.new) (N.state notary.new)) }
     ensures asked { IfOk result (λ verdict. (N.state notary.new).asked ≤ (N.state notary.old).asked + questions verdict) }
     ensures disk_frame { disks.GoesOn (D.state disk.old) (D.state disk.new) }
     ensures notary_frame { notaries.GoesOn (N.state notary.old) (N.state notary.new) }
@@ -47,22 +51,28 @@ pub fn validate<D: Disk, N: Notary>(
 {
     match notary.count(id)? {
         0 => Ok(Verdict::Unsealed),
-        count => validate_sealed(alloc, disk, notary, id, count - 1, now),
+        count => {
+            let tiles = count - 1;
+            validate_sealed::<D, N, Brand>(alloc, disk, notary, id, tiles, now, Blank::new(1))
+        }
     }
 }
 
 /// The same where so many tiles are sealed: the store is read once.
-fn validate_sealed<D: Disk, N: Notary>(
+fn validate_sealed<D: Disk, N: Notary, L: Ledger>(
     alloc: Global,
     disk: &mut D,
     notary: &mut N,
     id: u64,
     tiles: u32,
     now: u64,
+    blank: Blank,
 ) -> Result<Verdict, AuditFail>
+    requires blank { IsBlankOf L.name L.parts blank }
     ensures told { IfSome (D.state disk.old).reads (λ bytes.
         WhereTold (N.state notary.old).lists (N.state notary.new).lists (λ lists later. length (lists.batches id) ≡ tiles + 1
-        → Validates id now (N.state notary.old).limits (stored bytes) result lists later)) }
+        → Validates id now (N.state notary.old).limits (stored bytes) result
+        (N.state notary.old).trace (N.state notary.new).trace lists later)) }
     ensures none_other { IfErr result IsOfValidation }
     ensures batches { WhereTold (N.state notary.old).lists (N.state notary.new).lists KeepsBatches }
     ensures trace { WhereTold (N.state notary.old).trace (N.state notary.new).trace (MakesMark id now result) }
@@ -74,28 +84,32 @@ fn validate_sealed<D: Disk, N: Notary>(
     ensures notary_cause { HasCause NotaryFault (N.state notary.old).faults (N.state notary.new).faults result }
 {
     let stored = read_stored(alloc, disk)?;
-    judge(alloc, &stored, notary, id, tiles, now)
+    let mut steps = Steps::<L>::new(blank);
+    judge(alloc, &stored, notary, id, tiles, now, &mut steps)
 }
 
-/// Finds the verdict and adds its mark.
-fn judge<N: Notary>(
+/// Finds the verdict and adds its mark. Each transaction is hashed at most once.
+fn judge<N: Notary, L: Ledger>(
     alloc: Global,
     stored: &Stored,
     notary: &mut N,
     id: u64,
     tiles: u32,
     now: u64,
+    steps: &mut Steps<L>,
 ) -> Result<Verdict, AuditFail>
     requires fits { IfSome stored.now.header (λ header. IsHistory (history header stored.now.items)) }
     ensures told { WhereTold (N.state notary.old).lists (N.state notary.new).lists (λ lists later. length (lists.batches id) ≡ tiles + 1
-        → Validates id now (N.state notary.old).limits stored.now result lists later) }
+        → Validates id now (N.state notary.old).limits stored.now result
+        (N.state notary.old).trace (N.state notary.new).trace lists later) }
     ensures none_other { IfErr result IsOfJudging }
     ensures batches { WhereTold (N.state notary.old).lists (N.state notary.new).lists KeepsBatches }
     ensures trace { WhereTold (N.state notary.old).trace (N.state notary.new).trace (MakesMark id now result) }
     ensures asked { IfOk result (λ verdict. (N.state notary.new).asked ≤ (N.state notary.old).asked + questions verdict) }
+    ensures steps { steps.new ≤ steps.old + length (txns stored.now.items) }
     ensures frame { notaries.GoesOn (N.state notary.old) (N.state notary.new) }
     ensures cause { HasCause NotaryFault (N.state notary.old).faults (N.state notary.new).faults result }
 {
-    let verdict = find(alloc, stored, notary, id, tiles)?;
+    let verdict = find(alloc, stored, notary, id, tiles, steps)?;
     add_mark(notary, id, verdict, now)
 }

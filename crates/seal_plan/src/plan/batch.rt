@@ -4,11 +4,12 @@ ghost use Rattle.std.specs.Prelude.{◌≡◌, ◌≤◌, ◌<◌, ◌+◌, ◌+
 ghost use Rattle.std.specs.List.{Contains};
 ghost use Rattle.notary_link.specs.Batches.{IsBatch};
 ghost use Rattle.digest_model.specs.Layout.{layout, first_granule, max_granules, has_tile_chains, has_tree};
+ghost use Rattle.audit_model.specs.Laws.{HasTree};
 ghost use Rattle.audit_model.specs.Names.{planned, tile_names, node_names, nodes_ending_at, seal, batch};
 ghost use Rattle.seal_plan.specs.Nodes.{node_at_level};
 
 use super::Plan;
-use crate::lookup::{has_tile_chains, has_tree, power_of_two};
+use crate::lookup::power_of_two;
 use crate::trees::LEVELS;
 use notary_link::{Name, Seal, Seals};
 use std::alloc::{AllocError, Global};
@@ -29,10 +30,10 @@ impl Plan {
     /// Adds a whole tile and its bit chains.
     fn seal_tile(&self, seals: &mut Seals, tile: u32) -> Result<(), AllocError>
         requires below { tile < self.now.tiles }
-        requires chains { has_tile_chains (layout self.now.history) 0 ≡ true }
+        requires chains { has_tile_chains (layout self.now.history) tile ≡ true }
         ensures { OnOk result (seals.new ≡ seals.old ++ map (seal self.now.history) (tile_names (layout self.now.history) tile)) }
     {
-        let k = self.header().k;
+        let k = self.eras().exponent(tile);
         self.seal(seals, Name::Tile { tile, part: WHOLE })?;
         for part in 0..k {
             self.seal(seals, Name::Tile { tile, part })?;
@@ -45,7 +46,7 @@ impl Plan {
         requires { tile < self.now.tiles }
         ensures { OnOk result (seals.new ≡ seals.old ++ map (seal self.now.history) (if has_tile_chains (layout self.now.history) tile then tile_names (layout self.now.history) tile else [])) }
     {
-        if has_tile_chains(self.header()) {
+        if self.eras().has_tile_chains(tile) {
             self.seal_tile(seals, tile)
         } else {
             Ok(())
@@ -55,7 +56,7 @@ impl Plan {
     /// Adds the node of a level whose last granule is this one, where there is one.
     fn seal_node(&self, seals: &mut Seals, granule: u32, level: u8) -> Result<(), AllocError>
         requires level { level < 21 }
-        requires tree { has_tree (layout self.now.history) 0 ≡ true }
+        requires tree { HasTree self.now.history self.now.tiles }
         requires below { granule < first_granule (layout self.now.history) self.now.tiles }
         requires within { first_granule (layout self.now.history) self.now.tiles ≤ max_granules }
         ensures { OnOk result (seals.new ≡ seals.old ++ map (seal self.now.history) (node_at_level granule level)) }
@@ -72,7 +73,7 @@ impl Plan {
 
     /// Adds the nodes whose last granule is this one, from the leaf upwards.
     fn seal_nodes_at(&self, seals: &mut Seals, granule: u32) -> Result<(), AllocError>
-        requires tree { has_tree (layout self.now.history) 0 ≡ true }
+        requires tree { HasTree self.now.history self.now.tiles }
         requires below { granule < first_granule (layout self.now.history) self.now.tiles }
         requires within { first_granule (layout self.now.history) self.now.tiles ≤ max_granules }
         ensures { OnOk result (seals.new ≡ seals.old ++ map (seal self.now.history) (nodes_ending_at granule)) }
@@ -86,13 +87,12 @@ impl Plan {
     /// Adds the nodes whose last granule lies in a tile.
     fn seal_tree(&self, seals: &mut Seals, tile: u32) -> Result<(), AllocError>
         requires below { tile < self.now.tiles }
-        requires tree { has_tree (layout self.now.history) 0 ≡ true }
-        requires exponent { self.now.history.header.k ≤ 10 }
+        requires tree { HasTree self.now.history self.now.tiles }
         requires within { first_granule (layout self.now.history) self.now.tiles ≤ max_granules }
         ensures { OnOk result (seals.new ≡ seals.old ++ map (seal self.now.history) (node_names (layout self.now.history) tile)) }
     {
-        let size = power_of_two(self.header().k);
-        let first = tile * size;
+        let size = power_of_two(self.eras().exponent(tile));
+        let first = self.eras().first(tile) as u32;
         for number in 0..size {
             self.seal_nodes_at(seals, first + number)?;
         }
@@ -102,11 +102,10 @@ impl Plan {
     /// Adds the nodes whose last granule lies in a tile, where they are planned.
     fn seal_nodes(&self, seals: &mut Seals, tile: u32) -> Result<(), AllocError>
         requires below { tile < self.now.tiles }
-        requires exponent { self.now.history.header.k ≤ 10 }
         requires within { first_granule (layout self.now.history) self.now.tiles ≤ max_granules }
         ensures { OnOk result (seals.new ≡ seals.old ++ map (seal self.now.history) (if has_tree (layout self.now.history) tile then node_names (layout self.now.history) tile else [])) }
     {
-        if has_tree(self.header()) {
+        if self.eras().has_tree(tile) {
             self.seal_tree(seals, tile)
         } else {
             Ok(())
@@ -125,7 +124,6 @@ impl Plan {
     /// Seals a tile.
     fn tile_batch(&self, alloc: Global, tile: u32) -> Result<Seals, AllocError>
         requires below { tile < self.now.tiles }
-        requires exponent { self.now.history.header.k ≤ 10 }
         requires within { first_granule (layout self.now.history) self.now.tiles ≤ max_granules }
         ensures { IfOk result (λ seals. seals ≡ batch self.now.history (tile + 1)) }
     {

@@ -14,11 +14,11 @@ loop-index-preserved c =
       value = λ h m lower e below.
           c.in_ok-push.ensures.ok
           ∙ ap (λ (x : List (List ℕ)). x ++ c.node.result ∷ []) (c.loop-index.invariant.value h m lower e below)
-          ∙ ap (λ (x : List ℕ). map (node_digest h c.args.level) (range_with_len 0 c.loop-index.index) ++ x ∷ []) (c.node.ensures.value ∙ node_is h m c.args.level lower i c.args.below.now e below (omega arith))
-          ∙ sym (map-range_with_len_more (node_digest h c.args.level) 0 i i (omega arith));
+          ∙ ap (λ (x : List ℕ). map (node_digest h 0 c.args.level) (range_with_len 0 c.loop-index.index) ++ x ∷ []) (c.node.ensures.value ∙ node_is h m c.args.level lower i c.args.below.now e below (omega arith))
+          ∙ sym (map-range_with_len_more (node_digest h 0 c.args.level) 0 i i (omega arith));
     }
 
 pub returns-clause-value : goal.returns-clause-value
 returns-clause-value c = λ h m lower e below.
     c.loop-index.invariant.value h m lower e below
-    ∙ ap (λ (n : ℕ). map (node_digest h c.args.level) (range_with_len 0 n)) (count_is h m c.args.level lower c.loop-index.index c.args.below.now e below (omega arith))
+    ∙ ap (λ (n : ℕ). map (node_digest h 0 c.args.level) (range_with_len 0 n)) (count_is h m c.args.level lower c.loop-index.index c.args.below.now e below (omega arith))

@@ -13,4 +13,4 @@ seal-requires c =
     let divides = sym (ap (λ (s : ℕ). (c.args.granule + 1) % s) c.power_of_two-size.ensures) ∙ c.if-end-size-eq0.true in
     let last = last_granule c.args.granule c.args.level divides in
     subst (λ (s : ℕ). Contains (planned (layout c.args.self.now.history) c.args.self.now.tiles) (names.Node c.args.level ((c.args.granule + 1) / s - 1))) (sym c.power_of_two-size.ensures)
-    (node_planned (layout h) c.args.self.now.tiles c.args.level ((c.args.granule + 1) / 2 ^ c.args.level - 1) (λ tile lt. c.requires.tree) (omega (arith, last, c.requires.below)) c.requires.within)
+    (node_planned (layout h) c.args.self.now.tiles c.args.level ((c.args.granule + 1) / 2 ^ c.args.level - 1) c.requires.tree (omega (arith, last, c.requires.below)) c.requires.within)
