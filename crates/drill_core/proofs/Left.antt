@@ -7,6 +7,7 @@ use Rattle.history_model.specs.Stored.{stored}
 use Rattle.notary_link.specs.Notary.{Lists, Keeps}
 use Rattle.store_engine.specs.Opened.{Opened, Stores}
 use Rattle.session_core.specs.World as statements
+use Rattle.validator.specs.Desk.{content}
 use Rattle.drill_core.specs.declared.answered.Answered.{Answered}
 use Rattle.drill_core.specs.declared.fail.LineFail.{LineFail}
 use Rattle.drill_core.specs.World.{World, Held, IsIn, StoreIsIn, StoresOf, StoresWorld, StoresEither, AreBetween}
@@ -28,29 +29,36 @@ module _ (w : World) (held : Held) (old new : State) (bytes : List ℕ) (lists :
   same_images next only = stays old old new (StoresEither w next.world)
       (started old (StoresEither w next.world) only_now (λ c now. inl (subst (λ b. StoresWorld w b) (sym (only c now)) (stores_world w held bytes lists i)))) same
 
+  -- the bytes store what they stored
+  still_stores : (next : Step) → next.world.id ≡ w.id → next.world.store ≡ w.store → StoresWorld next.world bytes
+  still_stores next id_stays store = subst (λ (o : Option statements.World). StoresOf next.world.id o bytes) (sym store)
+      (subst (λ (n : ℕ). StoresOf n w.store bytes) (sym id_stays) (stores_world w held bytes lists i))
+
   -- the lists may have changed
   pub left : (next : Step) (result : Result Answered LineFail) (later : Lists) → next.world.id ≡ w.id → next.world.store ≡ w.store
       → IfOk result (IsReply next) → OnOk result (Keeps next.world.lists later) → AreBetween w.lists next.world.lists later
-      → Goes w next result held old new bytes bytes later
-  left next (Ok answered) later id store reply keeps between = record {
+      → Goes w next result held old new bytes (content bytes later)
+  left next (Ok answered) later id_stays store reply keeps between = record {
     reply = reply;
     stands = record {
-      id = i.id ∙ sym id;
-      store = subst (λ (o : Option statements.World). StoreIsIn next.world.id o held.store bytes) (sym store) (subst (λ (n : ℕ). StoreIsIn n w.store held.store bytes) (sym id) i.store);
+      id = i.id ∙ sym id_stays;
+      store = subst (λ (o : Option statements.World). StoreIsIn next.world.id o held.store bytes) (sym store) (subst (λ (n : ℕ). StoreIsIn n w.store held.store bytes) (sym id_stays) i.store);
       lists = keeps;
     };
     settled = λ only c now. only c ((same.images c).0 now);
     images = same_images next;
     kept = λ only. inl (stores_world w held bytes lists i);
     between = between;
+    ordered = λ id more only. (λ c now. only c ((same.images c).0 now), still_stores next id_stays store);
     same = λ stays. same.trace;
   }
-  left next (Err fail) later id store reply keeps between = record {
+  left next (Err fail) later id_stays store reply keeps between = record {
     reply = tt;
     stands = tt;
     settled = λ only. tt;
     images = same_images next;
     kept = λ only. inl (stores_world w held bytes lists i);
     between = between;
+    ordered = λ id more only. (λ c now. only c ((same.images c).0 now), still_stores next id_stays store);
     same = λ stays. tt;
   }

@@ -1,5 +1,6 @@
 pub mod Between
 pub mod Left
+pub mod Replies
 pub mod LineKinds
 pub mod Tables
 pub mod Sounds
@@ -8,3 +9,5 @@ pub mod Notarizing
 pub mod Nowhere
 pub mod SoundWorlds
 pub mod Stopped
+pub mod Texts
+pub mod Acknowledging

@@ -1,8 +1,8 @@
 -- A notarization does to the world what the definition says.
-use Rattle.std.proofs.Common.{◌≡◌, ◌⊎◌, ℕ, ◌+◌, ◌-◌, ◌≤◌, ◌<◌, ◌==◌, Bool, true, false, List, [], ◌∷◌, ◌++◌, length, take, Option, Some, None, IsSome, Result, Ok, Err, OnOk, IfOk, inl, inr, refl, sym, ap, subst, ◌∙◌, arith}
+use Rattle.std.proofs.Common.{◌≡◌, ◌≢◌, ◌⊎◌, ℕ, ◌+◌, ◌-◌, ◌≤◌, ◌<◌, ◌==◌, Bool, true, false, List, [], ◌∷◌, ◌++◌, length, take, Option, Some, None, IsSome, Result, Ok, Err, OnOk, IfOk, inl, inr, refl, sym, ap, subst, ◌∙◌, arith}
 use Rattle.std.specs.Prelude.{if◌then◌else◌, codes}
 use Rattle.std.proofs.Math.Seq.{take-length}
-use Rattle.std.proofs.lemmas.Bool.{eq-eqb, ne_eqb}
+use Rattle.std.proofs.lemmas.Bool.{cases_eq, eq-eqb, ne_eqb}
 use Rattle.std.proofs.lemmas.Bool.Decides.{nat_tests}
 use Rattle.std.proofs.lemmas.List.{append-nil, take-take}
 use Rattle.outside_words.specs.Told.{WhereTold}
@@ -15,6 +15,7 @@ use Rattle.tuple_bytes.specs.declared.item.Item.{Item}
 use Rattle.tuple_bytes.specs.declared.item.Item.TheVariants as items
 use Rattle.tuple_bytes.specs.Spelling.{spell_frontier}
 use Rattle.history_model.specs.History.{history}
+use Rattle.digest_model.specs.Layout.{layout}
 use Rattle.notary_link.specs.declared.notary.NotaryLimits.{NotaryLimits}
 use Rattle.notary_link.specs.Batches.{Batch}
 use Rattle.notary_link.specs.Filing.{fitting, room_in, FilesAll}
@@ -27,17 +28,19 @@ use Rattle.store_engine.specs.Refusals.{Tail, tail_of}
 use Rattle.stmt_text.specs.declared.stmt.Stmt.TheVariants as stmts
 use Rattle.stmt_text.specs.declared.line.Line.TheVariants as lines
 use Rattle.session_core.specs.World as statements
+use Rattle.validator.specs.Desk.{content, desk}
 use Rattle.validator.specs.declared.fail.AuditFail.{AuditFail}
 use Rattle.validator.specs.declared.fail.AuditFail.TheVariants as fails
 use Rattle.validator.specs.Texts.{refusal_text, numbered}
 use Rattle.validator.specs.Notarizing.{notarize_fault, next_batches, sealed_after, frontier_for, IsRefusedBy}
-use Rattle.validator.specs.Filing.{FilesFor}
+use Rattle.validator.specs.Filing.{FilesFor, HasFiledMore}
 use Rattle.validator.specs.Reaching as reaching
 use Rattle.validator.specs.Reaching.{Notarizes, IsReached, StoresAround}
 use Rattle.drill_core.specs.declared.answered.Answered.{Answered}
 use Rattle.drill_core.specs.declared.fail.LineFail.{LineFail}
-use Rattle.drill_core.specs.World.{World, Held, IsIn, StoresOf, StoresEither, with_store, with_lists, with_batches, AreBetween}
-use Rattle.drill_core.specs.Answers.{said, refusal, IsAnswer, IsAnswerTo}
+use Rattle.drill_core.specs.World.{World, Held, IsIn, StoresOf, StoresWorld, StoresEither, with_store, with_lists, with_batches, AreBetween}
+use Rattle.drill_core.specs.Answers.{said, refusal}
+use Rattle.drill_core.proofs.Replies.{Answers}
 use Rattle.drill_core.specs.Parts.{alone}
 use Rattle.drill_core.specs.Steps.{Step, says, refuses, filed, filed_for, reached, all_filed, sealed, unless, notarized}
 use Rattle.drill_core.specs.Stepping.{IsReply, Goes, Steps, StepsFor}
@@ -53,8 +56,8 @@ sealed_text tiles = numbered (codes "sealed ") tiles
 
 -- after a failure it is no matter where the store stands
 pub wherever : (w : World) (next : Step) (fail : LineFail) (later other : Held) (old new : State) (before after : List ℕ) (lists : Lists)
-    → Goes w next (Err fail) later old new before after lists → Goes w next (Err fail) other old new before after lists
-wherever w next fail later other old new before after lists goes = record { reply = tt; stands = tt; settled = λ only. tt; images = goes.images; kept = goes.kept; between = goes.between; same = λ stays. tt }
+    → Goes w next (Err fail) later old new before (content after lists) → Goes w next (Err fail) other old new before (content after lists)
+wherever w next fail later other old new before after lists goes = record { reply = tt; stands = tt; settled = λ only. tt; images = goes.images; kept = goes.kept; between = goes.between; ordered = goes.ordered; same = λ stays. tt }
 
 keeps_none : (id : ℕ) (lists later : Lists) → Keeps lists later → FilesAll id [] lists later
 keeps_none id lists later keeps = record { filed = keeps.batches id ∙ sym (append-nil (lists.batches id)); others = λ other apart. keeps.batches other; marks = keeps.marks }
@@ -92,7 +95,7 @@ module _ (now : ℕ) (s later_s : Opened) (old new : State) (before after : List
   ws = has.world
 
   abbrev To : Step → Result Answered LineFail → Type 0
-  To next result = Goes w next result (alone later_s) old new before after later
+  To next result = Goes w next result (alone later_s) old new before (content after later)
 
   -- ---- the same, of the world
 
@@ -120,10 +123,13 @@ module _ (now : ℕ) (s later_s : Opened) (old new : State) (before after : List
       ∙ ap (λ (l : List Batch). notarize_fault (statements.tail_of_world ws) false now ws.items l) mine_is
 
   abbrev need : Option ℕ
-  need = frontier_for (statements.tail_of_world ws) now (filed_for w)
+  need = frontier_for (layout (history ws.header ws.items)) (statements.tail_of_world ws) now (filed_for w)
 
-  need_is : frontier_for (tail_of s) now mine ≡ need
-  need_is = ap (λ (t : Tail). frontier_for t now mine) tail_is ∙ ap (λ (l : List Batch). frontier_for (statements.tail_of_world ws) now l) mine_is
+  need_is : frontier_for (layout (history s.header ws.items)) (tail_of s) now mine ≡ need
+  need_is =
+      ap (λ (h : Header). frontier_for (layout (history h ws.items)) (tail_of s) now mine) has.stands.header
+      ∙ ap (λ (t : Tail). frontier_for (layout (history ws.header ws.items)) t now mine) tail_is
+      ∙ ap (λ (l : List Batch). frontier_for (layout (history ws.header ws.items)) (statements.tail_of_world ws) now l) mine_is
 
   abbrev batches : List Batch
   batches = next_batches (history ws.header ws.items) now (filed_for w)
@@ -132,10 +138,12 @@ module _ (now : ℕ) (s later_s : Opened) (old new : State) (before after : List
   batches_are = ap (λ (h : Header). next_batches (history h ws.items) now mine) has.stands.header ∙ ap (λ (l : List Batch). next_batches (history ws.header ws.items) now l) mine_is
 
   abbrev tiles : ℕ
-  tiles = sealed_after ws.header now (filed_for w)
+  tiles = sealed_after (layout (history ws.header ws.items)) ws.header now (filed_for w)
 
-  tiles_are : sealed_after s.header now mine ≡ tiles
-  tiles_are = ap (λ (h : Header). sealed_after h now mine) has.stands.header ∙ ap (λ (l : List Batch). sealed_after ws.header now l) mine_is
+  tiles_are : sealed_after (layout (history s.header ws.items)) s.header now mine ≡ tiles
+  tiles_are =
+      ap (λ (h : Header). sealed_after (layout (history h ws.items)) h now mine) has.stands.header
+      ∙ ap (λ (l : List Batch). sealed_after (layout (history ws.header ws.items)) ws.header now l) mine_is
 
   abbrev fit : ℕ
   fit = fitting (room_in w.limits w.lists) batches
@@ -150,8 +158,8 @@ module _ (now : ℕ) (s later_s : Opened) (old new : State) (before after : List
     abbrev next : Step
     next = refuses w (refusal_text fail)
 
-    stay : (result : Result Answered LineFail) → IfOk result (λ answered. answered ≡ refusal (refusal_text fail)) → Goes w next result (alone s) old new before after later
-    stay result reply = subst (λ (a : List ℕ). Goes w next result (alone s) old new before a later) (sym (reads same))
+    stay : (result : Result Answered LineFail) → IfOk result (λ answered. answered ≡ refusal (refusal_text fail)) → Goes w next result (alone s) old new before (content after later)
+    stay result reply = subst (λ (a : List ℕ). Goes w next result (alone s) old new before (content a later)) (sym (reads same))
         (left w (alone s) old new before lists i same only_now next result later refl refl
         (replies_as next (refusal (refusal_text fail)) result refl refl reply)
         (given result (keeps_then w.lists lists later i.lists keeps))
@@ -164,10 +172,10 @@ module _ (now : ℕ) (s later_s : Opened) (old new : State) (before after : List
     told : (told_fail : AuditFail) → fault ≡ Some told_fail → later_s ≡ s → (result : Result Answered LineFail) → IfOk result (λ answered. answered ≡ refusal (refusal_text told_fail)) → To next result
     told told_fail told_is stands result reply =
         let same_fail : told_fail ≡ fail = cc in
-        subst (λ (x : Opened). Goes w next result (alone x) old new before after later) (sym stands)
+        subst (λ (x : Opened). Goes w next result (alone x) old new before (content after later)) (sym stands)
         (stay result (subst (λ (f : AuditFail). IfOk result (λ answered. answered ≡ refusal (refusal_text f))) same_fail reply))
 
-    pub refused : (r : Result ℕ AuditFail) (result : Result Answered LineFail) → IsAnswer sealed_text r result → IsRefusedBy fault r → (reached_too shut : Type 0) → reaching.StandsAfter r reached_too (reaching.IsLeft s later_s old new) shut → To next result
+    pub refused : (r : Result ℕ AuditFail) (result : Result Answered LineFail) → Answers sealed_text r result → IsRefusedBy fault r → (reached_too shut : Type 0) → reaching.StandsAfter r reached_too (reaching.IsLeft s later_s old new) shut → To next result
     refused (Ok n) result answer by R S stands = let none : fault ≡ None = by in absurd cc
     refused (Err fails.Full) result answer by R S stands = let none : fault ≡ None = by in absurd cc
     refused (Err fails.DiskFault) result answer by R S stands = faulty result answer
@@ -208,6 +216,10 @@ module _ (now : ℕ) (s later_s : Opened) (old new : State) (before after : List
     has.own,
   )
 
+  reached_stores : (o : Option ℕ) → IsReached o s later_s ws.items old new before after → StoresOf w.id (Some (reached o ws)) after
+  reached_stores None r = subst (λ (h : Header). Stores h ws.items after) (header ∙ has.stands.header) r.open_on.stores
+  reached_stores (Some moment) r = subst (λ (h : Header). Stores h (reached (Some moment) ws).items after) (header ∙ has.stands.header) r.open_on.stores
+
   -- a world that stays needs no Frontier, and without one there is no call
   needs_none : (o : Option ℕ) → Some (reached o ws) ≡ Some ws → o ≡ None
   needs_none None stays = refl
@@ -217,10 +229,22 @@ module _ (now : ℕ) (s later_s : Opened) (old new : State) (before after : List
   unmoved None moves none = moves
   unmoved (Some moment) moves none = absurd cc
 
-  module _ (images : Only before old → EveryImage old new Around) (kept : Only before old → Around after) (part : FilesFew w.id batches fit lists later) where
+  module _ (images : Only before old → EveryImage old new Around) (kept : Only before old → Around after) (part : FilesFew w.id batches fit lists later)
+      (reaches : HasFiledMore s.header.id lists later → IsReached need s later_s ws.items old new before after) where
     between : AreBetween w.lists new_world.lists later
     between = filed_between w.id w.lists lists later i.lists (take fit batches) part.done
         (subst (λ (l : List Batch). FilesAll w.id l lists later) (sym (take-take part.done fit batches part.few)) part.files)
+
+    -- batches more stand under the store's id alone
+    more_here : (id : ℕ) → HasFiledMore id w.lists later → HasFiledMore s.header.id lists later
+    more_here id more kept = more (by (cases_eq id w.id))
+      where
+        by : (id ≡ w.id) ⊎ (id ≢ w.id) → later.batches id ≡ w.lists.batches id
+        by (inl is) = subst (λ (n : ℕ). later.batches n ≡ w.lists.batches n) (i.id ∙ sym is) (kept ∙ i.lists.batches s.header.id)
+        by (inr other) = part.files.others id other ∙ i.lists.batches id
+
+    in_order : (id : ℕ) → HasFiledMore id w.lists later → Only before old → Only after new × StoresWorld new_world after
+    in_order id more only = let reached_so = reaches (more_here id more) in (reached_so.settled only, reached_stores need reached_so)
 
     -- where the store has reached what it needs, and what fits was filed
     abbrev IsDone : Type 0
@@ -240,6 +264,7 @@ module _ (now : ℕ) (s later_s : Opened) (old new : State) (before after : List
       images = λ only. weaker (images only) (either_of need);
       kept = λ only. either_of need after (kept only);
       between = between;
+      ordered = in_order;
       same = λ stays. done.2 (needs_none need (stays ∙ has.is));
     }
     go text is_refused (Err fail) done reply = record {
@@ -249,6 +274,7 @@ module _ (now : ℕ) (s later_s : Opened) (old new : State) (before after : List
       images = λ only. weaker (images only) (either_of need);
       kept = λ only. either_of need after (kept only);
       between = between;
+      ordered = in_order;
       same = λ stays. tt;
     }
 
@@ -271,7 +297,7 @@ module _ (now : ℕ) (s later_s : Opened) (old new : State) (before after : List
     sealed_some false is less result at files moves reply = go (codes "refused " ++ refusal_text fails.Full ++ 10 ∷ []) true result (given result (at, files, moves)) reply
     sealed_some true is less result at files moves reply = let no = ne_eqb fit (length batches) (λ e. omega (arith, e, less)) in absurd cc
 
-    pub made : fault ≡ None → (r : Result ℕ AuditFail) (result : Result Answered LineFail) → IsAnswer sealed_text r result → IsRefusedBy fault r → IfOk r (λ n. n ≡ tiles)
+    pub made : fault ≡ None → (r : Result ℕ AuditFail) (result : Result Answered LineFail) → Answers sealed_text r result → IsRefusedBy fault r → IfOk r (λ n. n ≡ tiles)
         → FilesFor w.id limits batches r lists later → reaching.MakesFor (reaching.frontier_calls s need) r old new → (left_too shut : Type 0) → reaching.StandsAfter r (IsReached need s later_s ws.items old new before after) left_too shut
         → To (all_filed w new_world batches tiles) result
     made free (Ok n) result answer by value files moves L S stands = sealed_all (fit == length batches) refl (sym fit_is ∙ files.fit) result stands files.filed (unmoved need moves)
@@ -291,8 +317,8 @@ module _ (now : ℕ) (s later_s : Opened) (old new : State) (before after : List
 
   -- ---- either way
 
-  module _ (filed_state later_state : notaries.State) (limits_are : filed_state.limits ≡ limits) (r : Result ℕ AuditFail) (result : Result Answered LineFail) (answer : IsAnswer sealed_text r result)
-      (n : Notarizes now ws.items r s later_s old new before after filed_state later_state lists later) where
+  module _ (filed_state later_state : notaries.State) (limits_are : filed_state.limits ≡ limits) (r : Result ℕ AuditFail) (result : Result Answered LineFail) (answer : Answers sealed_text r result)
+      (n : Notarizes now ws.items r s later_s (desk old filed_state) (desk new later_state) (content before lists) (content after later)) where
     by_world : IsRefusedBy fault r
     by_world = subst (λ (f : Option AuditFail). IsRefusedBy f r) fault_is n.refused
 
@@ -315,9 +341,10 @@ module _ (now : ℕ) (s later_s : Opened) (old new : State) (before after : List
         (λ only. subst (λ (o : Option ℕ). EveryImage old new (StoresAround s.header ws.items o)) need_is (n.images only))
         (λ only. subst (λ (o : Option ℕ). StoresAround s.header ws.items o after) need_is (n.kept only))
         (subst (λ (k : ℕ). FilesFew w.id batches k lists later) fit_is (few_filed w.id limits batches r lists later files_world))
+        (λ more. subst (λ (o : Option ℕ). IsReached o s later_s ws.items old new before after) need_is (n.ordered more))
         is r result answer by_world value_world files_world (subst (λ (o : Option ℕ). reaching.MakesFor (reaching.frontier_calls s o) r old new) need_is n.trace) (reaching.IsLeft s later_s old new) (later_s.at.is_closed ≡ true) stands_world
 
-    pub notarizes : Steps (lines.Plain stmts.Notarize) now w result (alone later_s) old new before after later
+    pub notarizes : Steps (lines.Plain stmts.Notarize) now w result (alone later_s) old new before (content after later)
     notarizes = record {
       found = none_found;
       may = tt;
@@ -330,18 +357,18 @@ told_known (Some b) None P Q told f = tt
 told_known None n P Q told f = tt
 
 pub notarization : (now : ℕ) (s later_s : Opened) (old new : State) (filed later : notaries.State) → s.at.is_closed ≡ false → later_s.header ≡ s.header
-    → ((c : List ℕ) → old.was_image (turn old) c → old.is_image c) → (r : Result ℕ AuditFail) (result : Result Answered LineFail) → IsAnswer sealed_text r result
+    → ((c : List ℕ) → old.was_image (turn old) c → old.is_image c) → (r : Result ℕ AuditFail) (result : Result Answered LineFail) → Answers sealed_text r result
     → WhereTold old.reads new.reads (λ before after. WhereTold filed.lists later.lists (λ lists later_lists.
-    (items : List Item) → IsOpenOn s items before → Notarizes now items r s later_s old new before after filed later lists later_lists))
-    → StepsFor (lines.Plain stmts.Notarize) now result (alone s) (alone later_s) old new filed later
+    (items : List Item) → IsOpenOn s items before → Notarizes now items r s later_s (desk old filed) (desk new later) (content before lists) (content after later_lists)))
+    → StepsFor (lines.Plain stmts.Notarize) now result (alone s) (alone later_s) (desk old filed) (desk new later)
 notarization now s later_s old new filed later is_open header only_now r result answer told =
     told_known old.reads new.reads
-    (λ before after. WhereTold filed.lists later.lists (λ lists later_lists. (items : List Item) → IsOpenOn s items before → Notarizes now items r s later_s old new before after filed later lists later_lists))
-    (λ before after. WhereTold filed.lists later.lists (λ lists later_lists. (w : World) → IsIn w (alone s) before lists → w.limits ≡ filed.limits → Steps (lines.Plain stmts.Notarize) now w result (alone later_s) old new before after later_lists))
+    (λ before after. WhereTold filed.lists later.lists (λ lists later_lists. (items : List Item) → IsOpenOn s items before → Notarizes now items r s later_s (desk old filed) (desk new later) (content before lists) (content after later_lists)))
+    (λ before after. WhereTold filed.lists later.lists (λ lists later_lists. (w : World) → IsIn w (alone s) before lists → w.limits ≡ filed.limits → Steps (lines.Plain stmts.Notarize) now w result (alone later_s) old new before (content after later_lists)))
     told
     (λ before after was is at. told_map filed.lists later.lists
-    (λ lists later_lists. (items : List Item) → IsOpenOn s items before → Notarizes now items r s later_s old new before after filed later lists later_lists)
-    (λ lists later_lists. (w : World) → IsIn w (alone s) before lists → w.limits ≡ filed.limits → Steps (lines.Plain stmts.Notarize) now w result (alone later_s) old new before after later_lists)
+    (λ lists later_lists. (items : List Item) → IsOpenOn s items before → Notarizes now items r s later_s (desk old filed) (desk new later) (content before lists) (content after later_lists))
+    (λ lists later_lists. (w : World) → IsIn w (alone s) before lists → w.limits ≡ filed.limits → Steps (lines.Plain stmts.Notarize) now w result (alone later_s) old new before (content after later_lists))
     at
     (λ lists later_lists does w i within.
     let has = has_store w s before lists i in

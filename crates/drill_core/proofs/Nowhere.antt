@@ -10,6 +10,7 @@ use Rattle.stmt_text.specs.declared.line.Line.{Line}
 use Rattle.stmt_text.specs.declared.line.Line.TheVariants as lines
 use Rattle.session_core.specs.World as statements
 use Rattle.session_core.proofs.Untouched.{unchanged_same}
+use Rattle.validator.specs.Desk.{content, desk}
 use Rattle.drill_core.specs.declared.answered.Answered.{Answered}
 use Rattle.drill_core.specs.declared.fail.LineFail.{LineFail}
 use Rattle.drill_core.specs.World.{World, Held, IsIn, StoreIsIn}
@@ -54,16 +55,16 @@ module _ (w : World) (now : ℕ) (none : w.store ≡ None) where
   refuses (lines.Drill event) needs = absurd needs
 
 pub nowhere : (line : Line) → NeedsStore line → (id now : ℕ) (old : State) → ((c : List ℕ) → old.was_image (turn old) c → old.is_image c) → (filed : notaries.State) (result : Result Answered LineFail)
-    → IfOk result (λ answered. answered ≡ refusal (codes "NotAStore")) → StepsFor line now result (no_store id) (no_store id) old old filed filed
+    → IfOk result (λ answered. answered ≡ refusal (codes "NotAStore")) → StepsFor line now result (no_store id) (no_store id) (desk old filed) (desk old filed)
 nowhere line needs id now old only_now filed result reply =
-    told_same old.reads old.reads (λ before after. WhereTold filed.lists filed.lists (λ lists later_lists. (w : World) → IsIn w (no_store id) before lists → w.limits ≡ filed.limits → Steps line now w result (no_store id) old old before after later_lists)) refl
-    (λ bytes. told_same filed.lists filed.lists (λ lists later_lists. (w : World) → IsIn w (no_store id) bytes lists → w.limits ≡ filed.limits → Steps line now w result (no_store id) old old bytes bytes later_lists) refl
+    told_same old.reads old.reads (λ before after. WhereTold filed.lists filed.lists (λ lists later_lists. (w : World) → IsIn w (no_store id) before lists → w.limits ≡ filed.limits → Steps line now w result (no_store id) old old before (content after later_lists))) refl
+    (λ bytes. told_same filed.lists filed.lists (λ lists later_lists. (w : World) → IsIn w (no_store id) bytes lists → w.limits ≡ filed.limits → Steps line now w result (no_store id) old old bytes (content bytes later_lists)) refl
     (λ lists w i limits.
     let r = refuses w now (has_none w id bytes lists i) line needs in
     record {
       found = none_found;
       may = r.0;
-      goes = subst (λ (x : Step). Goes w x result (no_store id) old old bytes bytes lists) (sym r.1)
+      goes = subst (λ (x : Step). Goes w x result (no_store id) old old bytes (content bytes lists)) (sym r.1)
           (left w (no_store id) old old bytes lists i (unchanged_same old) only_now (has_no_store w) result lists refl refl
           (replies_as (has_no_store w) (refusal (codes "NotAStore")) result refl refl reply)
           (given result i.lists)

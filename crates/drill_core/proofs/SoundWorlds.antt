@@ -6,6 +6,7 @@ use Rattle.std.proofs.lemmas.List.{append-nil}
 use Rattle.tuple_bytes.specs.declared.item.Item.TheVariants as items
 use Rattle.tuple_bytes.specs.Spelling.{FitsHeader}
 use Rattle.history_model.specs.History.{History, history, last_moment}
+use Rattle.digest_model.specs.Layout.{layout}
 use Rattle.notary_link.specs.declared.mark.Mark.{Mark}
 use Rattle.notary_link.specs.Batches.{Batch}
 use Rattle.notary_link.specs.Notary.{marks_in_all}
@@ -78,7 +79,7 @@ module _ (w : World) (fits : HasFitHeader w) (sound : IsSoundWorld w) where
     t = statements.tail_of_world ws
 
     abbrev need : Option ℕ
-    need = frontier_for t now (filed_for w)
+    need = frontier_for (layout (history ws.header ws.items)) t now (filed_for w)
 
     abbrev next : List Batch
     next = next_batches (history ws.header ws.items) now (filed_for w)
@@ -128,14 +129,14 @@ module _ (w : World) (fits : HasFitHeader w) (sound : IsSoundWorld w) where
         by : (0 < count) ⊎ (count ≤ 0) → HoldsFiled later w.id (Some (history ws.header (with_frontier_for need ws.items)))
         by (inl some) = inr (
           length (filed_for w) + count - 1,
-          counted_more t ws.items refl now (filed_for w) (ended_within t now early) filed_before count some (fitting_few (room_in w.limits w.lists) next),
+          counted_more t ws.items refl now (filed_for w) (ended_within (layout (history ws.header ws.items)) t now early) filed_before count some (fitting_few (room_in w.limits w.lists) next),
           subst (λ (id : ℕ). IsNotarized later id (length (filed_for w) + count - 1) (history ws.header (with_frontier_for need ws.items))) (fit ws is).1
-              (notarized_more t ws.items refl now (filed_for w) (ended_within t now early) filed_before count some (fitting_few (room_in w.limits w.lists) next)),
+              (notarized_more t ws.items refl now (filed_for w) (ended_within (layout (history ws.header ws.items)) t now early) filed_before count some (fitting_few (room_in w.limits w.lists) next)),
         )
         by (inr none) =
             let zero_is : count ≡ 0 = omega (arith, none) in
             subst (λ (bs : List Batch). HoldsFiled bs w.id (Some (history ws.header (with_frontier_for need ws.items)))) (sym (ap (λ (n : ℕ). filed_for w ++ take n next) zero_is ∙ append-nil (filed_for w)))
-            (still need (need_follows t ws.items refl now (filed_for w)) (holds ws is))
+            (still need (need_follows (layout (history ws.header ws.items)) t ws.items refl now (filed_for w)) (holds ws is))
 
     abbrev new_world : World
     new_world = filed (with_store w (reached need ws)) next
@@ -153,7 +154,7 @@ module _ (w : World) (fits : HasFitHeader w) (sound : IsSoundWorld w) where
     all_sound : IsSoundAndFit new_world → IsSoundAndFit (sealed w ws now).world
     all_sound new = by (count == length next)
       where
-        by : (b : Bool) → IsSoundAndFit (if b then says new_world (numbered (codes "sealed ") (sealed_after ws.header now (filed_for w))) else refuses new_world (refusal_text fails.Full)).world
+        by : (b : Bool) → IsSoundAndFit (if b then says new_world (numbered (codes "sealed ") (sealed_after (layout (history ws.header ws.items)) ws.header now (filed_for w))) else refuses new_world (refusal_text fails.Full)).world
         by true = new
         by false = new
 

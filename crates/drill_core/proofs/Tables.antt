@@ -18,6 +18,7 @@ use Rattle.session_core.specs.Stepping.{StepsIn, StepsTo, MakesFor}
 use Rattle.session_core.specs.declared.reply.Reply.TheVariants as replies
 use Rattle.tuple_bytes.specs.declared.item.Item.{Item}
 use Rattle.tuple_bytes.specs.declared.item.Item.TheVariants as items
+use Rattle.validator.specs.Desk.{content}
 use Rattle.drill_core.specs.declared.answered.Answered.{Answered}
 use Rattle.drill_core.specs.declared.fail.LineFail.{LineFail}
 use Rattle.drill_core.specs.World.{World, IsIn, StoreIsIn, StoresOf, StoresEither}
@@ -92,7 +93,7 @@ module _ (s later : Opened) (header : later.header ≡ s.header) (old new : disk
     either next c (inr stores) = inr stores
 
     goes : (next : statement_steps.Step) (r : Result Reply StepFail) (result : Result Answered LineFail) → StepsIn has.world next r s later old new b a → Answers r result
-        → Goes w (after_statement w next) result (alone later) old new b a lists
+        → Goes w (after_statement w next) result (alone later) old new b (content a lists)
     goes next (Ok reply) (Ok answered) steps is = record {
       reply = record { text = ap (λ (x : Answered). x.text) is ∙ ap (λ (x : Reply). (replied x).text) steps.reply; refused = ap (λ (x : Answered). x.refused) is ∙ ap (λ (x : Reply). (replied x).refused) steps.reply };
       stands = record {
@@ -104,6 +105,7 @@ module _ (s later : Opened) (header : later.header ≡ s.header) (old new : disk
       images = λ only. weaker (steps.images only) (either next);
       kept = λ only. either next a (steps.kept only);
       between = kept_between w.lists lists i.lists;
+      ordered = λ id more. absurd (more (i.lists.batches id));
       same = λ stays. unmoved has.world next reply s old new steps.trace (stays ∙ has.is);
     }
     goes next r (Err fail) steps is = record {
@@ -113,25 +115,26 @@ module _ (s later : Opened) (header : later.header ≡ s.header) (old new : disk
       images = λ only. weaker (steps.images only) (either next);
       kept = λ only. either next a (steps.kept only);
       between = kept_between w.lists lists i.lists;
+      ordered = λ id more. absurd (more (i.lists.batches id));
       same = λ stays. tt;
     }
     goes next (Err fail) (Ok answered) steps is = absurd is
 
   module _ (line : Line) (now : ℕ) (on : IsTableLine line) (r : Result Reply StepFail) (result : Result Answered LineFail) (answers : Answers r result) where
-    steps : (w : World) (lists : notaries.Lists) (b a : List ℕ) → IsIn w (alone s) b lists → StepsTo line now r s later old new b a → Steps line now w result (alone later) old new b a lists
+    steps : (w : World) (lists : notaries.Lists) (b a : List ℕ) → IsIn w (alone s) b lists → StepsTo line now r s later old new b a → Steps line now w result (alone later) old new b (content a lists)
     steps w lists b a i does =
         let has = has_store w s b lists i in
         let next = statement_steps.step has.world line now in
         record {
           found = none_found;
           may = table_may w now line on;
-          goes = subst (λ (x : Step). Goes w x result (alone later) old new b a lists) (sym (table_step w now line on ∙ ap (λ (o : Option statements.World). on_tables w o line now) has.is))
+          goes = subst (λ (x : Step). Goes w x result (alone later) old new b (content a lists)) (sym (table_step w now line on ∙ ap (λ (o : Option statements.World). on_tables w o line now) has.is))
               (goes w lists b a i has next r result (does has.world has.stands) answers);
         }
 
     pub beside : WhereTold old.reads new.reads (StepsTo line now r s later old new) → StepsBeside line now result s later old new
     beside told filed = told_map old.reads new.reads (StepsTo line now r s later old new)
-        (λ before after. WhereTold filed.lists filed.lists (λ lists later_lists. (w : World) → IsIn w (alone s) before lists → w.limits ≡ filed.limits → Steps line now w result (alone later) old new before after later_lists))
+        (λ before after. WhereTold filed.lists filed.lists (λ lists later_lists. (w : World) → IsIn w (alone s) before lists → w.limits ≡ filed.limits → Steps line now w result (alone later) old new before (content after later_lists)))
         told
-        (λ b a does. told_same filed.lists filed.lists (λ lists later_lists. (w : World) → IsIn w (alone s) b lists → w.limits ≡ filed.limits → Steps line now w result (alone later) old new b a later_lists) refl
+        (λ b a does. told_same filed.lists filed.lists (λ lists later_lists. (w : World) → IsIn w (alone s) b lists → w.limits ≡ filed.limits → Steps line now w result (alone later) old new b (content a later_lists)) refl
         (λ lists w i limits. steps w lists b a i does))

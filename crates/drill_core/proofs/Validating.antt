@@ -22,6 +22,7 @@ use Rattle.store_engine.specs.Refusals.{IsOfAnother}
 use Rattle.stmt_text.specs.declared.stmt.Stmt.TheVariants as stmts
 use Rattle.stmt_text.specs.declared.line.Line.TheVariants as lines
 use Rattle.session_core.specs.World as statements
+use Rattle.validator.specs.Desk.{content}
 use Rattle.validator.specs.declared.verdict.Verdict.{Verdict}
 use Rattle.validator.specs.declared.fail.AuditFail.{AuditFail}
 use Rattle.validator.specs.declared.fail.AuditFail.TheVariants as fails
@@ -30,7 +31,8 @@ use Rattle.validator.specs.Verdicts.{IsFound, IsFoundIn, mark_of, history_with, 
 use Rattle.drill_core.specs.declared.answered.Answered.{Answered}
 use Rattle.drill_core.specs.declared.fail.LineFail.{LineFail}
 use Rattle.drill_core.specs.World.{World, Held, IsIn, StoreIsIn, with_mark, AreBetween}
-use Rattle.drill_core.specs.Answers.{said, refusal, IsAnswer, IsAnswerTo}
+use Rattle.drill_core.specs.Answers.{said, refusal}
+use Rattle.drill_core.proofs.Replies.{Answers}
 use Rattle.drill_core.specs.Parts.{StepsWithout}
 use Rattle.drill_core.specs.Steps.{Step, says, refuses, marked, validated, filed_for, history_of}
 use Rattle.drill_core.specs.Stepping.{IsReply, Goes, Steps}
@@ -73,7 +75,7 @@ module _ (id : ℕ) where
 module _ (now : ℕ) (w : World) (held : Held) (old new : State) (bytes : List ℕ) (lists later : Lists) (i : IsIn w held bytes lists)
     (same : Unchanged old new) (only_now : (c : List ℕ) → old.was_image (turn old) c → old.is_image c) where
   abbrev To : Step → Result Answered LineFail → Type 0
-  To next result = Goes w next result held old new bytes bytes later
+  To next result = Goes w next result held old new bytes (content bytes later)
 
   found_in : (f : Result Verdict AuditFail) → IsFound w.id (lists.batches w.id) (stored bytes) f → IsFoundIn (filed_for w) (history_of w.store) f
   found_in f is = subst (λ (b : List Batch). IsFoundIn b (history_of w.store) f) (i.lists.batches w.id)
@@ -150,40 +152,40 @@ module _ (now : ℕ) (w : World) (held : Held) (old new : State) (bytes : List �
     fails_so (Ok verdict) fail keeps = may_be_marked (mark_of verdict now) (verdict_text verdict) fail (keeps_may (mark_of verdict now) keeps)
     fails_so (Err other) fail keeps = keep (refuses w (refusal_text other)) (Err fail) refl keeps tt
 
-    steps : (result : Result Answered LineFail) (f : Result Verdict AuditFail) → IsFoundIn (filed_for w) (history_of w.store) f → To (validated w now f) result → Steps (lines.Plain stmts.Validate) now w result held old new bytes bytes later
+    steps : (result : Result Answered LineFail) (f : Result Verdict AuditFail) → IsFoundIn (filed_for w) (history_of w.store) f → To (validated w now f) result → Steps (lines.Plain stmts.Validate) now w result held old new bytes (content bytes later)
     steps result f is goes = record { found = f; may = is; goes = subst (λ (x : Step). To x result) (sym (validate_step w now f)) goes }
 
     -- before anything is found
-    early : (result : Result Answered LineFail) → OnOk result ⊥ → Keeps lists later → Steps (lines.Plain stmts.Validate) now w result held old new bytes bytes later
+    early : (result : Result Answered LineFail) → OnOk result ⊥ → Keeps lists later → Steps (lines.Plain stmts.Validate) now w result held old new bytes (content bytes later)
     early (Ok answered) never keeps = absurd never
     early (Err fail) never keeps =
         let some = something_is_found (filed_for w) (history_of w.store) in
         steps (Err fail) some.0 some.1 (fails_so some.0 fail keeps)
 
     -- after that
-    late : (result : Result Answered LineFail) (verdict : Verdict) → OnOk result ⊥ → IsFound w.id (lists.batches w.id) (stored bytes) (Ok verdict) → MayBeMarked (mark_of verdict now) w.id limits lists later → Steps (lines.Plain stmts.Validate) now w result held old new bytes bytes later
+    late : (result : Result Answered LineFail) (verdict : Verdict) → OnOk result ⊥ → IsFound w.id (lists.batches w.id) (stored bytes) (Ok verdict) → MayBeMarked (mark_of verdict now) w.id limits lists later → Steps (lines.Plain stmts.Validate) now w result held old new bytes (content bytes later)
     late (Ok answered) verdict never is may = absurd never
     late (Err fail) verdict never is may = steps (Err fail) (Ok verdict) (found_in (Ok verdict) is) (may_be_marked (mark_of verdict now) (verdict_text verdict) fail may)
 
-    pub validates : (v : Result Verdict AuditFail) (result : Result Answered LineFail) → IsAnswer verdict_text v result → Validates w.id now limits (stored bytes) v lists later
-        → Steps (lines.Plain stmts.Validate) now w result held old new bytes bytes later
-    validates (Ok verdict) result answer (is, made) = steps result (Ok verdict) (found_in (Ok verdict) is) (is_marked (mark_of verdict now) (verdict_text verdict) result answer made)
-    validates (Err (fails.SealMissing name)) result answer (is, keeps) =
+    pub validates : (v : Result Verdict AuditFail) (result : Result Answered LineFail) → Answers verdict_text v result → (was is : Option (List notaries.Entry)) → Validates w.id now limits (stored bytes) v was is lists later
+        → Steps (lines.Plain stmts.Validate) now w result held old new bytes (content bytes later)
+    validates (Ok verdict) result answer was is (found, made) = steps result (Ok verdict) (found_in (Ok verdict) found) (is_marked (mark_of verdict now) (verdict_text verdict) result answer made)
+    validates (Err (fails.SealMissing name)) result answer was is (found, keeps) =
         let next = refuses w (refusal_text (fails.SealMissing name)) in
-        steps result (Err (fails.SealMissing name)) (found_in (Err (fails.SealMissing name)) is)
+        steps result (Err (fails.SealMissing name)) (found_in (Err (fails.SealMissing name)) found)
         (keep next result refl keeps (replies_as next (refusal (refusal_text (fails.SealMissing name))) result refl refl answer))
-    validates (Err fails.Full) result answer (verdict, is, none) = steps result (Ok verdict) (found_in (Ok verdict) is) (is_not_marked (mark_of verdict now) (verdict_text verdict) result answer none)
-    validates (Err fails.NotaryFault) result answer (inl keeps) = early result answer keeps
-    validates (Err fails.NotaryFault) result answer (inr (verdict, is, may)) = late result verdict answer is may
-    validates (Err fails.NoMemory) result answer (inl keeps) = early result answer keeps
-    validates (Err fails.NoMemory) result answer (inr (verdict, is, may)) = late result verdict answer is may
-    validates (Err fails.DiskFault) result answer keeps = early result answer keeps
-    validates (Err (fails.ClockBack last)) result answer never = absurd never
-    validates (Err fails.TooLate) result answer never = absurd never
-    validates (Err fails.StoreFull) result answer never = absurd never
-    validates (Err fails.Closed) result answer never = absurd never
-    validates (Err fails.Broken) result answer never = absurd never
-    validates (Err (fails.OutOfTurn count)) result answer never = absurd never
+    validates (Err fails.Full) result answer was is (verdict, found, none) = steps result (Ok verdict) (found_in (Ok verdict) found) (is_not_marked (mark_of verdict now) (verdict_text verdict) result answer none.0)
+    validates (Err fails.NotaryFault) result answer was is (inl keeps) = early result answer keeps.0
+    validates (Err fails.NotaryFault) result answer was is (inr (verdict, found, may)) = late result verdict answer found may.0
+    validates (Err fails.NoMemory) result answer was is (inl keeps) = early result answer keeps
+    validates (Err fails.NoMemory) result answer was is (inr (verdict, found, may)) = late result verdict answer found may
+    validates (Err fails.DiskFault) result answer was is keeps = early result answer keeps
+    validates (Err (fails.ClockBack last)) result answer was is never = absurd never
+    validates (Err fails.TooLate) result answer was is never = absurd never
+    validates (Err fails.StoreFull) result answer was is never = absurd never
+    validates (Err fails.Closed) result answer was is never = absurd never
+    validates (Err fails.Broken) result answer was is never = absurd never
+    validates (Err (fails.OutOfTurn count)) result answer was is never = absurd never
 
 -- where the disk is unchanged
 told_unchanged : {A : Type 0} (o n : Option A) (P : A → Type 0) (Q : A → A → Type 0) → n ≡ o → IfSome o P → ((b : A) → P b → Q b b) → WhereTold o n Q
@@ -194,15 +196,15 @@ told_unchanged {A = A} o n P Q same told f = subst (λ (m : Option A). WhereTold
     at None told = tt
 
 pub without : (id now : ℕ) (old new : State) (filed later : notaries.State) (v : Result Verdict AuditFail) (result : Result Answered LineFail) → Unchanged old new
-    → ((c : List ℕ) → old.was_image (turn old) c → old.is_image c) → IsAnswer verdict_text v result
-    → IfSome old.reads (λ bytes. WhereTold filed.lists later.lists (Validates id now filed.limits (stored bytes) v))
+    → ((c : List ℕ) → old.was_image (turn old) c → old.is_image c) → Answers verdict_text v result
+    → IfSome old.reads (λ bytes. WhereTold filed.lists later.lists (Validates id now filed.limits (stored bytes) v filed.trace later.trace))
     → StepsWithout (lines.Plain stmts.Validate) now result id old new filed later
 without id now old new filed later v result same only_now answer told held own =
-    told_unchanged old.reads new.reads (λ bytes. WhereTold filed.lists later.lists (Validates id now filed.limits (stored bytes) v))
-    (λ before after. WhereTold filed.lists later.lists (λ lists later_lists. (w : World) → IsIn w held before lists → w.limits ≡ filed.limits → Steps (lines.Plain stmts.Validate) now w result held old new before after later_lists))
+    told_unchanged old.reads new.reads (λ bytes. WhereTold filed.lists later.lists (Validates id now filed.limits (stored bytes) v filed.trace later.trace))
+    (λ before after. WhereTold filed.lists later.lists (λ lists later_lists. (w : World) → IsIn w held before lists → w.limits ≡ filed.limits → Steps (lines.Plain stmts.Validate) now w result held old new before (content after later_lists)))
     same.reads told
-    (λ bytes at. told_map filed.lists later.lists (Validates id now filed.limits (stored bytes) v)
-    (λ lists later_lists. (w : World) → IsIn w held bytes lists → w.limits ≡ filed.limits → Steps (lines.Plain stmts.Validate) now w result held old new bytes bytes later_lists)
+    (λ bytes at. told_map filed.lists later.lists (Validates id now filed.limits (stored bytes) v filed.trace later.trace)
+    (λ lists later_lists. (w : World) → IsIn w held bytes lists → w.limits ≡ filed.limits → Steps (lines.Plain stmts.Validate) now w result held old new bytes (content bytes later_lists))
     at
-    (λ lists later_lists does w i within. validates now w held old new bytes lists later_lists i same only_now filed.limits within v result answer
-    (subst (λ (n : ℕ). Validates n now filed.limits (stored bytes) v lists later_lists) (sym own ∙ i.id) does)))
+    (λ lists later_lists does w i within. validates now w held old new bytes lists later_lists i same only_now filed.limits within v result answer filed.trace later.trace
+    (subst (λ (n : ℕ). Validates n now filed.limits (stored bytes) v filed.trace later.trace lists later_lists) (sym own ∙ i.id) does)))

@@ -1,5 +1,5 @@
 -- What is answered, as a text and whether it is a refusal.
-use Rattle.std.specs.Prelude.{◌≡◌, true, false, List, ℕ, ◌++◌, ◌∷◌, [], codes, Result, Ok, Err, OnOk, IfOk}
+use Rattle.std.specs.Prelude.{◌≡◌, true, false, List, ℕ, ◌++◌, ◌∷◌, [], codes, Result, Ok, Err}
 use Rattle.session_core.specs.declared.reply.Reply.{Reply}
 use Rattle.session_core.specs.declared.sessions.StepFail.{StepFail}
 use Rattle.session_core.specs.declared.sessions.StepFail.TheVariants as steps
@@ -28,16 +28,22 @@ refusal name = record { refused = true; text = codes "refused " ++ name ++ 10 �
 abbrev pub replied : Reply → Answered
 replied reply = record { refused = is_refusal reply; text = reply_text reply }
 
+-- this is replied, or there is no memory for its text
+abbrev pub Replies : Answered → Result Answered LineFail → Type 0
+Replies answer (Ok answered) = answered ≡ answer
+Replies answer (Err fails.NoMemory) = Unit {0}
+Replies answer (Err fail) = ⊥
+
 -- The answer where an audit came to no end: its refusals are told, and its faults have no reply. An open store is not refused
 -- as closed.
 abbrev pub IsAnswerTo : AuditFail → Result Answered LineFail → Type 0
-IsAnswerTo audits.DiskFault result = OnOk result ⊥
-IsAnswerTo audits.NotaryFault result = OnOk result ⊥
-IsAnswerTo audits.NoMemory result = OnOk result ⊥
-IsAnswerTo audits.Closed result = OnOk result ⊥
-IsAnswerTo fail result = IfOk result (λ answered. answered ≡ refusal (refusal_text fail))
+IsAnswerTo audits.DiskFault result = result ≡ Err fails.DiskFault
+IsAnswerTo audits.NotaryFault result = result ≡ Err fails.NotaryFault
+IsAnswerTo audits.NoMemory result = result ≡ Err fails.NoMemory
+IsAnswerTo audits.Closed result = result ≡ Err fails.NoMemory
+IsAnswerTo fail result = Replies (refusal (refusal_text fail)) result
 
 -- the answer to what an audit came to, of which this is the text
 abbrev pub IsAnswer : {A : Type 0} → (A → List ℕ) → Result A AuditFail → Result Answered LineFail → Type 0
-IsAnswer text (Ok a) result = IfOk result (λ answered. answered ≡ said (text a))
+IsAnswer text (Ok a) result = Replies (said (text a)) result
 IsAnswer text (Err fail) result = IsAnswerTo fail result

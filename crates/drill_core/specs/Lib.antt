@@ -5,3 +5,4 @@ pub mod Answers
 pub mod Parts
 pub mod Unheld
 pub mod Laws
+pub mod Acknowledged

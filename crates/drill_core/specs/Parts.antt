@@ -4,7 +4,7 @@ use Rattle.disk_words.specs.Disk as disks
 use Rattle.notary_link.specs.Notary as notaries
 use Rattle.store_engine.specs.Opened.{Opened}
 use Rattle.stmt_text.specs.declared.line.Line.{Line}
-use Rattle.validator.specs.Safe.{KeepsSound}
+use Rattle.validator.specs.Desk.{KeepsSound, desk}
 use Rattle.drill_core.specs.declared.answered.Answered.{Answered}
 use Rattle.drill_core.specs.declared.fail.LineFail.{LineFail}
 use Rattle.drill_core.specs.World.{Held, StandsFor}
@@ -20,12 +20,12 @@ no_store id = record { id = id; store = None }
 
 -- whatever the notary is, which is not called
 abbrev pub StepsBeside : Line → ℕ → Result Answered LineFail → Opened → Opened → disks.State → disks.State → Type 0
-StepsBeside line now result s later old new = (filed : notaries.State) → StepsFor line now result (alone s) (alone later) old new filed filed
+StepsBeside line now result s later old new = (filed : notaries.State) → StepsFor line now result (alone s) (alone later) (desk old filed) (desk new filed)
 
 -- and whatever it holds, it stays sound
 abbrev pub StaysSound : Opened → disks.State → disks.State → Type 0
-StaysSound s old new = (filed : notaries.State) → KeepsSound (StandsFor (alone s)) old new filed filed
+StaysSound s old new = (filed : notaries.State) → KeepsSound (StandsFor (alone s)) (desk old filed) (desk new filed)
 
 -- whatever store there is, which is not called
 abbrev pub StepsWithout : Line → ℕ → Result Answered LineFail → ℕ → disks.State → disks.State → notaries.State → notaries.State → Type 0
-StepsWithout line now result id old new filed later = (held : Held) → held.id ≡ id → StepsFor line now result held held old new filed later
+StepsWithout line now result id old new filed later = (held : Held) → held.id ≡ id → StepsFor line now result held held (desk old filed) (desk new later)

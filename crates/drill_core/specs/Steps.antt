@@ -15,10 +15,10 @@ use Rattle.session_core.specs.Replies as replies
 use Rattle.validator.specs.declared.verdict.Verdict.{Verdict}
 use Rattle.validator.specs.declared.fail.AuditFail.{AuditFail}
 use Rattle.validator.specs.declared.fail.AuditFail.TheVariants as fails
-use Rattle.validator.specs.Notarizing.{notarize_fault, next_batches, sealed_after, frontier_for}
+use Rattle.validator.specs.Notarizing.{Intent, intent_of}
 use Rattle.validator.specs.Verdicts.{IsFoundIn, mark_of}
 use Rattle.validator.specs.Texts.{verdict_text, refusal_text, numbered}
-use Rattle.drill_core.specs.World.{World, with_store, with_lists, with_batches, with_mark}
+use Rattle.drill_core.specs.World.{World, why_none, with_store, with_lists, with_batches, with_mark}
 
 -- the world after a line, the text of the reply, and whether it is a refusal
 pub record Step : Type 0 where
@@ -36,7 +36,7 @@ refuses w name = record { world = w; text = codes "refused " ++ name ++ 10 ∷ [
 
 -- without a store
 abbrev pub has_no_store : World → Step
-has_no_store w = refuses w (codes "NotAStore")
+has_no_store w = refuses w (why_none w)
 
 -- ---- a statement on tables
 
@@ -68,13 +68,17 @@ all_filed w new batches tiles =
     if fitting (room_in w.limits w.lists) batches == length batches then says new (numbered (codes "sealed ") tiles)
     else refuses new (refusal_text fails.Full)
 
+-- what a notarization is to do
+abbrev pub intent_in : World → statements.World → ℕ → Intent
+intent_in w store now = intent_of (statements.tail_of_world store) false now store.items (filed_for w)
+
+-- its Frontier is stored, and its batches are filed
+abbrev pub carried_out : World → statements.World → Intent → Step
+carried_out w store i = all_filed w (filed (with_store w (reached i.frontier store)) i.batches) i.batches i.sealed
+
 -- what is filed where nothing speaks against it
 abbrev pub sealed : World → statements.World → ℕ → Step
-sealed w store now =
-    all_filed w
-    (filed (with_store w (reached (frontier_for (statements.tail_of_world store) now (filed_for w)) store)) (next_batches (history store.header store.items) now (filed_for w)))
-    (next_batches (history store.header store.items) now (filed_for w))
-    (sealed_after store.header now (filed_for w))
+sealed w store now = carried_out w store (intent_in w store now)
 
 abbrev pub unless : Option AuditFail → World → Step → Step
 unless (Some fail) w s = refuses w (refusal_text fail)
@@ -82,8 +86,7 @@ unless None w s = s
 
 abbrev pub notarized : World → Option statements.World → ℕ → Step
 notarized w None now = has_no_store w
-notarized w (Some store) now =
-    unless (notarize_fault (statements.tail_of_world store) false now store.items (filed_for w)) w (sealed w store now)
+notarized w (Some store) now = unless (intent_in w store now).fault w (sealed w store now)
 
 -- ---- a validation
 

@@ -28,12 +28,12 @@ pub record IsToldNone (result : Result Answered LineFail) (old new : disks.State
   pub notary : later ≡ filed
 
 -- this was found of the stored bytes and what is filed, noted where it may be, and replied
-pub record IsFoundAndTold (id now : ℕ) (result : Result Answered LineFail) (filed : notaries.State) (bytes : List ℕ) (lists later_lists : notaries.Lists) : Type 0 where
+pub record IsFoundAndTold (id now : ℕ) (result : Result Answered LineFail) (filed later : notaries.State) (bytes : List ℕ) (lists later_lists : notaries.Lists) : Type 0 where
   pub found : Result Verdict AuditFail
-  pub validates : Validates id now filed.limits (stored bytes) found lists later_lists
+  pub validates : Validates id now filed.limits (stored bytes) found filed.trace later.trace lists later_lists
   pub reply : IsAnswer verdict_text found result
 
 -- A validation goes by the stored bytes and what is filed alone, and leaves the disk.
 pub record GoesByBytes (id now : ℕ) (result : Result Answered LineFail) (old new : disks.State) (filed later : notaries.State) : Type 0 where
   pub disk : disks.Unchanged old new
-  pub told : IfSome old.reads (λ bytes. WhereTold filed.lists later.lists (IsFoundAndTold id now result filed bytes))
+  pub told : IfSome old.reads (λ bytes. WhereTold filed.lists later.lists (IsFoundAndTold id now result filed later bytes))

@@ -1,5 +1,5 @@
 -- The world that lines run in: a stored history, and what a notary holds.
-use Rattle.std.specs.Prelude.{◌≡◌, ◌⊎◌, ℕ, ◌==◌, ◌≤◌, if◌then◌else◌, List, ◌++◌, ◌∷◌, [], length, take, Option, Some, None, IfSome, Result, Ok, Err}
+use Rattle.std.specs.Prelude.{◌≡◌, ◌⊎◌, ℕ, ◌==◌, ◌≤◌, if◌then◌else◌, List, ◌++◌, ◌∷◌, [], length, take, codes, Option, Some, None, IfSome, Result, Ok, Err}
 use Rattle.history_model.specs.Stored.{stored}
 use Rattle.notary_link.specs.declared.mark.Mark.{Mark}
 use Rattle.notary_link.specs.declared.notary.NotaryLimits.{NotaryLimits}
@@ -22,25 +22,27 @@ pub record World : Type 0 where
 
 -- with another history
 abbrev pub with_store : World → statements.World → World
-with_store w store = record { id = w.id; store = Some store; lists = w.lists; limits = w.limits }
+with_store w store = record w { store = Some store }
 
 -- with other lists
 abbrev pub with_lists : World → Lists → World
-with_lists w lists = record { id = w.id; store = w.store; lists = lists; limits = w.limits }
+with_lists w lists = record w { lists = lists }
 
 -- batches more under an id
 abbrev pub with_batches : ℕ → List Batch → Lists → Lists
-with_batches id batches lists = record {
+with_batches id batches lists = record lists {
   batches = λ any. if any == id then lists.batches any ++ batches else lists.batches any;
-  marks = lists.marks;
 }
 
 -- a mark more under an id
 abbrev pub with_mark : ℕ → Mark → Lists → Lists
-with_mark id mark lists = record {
-  batches = lists.batches;
+with_mark id mark lists = record lists {
   marks = λ any. if any == id then lists.marks any ++ mark ∷ [] else lists.marks any;
 }
+
+-- why a world has no store: the name of the refusal of a line that needs one
+abbrev pub why_none : World → List ℕ
+why_none w = codes "NotAStore"
 
 -- ---- what stands for a world
 

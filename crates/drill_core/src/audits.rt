@@ -7,7 +7,7 @@ ghost use Rattle.notary_link.specs.Notary as notaries;
 ghost use Rattle.stmt_text.specs.declared.line.Line.TheVariants as lines;
 ghost use Rattle.stmt_text.specs.declared.stmt.Stmt.TheVariants as stmts;
 ghost use Rattle.validator.specs.declared.fail.AuditFail.TheVariants as audits;
-ghost use Rattle.validator.specs.Safe.{KeepsSound};
+ghost use Rattle.validator.specs.Desk.{KeepsSound, desk};
 ghost use Rattle.drill_core.specs.declared.fail.LineFail.TheVariants.{DiskFault, NotaryFault};
 ghost use Rattle.drill_core.specs.Answers.{IsAnswerTo};
 ghost use Rattle.drill_core.specs.World.{StandsFor};
@@ -49,9 +49,9 @@ pub(crate) fn answer_notarization<D: Disk, N: Notary>(
     ensures open { OnOk result (store.new.at.is_closed ≡ false) }
     ensures header { store.new.header ≡ store.old.header }
     ensures told { StepsFor (lines.Plain stmts.Notarize) now result (alone store.old) (alone store.new)
-        (D.state disk.old) (D.state disk.new) (N.state notary.old) (N.state notary.new) }
+        (desk (D.state disk.old) (N.state notary.old)) (desk (D.state disk.new) (N.state notary.new)) }
     ensures sound { KeepsSound (StandsFor (alone store.old))
-        (D.state disk.old) (D.state disk.new) (N.state notary.old) (N.state notary.new) }
+        (desk (D.state disk.old) (N.state notary.old)) (desk (D.state disk.new) (N.state notary.new)) }
     ensures disk_frame { disks.GoesOn (D.state disk.old) (D.state disk.new) }
     ensures notary_frame { notaries.GoesOn (N.state notary.old) (N.state notary.new) }
     ensures disk_cause { HasCause DiskFault (D.state disk.old).faults (D.state disk.new).faults result }
@@ -75,7 +75,7 @@ pub(crate) fn answer_validation<D: Disk, N: Notary>(
     ensures told { StepsWithout (lines.Plain stmts.Validate) now result id
         (D.state disk.old) (D.state disk.new) (N.state notary.old) (N.state notary.new) }
     ensures sound { KeepsSound (λ before. ⊤)
-        (D.state disk.old) (D.state disk.new) (N.state notary.old) (N.state notary.new) }
+        (desk (D.state disk.old) (N.state notary.old)) (desk (D.state disk.new) (N.state notary.new)) }
     ensures disk_frame { disks.GoesOn (D.state disk.old) (D.state disk.new) }
     ensures notary_frame { notaries.GoesOn (N.state notary.old) (N.state notary.new) }
     ensures disk_cause { HasCause DiskFault (D.state disk.old).faults (D.state disk.new).faults result }

@@ -20,9 +20,10 @@
 //! | Sentence | Clause |
 //! |---|---|
 //! | a line does to the store, the notary and the disk, and replies, what the definition says | `told` of `World::line`, by `StepsFor` |
-//! | a crash at any moment leaves the history before the line or the one after it | `images` and `kept` of `Goes` |
+//! | on a settled disk a crash at any moment leaves the history before the line or the one after it | `images` and `kept` of `Goes` |
 //! | once a line is replied to, its world is the only one that a crash leaves, where that was so before | `settled` of `Goes` |
 //! | whatever was answered, the notary holds the first of what the line adds, and all that it held | `between` of `Goes` |
+//! | a batch is filed only where every image of a settled store has reached the end of its tile | `ordered` of `Goes` |
 //! | each image of a sound store is still what was filed | `sound` of `World::line` |
 //! | a store stays open, of the same header, until a failure; after one there is none | `store` of `World::line` |
 //! | where nothing is stored, no call changes the disk | `same` of `Goes` |
@@ -32,6 +33,7 @@
 //! | a failure is a fault of the disk or of the notary, or want of memory | `disk_cause` and `notary_cause` |
 //! | the store of the id is opened, or there is none | `value` of `World::enter` |
 //! | a world whose store is what was filed stays so at every line, and no line tells of an alteration | [`sound_worlds_stay_sound`] |
+//! | a line that is replied `ok N` leaves a store that has the transaction N, and no line takes an item away | [`steps_acknowledge`], [`steps_only_append`] |
 //!
 //! Only tested: that memory suffices.
 //!
@@ -52,9 +54,6 @@ mod world;
 
 pub use answered::Answered;
 pub use fail::LineFail;
-pub use laws::sound_worlds_stay_sound;
+pub use laws::{sound_worlds_stay_sound, steps_acknowledge, steps_only_append};
 pub use lines::is_world_line;
 pub use world::World;
-
-#[cfg(test)]
-mod tests;

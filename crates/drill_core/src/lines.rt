@@ -8,7 +8,7 @@ ghost use Rattle.stmt_text.specs.Fits.{FitsParts};
 ghost use Rattle.stmt_text.specs.declared.line.Line.TheVariants as lines;
 ghost use Rattle.stmt_text.specs.declared.stmt.Stmt.TheVariants as stmts;
 ghost use Rattle.session_core.specs.Steps.{IsTableLine};
-ghost use Rattle.validator.specs.Safe.{KeepsSound};
+ghost use Rattle.validator.specs.Desk.{KeepsSound, desk};
 ghost use Rattle.drill_core.specs.declared.fail.LineFail.TheVariants.{DiskFault, NotaryFault, NoMemory};
 ghost use Rattle.drill_core.specs.Answers.{refusal};
 ghost use Rattle.drill_core.specs.World.{StandsFor};
@@ -46,9 +46,9 @@ pub(crate) fn answer_with_store<D: Disk, N: Notary>(
     ensures bytes { line.now ≡ lines.Plain stmts.Validate → GoesByBytes store.old.header.id now result (D.state disk.old) (D.state disk.new) (N.state notary.old) (N.state notary.new) }
     ensures unasked { IsTableLine line.now → N.state notary.new ≡ N.state notary.old }
     ensures told { StepsFor line.now now result (alone store.old) (alone store.new)
-        (D.state disk.old) (D.state disk.new) (N.state notary.old) (N.state notary.new) }
+        (desk (D.state disk.old) (N.state notary.old)) (desk (D.state disk.new) (N.state notary.new)) }
     ensures sound { KeepsSound (StandsFor (alone store.old))
-        (D.state disk.old) (D.state disk.new) (N.state notary.old) (N.state notary.new) }
+        (desk (D.state disk.old) (N.state notary.old)) (desk (D.state disk.new) (N.state notary.new)) }
     ensures disk_frame { disks.GoesOn (D.state disk.old) (D.state disk.new) }
     ensures notary_frame { notaries.GoesOn (N.state notary.old) (N.state notary.new) }
     ensures disk_cause { HasCause DiskFault (D.state disk.old).faults (D.state disk.new).faults result }
@@ -92,9 +92,9 @@ pub(crate) fn answer_without_store<D: Disk, N: Notary>(
     ensures none { NeedsStore line.now → IsToldNone result (D.state disk.old) (D.state disk.new) (N.state notary.old) (N.state notary.new) }
     ensures bytes { line.now ≡ lines.Plain stmts.Validate → GoesByBytes id now result (D.state disk.old) (D.state disk.new) (N.state notary.old) (N.state notary.new) }
     ensures told { StepsFor line.now now result (no_store id) (no_store id)
-        (D.state disk.old) (D.state disk.new) (N.state notary.old) (N.state notary.new) }
+        (desk (D.state disk.old) (N.state notary.old)) (desk (D.state disk.new) (N.state notary.new)) }
     ensures sound { KeepsSound (λ before. ⊤)
-        (D.state disk.old) (D.state disk.new) (N.state notary.old) (N.state notary.new) }
+        (desk (D.state disk.old) (N.state notary.old)) (desk (D.state disk.new) (N.state notary.new)) }
     ensures disk_frame { disks.GoesOn (D.state disk.old) (D.state disk.new) }
     ensures notary_frame { notaries.GoesOn (N.state notary.old) (N.state notary.new) }
     ensures disk_cause { HasCause DiskFault (D.state disk.old).faults (D.state disk.new).faults result }

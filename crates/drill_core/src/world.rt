@@ -14,7 +14,7 @@ ghost use Rattle.session_core.specs.Steps.{IsTableLine};
 ghost use Rattle.store_engine.specs.declared.fail.StoreFail.TheVariants as stores;
 ghost use Rattle.store_engine.specs.Opened.{IsOpenOn};
 ghost use Rattle.store_engine.specs.Refusals.{IsNoStore, IsOfOpening};
-ghost use Rattle.validator.specs.Safe.{KeepsSound};
+ghost use Rattle.validator.specs.Desk.{KeepsSound, desk};
 ghost use Rattle.drill_core.specs.declared.fail.LineFail.TheVariants.{DiskFault, NotaryFault};
 ghost use Rattle.drill_core.specs.World.{StandsFor, IsEntered};
 ghost use Rattle.drill_core.specs.Steps.{IsWorldLine};
@@ -104,9 +104,9 @@ impl World {
             (D.state disk.old) (D.state disk.new) (N.state notary.old) (N.state notary.new) }
         ensures unasked { IsTableLine line.now → N.state notary.new ≡ N.state notary.old }
         ensures told { StepsFor line.now now result self.old self.new
-            (D.state disk.old) (D.state disk.new) (N.state notary.old) (N.state notary.new) }
+            (desk (D.state disk.old) (N.state notary.old)) (desk (D.state disk.new) (N.state notary.new)) }
         ensures sound { KeepsSound (StandsFor self.old)
-            (D.state disk.old) (D.state disk.new) (N.state notary.old) (N.state notary.new) }
+            (desk (D.state disk.old) (N.state notary.old)) (desk (D.state disk.new) (N.state notary.new)) }
         ensures disk_frame { disks.GoesOn (D.state disk.old) (D.state disk.new) }
         ensures notary_frame { notaries.GoesOn (N.state notary.old) (N.state notary.new) }
         ensures disk_cause { HasCause DiskFault (D.state disk.old).faults (D.state disk.new).faults result }

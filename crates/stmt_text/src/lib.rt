@@ -76,14 +76,11 @@ mod line_printing;
 mod line_reading;
 mod number;
 mod part;
-#[cfg(test)]
-mod plain;
+pub mod plain;
 mod row_reading;
 mod stmt;
 mod stmt_printing;
 mod stmt_reading;
-#[cfg(test)]
-mod tests;
 mod token;
 mod value_printing;
 mod value_reading;
@@ -98,6 +95,8 @@ pub use laws::{
 pub use line::Line;
 pub use line_printing::print_line;
 pub use line_reading::parse_line;
+pub use number::plain_number_of;
 pub use stmt::{LineAlgorithm, Stmt};
 pub use tuple_bytes::{Compare, Filter};
 pub use value_printing::print_row;
+pub use word::algs_of;

@@ -1,6 +1,6 @@
 //! The words of the language.
 
-ghost use Rattle.std.specs.Prelude.{◌≡◌};
+ghost use Rattle.std.specs.Prelude.{◌≡◌, ◌≤◌, IfSome};
 ghost use Rattle.std.specs.Str.{bytes_eq};
 ghost use Rattle.byte_grammar.specs.Reading.{Gives};
 ghost use Rattle.stmt_text.specs.Words.{table_keyword, other_keyword, drill_keyword, keyword, kind, compare, algorithm_word, algs};
@@ -169,9 +169,11 @@ pub fn algorithm_word_of(token: &[u8]) -> Option<LineAlgorithm>
     }
 }
 
+/// The algorithms that a token names.
 #[tactic(auto, unfolding(crate::specs::Words::algs))]
 pub fn algs_of(token: &[u8]) -> Option<u8>
     ensures value { Gives (λ k. k) result (algs token.now) }
+    ensures greatest { IfSome result (λ k. k ≤ 3) }
 {
     if spells(token, b"m") {
         Some(0)

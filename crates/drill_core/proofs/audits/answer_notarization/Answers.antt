@@ -1,6 +1,7 @@
 use Rattle.std.proofs.Common.{Ok, Err}
 use Rattle.std.proofs.lemmas.Result.{err_from_is_err_and}
-use Rattle.drill_core.proofs.Notarizing.{notarization, stays_header}
+use Rattle.drill_core.proofs.Notarizing.{sealed_text, notarization, stays_header}
+use Rattle.drill_core.proofs.Replies.{replies}
 use Rattle.drill_core.proofs.audits.answer_notarization.Goals as goal
 
 pub returns-in_err-sealed-in-Ok-clause-told : goal.returns-in_err-sealed-in-Ok-clause-told
@@ -24,4 +25,4 @@ returns-in-Err-clause-told g c =
     let N = g.N.Notary.state in
     notarization c.args.now c.args.store.now c.notarize.new.store (S c.args.disk.now) (S c.notarize.new.disk) (N c.args.notary.now) (N c.notarize.new.notary) c.requires.open
     (stays_header (Err c.in-Err.fail) c.args.store.now c.notarize.new.store c.in-Err.ensures.open)
-    (g.met.D.Disk.only_now c.args.disk.now) (Err c.in-Err.fail) c.answer_to.result c.answer_to.ensures.value c.in-Err.ensures.told
+    (g.met.D.Disk.only_now c.args.disk.now) (Err c.in-Err.fail) c.answer_to.result (replies sealed_text (Err c.in-Err.fail) c.answer_to.result c.answer_to.ensures.value) c.in-Err.ensures.told

@@ -1,5 +1,7 @@
 use Rattle.std.proofs.Common.{Ok, Err}
 use Rattle.std.proofs.lemmas.Result.{err_from_is_err_and}
+use Rattle.validator.specs.Texts.{verdict_text}
+use Rattle.drill_core.proofs.Replies.{replies}
 use Rattle.drill_core.proofs.Validating.{without}
 use Rattle.drill_core.proofs.audits.answer_validation.Goals as goal
 
@@ -23,4 +25,4 @@ returns-in-Err-clause-told g c =
     let S = g.D.Disk.state in
     let N = g.N.Notary.state in
     without c.args.id c.args.now (S c.args.disk.now) (S c.validate.new.disk) (N c.args.notary.now) (N c.validate.new.notary) (Err c.in-Err.fail) c.answer_to.result c.in-Err.ensures.same
-    (g.met.D.Disk.only_now c.args.disk.now) c.answer_to.ensures.value c.in-Err.ensures.told
+    (g.met.D.Disk.only_now c.args.disk.now) (replies verdict_text (Err c.in-Err.fail) c.answer_to.result c.answer_to.ensures.value) c.in-Err.ensures.told
