@@ -1,0 +1,9 @@
+pub mod Forks
+pub mod Consistent
+pub mod Ending
+pub mod Filed
+pub mod Fails
+pub mod Going
+pub mod Finding
+pub mod Rooted
+pub mod Above

@@ -1,0 +1,50 @@
+//! Asking for a node.
+
+ghost use Rattle.std.specs.Prelude.{◌≡◌, ◌≤◌, ◌+◌, true, IfErr};
+ghost use Rattle.outside_words.specs.Faults.{HasCause};
+ghost use Rattle.outside_words.specs.Told.{WhereTold};
+ghost use Rattle.notary_link.specs.declared.fail.AskFail.TheVariants.{NotaryFault};
+ghost use Rattle.notary_link.specs.Notary.{Unchanged, GoesOn};
+ghost use Rattle.digest_model.specs.Layout.{layout, first_granule, max_granules, has_tree};
+ghost use Rattle.a3d_forensics.specs.Asking.{Compares, IsNodeFail};
+ghost use Rattle.a3d_forensics.specs.Descent.{nodes_of, IsOver};
+
+use notary_link::{Answer, AskFail, Name, Notary};
+use seal_plan::Plan;
+
+/// Whether the granules are leaves of the tree.
+pub(crate) fn has_tree(plan: &Plan) -> bool
+    ensures { result ≡ has_tree (layout plan.now.history) 0 }
+{
+    plan.eras().has_tree(0)
+}
+
+/// Whether a node differs from what was filed.
+pub(crate) fn differs<N: Notary>(
+    plan: &Plan,
+    notary: &mut N,
+    id: u64,
+    level: u8,
+    index: u32,
+) -> Result<bool, AskFail>
+    requires tree { has_tree (layout plan.now.history) 0 ≡ true }
+    requires within { first_granule (layout plan.now.history) plan.now.tiles ≤ max_granules }
+    requires over { IsOver (first_granule (layout plan.now.history) plan.now.tiles) level index }
+    ensures value { WhereTold (N.state notary.old).lists (N.state notary.new).lists (λ before after.
+        Compares (nodes_of (before.batches id) plan.now.history level index) level index result) }
+    ensures only { IfErr result (IsNodeFail level index) }
+    ensures same { Unchanged (N.state notary.old) (N.state notary.new) }
+    ensures asked { (N.state notary.new).asked ≤ (N.state notary.old).asked + 1 }
+    ensures frame { GoesOn (N.state notary.old) (N.state notary.new) }
+    ensures cause { HasCause NotaryFault (N.state notary.old).faults (N.state notary.new).faults result }
+{
+    let name = Name::Node { level, index };
+    match plan.digest(name) {
+        Some(digest) => match notary.ask(id, name, &digest)? {
+            Answer::Same => Ok(false),
+            Answer::Differs => Ok(true),
+            Answer::Absent => Err(AskFail::SealMissing { name }),
+        },
+        None => Err(AskFail::SealMissing { name }),
+    }
+}

@@ -1,0 +1,36 @@
+//! What stops a descent, and how many nodes it asks, each law the contract of a function that does nothing.
+
+ghost use Rattle.a3d_forensics.specs.Laws.{EndedIsConsistent, AuditEnds, NotaryIsConsistent, ChecksCountForks};
+ghost use Rattle.a3d_forensics.specs.Examples.{WorkedDescents};
+
+use audit_model::{answers_compare, nodes_are_consistent, tree_is_consistent};
+
+/// Where nothing stops a descent, a child differs below each node that differs.
+pub fn ended_is_consistent()
+    ensures { EndedIsConsistent }
+{}
+
+/// Nothing stops the descent over a history under the notarized header.
+pub fn audit_ends()
+    ensures { AuditEnds }
+{
+    answers_compare();
+    tree_is_consistent();
+}
+
+/// A notary that holds the batches of a history is not inconsistent.
+pub fn notary_is_consistent()
+    ensures { NotaryIsConsistent }
+{
+    nodes_are_consistent();
+}
+
+/// Two checks are made for each node above the leaves that is reached and differs.
+pub fn checks_count_forks()
+    ensures { ChecksCountForks }
+{}
+
+/// Descents worked by hand.
+pub fn worked_descents()
+    ensures { WorkedDescents }
+{}

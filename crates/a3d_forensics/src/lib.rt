@@ -1,0 +1,58 @@
+//! The a3D analysis: the altered granules, by going down trees of digests.
+//!
+//! The granules' digests are the leaves of complete binary trees, one for each binary digit 1 of the
+//! number of sealed granules, and each node was filed. A notary is asked for the roots from the left.
+//! Below a node that differs both children are asked, the left one first; then comes all that is below
+//! the left one, and then all that is below the right one, where they differ. A leaf that differs is an
+//! altered granule.
+//!
+//! ```text
+//! 12 granules, 5 and 9 altered:   (3,0) differs          (2,2) differs
+//!                          (2,0) same   (2,1) differs    (1,4) differs  (1,5) same
+//!                               (1,2) differs (1,3) same  (0,8) same (0,9) differs
+//!                            (0,4) same (0,5) differs                     12 nodes are asked
+//! ```
+//!
+//! | The layer above may rely on | Clause of `altered` |
+//! |---|---|
+//! | the leaves that are reached and differ, and the number of nodes asked; or what stops the descent first | `value` |
+//! | `NotSealedSo` exactly where the header has no tree, and then nothing is asked | `sealed_so`, `unasked` |
+//! | a seal that is missing is one of a planned node, and so is a node that is inconsistent, whatever is told | `only` |
+//! | the granules ascend and are sealed | `ascending`, `within` |
+//! | where Ok is answered, at most as many questions are asked as `checks` says, which are few: the roots, and twice the binary digits of the number of granules for each granule found | `asked`, `few` |
+//! | nothing changes; a fault comes only where the notary counted one | `same`, `frame`, `cause` |
+//!
+//! | A law | Says |
+//! |---|---|
+//! | `ended_is_consistent` | where nothing stops a descent, a child differs below each node that is reached and differs |
+//! | `checks_count_forks` | `checks` is the roots, and two for each node of level 1 or more that is reached and differs |
+//! | `audit_ends` | nothing stops the descent over a history under the notarized header |
+//! | `notary_is_consistent` | a notary that holds the batches of a history is not inconsistent |
+//!
+//! Only the list of what is found takes memory. Only tested, in `forensic_examples`: that want of it isn't
+//! answered where there is some.
+//!
+//! That each altered granule is found, unless two inputs clash, and that each found one is altered, are
+//! `descent_has_altered` and `descent_is_altered` of `audit_model`.
+//!
+//! ```text
+//! let found = altered(alloc, &plan, &mut notary, id)?;
+//! for granule in found.granules.as_slice() {
+//!     // this granule was altered
+//! }
+//! ```
+#![tactic(auto)]
+
+mod asking;
+mod below;
+mod descent;
+mod found;
+mod granulars;
+mod laws;
+
+pub use descent::altered;
+pub use found::A3dFound;
+pub use granulars::Granulars;
+pub use laws::{
+    audit_ends, checks_count_forks, ended_is_consistent, notary_is_consistent, worked_descents,
+};

@@ -1,0 +1,47 @@
+use Rattle.std.proofs.Common.{◌≡◌, [], List, Ok, refl, ◌∙◌, rules, arith}
+use Rattle.outside_words.proofs.Told.{told_same}
+use Rattle.notary_link.specs.declared.mark.Mark.{Mark}
+use Rattle.notary_link.specs.Batches.{Batch}
+use Rattle.notary_link.proofs.Frame.{goes_on_same, goes_on_then}
+use Rattle.corruption_diagram.specs.CleanMarks.{StandFor}
+use Rattle.corruption_diagram.proofs.Lasts.{none_stand}
+use Rattle.corruption_diagram.proofs.Reading.{told_mark, told_end, told_full}
+use Rattle.ask_words.proofs.Unchanged.{unchanged_same, unchanged_then}
+use Rattle.corruption_diagram.proofs.clean_marks.CleanMarks.read.Goals as goal
+
+pub loop-place-init : goal.loop-place-init
+loop-place-init g c =
+    let s = g.N.Notary.state c.args.notary.now in record {
+      narrow = search rules;
+      told = told_same s.lists s.lists (λ before after. StandFor [] c.new-marks.result.items) refl (λ lists. none_stand c.new-marks.result.items c.new-marks.ensures.items);
+      same = unchanged_same s;
+      asked = refl;
+      frame = goes_on_same s;
+    }
+
+pub loop-place-preserved : goal.loop-place-preserved
+loop-place-preserved g c =
+    let S = g.N.Notary.state in
+    let on = c.loop-place.invariant in
+    let got = c.in_ok-mark.ensures in
+    let added : c.add.result ≡ Ok tt = search rules in
+    let more = rw added at c.add.ensures.value in record {
+      narrow = rw added at c.add.ensures.narrow;
+      told = told_mark c.args.id c.loop-place.place (λ (batches : List Batch) (marks : List Mark). StandFor marks c.loop-place.marks.items) c.in-Some.mark (λ (batches : List Batch) (marks : List Mark). StandFor marks c.add.new.clean.items) _ _ _
+          got.frame.told.untold on.same.lists on.told (rw c.in-Some.is at got.value) (λ batches marks stand. more marks stand);
+      same = unchanged_then _ _ _ on.frame got.frame on.same got.same;
+      asked = got.asked ∙ on.asked;
+      frame = goes_on_then _ _ _ on.frame got.frame;
+    }
+
+pub returns-in-None-clause-value : goal.returns-in-None-clause-value
+returns-in-None-clause-value g c =
+    let on = c.loop-place.invariant in
+    let got = c.in_ok-mark.ensures in
+    told_end c.args.id c.loop-place.place (λ (batches : List Batch) (marks : List Mark). StandFor marks c.loop-place.marks.items) (λ (batches : List Batch) (marks : List Mark). StandFor marks c.loop-place.marks.items) _ _ _
+    got.frame.told.untold on.same.lists on.told (rw c.in-None.is at got.value) (λ batches marks stand. stand)
+
+pub returns-clause-value : goal.returns-clause-value
+returns-clause-value g c =
+    told_full c.args.id c.loop-place.place (λ (batches : List Batch) (marks : List Mark). StandFor marks c.loop-place.marks.items) (λ (batches : List Batch) (marks : List Mark). StandFor marks c.loop-place.marks.items) _ _
+    (g.met.N.Notary.few_marks c.args.notary.now) c.ranges.id.fits (omega arith) c.loop-place.invariant.told (λ batches marks stand. stand)

@@ -1,0 +1,4 @@
+pub mod Steps
+pub mod Targets
+pub mod Bits
+pub mod Fails
