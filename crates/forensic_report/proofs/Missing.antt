@@ -1,0 +1,129 @@
+-- Under the header that was filed nothing is refused.
+use Rattle.std.proofs.Common.{◌≡◌, ◌⊎◌, inl, inr, ℕ, zero, suc, ◌+◌, ◌<◌, ◌≤◌, true, false, List, Some, None, Err, refl, sym, ap, subst, ◌∙◌, arith}
+use Rattle.std.specs.Prelude.{nat_le}
+use Rattle.std.specs.List.{Contains, find, range_with_len}
+use Rattle.std.specs.Option.{option_map}
+use Rattle.history_model.specs.History.{History}
+use Rattle.digest_model.specs.Layout.{Layout, layout, exponent, first_granule, max_granules, has_tile_chains, has_tree, whole}
+use Rattle.digest_model.specs.Laws.{HasSpelling}
+use Rattle.digest_model.proofs.Lists.{from_range}
+use Rattle.notary_link.specs.declared.answer.Answer.{Answer}
+use Rattle.notary_link.specs.declared.answer.Answer.TheVariants.{Same, Differs, Absent}
+use Rattle.notary_link.specs.declared.fail.AskFail.TheVariants as ask_fails
+use Rattle.notary_link.specs.declared.name.Name.{Name}
+use Rattle.notary_link.specs.declared.name.Name.TheVariants as names
+use Rattle.notary_link.specs.Batches.{Batch}
+use Rattle.audit_model.specs.Names.{planned}
+use Rattle.audit_model.specs.Notary.{NotaryOf, answers, header_answer}
+use Rattle.audit_model.specs.Altered.{HashClash}
+use Rattle.audit_model.specs.Laws.{IsAudit, HasTree}
+use Rattle.audit_model.proofs.Compare.{compare}
+use Rattle.audit_model.proofs.Planned.{cum_planned, part_planned}
+use Rattle.audit_model.proofs.Exact.{consistent}
+use Rattle.ask_words.specs.Asked.{is_absent}
+use Rattle.tiled_forensics.specs.Target.{parts, missing_chain, target_by}
+use Rattle.a3d_forensics.specs.Descent.{nodes_of, stop_of, tree_told}
+use Rattle.a3d_forensics.proofs.Ending.{ends}
+use Rattle.a3d_forensics.proofs.Filed.{node_filed}
+use Rattle.validator.specs.Tiles.{cums}
+use Rattle.forensic_report.specs.declared.algorithm.Algorithm.{Algorithm}
+use Rattle.forensic_report.specs.declared.algorithm.Algorithm.TheVariants.{Mono, Tiled, TiledExactly, A3d}
+use Rattle.forensic_report.specs.declared.fail.AnalyseFail.{AnalyseFail}
+use Rattle.forensic_report.specs.declared.fail.AnalyseFail.TheVariants as fails
+use Rattle.forensic_report.specs.Analysis.{Targets}
+use Rattle.forensic_report.specs.Finding.{IsRegion, stop_told, analysis_by, targets_told, has_chains, IsFoundBy}
+use Rattle.forensic_report.proofs.Layouts.{tile_has_chains, tile_has_tree, one_layout}
+use Rattle.forensic_report.proofs.Told.{leaves, stop_at_tile, stop_of_tiles, failing_tiles, tile_is, stop_of_tree, found_in_tree, tree_is}
+use Rattle.forensic_report.proofs.Filed.{is_there, not_absent, header_not_absent}
+use Rattle.ask_words.proofs.Stops.{no_stop}
+use Rattle.forensic_report.proofs.Lists.{ended}
+use Rattle.forensic_report.proofs.Headers.{decided}
+use Rattle.forensic_report.proofs.Ways.{Way, unfiled, refused, chainless, past, asked, not_past}
+
+-- ---- the parts of a tile
+
+none_absent : (answers : ℕ → Answer) (a k : ℕ) → ((bit : ℕ) → bit < a + k → is_absent (answers bit) ≡ false) → find (λ bit. is_absent (answers bit)) (range_with_len a k) ≡ None
+none_absent answers a zero each = refl
+none_absent answers a (suc k) each =
+    let first = each a (omega arith) in
+    let rest = none_absent answers (a + 1) k (λ bit below. each bit (omega (arith, below))) in
+    rw (first, rest) refl
+
+no_chain_missing : (answers : ℕ → Answer) (k tile : ℕ) → ((bit : ℕ) → bit < k → is_absent (answers bit) ≡ false) → missing_chain answers k tile ≡ None
+no_chain_missing answers k tile each = ap (option_map (λ bit. ask_fails.SealMissing (names.Tile tile bit))) (none_absent answers 0 k (λ bit below. each bit (omega (arith, below))))
+
+none_stops_at : (a : Answer) (answers : ℕ → Answer) (k tile : ℕ) → is_absent a ≡ false → missing_chain answers k tile ≡ None → stop_told (target_by a answers k tile) ≡ None
+none_stops_at Same answers k tile there_it none = refl
+none_stops_at Differs answers k tile there_it none = rw none refl
+none_stops_at Absent answers k tile there_it none = absurd cc
+
+-- ---- by the algorithm, under the header that was filed
+
+module _ (batches : List Batch) (id n : ℕ) (h s : History) (audit : IsAudit batches id h s n) where
+  there : (name : Name) → Contains (planned (layout h) n) name → is_absent (answers batches s name) ≡ false
+  there name is = is_there batches id n h s audit.filed name is
+
+  tile_goes_on : has_chains Tiled (layout s) ≡ true → (tile : ℕ) → tile < n → stop_at_tile batches s n tile ≡ None
+  tile_goes_on has tile below =
+      let own = subst (λ (l : Layout). has_tile_chains l tile ≡ true) (sym (one_layout h s audit.header)) (tile_has_chains s n tile has below) in
+      ap stop_told (tile_is batches s n tile has below)
+      ∙ none_stops_at (parts batches s tile whole) (parts batches s tile) (exponent (layout s) tile) tile
+      (there (names.Tile tile whole) (part_planned (layout h) n tile whole own below (inl refl)))
+      (no_chain_missing (parts batches s tile) (exponent (layout s) tile) tile
+      (λ bit low. there (names.Tile tile bit) (part_planned (layout h) n tile bit own below (inr (subst (λ (l : Layout). bit < exponent l tile) (sym (one_layout h s audit.header)) low)))))
+
+  tiled_ends : (fail : AnalyseFail) → has_chains Tiled (layout s) ≡ true → Err fail ≡ analysis_by Targets (layout s) n (targets_told batches s n) → ⊥
+  tiled_ends fail has is = ended Targets (layout s) n (stop_of_tiles batches s n) (failing_tiles batches s n) fail
+      (no_stop (stop_at_tile batches s n) (range_with_len 0 n) (λ tile place. let r = from_range 0 n tile place in tile_goes_on has tile (omega (arith, r)))) is
+
+  tree_ends : (fail : AnalyseFail) → has_chains A3d (layout s) ≡ true → Err fail ≡ analysis_by leaves (layout s) n (tree_told batches s n) → ⊥
+  tree_ends fail has is =
+      let own : HasTree h n = λ tile below. subst (λ (l : Layout). has_tree l tile ≡ true) (sym (one_layout h s audit.header)) (tile_has_tree s n tile has below) in
+      let none = ends (first_granule (layout h) n) (nodes_of batches s) (consistent batches id h s n audit own) (node_filed compare batches id h s n audit own) in
+      ended leaves (layout s) n (stop_of_tree batches s n) (found_in_tree batches s n) fail
+      (subst (λ (l : Layout). stop_of (first_granule l n) (nodes_of batches s) ≡ None) (one_layout h s audit.header) none) (is ∙ ap (analysis_by leaves (layout s) n) (tree_is batches s n has))
+
+  region_ends : (fail : AnalyseFail) → IsRegion (cums batches s) (layout s) n (Err fail) → ⊥
+  region_ends (fails.SealMissing name) is = not_absent batches id n h s audit.filed (names.Cum is.0) (cum_planned (layout h) n is.0 is.1) is.3
+  region_ends fails.DiskFault is = is
+  region_ends fails.NotaryFault is = is
+  region_ends fails.NotSealedSo is = is
+  region_ends (fails.NotaryInconsistent level index) is = is
+  region_ends fails.NoMemory is = is
+
+  none_refused : (algorithm : Algorithm) (fail : AnalyseFail) → has_chains algorithm (layout s) ≡ true → IsFoundBy algorithm batches n s (Err fail) → ⊥
+  none_refused Mono fail has is = region_ends fail is
+  none_refused Tiled fail has is = tiled_ends fail has is
+  none_refused (TiledExactly kappa) fail has is = tiled_ends fail has is
+  none_refused A3d fail has is = tree_ends fail has is
+
+  -- nor do the tiles end behind the last granule
+  none_past : nat_le (first_granule (layout s) n) max_granules ≡ false → ⊥
+  none_past test = not_past (first_granule (layout s) n) (subst (λ (l : Layout). first_granule l n ≤ max_granules) (one_layout h s audit.header) audit.filed.within) test
+
+-- ---- so it is refused under another one
+
+module _ (batches : List Batch) (id n : ℕ) (h s : History) (filed : NotaryOf batches id h n) (ours : HasSpelling h) (theirs : HasSpelling s) where
+  clash_unless : header_answer batches s n ≡ Same → (IsAudit batches id h s n → ⊥) → HashClash h (Some s) n
+  clash_unless same never = elim (decided batches id h s n filed ours theirs same) [
+    | inl audit ↦ absurd (never audit)
+    | inr passed ↦ passed.clash
+  ]
+
+  pub missing_by : (algorithm : Algorithm) (name : Name) → Way algorithm batches n s (Err (fails.SealMissing name)) → HashClash h (Some s) n
+  missing_by algorithm name (unfiled absent is) = absurd (header_not_absent batches id n h s filed absent)
+  missing_by algorithm name (refused differs is) = absurd cc
+  missing_by algorithm name (chainless same lacks is) = absurd cc
+  missing_by algorithm name (past same test is) = clash_unless same (λ audit. none_past batches id n h s audit test)
+  missing_by algorithm name (asked same has small is) = clash_unless same (λ audit. none_refused batches id n h s audit algorithm (fails.SealMissing name) has is)
+
+  -- chains are lacking in h's header, or in another one
+  pub lacking_by : (algorithm : Algorithm) → Way algorithm batches n s (Err fails.NotSealedSo) → (has_chains algorithm (layout h) ≡ false) ⊎ HashClash h (Some s) n
+  lacking_by algorithm (unfiled absent is) = absurd cc
+  lacking_by algorithm (refused differs is) = absurd cc
+  lacking_by algorithm (past same test is) = absurd cc
+  lacking_by algorithm (asked same has small is) = inr (clash_unless same (λ audit. none_refused batches id n h s audit algorithm fails.NotSealedSo has is))
+  lacking_by algorithm (chainless same lacks is) = elim (decided batches id h s n filed ours theirs same) [
+    | inl audit ↦ inl (subst (λ (l : Layout). has_chains algorithm l ≡ false) (sym (one_layout h s audit.header)) lacks)
+    | inr passed ↦ inr passed.clash
+  ]

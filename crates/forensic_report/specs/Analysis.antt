@@ -1,0 +1,55 @@
+-- What an analysis finds.
+use Rattle.std.specs.Prelude.{ℕ, ◌+◌, ◌-◌, ◌==◌, if◌then◌else◌, Bool, true, false, List, [], ◌∷◌, map, sum_by, Option, Some, None}
+use Rattle.std.specs.List.{range_with_len}
+use Rattle.digest_model.specs.Layout.{Layout, exponent, tile_of}
+use Rattle.audit_model.specs.Tree.{digit_count}
+
+-- by the algorithms: where the region begins; the tiles that fail, and their targets; the altered granules, and how many nodes were asked
+pub data Findings : Type 0 where
+  Region : Option ℕ → Findings
+  Targets : List (ℕ × ℕ) → Findings
+  Leaves : List ℕ → ℕ → Findings
+
+-- Nothing was filed; or of so many sealed tiles the header is another; or this was found, the tiles lying so.
+pub data Analysis : Type 0 where
+  Unsealed : Analysis
+  HeaderAltered : ℕ → Analysis
+  Found : Layout → ℕ → Findings → Analysis
+
+-- how many tiles are sealed
+abbrev pub sealed_tiles : Analysis → ℕ
+sealed_tiles Unsealed = 0
+sealed_tiles (HeaderAltered n) = n
+sealed_tiles (Found l n findings) = n
+
+-- the tiles that fail, ascending; by the tree, that of each granule found
+abbrev pub bad_tiles : Layout → ℕ → Findings → List ℕ
+bad_tiles l n (Region None) = []
+bad_tiles l n (Region (Some first)) = range_with_len first (n - first)
+bad_tiles l n (Targets targets) = map (λ t. t.0) targets
+bad_tiles l n (Leaves granules checks) = map (tile_of l) granules
+
+abbrev pub is_some_bad : List ℕ → Bool
+is_some_bad [] = false
+is_some_bad (tile ∷ tiles) = true
+
+-- whether it is told that something is altered
+abbrev pub is_altered : Analysis → Bool
+is_altered Unsealed = false
+is_altered (HeaderAltered n) = true
+is_altered (Found l n findings) = is_some_bad (bad_tiles l n findings)
+
+-- ---- how many questions it takes at most
+
+-- the search for the first bad tile asks two more than the number of tiles has digits; a tile that fails takes one more for each
+-- bit chain; the descent counts its own
+abbrev pub asked_by : Layout → ℕ → Findings → ℕ
+asked_by l n (Region first) = if n == 0 then 0 else digit_count n + 2
+asked_by l n (Targets targets) = n + sum_by (λ t. exponent l t.0) targets
+asked_by l n (Leaves granules checks) = checks
+
+-- with the one for the header
+abbrev pub questions : Analysis → ℕ
+questions Unsealed = 0
+questions (HeaderAltered n) = 1
+questions (Found l n findings) = 1 + asked_by l n findings

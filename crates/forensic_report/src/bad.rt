@@ -1,0 +1,107 @@
+//! Which tiles are bad, one after the other.
+
+ghost use Rattle.std.specs.Prelude.{◌≡◌, ◌≤◌, ◌<◌, [], ◌∷◌, ◌++◌, ℕ, List, All, map, length, slice_get, IfOk};
+ghost use Rattle.tuple_bytes.specs.Spelling.{FitsHeader};
+ghost use Rattle.digest_model.specs.Layout.{first_granule, max_granules, tile_of};
+ghost use Rattle.cumulative_chain.specs.Tiles.{layout_of};
+ghost use Rattle.forensic_report.specs.Analysis.{bad_tiles};
+ghost use Rattle.forensic_report.specs.Values.{findings_of, FitsFindings};
+ghost use Rattle.forensic_report.specs.Texts.{bad_row, region_tiles};
+
+use crate::found::Findings;
+use crate::places::tile_at;
+use std::alloc::{AllocError, Global};
+use tuple_bytes::Header;
+
+/// The first one.
+pub(crate) fn first_bad(findings: &Findings, header: &Header, tiles: u32) -> Option<u32>
+    requires fits { FitsHeader header.now }
+    requires found { FitsFindings (layout_of header.now) tiles findings.now }
+    ensures value { result ≡ slice_get (bad_tiles (layout_of header.now) tiles (findings_of findings.now)) 0 }
+{
+    match findings {
+        Findings::Region { first } => *first,
+        Findings::Targets { targets } => {
+            let failing = targets.as_slice().first()?;
+            Some(failing.0)
+        }
+        Findings::Leaves { found } => {
+            let granule = *found.granules.as_slice().first()?;
+            Some(tile_at(header, granule))
+        }
+    }
+}
+
+/// One more.
+fn mark(bad: &mut [bool], tile: u32)
+    requires within { tile < length bad.old }
+    ensures value { (tiles : List ℕ) → bad.old ≡ bad_row tiles (length bad.old) → bad.new ≡ bad_row (tiles ++ tile ∷ []) (length bad.old) }
+{
+    bad[tile as usize] = true;
+}
+
+/// Those from a first one on.
+fn mark_from(bad: &mut [bool], first: u32, tiles: u32)
+    requires within { first ≤ tiles }
+    requires size { length bad.old ≡ tiles }
+    requires none { bad.old ≡ bad_row [] tiles }
+    ensures value { bad.new ≡ bad_row (region_tiles first tiles) tiles }
+{
+    for tile in first..tiles {
+        mark(bad, tile);
+    }
+}
+
+/// Those that fail.
+fn mark_failing(bad: &mut [bool], targets: &[(u32, u16)])
+    requires none { bad.old ≡ bad_row [] (length bad.old) }
+    requires within { All (λ t. t.0 < length bad.old) targets.now }
+    ensures value { bad.new ≡ bad_row (map (λ t. t.0) targets.now) (length bad.old) }
+{
+    for failing in targets {
+        mark(bad, failing.0);
+    }
+}
+
+/// Those in which granules lie.
+fn mark_granules(bad: &mut [bool], header: &Header, granules: &[u32])
+    requires fits { FitsHeader header.now }
+    requires none { bad.old ≡ bad_row [] (length bad.old) }
+    requires within { All (λ g. tile_of (layout_of header.now) g < length bad.old) granules.now }
+    ensures value { bad.new ≡ bad_row (map (tile_of (layout_of header.now)) granules.now) (length bad.old) }
+{
+    for granule in granules {
+        mark(bad, tile_at(header, *granule));
+    }
+}
+
+/// Those with a candidate.
+fn mark_found(bad: &mut [bool], findings: &Findings, header: &Header, tiles: u32)
+    requires fits { FitsHeader header.now }
+    requires size { length bad.old ≡ tiles }
+    requires none { bad.old ≡ bad_row [] tiles }
+    requires found { FitsFindings (layout_of header.now) tiles findings.now }
+    ensures value { bad.new ≡ bad_row (bad_tiles (layout_of header.now) tiles (findings_of findings.now)) tiles }
+{
+    match findings {
+        Findings::Region { first } => mark_from(bad, first.unwrap_or(tiles), tiles),
+        Findings::Targets { targets } => mark_failing(bad, targets.as_slice()),
+        Findings::Leaves { found } => mark_granules(bad, header, found.granules.as_slice()),
+    }
+}
+
+/// Whether each of so many tiles is bad.
+pub(crate) fn bad_row(
+    alloc: Global,
+    findings: &Findings,
+    header: &Header,
+    tiles: u32,
+) -> Result<Vec<bool>, AllocError>
+    requires fits { FitsHeader header.now }
+    requires found { FitsFindings (layout_of header.now) tiles findings.now }
+    ensures value { IfOk result (λ bad. bad.items ≡ bad_row (bad_tiles (layout_of header.now) tiles (findings_of findings.now)) tiles) }
+{
+    let mut bad = vec![in alloc; false; tiles as usize]?;
+    mark_found(&mut bad, findings, header, tiles);
+    Ok(bad)
+}

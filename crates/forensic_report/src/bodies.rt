@@ -1,0 +1,123 @@
+//! The lines of what was found, with spans that a notary is asked for.
+
+ghost use Rattle.std.specs.Prelude.{◌≡◌, ◌<◌, ◌≤◌, ◌+◌, ◌^◌, ◌++◌, All, IfErr, OnOk};
+ghost use Rattle.std.specs.List.{flat_map};
+ghost use Rattle.outside_words.specs.Faults.{HasCause};
+ghost use Rattle.outside_words.specs.Told.{WhereTold};
+ghost use Rattle.notary_link.specs.Notary.{Unchanged, GoesOn};
+ghost use Rattle.tuple_bytes.specs.Spelling.{FitsHeader};
+ghost use Rattle.digest_model.specs.Layout.{first_granule, max_granules};
+ghost use Rattle.cumulative_chain.specs.Tiles.{layout_of};
+ghost use Rattle.corruption_diagram.specs.CleanMarks.{StandFor};
+ghost use Rattle.forensic_report.specs.declared.fail.AnalyseFail.TheVariants.{NotaryFault};
+ghost use Rattle.forensic_report.specs.Texts.{kept_of, region_line, target_line, granule_line};
+ghost use Rattle.forensic_report.specs.Reporting.{Begins};
+ghost use Rattle.forensic_report.specs.Values.{IsOfWriting};
+ghost use Rattle.forensic_report.specs.Writing.{IsFailing};
+
+use crate::algorithm::Algorithm;
+use crate::asking::{Recent, least_from, span_after};
+use crate::fail::AnalyseFail;
+use crate::lines::{put_granule, put_region, put_target};
+use crate::places::tile_at;
+use corruption_diagram::{CleanMarks, Span, when_by};
+use notary_link::Notary;
+use std::alloc::Global;
+use tuple_bytes::Header;
+
+/// The line of a region.
+pub(crate) fn put_region_line<N: Notary>(
+    alloc: Global,
+    out: &mut Vec<u8>,
+    clean: &CleanMarks,
+    notary: &mut N,
+    id: u64,
+    header: &Header,
+    tiles: u32,
+    first: u32,
+    now: u64,
+) -> Result<(), AnalyseFail>
+    requires fits { FitsHeader header.now }
+    requires some { first < tiles }
+    requires within { first_granule (layout_of header.now) tiles ≤ max_granules }
+    ensures value { WhereTold (N.state notary.old).lists (N.state notary.new).lists (λ before after.
+        StandFor (before.marks id) clean.now
+        → OnOk result (out.new.items ≡ out.old.items ++ region_line (layout_of header.now) tiles (kept_of before id now) first)) }
+    ensures more { OnOk result (Begins out.old.items out.new.items) }
+    ensures only { IfErr result IsOfWriting }
+    ensures same { Unchanged (N.state notary.old) (N.state notary.new) }
+    ensures asked { (N.state notary.new).asked ≡ (N.state notary.old).asked }
+    ensures frame { GoesOn (N.state notary.old) (N.state notary.new) }
+    ensures cause { HasCause NotaryFault (N.state notary.old).faults (N.state notary.new).faults result }
+{
+    let from = least_from(clean, notary, id, first, tiles, now)?;
+    let span = Span { from, to: now };
+    put_region(alloc, out, header, tiles, first, span)?;
+    Ok(())
+}
+
+/// The lines of tiles that fail.
+pub(crate) fn put_targets<N: Notary>(
+    alloc: Global,
+    out: &mut Vec<u8>,
+    clean: &CleanMarks,
+    notary: &mut N,
+    id: u64,
+    algorithm: Algorithm,
+    header: &Header,
+    targets: &[(u32, u16)],
+    now: u64,
+) -> Result<(), AnalyseFail>
+    requires fits { FitsHeader header.now }
+    requires failing { All (IsFailing (layout_of header.now)) targets.now }
+    ensures value { WhereTold (N.state notary.old).lists (N.state notary.new).lists (λ before after.
+        StandFor (before.marks id) clean.now
+        → OnOk result (out.new.items ≡ out.old.items ++ flat_map (target_line algorithm (layout_of header.now) (kept_of before id now)) targets.now)) }
+    ensures more { OnOk result (Begins out.old.items out.new.items) }
+    ensures only { IfErr result IsOfWriting }
+    ensures same { Unchanged (N.state notary.old) (N.state notary.new) }
+    ensures asked { (N.state notary.new).asked ≡ (N.state notary.old).asked }
+    ensures frame { GoesOn (N.state notary.old) (N.state notary.new) }
+    ensures cause { HasCause NotaryFault (N.state notary.old).faults (N.state notary.new).faults result }
+{
+    for failing in targets {
+        let tile = failing.0;
+        let span = when_by(clean, notary, id, tile, now)?;
+        put_target(alloc, out, algorithm, header, tile, failing.1, span)?;
+    }
+    Ok(())
+}
+
+/// The lines of granules. Those of one tile follow each other, so its span is asked for once.
+pub(crate) fn put_granules<N: Notary>(
+    alloc: Global,
+    out: &mut Vec<u8>,
+    clean: &CleanMarks,
+    notary: &mut N,
+    id: u64,
+    header: &Header,
+    granules: &[u32],
+    now: u64,
+) -> Result<(), AnalyseFail>
+    requires fits { FitsHeader header.now }
+    requires within { All (λ g. g < max_granules) granules.now }
+    ensures value { WhereTold (N.state notary.old).lists (N.state notary.new).lists (λ before after.
+        StandFor (before.marks id) clean.now
+        → OnOk result (out.new.items ≡ out.old.items ++ flat_map (granule_line (layout_of header.now) (kept_of before id now)) granules.now)) }
+    ensures more { OnOk result (Begins out.old.items out.new.items) }
+    ensures only { IfErr result IsOfWriting }
+    ensures same { Unchanged (N.state notary.old) (N.state notary.new) }
+    ensures asked { (N.state notary.new).asked ≡ (N.state notary.old).asked }
+    ensures frame { GoesOn (N.state notary.old) (N.state notary.new) }
+    ensures cause { HasCause NotaryFault (N.state notary.old).faults (N.state notary.new).faults result }
+{
+    let mut recent = None;
+    for granule in granules {
+        let granule = *granule;
+        let tile = tile_at(header, granule);
+        let span = span_after(recent, clean, notary, id, tile, now)?;
+        recent = Some(Recent { tile, span });
+        put_granule(alloc, out, granule, span)?;
+    }
+    Ok(())
+}

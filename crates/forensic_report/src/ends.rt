@@ -1,0 +1,107 @@
+//! The end of a report: the first change, and the diagram.
+
+ghost use Rattle.std.specs.Prelude.{◌≡◌, ◌<◌, ◌≤◌, ◌+◌, ◌^◌, ◌++◌, IfErr, IfOk, OnOk};
+ghost use Rattle.outside_words.specs.Faults.{HasCause};
+ghost use Rattle.outside_words.specs.Told.{WhereTold};
+ghost use Rattle.notary_link.specs.Notary.{Unchanged, GoesOn};
+ghost use Rattle.tuple_bytes.specs.Spelling.{FitsHeader};
+ghost use Rattle.cumulative_chain.specs.Tiles.{layout_of};
+ghost use Rattle.corruption_diagram.specs.Diagram.{diagram};
+ghost use Rattle.forensic_report.specs.declared.fail.AnalyseFail.TheVariants.{NotaryFault};
+ghost use Rattle.forensic_report.specs.Analysis.{bad_tiles};
+ghost use Rattle.forensic_report.specs.Values.{findings_of, FitsFindings};
+ghost use Rattle.forensic_report.specs.Texts.{kept_of, first_line, bad_row, diagram_text};
+ghost use Rattle.forensic_report.specs.Reporting.{Begins};
+ghost use Rattle.forensic_report.specs.Values.{IsOfWriting};
+
+use crate::bad::bad_row;
+use crate::fail::AnalyseFail;
+use crate::found::Findings;
+use crate::lines::put_first;
+use corruption_diagram::{first_when, grid};
+use notary_link::Notary;
+use std::alloc::Global;
+use tuple_bytes::{Blob, Header};
+
+/// More tiles than events that a diagram has room for.
+const TOO_MANY: u32 = 65;
+
+/// The line of the first change.
+pub(crate) fn put_first_change<N: Notary>(
+    alloc: Global,
+    out: &mut Vec<u8>,
+    notary: &mut N,
+    id: u64,
+    tile: u32,
+    now: u64,
+) -> Result<(), AnalyseFail>
+    requires small { tile + 1 < 2 ^ 32 }
+    ensures value { WhereTold (N.state notary.old).lists (N.state notary.new).lists (λ before after.
+        OnOk result (out.new.items ≡ out.old.items ++ first_line (kept_of before id now) tile)) }
+    ensures more { OnOk result (Begins out.old.items out.new.items) }
+    ensures only { IfErr result IsOfWriting }
+    ensures same { Unchanged (N.state notary.old) (N.state notary.new) }
+    ensures asked { (N.state notary.new).asked ≡ (N.state notary.old).asked }
+    ensures frame { GoesOn (N.state notary.old) (N.state notary.new) }
+    ensures cause { HasCause NotaryFault (N.state notary.old).faults (N.state notary.new).faults result }
+{
+    let span = first_when(notary, id, tile, now)?;
+    put_first(alloc, out, tile, span)?;
+    Ok(())
+}
+
+/// The diagram, where there are not too many tiles for it.
+fn diagram_of<N: Notary>(
+    alloc: Global,
+    notary: &mut N,
+    id: u64,
+    header: &Header,
+    tiles: u32,
+    findings: &Findings,
+    now: u64,
+) -> Result<Option<Blob>, AnalyseFail>
+    requires fits { FitsHeader header.now }
+    requires found { FitsFindings (layout_of header.now) tiles findings.now }
+    ensures value { WhereTold (N.state notary.old).lists (N.state notary.new).lists (λ before after.
+        IfOk result (λ text. text ≡ diagram (before.batches id) (before.marks id) tiles (bad_row (bad_tiles (layout_of header.now) tiles (findings_of findings.now)) tiles) now)) }
+    ensures only { IfErr result IsOfWriting }
+    ensures same { Unchanged (N.state notary.old) (N.state notary.new) }
+    ensures asked { (N.state notary.new).asked ≡ (N.state notary.old).asked }
+    ensures frame { GoesOn (N.state notary.old) (N.state notary.new) }
+    ensures cause { HasCause NotaryFault (N.state notary.old).faults (N.state notary.new).faults result }
+{
+    if tiles >= TOO_MANY {
+        return Ok(None);
+    }
+    let bad = bad_row(alloc, findings, header, tiles)?;
+    Ok(grid(alloc, notary, id, tiles, &bad, now)?)
+}
+
+/// The diagram, or a line in its place.
+pub(crate) fn put_diagram<N: Notary>(
+    alloc: Global,
+    out: &mut Vec<u8>,
+    notary: &mut N,
+    id: u64,
+    header: &Header,
+    tiles: u32,
+    findings: &Findings,
+    now: u64,
+) -> Result<(), AnalyseFail>
+    requires fits { FitsHeader header.now }
+    requires found { FitsFindings (layout_of header.now) tiles findings.now }
+    ensures value { WhereTold (N.state notary.old).lists (N.state notary.new).lists (λ before after.
+        OnOk result (out.new.items ≡ out.old.items ++ diagram_text (kept_of before id now) tiles (bad_tiles (layout_of header.now) tiles (findings_of findings.now)))) }
+    ensures more { OnOk result (Begins out.old.items out.new.items) }
+    ensures only { IfErr result IsOfWriting }
+    ensures same { Unchanged (N.state notary.old) (N.state notary.new) }
+    ensures asked { (N.state notary.new).asked ≡ (N.state notary.old).asked }
+    ensures frame { GoesOn (N.state notary.old) (N.state notary.new) }
+    ensures cause { HasCause NotaryFault (N.state notary.old).faults (N.state notary.new).faults result }
+{
+    match diagram_of(alloc, notary, id, header, tiles, findings, now)? {
+        Some(text) => out.extend_from_slice(text.as_slice())?,
+        None => out.extend_from_slice(b"diagram left out\n")?,
+    }
+    Ok(())
+}

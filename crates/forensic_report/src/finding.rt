@@ -1,0 +1,237 @@
+//! What a notary's answers show of what is stored.
+
+ghost use Rattle.std.specs.Prelude.{◌≡◌, ◌≤◌, ◌+◌, Some, IfOk, IfErr, IfSome, length};
+ghost use Rattle.outside_words.specs.Faults.{HasCause};
+ghost use Rattle.outside_words.specs.Told.{WhereTold};
+ghost use Rattle.disk_words.specs.Disk as disks;
+ghost use Rattle.notary_link.specs.Notary.{Unchanged, GoesOn};
+ghost use Rattle.step_count.specs.Blank.{IsBlankOf};
+ghost use Rattle.history_model.specs.History.{history};
+ghost use Rattle.history_model.specs.Stored.{stored};
+ghost use Rattle.history_model.specs.StoredHistory.{IsHistory};
+ghost use Rattle.tuple_bytes.specs.Spelling.{FitsHeader};
+ghost use Rattle.digest_model.specs.Layout.{layout, first_granule, max_granules};
+ghost use Rattle.cumulative_chain.specs.Tiles.{layout_of};
+ghost use Rattle.validator.specs.Tiles.{first_past};
+ghost use Rattle.validator.specs.Verdicts.{history_with};
+ghost use Rattle.forensic_report.specs.declared.fail.AnalyseFail.TheVariants.{DiskFault, NotaryFault};
+ghost use Rattle.forensic_report.specs.Analysis.{questions};
+ghost use Rattle.forensic_report.specs.Finding.{has_chains, IsFoundBy, IsFoundWith, IsFoundOf, IsAnalysis, IsOfAnalysis};
+ghost use Rattle.forensic_report.specs.Values.{analysis_of, found_as, OrGivesUp, FitsAnalysis, IsOfFinding};
+
+use crate::algorithm::Algorithm;
+use crate::fail::AnalyseFail;
+use crate::found::Analysis;
+use crate::places::{have_tile_chains, have_tree, tile_at};
+use crate::searching::search;
+use cumulative_chain::header_digest;
+use disk_model::Disk;
+use history_model::Stored;
+use notary_link::{Answer, Name, Notary};
+use seal_plan::Plan;
+use std::alloc::Global;
+use std::marker::Brand;
+use step_count::{Blank, Ledger, Steps};
+use tuple_bytes::{Header, Items};
+use txn_journal::read_stored;
+
+/// No granule from this one on is sealed.
+const MAX_GRANULES: u32 = 1_048_576;
+
+/// What the notary's answers show of what is stored under the id. Where nothing was filed, nothing is read.
+pub(crate) fn find<D: Disk, N: Notary>(
+    alloc: Global,
+    disk: &mut D,
+    notary: &mut N,
+    id: u64,
+    algorithm: Algorithm,
+) -> Result<Analysis, AnalyseFail>
+    ensures value { IfSome (D.state disk.old).reads (λ bytes. WhereTold (N.state notary.old).lists (N.state notary.new).lists (λ before after.
+        OrGivesUp (IsAnalysis algorithm id (before.batches id) (stored bytes)) (found_as result))) }
+    ensures fits { IfOk result FitsAnalysis }
+    ensures none_other { IfErr result (IsOfAnalysis algorithm) }
+    ensures same_disk { disks.Unchanged (D.state disk.old) (D.state disk.new) }
+    ensures disk_frame { disks.GoesOn (D.state disk.old) (D.state disk.new) }
+    ensures disk_cause { HasCause DiskFault (D.state disk.old).faults (D.state disk.new).faults result }
+    ensures same { Unchanged (N.state notary.old) (N.state notary.new) }
+    ensures asked { IfOk result (λ a. (N.state notary.new).asked ≤ (N.state notary.old).asked + questions (analysis_of a)) }
+    ensures frame { GoesOn (N.state notary.old) (N.state notary.new) }
+    ensures cause { HasCause NotaryFault (N.state notary.old).faults (N.state notary.new).faults result }
+{
+    match notary.count(id)? {
+        0 => Ok(Analysis::Unsealed),
+        count => find_stored(alloc, disk, notary, id, algorithm, count - 1),
+    }
+}
+
+/// The same where so many tiles are sealed: the store is read once.
+fn find_stored<D: Disk, N: Notary>(
+    alloc: Global,
+    disk: &mut D,
+    notary: &mut N,
+    id: u64,
+    algorithm: Algorithm,
+    tiles: u32,
+) -> Result<Analysis, AnalyseFail>
+    ensures value { IfSome (D.state disk.old).reads (λ bytes. WhereTold (N.state notary.old).lists (N.state notary.new).lists (λ before after.
+        OrGivesUp (IsFoundOf algorithm (before.batches id) tiles (history_with id (stored bytes))) (found_as result))) }
+    ensures fits { IfOk result FitsAnalysis }
+    ensures none_other { IfErr result (IsOfAnalysis algorithm) }
+    ensures same_disk { disks.Unchanged (D.state disk.old) (D.state disk.new) }
+    ensures disk_frame { disks.GoesOn (D.state disk.old) (D.state disk.new) }
+    ensures disk_cause { HasCause DiskFault (D.state disk.old).faults (D.state disk.new).faults result }
+    ensures same { Unchanged (N.state notary.old) (N.state notary.new) }
+    ensures asked { IfOk result (λ a. (N.state notary.new).asked ≤ (N.state notary.old).asked + questions (analysis_of a)) }
+    ensures frame { GoesOn (N.state notary.old) (N.state notary.new) }
+    ensures cause { HasCause NotaryFault (N.state notary.old).faults (N.state notary.new).faults result }
+{
+    let stored = read_stored(alloc, disk)?;
+    find_in(alloc, &stored, notary, id, algorithm, tiles)
+}
+
+/// The same in what is stored. Another header, or none, is altered without a question.
+fn find_in<N: Notary>(
+    alloc: Global,
+    stored: &Stored,
+    notary: &mut N,
+    id: u64,
+    algorithm: Algorithm,
+    tiles: u32,
+) -> Result<Analysis, AnalyseFail>
+    requires fits { IfSome stored.now.header (λ header. IsHistory (history header stored.now.items)) }
+    ensures value { WhereTold (N.state notary.old).lists (N.state notary.new).lists (λ before after.
+        OrGivesUp (IsFoundOf algorithm (before.batches id) tiles (history_with id stored.now)) (found_as result)) }
+    ensures fits { IfOk result FitsAnalysis }
+    ensures none_other { IfErr result (IsOfFinding algorithm) }
+    ensures same { Unchanged (N.state notary.old) (N.state notary.new) }
+    ensures asked { IfOk result (λ a. (N.state notary.new).asked ≤ (N.state notary.old).asked + questions (analysis_of a)) }
+    ensures frame { GoesOn (N.state notary.old) (N.state notary.new) }
+    ensures cause { HasCause NotaryFault (N.state notary.old).faults (N.state notary.new).faults result }
+{
+    match &stored.header {
+        Some(header) => {
+            if header.id == id {
+                find_under(alloc, header, &stored.items, notary, algorithm, tiles)
+            } else {
+                Ok(Analysis::HeaderAltered { tiles })
+            }
+        }
+        None => Ok(Analysis::HeaderAltered { tiles }),
+    }
+}
+
+/// The same under a header of that id: it is asked for first.
+fn find_under<N: Notary>(
+    alloc: Global,
+    header: &Header,
+    items: &Items,
+    notary: &mut N,
+    algorithm: Algorithm,
+    tiles: u32,
+) -> Result<Analysis, AnalyseFail>
+    requires history { IsHistory (history header.now items.now) }
+    ensures value { WhereTold (N.state notary.old).lists (N.state notary.new).lists (λ before after.
+        OrGivesUp (IsFoundOf algorithm (before.batches header.now.id) tiles (Some (history header.now items.now))) (found_as result)) }
+    ensures fits { IfOk result FitsAnalysis }
+    ensures none_other { IfErr result (IsOfFinding algorithm) }
+    ensures same { Unchanged (N.state notary.old) (N.state notary.new) }
+    ensures asked { IfOk result (λ a. (N.state notary.new).asked ≤ (N.state notary.old).asked + questions (analysis_of a)) }
+    ensures frame { GoesOn (N.state notary.old) (N.state notary.new) }
+    ensures cause { HasCause NotaryFault (N.state notary.old).faults (N.state notary.new).faults result }
+{
+    let name = Name::Header;
+    match notary.ask(header.id, name, &header_digest(header))? {
+        Answer::Same => find_tiles(alloc, header, items, notary, algorithm, tiles),
+        Answer::Differs => Ok(Analysis::HeaderAltered { tiles }),
+        Answer::Absent => Err(AnalyseFail::SealMissing { name }),
+    }
+}
+
+/// Whether the tiles have the chains that an algorithm asks for.
+fn has_chains(algorithm: Algorithm, header: &Header) -> bool
+    ensures value { result ≡ has_chains algorithm (layout_of header.now) }
+{
+    match algorithm {
+        Algorithm::Mono => true,
+        Algorithm::Tiled | Algorithm::TiledExactly { .. } => have_tile_chains(header),
+        Algorithm::A3d => have_tree(header),
+    }
+}
+
+/// The first tile that ends behind the last granule.
+fn first_past(header: &Header) -> u32
+    requires fits { FitsHeader header.now }
+    ensures value { result ≡ first_past (layout_of header.now) }
+{
+    tile_at(header, MAX_GRANULES)
+}
+
+/// The same under the header that was filed. Tiles behind the last granule were never filed.
+fn find_tiles<N: Notary>(
+    alloc: Global,
+    header: &Header,
+    items: &Items,
+    notary: &mut N,
+    algorithm: Algorithm,
+    tiles: u32,
+) -> Result<Analysis, AnalyseFail>
+    requires history { IsHistory (history header.now items.now) }
+    ensures value { WhereTold (N.state notary.old).lists (N.state notary.new).lists (λ before after.
+        OrGivesUp (IsFoundWith (has_chains algorithm (layout_of header.now)) algorithm (before.batches header.now.id) tiles (history header.now items.now)) (found_as result)) }
+    ensures fits { IfOk result FitsAnalysis }
+    ensures none_other { IfErr result (IsOfFinding algorithm) }
+    ensures same { Unchanged (N.state notary.old) (N.state notary.new) }
+    ensures asked { IfOk result (λ a. (N.state notary.new).asked + 1 ≤ (N.state notary.old).asked + questions (analysis_of a)) }
+    ensures frame { GoesOn (N.state notary.old) (N.state notary.new) }
+    ensures cause { HasCause NotaryFault (N.state notary.old).faults (N.state notary.new).faults result }
+{
+    if !has_chains(algorithm, header) {
+        return Err(AnalyseFail::NotSealedSo);
+    }
+    let past = first_past(header);
+    if tiles > past {
+        let name = Name::Cum { tile: past };
+        return Err(AnalyseFail::SealMissing { name });
+    }
+    find_planned::<N, Brand>(
+        alloc,
+        header,
+        items,
+        notary,
+        algorithm,
+        tiles,
+        Blank::new(1),
+    )
+}
+
+/// The same by the algorithm, over the digests of all tiles.
+fn find_planned<N: Notary, L: Ledger>(
+    alloc: Global,
+    header: &Header,
+    items: &Items,
+    notary: &mut N,
+    algorithm: Algorithm,
+    tiles: u32,
+    blank: Blank,
+) -> Result<Analysis, AnalyseFail>
+    requires blank { IsBlankOf L.name L.parts blank }
+    requires history { IsHistory (history header.now items.now) }
+    requires within { first_granule (layout_of header.now) tiles ≤ max_granules }
+    ensures value { WhereTold (N.state notary.old).lists (N.state notary.new).lists (λ before after.
+        OrGivesUp (IsFoundBy algorithm (before.batches header.now.id) tiles (history header.now items.now)) (found_as result)) }
+    ensures fits { IfOk result FitsAnalysis }
+    ensures none_other { IfErr result (IsOfFinding algorithm) }
+    ensures same { Unchanged (N.state notary.old) (N.state notary.new) }
+    ensures asked { IfOk result (λ a. (N.state notary.new).asked + 1 ≤ (N.state notary.old).asked + questions (analysis_of a)) }
+    ensures frame { GoesOn (N.state notary.old) (N.state notary.new) }
+    ensures cause { HasCause NotaryFault (N.state notary.old).faults (N.state notary.new).faults result }
+{
+    let mut steps = Steps::<L>::new(blank);
+    let plan = Plan::new(alloc, header, items, tiles, &mut steps)?;
+    let findings = search(alloc, &plan, notary, header.id, algorithm)?;
+    Ok(Analysis::Found {
+        header: *header,
+        tiles,
+        findings,
+    })
+}

@@ -1,0 +1,70 @@
+//! What an analysis finds.
+
+ghost use Rattle.std.specs.Prelude.{◌≡◌, ℕ};
+ghost use Rattle.digest_model.specs.Layout.{Layout};
+ghost use Rattle.forensic_report.specs.Analysis.{bad_tiles, is_some_bad, is_altered};
+ghost use Rattle.forensic_report.specs.Values.{findings_of, analysis_of, FitsFindings, FitsAnalysis};
+
+use crate::failing::FailingTiles;
+use a3d_forensics::A3dFound;
+use tuple_bytes::Header;
+
+/// What an algorithm finds.
+#[derive(Drop)]
+pub(crate) enum Findings {
+    /// Where the region begins.
+    Region { first: Option<u32> },
+
+    /// The tiles that fail, ascending, and their targets.
+    Targets { targets: FailingTiles },
+
+    /// The altered granules, and how many nodes were asked.
+    Leaves { found: A3dFound },
+}
+
+/// What an analysis finds.
+#[derive(Drop)]
+pub(crate) enum Analysis {
+    /// Nothing was filed.
+    Unsealed,
+
+    /// Of so many sealed tiles the header is another.
+    HeaderAltered {
+        tiles: u32,
+    },
+
+    /// This was found of so many tiles, under this header.
+    Found {
+        header: Header,
+        tiles: u32,
+        findings: Findings,
+    },
+}
+
+impl Findings {
+    /// Whether some tile is bad.
+    fn is_some_bad(&self) -> bool
+        ensures value { (l : Layout) (n : ℕ) → FitsFindings l n self.now
+            → result ≡ is_some_bad (bad_tiles l n (findings_of self.now)) }
+    {
+        match self {
+            Findings::Region { first } => first.is_some(),
+            Findings::Targets { targets } => !targets.as_slice().is_empty(),
+            Findings::Leaves { found } => !found.granules.as_slice().is_empty(),
+        }
+    }
+}
+
+impl Analysis {
+    /// Whether it tells that something is altered.
+    pub(crate) fn is_altered(&self) -> bool
+        requires fits { FitsAnalysis self.now }
+        ensures value { result ≡ is_altered (analysis_of self.now) }
+    {
+        match self {
+            Analysis::Unsealed => false,
+            Analysis::HeaderAltered { .. } => true,
+            Analysis::Found { findings, .. } => findings.is_some_bad(),
+        }
+    }
+}

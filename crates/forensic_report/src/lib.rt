@@ -1,0 +1,61 @@
+//! Reports of what an intruder changed.
+//!
+//! [`analyse`] reads the store, asks a notary about it by one of three algorithms, and writes a
+//! report: which granules are altered, or may be, when they were changed, and a diagram of all that is
+//! known of the tiles.
+//!
+//! ```text
+//! report tiled id 7 tiles 1 altered
+//! tile 0 target 101 candidates 5 7 when 480 to 500
+//! first change in tile 0 when 480 to 500
+//! diagram
+//!          480 N
+//!          500 X
+//! ```
+//!
+//! | The layer above may rely on | Clause of `analyse` |
+//! |---|---|
+//! | what is found is what the answers show of the stored bytes (`IsAnalysis`), and the text is the report of it (`report_text`) | `told` |
+//! | the verdict and the first line, whatever is told; the number of questions, where both tell | `told`: `altered`, `begins`, `asked` of `IsReport` |
+//! | no other cause refuses | `none_other` |
+//! | the store and the notary are as they were | `same`, `unchanged` |
+//! | a fault is answered only where the disk or the notary counted it | `disk_cause`, `notary_cause` |
+//!
+//! | A law | Says |
+//! |---|---|
+//! | `reports_show` | of a history whose batches the notary holds: unless two inputs clash, each altered granule that the algorithm promises is named; where an alteration is told there is one, or another header, the tree's granules are altered, and each tile that fails has one that is, without exception (`Shows`) |
+//! | `sound_is_unaltered` | of a sound store no report tells of an alteration |
+//! | `refusals_are_clashes` | a notary that holds a history's batches has each seal that is asked for, or two inputs clash; chains are lacking only where that history's header has none, or two inputs clash |
+//!
+//! Only tested, in `forensic_examples`: that calls succeed where there is memory.
+//!
+//! ```text
+//! let report = analyse(alloc, &mut disk, &mut notary, id, Algorithm::Tiled, now)?;
+//! out.write_all(report.text.as_slice())?;
+//! if report.altered { .. }
+//! ```
+#![tactic(auto)]
+
+mod algorithm;
+mod analysing;
+mod asking;
+mod bad;
+mod bodies;
+mod ends;
+mod fail;
+mod failing;
+mod finding;
+mod found;
+mod laws;
+mod lines;
+mod places;
+mod report;
+mod searching;
+mod text;
+mod writing;
+
+pub use algorithm::Algorithm;
+pub use analysing::analyse;
+pub use fail::AnalyseFail;
+pub use laws::{refusals_are_clashes, reports_show, sound_is_unaltered, worked_reports};
+pub use report::Report;
