@@ -1,0 +1,282 @@
+-- Each event of a timeline files, marks, or leaves what is filed and marked.
+use Rattle.std.proofs.Common.{◌≡◌, ◌⊎◌, inl, inr, ℕ, ◌+◌, ◌-◌, ◌<◌, ◌≤◌, ◌==◌, Bool, true, false, List, [], ◌∷◌, ◌++◌, length, take, Option, Some, None, Result, Ok, Err, refl, sym, ap, subst, ◌∙◌, arith}
+use Rattle.std.specs.Prelude.{nat_le, nat_lt, if◌then◌else◌, codes}
+use Rattle.std.specs.Option.{option_map}
+use Rattle.std.proofs.lemmas.Bool.{cases_eq, eq-eqb, eqb-true, ne_eqb}
+use Rattle.std.proofs.lemmas.Option.{same_Some}
+use Rattle.std.proofs.lemmas.Bool.Decides.{nat_tests}
+use Rattle.byte_grammar.specs.Reading.{IsBytes}
+use Rattle.tuple_bytes.specs.declared.header.Header.{Header}
+use Rattle.tuple_bytes.specs.declared.item.Item.{Item}
+use Rattle.history_model.specs.declared.stored.Stored.{Stored}
+use Rattle.history_model.specs.Stored.{stored}
+use Rattle.history_model.specs.History.{History, history}
+use Rattle.history_model.proofs.Stores.{stored_history}
+use Rattle.disk_words.specs.Disk.{written}
+use Rattle.tuple_bytes.specs.Limits.{max_moment}
+use Rattle.digest_model.specs.Laws.{HasSpelling}
+use Rattle.digest_model.proofs.Spelled.{has_spelling}
+use Rattle.notary_link.specs.declared.mark.Mark.{Mark}
+use Rattle.notary_link.specs.Notary.{Call, Lists, marks_in_all}
+use Rattle.stmt_text.specs.declared.event.Event.{Event}
+use Rattle.stmt_text.specs.declared.event.Event.TheVariants as events
+use Rattle.stmt_text.specs.declared.stmt.Stmt.TheVariants as stmts
+use Rattle.stmt_text.specs.declared.line.Line.{Line}
+use Rattle.stmt_text.specs.declared.line.Line.TheVariants as lines
+use Rattle.session_core.specs.World as statements
+use Rattle.audit_model.specs.Altered.{history_in}
+use Rattle.validator.specs.declared.verdict.Verdict.{Verdict}
+use Rattle.validator.specs.declared.fail.AuditFail.{AuditFail}
+use Rattle.validator.specs.Verdicts.{IsFoundIn, history_with, under_id, mark_of}
+use Rattle.validator.specs.declared.fail.AuditFail.TheVariants as fails
+use Rattle.validator.specs.Texts.{verdict_text, refusal_text}
+use Rattle.drill_core.specs.World as worlds
+use Rattle.drill_core.specs.World.{with_mark}
+use Rattle.drill_core.specs.Steps as world_steps
+use Rattle.drill_core.specs.Steps.{on_tables, notarized, validated, marked, history_of, MayFind}
+use Rattle.txn_journal.specs.Create.{is_free}
+use Rattle.timeline_model.specs.Scene.{Scene, Crash, store_under, store_in, world_of, batches_of}
+use Rattle.txn_journal.specs.Held.{standing}
+use Rattle.timeline_model.specs.LineCalls.{items_added, with_items, appends, end_of_store, notary_calls, validate_calls, noting}
+use Rattle.timeline_model.specs.Lines.{Act, quiet, says, refuses, over_world, over_store, header_at, makes, inits, altered, shortened, brings}
+use Rattle.timeline_model.specs.Timeline.{with_calls, calls_in, stopped, under, MayBeFound}
+use Rattle.timeline_model.proofs.Acts.{Acts, take_none, none_added}
+
+-- ---- what leaves the lists
+
+pub same_lists : (id : ℕ) (was is : Scene) → is.lists ≡ was.lists → Acts id was is
+same_lists id was is same = inl (record { batches = ap (λ (l : Lists). l.batches id) same; marks = ap (λ (l : Lists). l.marks id) same })
+
+pub unstopped : (t : Scene) (crash : Crash) (a : Act) → a.notary_calls ≡ [] → (stopped t crash a).lists ≡ t.lists
+unstopped t crash a none =
+    ap (λ (calls : List Call). with_calls (take (crash.after - length a.disk_calls) calls) t.lists) none
+    ∙ ap (λ (calls : List Call). with_calls calls t.lists) (take_none (crash.after - length a.disk_calls))
+
+-- ---- a line, stopped or not
+
+-- it acts so, where it leaves bytes
+abbrev pub ActsOn : ℕ → Scene → Scene → Type 0
+ActsOn id t is = IsBytes is.bytes → Acts id t is
+
+pub record ActsEither (id : ℕ) (t : Scene) (a : Act) : Type 0 where
+  pub whole : ActsOn id t a.next.scene
+  pub in_part : (crash : Crash) → crash.after < calls_in a → ActsOn id t (stopped t crash a)
+
+pub under_crash : (id : ℕ) (t : Scene) (a : Act) (crash : Option Crash) → ActsEither id t a → ActsOn id t (under crash t a).scene
+under_crash id t a None acts = acts.whole
+under_crash id t a (Some crash) acts = by (nat_le (calls_in a) crash.after) refl
+  where
+    by : (b : Bool) → nat_le (calls_in a) crash.after ≡ b → ActsOn id t (if b then a.next else record { scene = stopped t crash a; text = codes "crashed" ++ 10 ∷ []; is_refused = false }).scene
+    by true le = acts.whole
+    by false more = acts.in_part crash (grind (arith, nat_tests, more))
+
+-- no call of the notary
+pub without_notary : (id : ℕ) (t : Scene) (a : Act) → a.notary_calls ≡ [] → a.next.scene.lists ≡ t.lists → ActsEither id t a
+without_notary id t a none same = record {
+  whole = λ bytes. same_lists id t a.next.scene same;
+  in_part = λ crash early bytes. same_lists id t (stopped t crash a) (unstopped t crash a none);
+}
+
+-- ---- spellings
+
+spelled_by : (bytes : List ℕ) (o : Option Header) (s : History) → IsBytes bytes → (stored bytes).header ≡ o → option_map (λ (h : Header). history h (stored bytes).items) o ≡ Some s → HasSpelling s
+spelled_by bytes None s fits is held_is = absurd cc
+spelled_by bytes (Some h) s fits is held_is =
+    let same : history h (stored bytes).items ≡ s = same_Some (history h (stored bytes).items) s held_is in
+    subst HasSpelling same (has_spelling (history h (stored bytes).items) (stored_history bytes h fits is))
+
+pub spelled_of : (bytes : List ℕ) (s : History) → IsBytes bytes → history_in (stored bytes) ≡ Some s → HasSpelling s
+spelled_of bytes s fits held_is = spelled_by bytes (stored bytes).header s fits refl held_is
+
+-- ---- the world that stands under an id
+
+abbrev pub world_with : Scene → ℕ → Option statements.World → worlds.World
+world_with t i o = record { id = i; store = o; lists = t.lists; limits = t.limits }
+
+pub record StoreIs (i : ℕ) (bytes : List ℕ) (store : statements.World) : Type 0 where
+  pub header : (stored bytes).header ≡ Some store.header
+  pub items : (stored bytes).items ≡ store.items
+  pub end : (stored bytes).end ≡ store.end
+  pub own : store.header.id ≡ i
+
+store_by : (i : ℕ) (bytes : List ℕ) (o : Option Header) (store : statements.World) → (stored bytes).header ≡ o → store_under i o (stored bytes) ≡ Some store → StoreIs i bytes store
+store_by i bytes None store is e = absurd cc
+store_by i bytes (Some h) store is e = by (h.id == i) refl e
+  where
+    by : (b : Bool) → (h.id == i) ≡ b → (if b then Some (record { header = h; items = (stored bytes).items; end = (stored bytes).end }) else None) ≡ Some store → StoreIs i bytes store
+    by true own e =
+        let same : record { header = h; items = (stored bytes).items; end = (stored bytes).end } ≡ store = same_Some (record { header = h; items = (stored bytes).items; end = (stored bytes).end }) store e in
+        record {
+          header = is ∙ ap (λ (w : statements.World). Some w.header) same;
+          items = ap (λ (w : statements.World). w.items) same;
+          end = ap (λ (w : statements.World). w.end) same;
+          own = sym (ap (λ (w : statements.World). w.header.id) same) ∙ eqb-true h.id i own;
+        }
+    by false other e = absurd cc
+
+pub store_is : (i : ℕ) (bytes : List ℕ) (store : statements.World) → store_in i (stored bytes) ≡ Some store → StoreIs i bytes store
+store_is i bytes store e = store_by i bytes (stored bytes).header store refl e
+
+-- its history is what is stored under the id
+pub history_same : (i : ℕ) (header : Option Header) (s : Stored) → history_of (store_under i header s) ≡ under_id i header s
+history_same i None s = refl
+history_same i (Some h) s = by (h.id == i)
+  where
+    by : (b : Bool) → history_of (if b then Some (record { header = h; items = s.items; end = s.end }) else None) ≡ (if b then Some (history h s.items) else None)
+    by true = refl
+    by false = refl
+
+-- ---- lines on tables
+
+tables_lists : (w : worlds.World) (o : Option statements.World) (line : Line) (now : ℕ) → (on_tables w o line now).world.lists ≡ w.lists
+tables_lists w None line now = refl
+tables_lists w (Some store) line now = refl
+
+-- a line that a world takes as one on its tables
+pub record IsOnTables (line : Line) : Type 0 where
+  pub steps : (w : worlds.World) (now : ℕ) (found : Result Verdict AuditFail) → world_steps.step w line now found ≡ on_tables w w.store line now
+  pub calls : (w : worlds.World) (now : ℕ) (found : Result Verdict AuditFail) → notary_calls w line now found ≡ []
+
+pub tables : (id : ℕ) (t : Scene) (o : Option ℕ) (line : Line) (found : Result Verdict AuditFail) → IsOnTables line → ActsEither id t (over_store t o line found)
+unfolding world_of
+tables id t None line found is = without_notary id t (over_store t None line found) refl refl
+tables id t (Some i) line found is = without_notary id t (over_store t (Some i) line found) (is.calls (world_of t i) t.clock found)
+    (ap (λ (s : world_steps.Step). s.world.lists) (is.steps (world_of t i) t.clock found) ∙ tables_lists (world_of t i) (store_in i (stored t.bytes)) line t.clock)
+
+-- ---- the lines that a drill has besides
+
+init_acts : (id : ℕ) (t was : Scene) (header : Header) → t.lists ≡ was.lists → ActsEither id was (inits t header)
+init_acts id t was header same = by (nat_lt max_moment t.clock)
+  where
+    by_free : (b : Bool) → ActsEither id was (if b then makes t header else quiet (refuses t (codes "AlreadyThere")))
+    by_free true = without_notary id was (makes t header) refl same
+    by_free false = without_notary id was (quiet (refuses t (codes "AlreadyThere"))) refl same
+
+    by : (b : Bool) → ActsEither id was (if b then quiet (refuses t (codes "TooLate")) else if is_free t.bytes then makes t header else quiet (refuses t (codes "AlreadyThere")))
+    by true = without_notary id was (quiet (refuses t (codes "TooLate"))) refl same
+    by false = by_free (is_free t.bytes)
+
+alter_acts : (id : ℕ) (t : Scene) (place : ℕ) (bytes : List ℕ) → ActsEither id t (quiet (altered t place bytes))
+alter_acts id t place bytes = by (nat_le (place + length bytes) (length t.bytes))
+  where
+    by : (b : Bool) → ActsEither id t (quiet (if b then says (record t { bytes = written place bytes t.bytes }) (codes "ok") else refuses t (codes "NoPlace")))
+    by true = without_notary id t (quiet (says (record t { bytes = written place bytes t.bytes }) (codes "ok"))) refl refl
+    by false = without_notary id t (quiet (refuses t (codes "NoPlace"))) refl refl
+
+cut_acts : (id : ℕ) (t : Scene) (n : ℕ) → ActsEither id t (quiet (shortened t n))
+cut_acts id t n = by (nat_le n (length t.bytes))
+  where
+    by : (b : Bool) → ActsEither id t (quiet (if b then says (record t { bytes = take n t.bytes }) (codes "ok") else refuses t (codes "NoPlace")))
+    by true = without_notary id t (quiet (says (record t { bytes = take n t.bytes }) (codes "ok"))) refl refl
+    by false = without_notary id t (quiet (refuses t (codes "NoPlace"))) refl refl
+
+pub drill_acts : (id : ℕ) (t : Scene) (event : Event) → ActsEither id t (brings t event)
+drill_acts id t (events.Init i width k algs) = init_acts id (record t { id = Some i }) t (header_at i t.clock width k algs) refl
+drill_acts id t (events.Crash after choice) = without_notary id t (brings t (events.Crash after choice)) refl refl
+drill_acts id t (events.Alter place bytes) = alter_acts id t place bytes
+drill_acts id t (events.Cut n) = cut_acts id t n
+
+-- ---- a validation
+
+module _ (id i : ℕ) (t : Scene) (found : Result Verdict AuditFail) where
+  abbrev line : Line
+  line = lines.Plain stmts.Validate
+
+  -- the bytes stay
+  bytes_stay : (o : Option statements.World) (lists : Lists) (end : ℕ) → with_items end (items_added o o) t.bytes ≡ t.bytes
+  bytes_stay o lists end = ap (λ (is : List Item). with_items end is t.bytes) (none_added o)
+
+  module _ (o : Option statements.World) (is : store_in i (stored t.bytes) ≡ o) (may : IsFoundIn (batches_of t i) (history_of o) found) where
+    abbrev w : worlds.World
+    w = world_with t i o
+
+    abbrev a : Act
+    a = over_world t w line found (validated w t.clock found)
+
+    history_is : history_of o ≡ history_with i (stored t.bytes)
+    history_is = ap history_of (sym is) ∙ history_same i (stored t.bytes).header (stored t.bytes)
+
+    marks_here : (verdict : Verdict) (mark : Mark) (after : Scene) → found ≡ Ok verdict → mark_of verdict t.clock ≡ Some mark → after.bytes ≡ t.bytes → after.clock ≡ t.clock → after.lists ≡ with_mark i mark t.lists → ActsOn id t after
+    marks_here verdict mark after found_is mark_is bytes_same clock_same lists_are bytes = by (cases_eq id i)
+      where
+        by : (id ≡ i) ⊎ (id ≡ i → ⊥) → Acts id t after
+        by (inl own) = inr (inr (record {
+          mark = mark;
+          verdict = verdict;
+          now = t.clock;
+          now_is = sym clock_same;
+          is_mark = mark_is;
+          found =
+              let there : IsFoundIn (batches_of t i) (history_with i (stored t.bytes)) (Ok verdict) =
+              subst (λ (x : Option History). IsFoundIn (batches_of t i) x (Ok verdict)) history_is (subst (λ (r : Result Verdict AuditFail). IsFoundIn (batches_of t i) (history_of o) r) found_is may) in
+              subst (λ (x : ℕ). IsFoundIn (batches_of t x) (history_with x (stored after.bytes)) (Ok verdict)) (sym own)
+              (subst (λ (x : List ℕ). IsFoundIn (batches_of t i) (history_with i (stored x)) (Ok verdict)) (sym bytes_same) there);
+          spelled = λ s held_is. spelled_of after.bytes s bytes held_is;
+          batches = ap (λ (l : Lists). l.batches id) lists_are;
+          marks = ap (λ (l : Lists). l.marks id) lists_are ∙ ap (λ (b : Bool). if b then t.lists.marks id ++ mark ∷ [] else t.lists.marks id) (eq-eqb id i own);
+        }))
+        by (inr other) = inl (record {
+          batches = ap (λ (l : Lists). l.batches id) lists_are;
+          marks = ap (λ (l : Lists). l.marks id) lists_are ∙ ap (λ (b : Bool). if b then t.lists.marks id ++ mark ∷ [] else t.lists.marks id) (ne_eqb id i other);
+        })
+
+    -- stopped before its one call
+    few_calls : length (notary_calls w line t.clock found) ≤ 1
+    unfolding notary_calls
+    few_calls = by found
+      where
+        by_mark : (m : Option Mark) → length (noting i m) ≤ 1
+        by_mark None = omega arith
+        by_mark (Some mark) = omega arith
+
+        by : (r : Result Verdict AuditFail) → length (validate_calls w t.clock r) ≤ 1
+        by (Ok verdict) = by_mark (mark_of verdict t.clock)
+        by (Err fail) = omega arith
+
+    module _ (s : world_steps.Step) (same : s.world.store ≡ o) where
+      abbrev with_s : Act
+      with_s = over_world t w line found s
+
+      no_disk : length with_s.disk_calls ≡ 0
+      no_disk = ap (λ (is : List Item). length (appends (standing (end_of_store o) t.bytes) is)) (ap (items_added o) same ∙ none_added o)
+
+      bytes_same : with_s.next.scene.bytes ≡ t.bytes
+      bytes_same = ap (λ (is : List Item). with_items (end_of_store o) is t.bytes) (ap (items_added o) same ∙ none_added o)
+
+      early : (crash : Crash) → crash.after < calls_in with_s → (stopped t crash with_s).lists ≡ t.lists
+      early crash soon =
+          let none : crash.after - length with_s.disk_calls ≡ 0 = omega (arith, soon, no_disk, few_calls) in
+          ap (λ (n : ℕ). with_calls (take n with_s.notary_calls) t.lists) none
+
+      left : s.world.lists ≡ t.lists → ActsEither id t with_s
+      left lists_same = record {
+        whole = λ bytes. same_lists id t with_s.next.scene lists_same;
+        in_part = λ crash soon bytes. same_lists id t (stopped t crash with_s) (early crash soon);
+      }
+
+      noted : (verdict : Verdict) (mark : Mark) → found ≡ Ok verdict → mark_of verdict t.clock ≡ Some mark → s.world.lists ≡ with_mark i mark t.lists → ActsEither id t with_s
+      noted verdict mark found_is mark_is lists_are = record {
+        whole = λ bytes. marks_here verdict mark with_s.next.scene found_is mark_is bytes_same refl lists_are bytes;
+        in_part = λ crash soon bytes. same_lists id t (stopped t crash with_s) (early crash soon);
+      }
+
+    validates : ActsEither id t a
+    validates = by found refl
+      where
+        by_room : (verdict : Verdict) (mark : Mark) → found ≡ Ok verdict → mark_of verdict t.clock ≡ Some mark → (b : Bool)
+            → ActsEither id t (over_world t w line found (if b then world_steps.says (worlds.with_lists w (with_mark i mark t.lists)) (verdict_text verdict) else world_steps.refuses w (refusal_text fails.Full)))
+        by_room verdict mark found_is mark_is true = noted (world_steps.says (worlds.with_lists w (with_mark i mark t.lists)) (verdict_text verdict)) refl verdict mark found_is mark_is refl
+        by_room verdict mark found_is mark_is false = left (world_steps.refuses w (refusal_text fails.Full)) refl refl
+
+        by_mark : (verdict : Verdict) → found ≡ Ok verdict → (m : Option Mark) → mark_of verdict t.clock ≡ m → ActsEither id t (over_world t w line found (marked w m (verdict_text verdict)))
+        by_mark verdict found_is None mark_is = left (world_steps.says w (verdict_text verdict)) refl refl
+        by_mark verdict found_is (Some mark) mark_is = by_room verdict mark found_is mark_is (nat_lt (marks_in_all t.lists) t.limits.marks)
+
+        by : (r : Result Verdict AuditFail) → found ≡ r → ActsEither id t (over_world t w line found (validated w t.clock r))
+        by (Ok verdict) found_is = by_mark verdict found_is (mark_of verdict t.clock) refl
+        by (Err fail) found_is = left (world_steps.refuses w (refusal_text fail)) refl refl
+
+pub validate_acts : (id : ℕ) (t : Scene) (o : Option ℕ) (found : Result Verdict AuditFail) → MayBeFound o t (Ok (lines.Plain stmts.Validate)) found → ActsEither id t (over_store t o (lines.Plain stmts.Validate) found)
+unfolding world_of world_steps.step
+validate_acts id t None found may = without_notary id t (over_store t None (lines.Plain stmts.Validate) found) refl refl
+validate_acts id t (Some i) found may = validates id i t found (store_in i (stored t.bytes)) refl may

@@ -1,0 +1,411 @@
+-- Notarizations and validations keep a scene sound, and so do all lines.
+use Rattle.std.proofs.Common.{◌≡◌, ◌⊎◌, inl, inr, ℕ, zero, suc, ◌+◌, ◌-◌, ◌<◌, ◌≤◌, ◌==◌, Bool, true, false, List, [], ◌∷◌, ◌++◌, length, take, Option, Some, None, IfSome, Result, Ok, Err, refl, sym, ap, subst, ◌∙◌, arith, length-take}
+use Rattle.std.specs.Prelude.{if◌then◌else◌, codes}
+use Rattle.std.specs.Option.{option_map}
+use Rattle.std.proofs.lemmas.Bool.{cases_eq, eq-eqb}
+use Rattle.std.proofs.lemmas.Option.{same_Some, none-some}
+use Rattle.std.proofs.lemmas.List.{append-nil, take_all}
+use Rattle.byte_grammar.specs.Reading.{IsBytes}
+use Rattle.disk_words.specs.Disk as disks
+use Rattle.disk_words.specs.Record.{image_of}
+use Rattle.disk_model.specs.Moments.{is_done}
+use Rattle.outside_words.specs.Runs.{after_calls}
+use Rattle.tuple_bytes.specs.declared.item.Item.{Item}
+use Rattle.tuple_bytes.specs.declared.item.Item.TheVariants as items
+use Rattle.tuple_bytes.specs.declared.header.Header.{Header}
+use Rattle.tuple_bytes.specs.Spelling.{FitsHeader}
+use Rattle.history_model.specs.declared.stored.Stored.{Stored}
+use Rattle.history_model.proofs.Stores.{stored_history}
+use Rattle.history_model.specs.Stored.{stored}
+use Rattle.history_model.specs.History.{History, history}
+use Rattle.notary_link.specs.declared.mark.Mark.{Mark}
+use Rattle.notary_link.specs.Batches.{Batch}
+use Rattle.notary_link.specs.Notary.{Call, Lists}
+use Rattle.notary_link.specs.Filing.{filings, fitting, room_in}
+use Rattle.notary_link.proofs.Fitting.{fitting_few}
+use Rattle.audit_model.specs.Altered.{history_in}
+use Rattle.audit_model.specs.Sound.{IsNotarized, HoldsNotarized}
+use Rattle.audit_model.proofs.Adding.{added_stays}
+use Rattle.store_engine.specs.Opened.{Stores, StoresOldOrNew}
+use Rattle.store_engine.specs.Refusals.{Tail}
+use Rattle.stmt_text.specs.declared.event.Event.TheVariants as events
+use Rattle.stmt_text.specs.declared.error.ParseFail.{ParseFail}
+use Rattle.stmt_text.specs.declared.stmt.Stmt.{Stmt}
+use Rattle.stmt_text.specs.declared.stmt.Stmt.TheVariants as stmts
+use Rattle.stmt_text.specs.declared.line.Line.{Line}
+use Rattle.stmt_text.specs.declared.line.Line.TheVariants as lines
+use Rattle.stmt_text.specs.Fits.{FitsStmt, FitsParts}
+use Rattle.session_core.specs.World as statements
+use Rattle.validator.specs.declared.verdict.Verdict.{Verdict}
+use Rattle.validator.specs.declared.fail.AuditFail.{AuditFail}
+use Rattle.validator.specs.Notarizing.{notarize_fault, next_batches, frontier_for, sealed_after}
+use Rattle.validator.specs.Reaching.{with_frontier_for}
+use Rattle.validator.specs.Texts.{numbered}
+use Rattle.validator.specs.Verdicts.{mark_of, under_id}
+use Rattle.validator.proofs.Growing.{IsFiledUpTo, need_follows, counted_more, notarized_more}
+use Rattle.drill_core.specs.Laws.{HoldsFiled, TellsNoAlteration}
+use Rattle.drill_core.proofs.SoundWorlds.{sound_worlds}
+use Rattle.drill_core.specs.World as worlds
+use Rattle.drill_core.specs.Steps as world_steps
+use Rattle.drill_core.specs.Steps.{notarized, validated, marked, sealed, reached, history_of, MayFind}
+use Rattle.timeline_model.specs.Scene.{Scene, Crash, nothing_yet, store_in, world_of, held, batches_of}
+use Rattle.txn_journal.specs.Held.{standing}
+use Rattle.timeline_model.specs.LineCalls.{end_of_store, items_added, with_items, appends, notary_calls, validate_calls, noting, filing_calls, unless}
+use Rattle.timeline_model.specs.Lines.{Act, says, refuses, over_world, over_store, header_at, act}
+use Rattle.timeline_model.specs.Timeline.{Event, step, taken, act_on, name_of, after, with_calls, calls_in, stopped, IsDrillLine, IsReading, FitsReading, IsTimeline, MayCome}
+use Rattle.timeline_model.specs.Sound.{IsFromInside, stored_by, stores, AllFromInside, HasAlso, TimelinesStaySound, EventsKeepItems, NextLinesTellNoAlteration}
+use Rattle.timeline_model.proofs.Acts.{take_none, none_added}
+use Rattle.timeline_model.proofs.Bytes.{all_calls, ItemsLast, none_last, none_stopped}
+use Rattle.timeline_model.proofs.Stopped.{stopped_stores}
+use Rattle.timeline_model.proofs.Doings.{history_same, world_with, StoreIs, store_is}
+use Rattle.timeline_model.proofs.Events.{bytes_after, no_bytes}
+use Rattle.timeline_model.proofs.Statements.{with_validated}
+use Rattle.timeline_model.proofs.Sealing as sealing
+use Rattle.timeline_model.proofs.Sealing.{HasMore, more_with, calls_file, take_inner, frontier_items}
+use Rattle.timeline_model.proofs.Sound.{IsSoundScene, Extends, IsGood, SoundEither, good_same, under_sound, quiet_sound, init_sound, stored_held, stays, tables_by, tables_sound}
+use Rattle.digest_model.specs.Layout.{layout}
+
+-- ---- a validation
+
+noted_batches : (n i : ℕ) (m : Option Mark) (lists : Lists) (id : ℕ) → (with_calls (take n (noting i m)) lists).batches id ≡ lists.batches id
+noted_batches zero i m lists id = refl
+noted_batches (suc n) i None lists id = refl
+noted_batches (suc zero) i (Some mark) lists id = refl
+noted_batches (suc (suc n)) i (Some mark) lists id = refl
+
+validated_batches : (n : ℕ) (w : worlds.World) (now : ℕ) (found : Result Verdict AuditFail) (lists : Lists) (id : ℕ) → (with_calls (take n (validate_calls w now found)) lists).batches id ≡ lists.batches id
+validated_batches n w now (Ok verdict) lists id = noted_batches n w.id (mark_of verdict now) lists id
+validated_batches n w now (Err fail) lists id = ap (λ (calls : List Call). (with_calls calls lists).batches id) (take_none n)
+
+validate_by : (i : ℕ) (t : Scene) (found : Result Verdict AuditFail) → (o : Option statements.World) → SoundEither (items_added o (validated (world_with t i o) t.clock found).world.store) t (over_world t (world_with t i o) (lines.Plain stmts.Validate) found (validated (world_with t i o) t.clock found))
+unfolding notary_calls
+validate_by i t found o = record {
+  whole = good_same (items_added o s.world.store) t (over_world t w (lines.Plain stmts.Validate) found s).next.scene parts.1 (ap (λ (its : List Item). history_in (stored (with_items (end_of_store o) its t.bytes))) none);
+  in_part = λ crash soon. good_same (items_added o s.world.store) t (stopped t crash (over_world t w (lines.Plain stmts.Validate) found s))
+      (validated_batches (crash.after - length (appends (standing (end_of_store o) t.bytes) (items_added o s.world.store))) w t.clock found t.lists)
+      (ap (λ (x : List ℕ). history_in (stored x)) (none_stopped crash.choice crash.after (end_of_store o) (items_added o s.world.store) t.bytes none));
+  lasts = subst (ItemsLast t.bytes (end_of_store o)) (sym none) (none_last t.bytes (end_of_store o));
+}
+  where
+    w : worlds.World
+    w = world_with t i o
+
+    s : world_steps.Step
+    s = validated (world_with t i o) t.clock found
+
+    parts : ((validated (world_with t i o) t.clock found).world.store ≡ o) × ((id : ℕ) → (validated (world_with t i o) t.clock found).world.lists.batches id ≡ t.lists.batches id)
+    parts = with_validated (world_with t i o) t.clock found
+
+    none : items_added o (validated (world_with t i o) t.clock found).world.store ≡ []
+    none = ap (items_added o) parts.0 ∙ none_added o
+
+validate_sound : (t : Scene) (o : Option ℕ) (found : Result Verdict AuditFail) → SoundEither (stored_by o t (Ok (lines.Plain stmts.Validate)) found) t (over_store t o (lines.Plain stmts.Validate) found)
+unfolding world_of world_steps.step
+validate_sound t None found = quiet_sound [] t (refuses t (codes "NotAStore")) refl refl
+validate_sound t (Some i) found = validate_by i t found (store_in i (stored t.bytes))
+
+-- ---- a notarization
+
+line : Line
+line = lines.Plain stmts.Notarize
+
+around_is : (o : Option ℕ) (its : List Item) → with_frontier_for o its ≡ its ++ frontier_items o
+unfolding frontier_items
+around_is None its = sym (append-nil its)
+around_is (Some moment) its = refl
+
+module _ (i : ℕ) (t : Scene) (found : Result Verdict AuditFail) (store : statements.World) (is : store_in i (stored t.bytes) ≡ Some store) (bytes_before : IsBytes t.bytes) where
+  abbrev h : History
+  h = history store.header store.items
+
+  abbrev batches : List Batch
+  batches = t.lists.batches i
+
+  abbrev w : worlds.World
+  w = world_with t i (Some store)
+
+  abbrev now : ℕ
+  now = t.clock
+
+  abbrev tail : Tail
+  tail = statements.tail_of_world store
+
+  abbrev need : Option ℕ
+  need = frontier_for (layout h) tail now batches
+
+  abbrev next : List Batch
+  next = next_batches h now batches
+
+  abbrev fit : ℕ
+  fit = fitting (room_in t.limits t.lists) next
+
+  abbrev s : History
+  s = history store.header (with_frontier_for need store.items)
+
+  facts : StoreIs i t.bytes store
+  facts = store_is i t.bytes store is
+
+  stores_now : Stores store.header store.items t.bytes
+  stores_now = record { header_is = facts.header; items_are = facts.items }
+
+  held_now : held t ≡ Some h
+  held_now = stored_held store.header store.items t stores_now
+
+  -- there is a store
+  stored_already : (after : Scene) → held t ≡ None → (stored after.bytes).items ≡ []
+  stored_already after none = absurd (none-some h (sym none ∙ held_now))
+
+  -- ---- it stays sound
+
+  module _ (sound : IsSoundScene t) where
+    sound_now : (id : ℕ) → HoldsFiled (batches_of t id) id (Some h)
+    sound_now id = subst (HoldsFiled (batches_of t id) id) held_now (sound id)
+
+    filed_before : IsFiledUpTo batches h (length batches)
+    filed_before = by (sound_now i)
+      where
+        by : HoldsFiled batches i (Some h) → IsFiledUpTo batches h (length batches)
+        by (inl none) = subst (λ (bs : List Batch). IsFiledUpTo bs h (length bs)) (sym none) refl
+        by (inr known) = subst (λ (n : ℕ). IsFiledUpTo batches h n) (sym known.1) known.2.filed.seals
+
+    -- the Frontier alone
+    still : (id : ℕ) → HoldsFiled (batches_of t id) id (Some s)
+    still id = by need refl (sound_now id)
+      where
+        by : (o : Option ℕ) → need ≡ o → HoldsFiled (batches_of t id) id (Some h) → HoldsFiled (batches_of t id) id (Some (history store.header (with_frontier_for o store.items)))
+        by None e held_filed = held_filed
+        by (Some moment) e (inl none) = inl none
+        by (Some moment) e (inr known) = inr (known.0, known.1, added_stays (batches_of t id) id known.0 store.header store.items (items.Frontier moment) (sealing.fits i t found store is bytes_before) known.2 (need_follows (layout h) tail store.items refl now batches moment e))
+
+    -- with some of the next batches
+    more_filed : notarize_fault tail false now store.items batches ≡ None → (j : ℕ) → suc j ≤ length next → HoldsFiled (batches ++ take (suc j) next) i (Some s)
+    more_filed free j few = inr (
+      length batches + suc j - 1,
+      counted_more tail store.items refl now batches (sealing.within i t found store is bytes_before free) filed_before (suc j) (omega arith) few,
+      subst (λ (id : ℕ). IsNotarized (batches ++ take (suc j) next) id (length batches + suc j - 1) s) facts.own
+          (notarized_more tail store.items refl now batches (sealing.within i t found store is bytes_before free) filed_before (suc j) (omega arith) few),
+    )
+
+    -- another id has nothing
+    nothing_else : (id : ℕ) → (id ≡ i → ⊥) → HoldsFiled (batches_of t id) id (Some h) → batches_of t id ≡ []
+    nothing_else id other (inl none) = none
+    nothing_else id other (inr known) = absurd (other (sym known.2.filed.header ∙ facts.own))
+
+    sound_after : notarize_fault tail false now store.items batches ≡ None → (after : Scene) (j : ℕ) → j ≤ length next → (held after ≡ Some h) ⊎ (held after ≡ Some s) → (0 < j → held after ≡ Some s) → HasMore i (take j next) t.lists after.lists → IsSoundScene after
+    sound_after free after j few either reached_end more id = by (cases_eq id i)
+      where
+        here : (k : ℕ) → j ≡ k → HoldsFiled (after.lists.batches i) i (held after)
+        here zero none = subst (λ (bs : List Batch). HoldsFiled bs i (held after)) (sym (more.here ∙ ap (λ (n : ℕ). batches ++ take n next) none ∙ append-nil batches)) (elim either [
+          | inl old ↦ subst (HoldsFiled batches i) (sym old) (sound_now i)
+          | inr new ↦ subst (HoldsFiled batches i) (sym new) (still i)
+        ])
+        here (suc k) some = subst (λ (bs : List Batch). HoldsFiled bs i (held after)) (sym (more.here ∙ ap (λ (n : ℕ). batches ++ take n next) some))
+            (subst (HoldsFiled (batches ++ take (suc k) next) i) (sym (reached_end (omega (arith, some)))) (more_filed free k (omega (arith, few, some))))
+
+        by : (id ≡ i) ⊎ (id ≡ i → ⊥) → HoldsFiled (after.lists.batches id) id (held after)
+        by (inl own) = subst (λ (x : ℕ). HoldsFiled (after.lists.batches x) x (held after)) (sym own) (here j refl)
+        by (inr other) = inl (more.others id other ∙ nothing_else id other (sound_now id))
+
+  module _ (free : notarize_fault tail false now store.items batches ≡ None) where
+    -- some of the calls of its Frontier
+    part_by : (o : Option ℕ) → need ≡ o → (choice k : ℕ) (after : Scene) → after.bytes ≡ image_of choice t.bytes (after_calls is_done (take k (appends (standing store.end t.bytes) (frontier_items o))) []) → (held after ≡ Some h) ⊎ (held after ≡ Some (history store.header (with_frontier_for o store.items)))
+    unfolding frontier_items
+    part_by None e choice k after bytes_are = inl (ap (λ (x : List ℕ). history_in (stored x)) (bytes_are ∙ ap (λ (calls : List disks.Call). image_of choice t.bytes (after_calls is_done calls [])) (take_none k) ∙ all_calls choice [] t.bytes) ∙ held_now)
+    part_by (Some moment) e choice k after bytes_are = by (subst (λ (x : List ℕ). StoresOldOrNew store.header store.items (items.Frontier moment) x) (sym bytes_are)
+        (subst (λ (end : ℕ). StoresOldOrNew store.header store.items (items.Frontier moment) (image_of choice t.bytes (after_calls is_done (take k (appends (standing end t.bytes) (items.Frontier moment ∷ []))) []))) facts.end
+        (stopped_stores store.header store.items (items.Frontier moment) t.bytes stores_now (sealing.frontier_takes i t found store is bytes_before free moment e) choice k)))
+      where
+        by : StoresOldOrNew store.header store.items (items.Frontier moment) after.bytes → (held after ≡ Some h) ⊎ (held after ≡ Some (history store.header (store.items ++ items.Frontier moment ∷ [])))
+        by (inl old) = inl (stored_held store.header store.items after old)
+        by (inr new) = inr (stored_held store.header (store.items ++ items.Frontier moment ∷ []) after new)
+
+    abbrev bytes_to : List Item → List ℕ
+    bytes_to its = with_items store.end its t.bytes
+
+    abbrev added : List Item
+    added = items_added (Some store) (Some (reached need store))
+
+    abbrev new_world : worlds.World
+    new_world = world_steps.filed (worlds.with_store w (reached need store)) next
+
+    module _ (step : world_steps.Step) (world_is : step.world ≡ new_world) (calls_are : notary_calls w line now found ≡ filing_calls w next) where
+      abbrev a : Act
+      a = over_world t w line found step
+
+      items_same : items_added (Some store) step.world.store ≡ added
+      items_same = ap (λ (x : worlds.World). items_added (Some store) x.store) world_is
+
+      -- the store has what the line stores
+      extends : (after : Scene) → (held after ≡ Some h) ⊎ (held after ≡ Some s) → Extends (items_added (Some store) step.world.store) t after
+      extends after either k some = by either
+        where
+          same : history store.header store.items ≡ k
+          same = same_Some (history store.header store.items) k (sym held_now ∙ some)
+
+          by : (held after ≡ Some (history store.header store.items)) ⊎ (held after ≡ Some (history store.header (with_frontier_for (frontier_for (layout (history store.header store.items)) (statements.tail_of_world store) t.clock (t.lists.batches i)) store.items)))
+              → (held after ≡ Some k) ⊎ (held after ≡ Some (history k.header (k.items ++ items_added (Some store) step.world.store)))
+          by (inl old) = inl (old ∙ ap (λ (x : History). Some x) same)
+          by (inr new) = inr (new ∙ ap (λ (l : List Item). Some (history store.header l)) (around_is need store.items ∙ ap (λ (l : List Item). store.items ++ l) (sym (items_same ∙ sealing.added_is i t found store is bytes_before need)))
+              ∙ ap (λ (x : History). Some (history x.header (x.items ++ items_added (Some store) step.world.store))) same)
+
+      whole_sound : IsGood (items_added (Some store) step.world.store) t a.next.scene
+      whole_sound = record {
+        sound = λ sound. sound_after sound free a.next.scene fit (fitting_few (room_in t.limits t.lists) next) (inr full) (λ some. full)
+            (subst (λ (x : worlds.World). HasMore i (take fit next) t.lists x.lists) (sym world_is) (more_with i (take fit next) t.lists));
+        extends = extends a.next.scene (inr full);
+        bare = stored_already a.next.scene;
+      }
+        where
+          full : held (over_world t (world_with t i (Some store)) line found step).next.scene ≡ Some (history store.header (with_frontier_for (frontier_for (layout (history store.header store.items)) (statements.tail_of_world store) t.clock (t.lists.batches i)) store.items))
+          full = sealing.held_after i t found store is bytes_before free (over_world t (world_with t i (Some store)) line found step).next.scene (ap bytes_to items_same)
+
+      module _ (crash : Crash) (soon : crash.after < calls_in a) where
+        abbrev j : ℕ
+        j = crash.after - length a.disk_calls
+
+        j_fits : j ≤ fit
+        j_fits = omega (arith, soon, ap length calls_are, length-take (suc fit) (filings i (length batches) next))
+
+        j_few : j ≤ length next
+        j_few = omega (arith, j_fits, fitting_few (room_in t.limits t.lists) next)
+
+        calls_now : take j a.notary_calls ≡ take j (filings i (length batches) next)
+        calls_now = ap (take j) calls_are ∙ take_inner j (suc fit) (filings i (length batches) next) (omega (arith, j_fits))
+
+        either_now : (held (stopped t crash a) ≡ Some h) ⊎ (held (stopped t crash a) ≡ Some s)
+        either_now = part_by need refl crash.choice crash.after (stopped t crash a)
+            (ap (λ (its : List Item). image_of crash.choice t.bytes (after_calls is_done (take crash.after (appends (standing store.end t.bytes) its)) [])) (items_same ∙ sealing.added_is i t found store is bytes_before need))
+
+        end_now : 0 < j → held (stopped t crash a) ≡ Some s
+        end_now some =
+            let all : take crash.after a.disk_calls ≡ a.disk_calls = take_all crash.after a.disk_calls (omega (arith, some)) in
+            let same = items_same ∙ sealing.added_is i t found store is bytes_before need in
+            sealing.held_after i t found store is bytes_before free (stopped t crash a)
+            (ap (λ (calls : List disks.Call). image_of crash.choice t.bytes (after_calls is_done calls [])) (all ∙ ap (appends (standing store.end t.bytes)) same)
+            ∙ sealing.image_by i t found store is bytes_before free need refl crash.choice
+            ∙ ap bytes_to (sym (sealing.added_is i t found store is bytes_before need)))
+
+        part_sound : IsGood (items_added (Some store) step.world.store) t (stopped t crash a)
+        part_sound = record {
+          sound = λ sound. sound_after sound free (stopped t crash a) j j_few either_now end_now
+              (subst (λ (calls : List Call). HasMore i (take j next) t.lists (with_calls calls t.lists)) (sym calls_now) (calls_file i (length batches) j next t.lists));
+          extends = extends (stopped t crash a) either_now;
+          bare = stored_already (stopped t crash a);
+        }
+
+      files_sound : SoundEither (items_added (Some store) step.world.store) t a
+      files_sound = record {
+        whole = whole_sound;
+        in_part = part_sound;
+        lasts = subst (ItemsLast t.bytes store.end) (sym (items_same ∙ sealing.added_is i t found store is bytes_before need)) (sealing.image_by i t found store is bytes_before free need refl);
+      }
+
+  store_sound : SoundEither (items_added (Some store) (notarized w (Some store) now).world.store) t (over_world t w line found (notarized w (Some store) now))
+  unfolding notary_calls line
+  store_sound = by (notarize_fault tail false now store.items batches) refl
+    where
+      by : (fault : Option AuditFail) → notarize_fault tail false now store.items batches ≡ fault → SoundEither (items_added (Some store) (notarized w (Some store) now).world.store) t (over_world t w line found (notarized w (Some store) now))
+      by None free = files_sound free (notarized w (Some store) now)
+          (ap (λ (fault : Option AuditFail). (world_steps.unless fault w (sealed w store now)).world) free ∙ sealing.world_of_all i t found store is bytes_before 0 (fit == length next) (new_world free) (numbered (codes "sealed ") (sealed_after (layout h) store.header now batches)))
+          (ap (λ (fault : Option AuditFail). unless fault (filing_calls w next)) free)
+      by (Some fail) cause = stays i t line stmts.Notarize refl found store is bytes_before (ap (λ (fault : Option AuditFail). unless fault (filing_calls w next)) cause)
+          (items_added (Some store) (notarized w (Some store) now).world.store) (notarized w (Some store) now)
+          (ap (λ (fault : Option AuditFail). (world_steps.unless fault w (sealed w store now)).world.store) cause)
+          (ap (λ (fault : Option AuditFail). (world_steps.unless fault w (sealed w store now)).world.lists) cause)
+
+with_store : (i : ℕ) (t : Scene) (found : Result Verdict AuditFail) → IsBytes t.bytes → (o : Option statements.World) → store_in i (stored t.bytes) ≡ o → SoundEither (items_added o (notarized (world_with t i o) o t.clock).world.store) t (over_world t (world_with t i o) line found (notarized (world_with t i o) o t.clock))
+unfolding notary_calls line
+with_store i t found bytes None is = tables_by i t line stmts.Notarize refl tt found bytes None is (notarized (world_with t i None) None t.clock) refl refl
+with_store i t found bytes (Some store) is = store_sound i t found store is bytes
+
+notarize_sound : (t : Scene) (o : Option ℕ) (found : Result Verdict AuditFail) → IsBytes t.bytes → SoundEither (stored_by o t (Ok (lines.Plain stmts.Notarize)) found) t (over_store t o (lines.Plain stmts.Notarize) found)
+unfolding world_of world_steps.step line
+notarize_sound t None found bytes = quiet_sound [] t (refuses t (codes "NotAStore")) refl refl
+notarize_sound t (Some i) found bytes = with_store i t found bytes (store_in i (stored t.bytes)) refl
+
+-- ---- each line
+
+stmt_sound : (t : Scene) (stmt : Stmt) (found : Result Verdict AuditFail) → IsDrillLine (lines.Plain stmt) → FitsStmt stmt → IsBytes t.bytes → SoundEither (stored_by t.id t (Ok (lines.Plain stmt)) found) t (act t (lines.Plain stmt) found)
+unfolding act world_steps.step notary_calls
+stmt_sound t stmts.Notarize found is fits bytes = notarize_sound t t.id found bytes
+stmt_sound t stmts.Validate found is fits bytes = validate_sound t t.id found
+stmt_sound t (stmts.Now moment) found is fits bytes = quiet_sound (stored_by t.id t (Ok (lines.Plain (stmts.Now moment))) found) t (says (record t { clock = moment }) (codes "ok")) refl refl
+stmt_sound t (stmts.Create table columns) found is fits bytes = tables_sound t t.id (lines.Plain (stmts.Create table columns)) (stmts.Create table columns) refl fits found bytes (record { steps = λ w now f. refl; calls = λ w now f. refl })
+stmt_sound t (stmts.Insert table row) found is fits bytes = tables_sound t t.id (lines.Plain (stmts.Insert table row)) (stmts.Insert table row) refl fits found bytes (record { steps = λ w now f. refl; calls = λ w now f. refl })
+stmt_sound t (stmts.Update table row) found is fits bytes = tables_sound t t.id (lines.Plain (stmts.Update table row)) (stmts.Update table row) refl fits found bytes (record { steps = λ w now f. refl; calls = λ w now f. refl })
+stmt_sound t (stmts.Delete table key) found is fits bytes = tables_sound t t.id (lines.Plain (stmts.Delete table key)) (stmts.Delete table key) refl fits found bytes (record { steps = λ w now f. refl; calls = λ w now f. refl })
+stmt_sound t (stmts.Get table key moment) found is fits bytes = tables_sound t t.id (lines.Plain (stmts.Get table key moment)) (stmts.Get table key moment) refl fits found bytes (record { steps = λ w now f. refl; calls = λ w now f. refl })
+stmt_sound t (stmts.Scan table filter moment) found is fits bytes = tables_sound t t.id (lines.Plain (stmts.Scan table filter moment)) (stmts.Scan table filter moment) refl fits found bytes (record { steps = λ w now f. refl; calls = λ w now f. refl })
+stmt_sound t (stmts.History table key) found is fits bytes = tables_sound t t.id (lines.Plain (stmts.History table key)) (stmts.History table key) refl fits found bytes (record { steps = λ w now f. refl; calls = λ w now f. refl })
+stmt_sound t stmts.Begin found is fits bytes = absurd is
+stmt_sound t stmts.Commit found is fits bytes = absurd is
+stmt_sound t stmts.Abort found is fits bytes = absurd is
+stmt_sound t (stmts.Analyse algorithm) found is fits bytes = absurd is
+
+line_sound : (t : Scene) (line : Line) (found : Result Verdict AuditFail) → IsDrillLine line → IsFromInside (Ok line) → FitsParts line → IsBytes t.bytes → SoundEither (stored_by t.id t (Ok line) found) t (act t line found)
+unfolding act
+line_sound t (lines.Plain stmt) found is inside fits bytes = stmt_sound t stmt found is fits.0 bytes
+line_sound t (lines.Drill (events.Init id width k algs)) found is inside fits bytes = init_sound (stored_by t.id t (Ok (lines.Drill (events.Init id width k algs))) found) (record t { id = Some id }) t (header_at id t.clock width k algs) refl refl
+line_sound t (lines.Drill (events.Crash after choice)) found is inside fits bytes = quiet_sound (stored_by t.id t (Ok (lines.Drill (events.Crash after choice))) found) t (says (record t { crash = Some (record { after = after; choice = choice }) }) (codes "ok")) refl refl
+line_sound t (lines.Drill (events.Alter place bytes)) found is inside fits b = absurd inside
+line_sound t (lines.Drill (events.Cut n)) found is inside fits bytes = absurd inside
+line_sound t lines.Blank found is inside fits bytes = absurd is
+line_sound t (lines.InSession session stmt) found is inside fits bytes = absurd is
+
+pub reading_sound : (t : Scene) (l : Result Line ParseFail) (found : Result Verdict AuditFail) → IsReading l → IsFromInside l → FitsReading l → IsBytes t.bytes → SoundEither (stored_by t.id t l found) t (act_on t l found)
+reading_sound t (Ok l) found is inside fits bytes = line_sound t l found is inside fits bytes
+reading_sound t (Err fail) found is inside fits bytes = quiet_sound (stored_by t.id t (Err fail) found) t (refuses t (name_of fail)) refl refl
+
+-- ---- all events
+
+pub taken_stored : (o : Option ℕ) (t : Scene) (l : Result Line ParseFail) (found : Result Verdict AuditFail) → stored_by o (taken t) l found ≡ stored_by o t l found
+unfolding world_of
+taken_stored None t l found = refl
+taken_stored (Some id) t (Ok l) found = refl
+taken_stored (Some id) t (Err fail) found = refl
+
+pub event_good : (t : Scene) (e : Event) → IsBytes t.bytes → MayCome t e → IsFromInside e.line → IsGood (stores t e) t (step t e.line e.found).scene
+unfolding step
+event_good t e bytes may inside =
+    let good = under_sound (stored_by t.id (taken t) e.line e.found) (taken t) (act_on (taken t) e.line e.found) t.crash
+    (reading_sound (taken t) e.line e.found may.line inside may.fits bytes) in
+    record {
+      sound = good.sound;
+      extends = λ h some. subst (λ (more : List Item). HasAlso h more (held (step t e.line e.found).scene)) (taken_stored t.id t e.line e.found) (good.extends h some);
+      bare = good.bare;
+    }
+
+pub all_sound : (t : Scene) (es : List Event) → IsBytes t.bytes → IsSoundScene t → IsTimeline t es → AllFromInside es → IsSoundScene (after t es)
+unfolding after
+all_sound t [] bytes sound is inside = sound
+all_sound t (e ∷ es) bytes sound is inside = (event_good (after t es) e (bytes_after t es bytes is.0) is.1 inside.1).sound (all_sound t es bytes sound is.0 inside.0)
+
+pub stay_sound : TimelinesStaySound
+stay_sound limits es id is inside = all_sound (nothing_yet limits) es (no_bytes limits) (λ any. inl refl) is inside id
+
+pub keep_items : EventsKeepItems
+unfolding after
+keep_items limits e es h is inside some = (event_good (after (nothing_yet limits) es) e (bytes_after (nothing_yet limits) es (no_bytes limits) is.0) is.1 inside).extends h some
+
+-- ---- the next line
+
+sound_under : (filed_ones : List Batch) (id : ℕ) (header : Option Header) (x : Stored) → HoldsFiled filed_ones id (option_map (λ (hd : Header). history hd x.items) header) → HoldsFiled filed_ones id (under_id id header x)
+sound_under filed_ones id header x (inl none) = inl none
+sound_under filed_ones id None x (inr known) = absurd known.2
+sound_under filed_ones id (Some hd) x (inr known) =
+    let test : (hd.id == id) ≡ true = eq-eqb hd.id id known.2.filed.header in
+    inr (known.0, known.1, subst (λ (b : Bool). HoldsNotarized filed_ones id known.0 (if b then Some (history hd x.items) else None)) (sym test) known.2)
+
+fit_header : (t : Scene) (id : ℕ) → IsBytes t.bytes → (o : Option statements.World) → store_in id (stored t.bytes) ≡ o → IfSome o (λ store. FitsHeader store.header × (store.header.id ≡ id))
+fit_header t id bytes None is = tt
+fit_header t id bytes (Some store) is = (let facts = store_is id t.bytes store is in ((stored_history t.bytes store.header bytes facts.header).header, facts.own))
+
+tells : (t : Scene) (id : ℕ) (line : Line) (found : Result Verdict AuditFail) → IsBytes t.bytes → IsSoundScene t → MayFind (world_of t id) line found → TellsNoAlteration (world_of t id) line found
+unfolding world_of
+tells t id line found bytes sound may =
+    let under : HoldsFiled (batches_of t id) id (history_of (store_in id (stored t.bytes))) =
+    subst (HoldsFiled (batches_of t id) id) (sym (history_same id (stored t.bytes).header (stored t.bytes))) (sound_under (batches_of t id) id (stored t.bytes).header (stored t.bytes) (sound id)) in
+    (sound_worlds (world_of t id) line t.clock found (fit_header t id bytes (store_in id (stored t.bytes)) refl) under may).2
+
+pub next_tells : NextLinesTellNoAlteration
+next_tells limits es id line found is inside may = tells (after (nothing_yet limits) es) id line found (bytes_after (nothing_yet limits) es (no_bytes limits) is) (all_sound (nothing_yet limits) es (no_bytes limits) (λ any. inl refl) is inside) may

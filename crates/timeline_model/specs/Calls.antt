@@ -1,0 +1,65 @@
+-- How the calls of a device stand for what a timeline says of a line.
+use Rattle.std.specs.Prelude.{◌≡◌, ℕ, ◌<◌, Bool, false, if◌then◌else◌, List, [], ◌∷◌, ◌++◌, length, Option, None, true, Result, Ok, Err}
+use Rattle.outside_words.specs.Runs.{after_calls}
+use Rattle.disk_words.specs.Disk.{Call}
+use Rattle.disk_words.specs.Record.{bytes_after, bytes_synced, is_covered, image_of}
+use Rattle.disk_model.specs.Moments.{is_done, calls_of}
+use Rattle.tuple_bytes.specs.declared.header.Header.{Header}
+use Rattle.tuple_bytes.specs.declared.item.Item.{Item}
+use Rattle.tuple_bytes.specs.Spelling.{spell_header}
+use Rattle.history_model.specs.Stored.{stored}
+use Rattle.txn_journal.specs.Held.{Standing, standing}
+use Rattle.txn_journal.specs.Append.{append_calls, closed_gate}
+use Rattle.txn_journal.specs.Create.{is_free, creation}
+use Rattle.notary_link.specs.Notary.{Lists, Keeps}
+use Rattle.store_engine.specs.declared.fail.StoreFail.{StoreFail}
+use Rattle.store_engine.specs.declared.fail.StoreFail.TheVariants as fails
+use Rattle.store_engine.specs.Opened.{Opened}
+use Rattle.session_core.specs.World as statements
+use Rattle.drill_core.specs.World.{StoreIsIn, IsIn, IsEntered}
+use Rattle.timeline_model.specs.Scene.{Scene, store_in, world_of}
+use Rattle.timeline_model.specs.LineCalls.{with_items, appends}
+
+-- nothing is on its way to the disk: what reads give was synced
+pub record IsSettledBy (first : List ℕ) (trace : List (Call × Bool)) : Type 0 where
+  pub synced : bytes_synced first trace ≡ bytes_after first trace
+  pub covered : (p : ℕ) → is_covered trace p ≡ false
+
+-- An append takes 4 calls, and 2 more where the gate is open; making a store takes 6.
+pub record CallsAreCounted : Type 0 where
+  pub append : (at : Standing) (payload : List ℕ) → length (append_calls at payload) ≡ (if at.gate_is_open then 6 else 4)
+  pub create : (head : List ℕ) → length (calls_of (creation head)) ≡ 6
+
+-- The calls of an append put the item where a timeline has it, and leave nothing on its way.
+pub record AppendsWriteItems : Type 0 where
+  pub written : (first : List ℕ) (trace : List (Call × Bool)) (end : ℕ) (item : Item) → end < length (bytes_after first trace)
+      → bytes_after first (after_calls is_done (appends (standing end (bytes_after first trace)) (item ∷ [])) trace) ≡ with_items end (item ∷ []) (bytes_after first trace)
+  pub settled : (first : List ℕ) (trace : List (Call × Bool)) (at : Standing) (item : Item) → IsSettledBy first (after_calls is_done (appends at (item ∷ [])) trace)
+
+-- The calls that make a store on a free device leave its header and a closed gate, whatever image is taken.
+abbrev pub InitsWriteHeaders : Type 0
+InitsWriteHeaders = (choice : ℕ) (bytes : List ℕ) (header : Header) → is_free bytes ≡ true
+    → image_of choice bytes (after_calls is_done (calls_of (creation (spell_header header))) []) ≡ spell_header header ++ closed_gate ∷ []
+
+-- A call that failed leaves no image.
+abbrev pub FailedCallsLeaveNothing : Type 0
+FailedCallsLeaveNothing = (choice : ℕ) (first : List ℕ) (call : Call) (trace : List (Call × Bool)) → image_of choice first ((call, false) ∷ trace) ≡ image_of choice first trace
+
+-- The image of a choice goes by the calls since the disk was settled.
+abbrev pub ImagesGoByNewCalls : Type 0
+ImagesGoByNewCalls = (choice : ℕ) (first : List ℕ) (trace : List (Call × Bool)) (calls : List Call) → IsSettledBy first trace
+    → image_of choice first (after_calls is_done calls trace) ≡ image_of choice (bytes_after first trace) (after_calls is_done calls [])
+
+-- The world that an open store stands for over some bytes is the one that a timeline reads from them.
+abbrev pub WorldsGoByBytes : Type 0
+WorldsGoByBytes = (id : ℕ) (w : Option statements.World) (s : Option Opened) (bytes : List ℕ) → StoreIsIn id w s bytes → store_in id (stored bytes) ≡ w
+
+-- what a machine stands for behind an answer of entering, if it came to one
+abbrev pub StandsEntered : Scene → ℕ → Result (Unit {0}) StoreFail → Option Opened → Lists → Type 0
+StandsEntered t id (Ok _) store lists = IsIn (world_of t id) (record { id = id; store = store }) t.bytes lists
+StandsEntered t id (Err fails.NotAStore) store lists = IsIn (world_of t id) (record { id = id; store = None }) t.bytes lists
+StandsEntered t id (Err fail) store lists = Unit {0}
+
+-- The other way round: a machine that entered over a scene's bytes stands for the world that a timeline reads.
+abbrev pub EnteredStandForWorlds : Type 0
+EnteredStandForWorlds = (t : Scene) (id : ℕ) (result : Result (Unit {0}) StoreFail) (store : Option Opened) (lists : Lists) → Keeps t.lists lists → IsEntered id t.bytes result store → StandsEntered t id result store lists
