@@ -1,9 +1,7 @@
 -- What is said of an audit, and its causes.
-use Rattle.std.proofs.Common.{◌≡◌, ◌≢◌, ◌⊎◌, ℕ, Bool, true, false, List, [], ◌∷◌, ◌++◌, None, refl, sym, ap, subst, ◌∙◌, inl, inr, ⊎_elim, Result, Ok, Err}
+use Rattle.std.proofs.Common.{◌≡◌, ◌⊎◌, ℕ, Bool, true, false, List, [], ◌∷◌, ◌++◌, None, refl, sym, ap, subst, ◌∙◌, inl, inr, ⊎_elim, Result, Ok, Err}
 use Rattle.std.specs.Prelude.{IsErrOf, IfErr, codes}
-use Rattle.outside_words.specs.Faults.{HasCause}
-use Rattle.disk_words.specs.Disk as disks
-use Rattle.notary_link.specs.Notary as notaries
+use Rattle.outside_words.specs.Faults.{Rose, HasCause}
 use Rattle.outside_io.specs.Sink.{State}
 use Rattle.store_engine.specs.Refusals.{Tail, is_back, is_late}
 use Rattle.validator.specs.declared.verdict.Verdict.{Verdict}
@@ -16,27 +14,22 @@ use Rattle.dragoon_app.specs.declared.status.Status.{Status}
 use Rattle.dragoon_app.specs.declared.status.Status.TheVariants as statuses
 use Rattle.dragoon_app.specs.Texts.{status_name, fault_line}
 use Rattle.validator.specs.Texts.{refusal_text}
-use Rattle.dragoon_app.specs.Outcome.{Outcome, Said, IsSaid, DiskCause, NotaryCause, refused}
+use Rattle.dragoon_app.specs.Outcome.{Said, refused}
 use Rattle.dragoon_app.specs.Audited.{status_of_audit, notarize_outcome, validate_outcome}
-use Rattle.dragoon_app.proofs.Answering.{said_status}
+use Rattle.dragoon_app.proofs.Once.{IsFine, IsOther}
 
 -- ---- the status of an answer
 
-abbrev IsFine : Status → Type 0
-IsFine statuses.Ok = Unit {0}
-IsFine statuses.Altered = Unit {0}
-IsFine s = ⊥
-
 -- well, or by its refusal
-abbrev pub EndsBy : {A : Type 0} → Result A AuditFail → Status → Type 0
-EndsBy (Ok done) s = IsFine s
-EndsBy (Err fail) s = s ≡ status_of_audit fail
+abbrev pub EndsAs : {A : Type 0} → Result A AuditFail → Status → Type 0
+EndsAs (Ok done) s = IsFine s
+EndsAs (Err fail) s = s ≡ status_of_audit fail
 
-pub notarize_ends : (answer : Result ℕ AuditFail) → EndsBy answer (notarize_outcome answer).status
+pub notarize_ends : (answer : Result ℕ AuditFail) → EndsAs answer (notarize_outcome answer).status
 notarize_ends (Ok tiles) = tt
 notarize_ends (Err fail) = refl
 
-pub validate_ends : (answer : Result Verdict AuditFail) → EndsBy answer (validate_outcome answer).status
+pub validate_ends : (answer : Result Verdict AuditFail) → EndsAs answer (validate_outcome answer).status
 validate_ends (Ok verdicts.Unsealed) = tt
 validate_ends (Ok (verdicts.Clean tiles)) = tt
 validate_ends (Ok (verdicts.HeaderAltered tiles)) = tt
@@ -79,12 +72,6 @@ notary_refusal (fails.SealMissing name) e = absurd cc
 notary_refusal (fails.OutOfTurn count) e = absurd cc
 notary_refusal fails.NoMemory e = absurd cc
 
--- neither by words that are no command, nor by a fault of the input
-abbrev IsOther : Status → Type 0
-IsOther statuses.Usage = ⊥
-IsOther statuses.ReadFault = ⊥
-IsOther s = Unit {0}
-
 other_refusal : (fail : AuditFail) → IsOther (status_of_audit fail)
 other_refusal fails.DiskFault = tt
 other_refusal fails.NotaryFault = tt
@@ -98,35 +85,32 @@ other_refusal (fails.SealMissing name) = tt
 other_refusal (fails.OutOfTurn count) = tt
 other_refusal fails.NoMemory = tt
 
-module _ {A : Type 0} (answer : Result A AuditFail) (d : Outcome) (result : Status) (out written : State) (ends : EndsBy answer d.status) (said : Said d result out written) where
-  -- the status that was said is the outcome's
-  was_said : (x : Status) → IsSaid x → result ≡ x → x ≡ d.status
-  was_said x is e = sym e ∙ said_status d result out written said (subst IsSaid (sym e) is)
+disk_by : {A : Type 0} (answer : Result A AuditFail) (s : Status) → EndsAs answer s → statuses.DiskFault ≡ s → IsErrOf answer fails.DiskFault ⊎ IsErrOf answer fails.Closed
+disk_by (Ok done) s ends e = absurd (subst IsFine (sym e) ends)
+disk_by (Err fail) s ends e = ⊎_elim (λ (is : fail ≡ fails.DiskFault). inl (ap (λ (x : AuditFail). Err x) is)) (λ (is : fail ≡ fails.Closed). inr (ap (λ (x : AuditFail). Err x) is)) (disk_refusal fail (e ∙ ends))
 
-  disk_by : (answer : Result A AuditFail) (s : Status) → EndsBy answer s → statuses.DiskFault ≡ s → IsErrOf answer fails.DiskFault ⊎ IsErrOf answer fails.Closed
-  disk_by (Ok done) s ends e = absurd (subst IsFine (sym e) ends)
-  disk_by (Err fail) s ends e = ⊎_elim (λ (is : fail ≡ fails.DiskFault). inl (ap (λ (x : AuditFail). Err x) is)) (λ (is : fail ≡ fails.Closed). inr (ap (λ (x : AuditFail). Err x) is)) (disk_refusal fail (e ∙ ends))
+notary_by : {A : Type 0} (answer : Result A AuditFail) (s : Status) → EndsAs answer s → statuses.NotaryFault ≡ s → IsErrOf answer fails.NotaryFault
+notary_by (Ok done) s ends e = absurd (subst IsFine (sym e) ends)
+notary_by (Err fail) s ends e = ap (λ (x : AuditFail). Err x) (notary_refusal fail (e ∙ ends))
 
-  notary_by : (answer : Result A AuditFail) (s : Status) → EndsBy answer s → statuses.NotaryFault ≡ s → IsErrOf answer fails.NotaryFault
-  notary_by (Ok done) s ends e = absurd (subst IsFine (sym e) ends)
-  notary_by (Err fail) s ends e = ap (λ (x : AuditFail). Err x) (notary_refusal fail (e ∙ ends))
+pub notarize_other : (answer : Result ℕ AuditFail) → IsOther (notarize_outcome answer).status
+notarize_other (Ok tiles) = tt
+notarize_other (Err fail) = other_refusal fail
 
-  other_by : (answer : Result A AuditFail) (s x : Status) → EndsBy answer s → (IsFine x → ⊥) → (IsOther x → ⊥) → x ≡ s → ⊥
-  other_by (Ok done) s x ends fine other e = fine (subst IsFine (sym e) ends)
-  other_by (Err fail) s x ends fine other e = other (subst IsOther (sym (e ∙ ends)) (other_refusal fail))
+pub validate_other : (answer : Result Verdict AuditFail) → IsOther (validate_outcome answer).status
+validate_other (Ok verdicts.Unsealed) = tt
+validate_other (Ok (verdicts.Clean tiles)) = tt
+validate_other (Ok (verdicts.HeaderAltered tiles)) = tt
+validate_other (Ok (verdicts.Altered tiles first)) = tt
+validate_other (Err fail) = other_refusal fail
 
-  -- a fault of the disk has its cause, where the store was not closed
-  pub audit_disk_cause : (old new : disks.State) → (IsErrOf answer fails.Closed → ⊥) → HasCause fails.DiskFault old.faults new.faults answer → DiskCause result old new
-  audit_disk_cause old new is_open cause = λ e. ⊎_elim (λ (f : IsErrOf answer fails.DiskFault). cause f) (λ (f : IsErrOf answer fails.Closed). absurd (is_open f)) (disk_by answer d.status ends (was_said statuses.DiskFault tt e))
+-- the status of a fault has the fault's cause, where the store was not closed
+module _ {A : Type 0} (answer : Result A AuditFail) (s : Status) (ends : EndsAs answer s) (old new : ℕ) where
+  pub audit_disk : (IsErrOf answer fails.Closed → ⊥) → HasCause fails.DiskFault old new answer → s ≡ statuses.DiskFault → Rose old new
+  audit_disk is_open cause = λ e. ⊎_elim (λ (f : IsErrOf answer fails.DiskFault). cause f) (λ (f : IsErrOf answer fails.Closed). absurd (is_open f)) (disk_by answer s ends (sym e))
 
-  pub audit_notary_cause : (old new : notaries.State) → HasCause fails.NotaryFault old.faults new.faults answer → NotaryCause result old new
-  audit_notary_cause old new cause = λ e. cause (notary_by answer d.status ends (was_said statuses.NotaryFault tt e))
-
-  pub audit_no_usage : result ≢ statuses.Usage
-  audit_no_usage = λ e. other_by answer d.status statuses.Usage ends (λ f. f) (λ o. o) (was_said statuses.Usage tt e)
-
-  pub audit_no_read_fault : result ≢ statuses.ReadFault
-  audit_no_read_fault = λ e. other_by answer d.status statuses.ReadFault ends (λ f. f) (λ o. o) (was_said statuses.ReadFault tt e)
+  pub audit_notary : HasCause fails.NotaryFault old new answer → s ≡ statuses.NotaryFault → Rose old new
+  audit_notary cause = λ e. cause (notary_by answer s ends (sym e))
 
 -- ---- no store is closed
 

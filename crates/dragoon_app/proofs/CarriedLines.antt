@@ -31,14 +31,15 @@ use Rattle.dragoon_app.specs.declared.run_fail.RunFail.{RunFail}
 use Rattle.dragoon_app.specs.declared.runner.Runner.{Runner}
 use Rattle.dragoon_app.specs.Running.{Running, Timed, carried}
 use Rattle.dragoon_app.specs.Ran.{AreFirst, Ends, IsNext, IsUnderWay, Reads, TakesLittle, TakesNoMore, IsOutBut, lines_in, text_before, Takes}
+use Rattle.dragoon_app.specs.Devices.{Devices, content, devices, site}
 use Rattle.dragoon_app.specs.Carrying.{Wherever, IsLineOf, Replies, RepliesFrom, Carries, CarriesFrom, IsWritten, IsBetween, ending, of_line, of_input, of_output}
 use Rattle.dragoon_app.proofs.Seconds.{takes_none, takes_then, takes_blank}
 use Rattle.dragoon_app.proofs.Reading.{take_front, take_first, IsRead, read_none, read_more, read_same, first_of, takes_front, takes_little, all_read, ended_at, complete_at}
-use Rattle.dragoon_app.proofs.Written.{before_shorter, before_more, out_but_none}
+use Rattle.dragoon_app.proofs.Written.{before_more}
 use Rattle.dragoon_app.proofs.Nothing.{nothing, blank_nothing, carry_nothing, nothing_found}
 use Rattle.dragoon_app.proofs.Worlds.{all_between}
 use Rattle.dragoon_app.proofs.Wherever.{told_both, wherever_map, wherever_same, wherever_then}
-use Rattle.dragoon_app.proofs.Standing.{Stands, stands_first, stands_more, images_on, kept_on, between_on, sound_on, front_of_more, found_more, stores_in, carried_more}
+use Rattle.dragoon_app.proofs.Standing.{Stands, stands_first, stands_more, images_on, kept_on, ordered_on, between_on, sound_on, front_of_more, found_more, stores_in, carried_more}
 
 -- ---- frames
 
@@ -110,12 +111,12 @@ read_on done reader later input left rest alike read tells clear takes =
 
 -- what is said of a reply within the limits, and of a run that is scripted so
 abbrev Within : NotaryLimits → Bool → List ℕ → Result (List ℕ) LineFail → Runner → Runner → disks.State → disks.State → notaries.State → notaries.State → clocks.State → clocks.State → Type 0
-Within limits scripted line result runner last old new filed later clock ahead = Wherever limits runner old new filed later (Replies line scripted result last limits old new clock ahead)
+Within limits scripted line result runner last old new filed later clock ahead = Wherever limits runner old new filed later (λ r before after lists later_lists. Replies line scripted result last (site old filed clock) (site new later ahead) r (content before lists) (content after later_lists))
 
 -- one line
 module _ (first runner last : Runner) (old mid new : disks.State) (filed half later : notaries.State) (clock tick tock : clocks.State) (input left rest : sources.State) (reader next : Reading) where
   -- a reply as the first runner sees it
-  as_first : (result : Result (List ℕ) LineFail) → runner.is_scripted ≡ first.is_scripted → notaries.GoesOn filed half → RepliesFrom next.line result runner last mid new half later tick tock
+  as_first : (result : Result (List ℕ) LineFail) → runner.is_scripted ≡ first.is_scripted → notaries.GoesOn filed half → RepliesFrom next.line result runner last (site mid half tick) (site new later tock)
       → Within filed.limits first.is_scripted next.line result runner last mid new half later tick tock
   as_first result scripted frame replies = subst (λ (b : Bool). Within filed.limits b next.line result runner last mid new half later tick tock) scripted
       (subst (λ (l : NotaryLimits). Within l runner.is_scripted next.line result runner last mid new half later tick tock) frame.limits replies)
@@ -123,7 +124,7 @@ module _ (first runner last : Runner) (old mid new : disks.State) (filed half la
   pub goes_on : (text : List ℕ) (Written After : List ℕ → List ℕ → Type 0)
       → IsGoing first runner old mid filed half clock tick input left reader Written
       → Tells (Ok true) reader next left rest → IsFeedless next.line → readers.Takes reader next left rest → sources.GoesOn left rest
-      → RepliesFrom next.line (Ok text) runner last mid new half later tick tock → last.is_scripted ≡ runner.is_scripted → disks.GoesOn mid new → notaries.GoesOn half later → clocks.GoesOn tick tock
+      → RepliesFrom next.line (Ok text) runner last (site mid half tick) (site new later tock) → last.is_scripted ≡ runner.is_scripted → disks.GoesOn mid new → notaries.GoesOn half later → clocks.GoesOn tick tock
       → ((before xs : List ℕ) → Written before xs → After xs (xs ++ text))
       → IsGoing first last old new filed later clock tock input rest next After
   goes_on text Written After g tells clear takes input_on replies scripted disk_on notary_on clock_on writes = record {
@@ -181,39 +182,40 @@ nothing_more : (scripted : Bool) (begin : Running) (done : List Timed) → carri
 nothing_more scripted begin done = carried_more scripted begin done nothing ∙ carry_nothing scripted (carried scripted begin done)
 
 -- between two lines
-pub between_with : (result : Result (Unit {0}) RunFail) (scripted : Bool) (runner : Runner) (limits : NotaryLimits) (old now : disks.State) (clock ahead : clocks.State) (input left : sources.State) (reader : Reading) (Written : List ℕ → List ℕ → Type 0) (out written : sinks.State)
-    (begin : Running) (before after : List ℕ) (lists later_lists : notaries.Lists) → clocks.GoesOn clock ahead
-    → (a : Along scripted runner limits old now clock ahead input left reader Written begin before after lists later_lists)
-    → WhereTold input.rest left.rest (Reads (ending result) a.done nothing)
-    → ((before text : List ℕ) → length before ≤ length text → Written before text → IsWritten before text result out written)
-    → Carries scripted result runner limits old now clock ahead input left out written begin before after lists later_lists
-between_with result scripted runner limits old now clock ahead input left reader Written out written begin before after lists later_lists clock_frame a read writes =
+pub between_with : (result : Result (Unit {0}) RunFail) (scripted : Bool) (runner : Runner) (old now : Devices) (reader : Reading) (Written : List ℕ → List ℕ → Type 0)
+    (begin : Running) (before after : List ℕ) (lists later_lists : notaries.Lists) → clocks.GoesOn old.clock now.clock
+    → (a : Along scripted runner old.desk.notary.limits old.desk.disk now.desk.disk old.clock now.clock old.input now.input reader Written begin before after lists later_lists)
+    → WhereTold old.input.rest now.input.rest (Reads (ending result) a.done nothing)
+    → ((before text : List ℕ) → Written before text → IsWritten (nothing.line ≡ []) before text result old.out now.out)
+    → Carries scripted result runner old now begin (content before lists) (content after later_lists)
+between_with result scripted runner old now reader Written begin before after lists later_lists clock_frame a read writes =
     let s = a.stands in
     let r : Running = carried scripted begin a.done in
     record {
       done = a.done;
       next = nothing;
-      first = told_map input.rest left.rest _ _ a.read (λ all others x. first_of (lines_in a.done) reader all others x);
+      first = told_map old.input.rest now.input.rest _ _ a.read (λ all others x. first_of (lines_in a.done) reader all others x);
       read = read;
       none = λ b. refl;
       found = found_more scripted begin a.done nothing s.found (nothing_found r.world);
-      seconds = takes_then scripted a.done (nothing ∷ []) clock ahead ahead clock_frame.told a.takes (takes_blank scripted nothing ahead ahead blank_nothing refl);
+      seconds = takes_then scripted a.done (nothing ∷ []) old.clock now.clock now.clock clock_frame.told a.takes (takes_blank scripted nothing now.clock now.clock blank_nothing refl);
       images = λ only. weaker (s.images only) (front_of_more scripted begin a.done (nothing ∷ []));
-      kept = λ only c is. inl (subst (StoresWorld r.world) (sym (s.settled only c is)) (stores_in r runner after limits later_lists s.at));
+      kept = λ only c is. inl (subst (StoresWorld r.world) (sym (s.settled only c is)) (stores_in r runner after old.desk.notary.limits later_lists s.at));
       settled = λ between only. s.settled only;
       stands = λ between. s.at;
       between = subst (λ (x : Running). AreBetween r.world.lists x.world.lists later_lists) (sym (nothing_more scripted begin a.done)) (all_between r.world.lists later_lists s.at.stands.lists);
+      ordered = λ id more. absurd (more (s.at.stands.lists.batches id));
       sound = s.sound;
-      said = λ silent. writes (text_before scripted begin a.done) r.text (before_shorter scripted begin a.done) (a.said silent);
+      said = λ silent. writes (text_before scripted begin a.done) r.text (a.said silent);
     }
 
 pub between : (first runner : Runner) (old now : disks.State) (filed later : notaries.State) (clock ahead : clocks.State) (input left : sources.State) (reader : Reading) (out written : sinks.State) (Written : List ℕ → List ℕ → Type 0) (result : Result (Unit {0}) RunFail)
     → IsGoing first runner old now filed later clock ahead input left reader Written
     → ((done : List Timed) (all others : List ℕ) → IsRead (lines_in done) reader all others → Reads (ending result) done nothing all others)
-    → ((before text : List ℕ) → length before ≤ length text → Written before text → IsWritten before text result out written)
-    → CarriesFrom result first runner old now filed later clock ahead input left out written
+    → ((before text : List ℕ) → Written before text → IsWritten (nothing.line ≡ []) before text result out written)
+    → CarriesFrom result first runner (devices old filed clock input out) (devices now later ahead left written)
 between first runner old now filed later clock ahead input left reader out written Written result g reads writes = wherever_map filed.limits first old now filed later _ _ g.told (λ begin before after lists later_lists at a.
-    between_with result first.is_scripted runner filed.limits old now clock ahead input left reader Written out written begin before after lists later_lists g.clock_frame a
+    between_with result first.is_scripted runner (devices old filed clock input out) (devices now later ahead left written) reader Written begin before after lists later_lists g.clock_frame a
     (told_map input.rest left.rest _ _ a.read (λ all others r. reads a.done all others r)) writes)
 
 -- the input ended
@@ -228,17 +230,17 @@ reads_all reader left done all r none below =
 pub ended : (first runner : Runner) (old now : disks.State) (filed later : notaries.State) (clock ahead : clocks.State) (input left rest : sources.State) (reader next : Reading) (out written : sinks.State)
     → IsGoing first runner old now filed later clock ahead input left reader (λ before text. sinks.IsOut text out written)
     → Tells (Ok false) reader next left rest → readers.Takes reader next left rest → next.taken < input_limit
-    → CarriesFrom (Ok tt) first runner old now filed later clock ahead input rest out written
+    → CarriesFrom (Ok tt) first runner (devices old filed clock input out) (devices now later ahead rest written)
 unfolding along_rest
 ended first runner old now filed later clock ahead input left rest reader next out written g tells takes below =
     let Out : List ℕ → List ℕ → Type 0 = λ before text. sinks.IsOut text out written in
     let same = told_map left.rest rest.rest _ (λ before after. next.pending ++ after ≡ reader.pending ++ before) tells (λ before after h. at_end (reader.pending ++ before) (next.pending ++ after) h) in
     wherever_map filed.limits first old now filed later _ _ g.told (λ begin before after lists later_lists at a.
-    between_with (Ok tt) first.is_scripted runner filed.limits old now clock ahead input rest next Out out written begin before after lists later_lists g.clock_frame
+    between_with (Ok tt) first.is_scripted runner (devices old filed clock input out) (devices now later ahead rest written) next Out begin before after lists later_lists g.clock_frame
     (along_rest runner old now clock ahead input left rest reader next Out first.is_scripted filed.limits begin before after lists later_lists g.input_frame.told same takes a)
     (told_then input.rest left.rest rest.rest _ _ _ g.input_frame.told a.read (told_both left.rest rest.rest _ _ tells takes.as_lost) (λ all others behind so_far n.
     reads_all next behind a.done all (read_same (lines_in a.done) reader next all others behind so_far (at_end (reader.pending ++ others) (next.pending ++ behind) n.0) n.1 takes.within) n.0.end below))
-    (λ before text shorter is. is))
+    (λ before text is. is))
 
 -- the input failed
 pub reads_failed : (fail : InputFail) (reader : Reading) (done : List Timed) (all others : List ℕ) → (IsErrOf {T = Bool} (Err fail) inputs.InputLimit → IsAtLimit reader) → (IsErrOf {T = Bool} (Err fail) inputs.ReadFault → IsFeedless reader.pending)
@@ -251,10 +253,10 @@ reads_failed inputs.InputLimit reader done all others limit fault r =
 reads_failed inputs.NoMemory reader done all others limit fault r =
     record { lines = first_of (lines_in done) reader all others r; under_way = inl refl; little = tt; front = takes_front (lines_in done) reader all others r }
 
-pub written_failed : (fail : InputFail) (before text : List ℕ) (out later : sinks.State) → length before ≤ length text → sinks.IsOut text out later → IsWritten before text (Err (of_input fail)) out later
-written_failed inputs.ReadFault before text out later shorter is = is
-written_failed inputs.InputLimit before text out later shorter is = is
-written_failed inputs.NoMemory before text out later shorter is = out_but_none before text out later shorter is
+pub written_failed : (fail : InputFail) (before text : List ℕ) (out later : sinks.State) → sinks.IsOut text out later → IsWritten (nothing.line ≡ []) before text (Err (of_input fail)) out later
+written_failed inputs.ReadFault before text out later is = is
+written_failed inputs.InputLimit before text out later is = is
+written_failed inputs.NoMemory before text out later is = inr is
 
 -- the output failed
 pub reads_unwritten : (fail : StreamFail) (reader : Reading) (done : List Timed) (all others : List ℕ) → length reader.pending < piece_limit → IsRead (lines_in done) reader all others → Reads (ending (Err (of_output fail))) done nothing all others
@@ -263,9 +265,9 @@ reads_unwritten streams.Failed reader done all others less r =
 reads_unwritten streams.NoMemory reader done all others less r =
     record { lines = first_of (lines_in done) reader all others r; under_way = inl refl; little = tt; front = takes_front (lines_in done) reader all others r }
 
-pub written_front : (fail : StreamFail) (before text : List ℕ) (out later : sinks.State) → IsOutBut before text out later → IsWritten before text (Err (of_output fail)) out later
-written_front streams.Failed before text out later is = is
-written_front streams.NoMemory before text out later is = is
+pub written_front : (fail : StreamFail) (before text : List ℕ) (out later : sinks.State) → IsOutBut before text out later → IsWritten (nothing.line ≡ []) before text (Err (of_output fail)) out later
+written_front streams.Failed before text out later is = (refl, is)
+written_front streams.NoMemory before text out later is = inl (refl, is)
 
 -- the line failed
 not_between : (fail : LineFail) → IsBetween (Err (of_line fail)) → ⊥
@@ -273,10 +275,10 @@ not_between lines.DiskFault h = h
 not_between lines.NotaryFault h = h
 not_between lines.NoMemory h = h
 
-written_under_way : (fail : LineFail) (before text : List ℕ) (out written : sinks.State) → length before ≤ length text → sinks.IsOut text out written → IsWritten before text (Err (of_line fail)) out written
-written_under_way lines.DiskFault before text out written shorter is = is
-written_under_way lines.NotaryFault before text out written shorter is = is
-written_under_way lines.NoMemory before text out written shorter is = out_but_none before text out written shorter is
+written_under_way : (fail : LineFail) (Idle : Type 0) (before text : List ℕ) (out written : sinks.State) → sinks.IsOut text out written → IsWritten Idle before text (Err (of_line fail)) out written
+written_under_way lines.DiskFault Idle before text out written is = is
+written_under_way lines.NotaryFault Idle before text out written is = is
+written_under_way lines.NoMemory Idle before text out written is = inr is
 
 first_before : (done : List (List ℕ)) (line : List ℕ) (all : List ℕ) → AreFirst (done ++ line ∷ []) all → AreFirst done all
 first_before done line all h =
@@ -313,8 +315,8 @@ module _ (first runner last : Runner) (old mid new : disks.State) (filed half la
       → IsGoing first runner old mid filed half clock tick input left reader (λ before text. sinks.IsOut text out now)
       → ((n : ℕ) (c : List ℕ) → n ≤ disks.turn new → new.is_image c → new.was_image n c)
       → Tells (Ok true) reader next left rest → IsFeedless next.line → readers.Takes reader next left rest → length next.pending < piece_limit
-      → RepliesFrom next.line (Err fail) runner last mid new half later tick tock → notaries.GoesOn half later
-      → CarriesFrom (Err (of_line fail)) first last old new filed later clock tock input rest out now
+      → RepliesFrom next.line (Err fail) runner last (site mid half tick) (site new later tock) → notaries.GoesOn half later
+      → CarriesFrom (Err (of_line fail)) first last (devices old filed clock input out) (devices new later tock rest now)
   under_way fail out now g counts tells clear takes less replies notary_on =
       wherever_then filed.limits first runner old mid new filed half later _ _ _ g.disk_frame.told notary_on.told.untold g.told (as_first first runner last old mid new filed half later clock tick tock input left rest reader next (Err fail) g.scripted g.notary_frame replies)
       (λ begin before here after lists here_lists later_lists a from.
@@ -335,6 +337,7 @@ module _ (first runner last : Runner) (old mid new : disks.State) (filed half la
         settled = λ between only. absurd (not_between fail between);
         stands = λ between. absurd (not_between fail between);
         between = between_on first.is_scripted begin a.done x.timed runner last old mid new before here after filed.limits lists here_lists later_lists fail x.goes;
+        ordered = λ id more only. ordered_on first.is_scripted begin a.done x.timed runner last old mid new before here after filed.limits lists here_lists later_lists fail s x.goes id more only;
         sound = sound_on first.is_scripted begin a.done x.timed runner last old mid new before here after filed.limits lists here_lists later_lists (Err fail) s x.goes;
-        said = λ silent. written_under_way fail (text_before first.is_scripted begin a.done) r.text out now (before_shorter first.is_scripted begin a.done) (a.said silent);
+        said = λ silent. written_under_way fail (x.timed.line ≡ []) (text_before first.is_scripted begin a.done) r.text out now (a.said silent);
       })

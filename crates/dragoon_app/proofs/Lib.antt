@@ -1,14 +1,17 @@
-pub mod NumberLaws
 pub mod WordFacts
 pub mod ItemFacts
 pub mod Going
 pub mod Stores
 pub mod Answering
 pub mod Making
+pub mod OnStore
+pub mod Behaving
+pub mod Once
 pub mod Auditing
 pub mod Notarized
 pub mod SoundKept
 pub mod Unaltered
+pub mod Analysing
 pub mod Defined
 pub mod Seconds
 pub mod Reading
@@ -16,6 +19,7 @@ pub mod Written
 pub mod Nothing
 pub mod Worlds
 pub mod SoundRuns
+pub mod Acknowledging
 pub mod Wherever
 pub mod Standing
 pub mod CarriedLines

@@ -13,7 +13,7 @@ use Rattle.stmt_text.specs.declared.stmt.Stmt.{Stmt}
 use Rattle.stmt_text.specs.declared.stmt.Stmt.TheVariants as stmts
 use Rattle.stmt_text.specs.Lines.{answer, is_blank, without_return}
 use Rattle.stmt_text.specs.Grammar.{SaysLine}
-use Rattle.validator.specs.Safe.{KeepsSound}
+use Rattle.validator.specs.Desk.{KeepsSound}
 use Rattle.drill_core.specs.declared.answered.Answered.{Answered}
 use Rattle.drill_core.specs.declared.fail.LineFail.{LineFail}
 use Rattle.drill_core.specs.declared.fail.LineFail.TheVariants as line_fails
@@ -23,9 +23,10 @@ use Rattle.drill_core.specs.Stepping.{StepsFor}
 use Rattle.dragoon_app.specs.declared.runner.Runner.{Runner}
 use Rattle.dragoon_app.specs.declared.line_kind.LineKind.{LineKind}
 use Rattle.dragoon_app.specs.declared.line_kind.LineKind.TheVariants as kinds
-use Rattle.dragoon_app.specs.Numbers.{max_u64}
+use Rattle.stmt_text.specs.Numbers.{max_u64}
 use Rattle.dragoon_app.specs.Running.{Running, Timed, carry, answered, said_by, stmt_kind, kind_of, seconds_of, stepped, set_moment, refused_line, refused_text, MayFindBy}
 use Rattle.dragoon_app.specs.Ran.{Takes}
+use Rattle.dragoon_app.specs.Devices.{content, desk, site}
 use Rattle.dragoon_app.specs.Carrying.{Wherever, Goes, GoesTo, StepsFrom, LineFrom, RepliesFrom, IsLineOf, TakesFor, GivesSeconds, refusing, SetsMoment}
 use Rattle.dragoon_app.proofs.Seconds.{takes_blank, takes_second}
 use Rattle.dragoon_app.proofs.Nothing.{no_finding, nothing, blank_nothing, blank_answer, carry_is, carry_nothing, nothing_found}
@@ -42,16 +43,16 @@ or_true false = refl
 module _ (runner later : Runner) (s : State) (filed : notaries.State) (still : IsStill s) where
   -- what is said, and where the run stands then
   abbrev pub Still : (Running → Running) → Result (List ℕ) LineFail → Type 0
-  Still next result = Wherever filed.limits runner s s filed filed (GoesTo next result later filed.limits s s)
+  Still next result = Wherever filed.limits runner s s filed filed (GoesTo next result later s s)
 
   -- nothing came of it
   pub fails_goes : (next : Running → Running) (fail : LineFail) → ((r : Running) → (next r).world ≡ r.world) → Still next (Err fail)
-  fails_goes next fail same = wherever_same filed.limits runner s filed (GoesTo next (Err fail) later filed.limits s s)
+  fails_goes next fail same = wherever_same filed.limits runner s filed (GoesTo next (Err fail) later s s)
       (λ r bytes lists at. goes_still r (next r) (Err fail) runner later s bytes filed.limits lists still at (same r) tt tt)
 
   -- a line is refused
   pub refuses_goes : (name text : List ℕ) → text ≡ refused_text name → later ≡ refusing runner → Still (λ r. refused_line r name) (Ok text)
-  refuses_goes name text spelled is = wherever_same filed.limits runner s filed (GoesTo (λ r. refused_line r name) (Ok text) later filed.limits s s)
+  refuses_goes name text spelled is = wherever_same filed.limits runner s filed (GoesTo (λ r. refused_line r name) (Ok text) later s s)
       (λ r bytes lists at. goes_still r (refused_line r name) (Ok text) runner later s bytes filed.limits lists still at refl (ap (λ (x : List ℕ). r.text ++ x) (sym spelled)) (record {
         stands = subst (λ (held : Held). IsIn r.world held bytes lists) (sym (ap (λ (x : Runner). x.world) is)) at.stands;
         within = at.within;
@@ -62,7 +63,7 @@ module _ (runner later : Runner) (s : State) (filed : notaries.State) (still : I
 
   -- the moment is set
   pub sets_goes : (E : Type 0) (scripted : Bool) (moment : ℕ) (text : List ℕ) → SetsMoment {E = E} scripted moment (Ok text) runner later → Still (λ r. set_moment scripted r moment) (Ok text)
-  sets_goes E true moment text sets = wherever_same filed.limits runner s filed (GoesTo (λ r. set_moment true r moment) (Ok text) later filed.limits s s)
+  sets_goes E true moment text sets = wherever_same filed.limits runner s filed (GoesTo (λ r. set_moment true r moment) (Ok text) later s s)
       (λ r bytes lists at. goes_still r (set_moment true r moment) (Ok text) runner later s bytes filed.limits lists still at refl (ap (λ (x : List ℕ). r.text ++ x) (sym sets.text)) (record {
         stands = subst (λ (held : Held). IsIn r.world held bytes lists) (sym (ap (λ (x : Runner). x.world) sets.later_is)) at.stands;
         within = at.within;
@@ -77,15 +78,15 @@ moment_same true moment r = refl
 moment_same false moment r = refl
 
 -- nothing is said
-pub blank_goes : (text : List ℕ) (runner : Runner) (s : State) (filed : notaries.State) → IsStill s → text ≡ [] → Wherever filed.limits runner s s filed filed (GoesTo (λ r. r) (Ok text) runner filed.limits s s)
-blank_goes text runner s filed still none = wherever_same filed.limits runner s filed (GoesTo (λ r. r) (Ok text) runner filed.limits s s)
+pub blank_goes : (text : List ℕ) (runner : Runner) (s : State) (filed : notaries.State) → IsStill s → text ≡ [] → Wherever filed.limits runner s s filed filed (GoesTo (λ r. r) (Ok text) runner s s)
+blank_goes text runner s filed still none = wherever_same filed.limits runner s filed (GoesTo (λ r. r) (Ok text) runner s s)
     (λ r bytes lists at. goes_still r r (Ok text) runner runner s bytes filed.limits lists still at refl (sym (ap (λ (x : List ℕ). r.text ++ x) none ∙ append-nil r.text)) at)
 
 -- ---- a line of the world
 
 module _ (line : Line) (now : ℕ) (runner last : Runner) (old new : State) (filed later : notaries.State) where
-  pub steps_on : (answered : Answered) → StepsFor line now (Ok answered) runner.world last.world old new filed later → KeepsSound (StandsFor runner.world) old new filed later
-      → last.epoch ≡ runner.epoch → last.moment ≡ runner.moment → last.is_refused ≡ (runner.is_refused || answered.refused) → StepsFrom line now (Ok answered.text) runner last old new filed later
+  pub steps_on : (answered : Answered) → StepsFor line now (Ok answered) runner.world last.world (desk old filed) (desk new later) → KeepsSound (StandsFor runner.world) (desk old filed) (desk new later)
+      → last.epoch ≡ runner.epoch → last.moment ≡ runner.moment → last.is_refused ≡ (runner.is_refused || answered.refused) → StepsFrom line now (Ok answered.text) runner last (desk old filed) (desk new later)
   steps_on answered steps sound epoch moment refused = told_map old.reads new.reads _ _ (told_both old.reads new.reads _ _ steps sound) (λ before after h.
       told_map filed.lists later.lists _ _ (told_both filed.lists later.lists _ _ h.0 h.1) (λ lists later_lists p r at.
       let s = p.0 r.world at.stands at.within in
@@ -96,7 +97,7 @@ module _ (line : Line) (now : ℕ) (runner last : Runner) (old new : State) (fil
           reply = ap (λ (x : List ℕ). r.text ++ x) (sym s.goes.reply.text);
           stands = record {
             stands = s.goes.stands;
-            within = step_limits r.world line now s.found ∙ at.within;
+            within = step_limits r.world line now s.found;
             epoch = epoch ∙ at.epoch;
             moment = moment ∙ at.moment;
             refused = refused ∙ ap (λ (b : Bool). b || answered.refused) at.refused ∙ ap (λ (b : Bool). r.is_refused || b) s.goes.reply.refused;
@@ -104,11 +105,12 @@ module _ (line : Line) (now : ℕ) (runner last : Runner) (old new : State) (fil
           settled = s.goes.settled;
           images = s.goes.images;
           between = s.goes.between;
+          ordered = s.goes.ordered;
           sound = λ id only was. p.1 id (stands_of r.world.id r.world.store runner.world.store before at.stands.store) only was;
         };
       }))
 
-  pub steps_off : (fail : LineFail) → StepsFor line now (Err fail) runner.world last.world old new filed later → KeepsSound (StandsFor runner.world) old new filed later → StepsFrom line now (Err fail) runner last old new filed later
+  pub steps_off : (fail : LineFail) → StepsFor line now (Err fail) runner.world last.world (desk old filed) (desk new later) → KeepsSound (StandsFor runner.world) (desk old filed) (desk new later) → StepsFrom line now (Err fail) runner last (desk old filed) (desk new later)
   steps_off fail steps sound = told_map old.reads new.reads _ _ (told_both old.reads new.reads _ _ steps sound) (λ before after h.
       told_map filed.lists later.lists _ _ (told_both filed.lists later.lists _ _ h.0 h.1) (λ lists later_lists p r at.
       let s = p.0 r.world at.stands at.within in
@@ -121,6 +123,7 @@ module _ (line : Line) (now : ℕ) (runner last : Runner) (old new : State) (fil
           settled = λ only. tt;
           images = s.goes.images;
           between = s.goes.between;
+          ordered = s.goes.ordered;
           sound = λ id only was. p.1 id (stands_of r.world.id r.world.store runner.world.store before at.stands.store) only was;
         };
       }))
@@ -164,19 +167,19 @@ finds_nothing (lines.Drill event) ne w = tt
 
 pub goes_by : (line : Line) (kind : LineKind) (second : ℕ) (result : Result (List ℕ) LineFail) (runner last : Runner) (old new : State) (filed later : notaries.State) (clock ahead : clocks.State)
     → kind_of line ≡ kind → (kind ≡ kinds.InWorld → ⊥) → TakesFor kind runner.is_scripted second clock ahead
-    → Wherever filed.limits runner old new filed later (GoesTo (λ r. said_by kind runner.is_scripted (seconds_of runner.is_scripted r second) no_finding r line) result last filed.limits old new)
-    → LineFrom line result runner last old new filed later clock ahead
+    → Wherever filed.limits runner old new filed later (GoesTo (λ r. said_by kind runner.is_scripted (seconds_of runner.is_scripted r second) no_finding r line) result last old new)
+    → LineFrom line result runner last (site old filed clock) (site new later ahead)
 goes_by line kind second result runner last old new filed later clock ahead is ne takes told = wherever_map filed.limits runner old new filed later _ _ told (λ r before after lists later_lists at goes. record {
   second = second;
   found = no_finding;
   seconds = subst (λ (k : LineKind). TakesFor k runner.is_scripted second clock ahead) (sym is) takes;
   may = finds_nothing line (λ e. ne (sym is ∙ e)) r.world;
-  goes = subst (λ (k : LineKind). Goes r (said_by k runner.is_scripted (seconds_of runner.is_scripted r second) no_finding r line) result last old new before after filed.limits lists later_lists) (sym is) goes;
+  goes = subst (λ (k : LineKind). Goes r (said_by k runner.is_scripted (seconds_of runner.is_scripted r second) no_finding r line) result last old new (content before lists) (content after later_lists)) (sym is) goes;
 })
 
 -- a step at the seconds that were given
 pub steps_by : (line : Line) (now : ℕ) (result : Result (List ℕ) LineFail) (runner last : Runner) (old new : State) (filed later : notaries.State) (clock ahead : clocks.State)
-    → kind_of line ≡ kinds.InWorld → GivesSeconds runner.is_scripted runner now clock ahead → StepsFrom line now result runner last old new filed later → LineFrom line result runner last old new filed later clock ahead
+    → kind_of line ≡ kinds.InWorld → GivesSeconds runner.is_scripted runner now clock ahead → StepsFrom line now result runner last (desk old filed) (desk new later) → LineFrom line result runner last (site old filed clock) (site new later ahead)
 steps_by line now result runner last old new filed later clock ahead is gives told = wherever_map filed.limits runner old new filed later _ _ told (λ r before after lists later_lists at s.
     let seconds = seconds_are runner.is_scripted r runner at.epoch at.moment now clock ahead gives in
     record {
@@ -184,8 +187,8 @@ steps_by line now result runner last old new filed later clock ahead is gives to
       found = s.found;
       seconds = subst (λ (k : LineKind). TakesFor k runner.is_scripted now clock ahead) (sym is) (takes_for kinds.InWorld runner.is_scripted runner now clock ahead (λ e. cc) gives);
       may = s.may;
-      goes = subst (λ (k : LineKind). Goes r (said_by k runner.is_scripted (seconds_of runner.is_scripted r now) s.found r line) result last old new before after filed.limits lists later_lists) (sym is)
-          (subst (λ (n : ℕ). Goes r (stepped r (step r.world line n s.found)) result last old new before after filed.limits lists later_lists) (sym seconds) s.goes);
+      goes = subst (λ (k : LineKind). Goes r (said_by k runner.is_scripted (seconds_of runner.is_scripted r now) s.found r line) result last old new (content before lists) (content after later_lists)) (sym is)
+          (subst (λ (n : ℕ). Goes r (stepped r (step r.world line n s.found)) result last old new (content before lists) (content after later_lists)) (sym seconds) s.goes);
     })
 
 -- a line of the world, outside sessions
@@ -249,7 +252,7 @@ line_of bytes (Err line_fails.NoMemory) = inr refl
 
 -- a line of the grammar
 pub replies_by : (bytes : List ℕ) (l : Line) (result : Result (List ℕ) LineFail) (runner last : Runner) (old new : State) (filed later : notaries.State) (clock ahead : clocks.State) → answer bytes ≡ Ok l → SaysLine bytes l
-    → LineFrom l result runner last old new filed later clock ahead → RepliesFrom bytes result runner last old new filed later clock ahead
+    → LineFrom l result runner last (site old filed clock) (site new later ahead) → RepliesFrom bytes result runner last (site old filed clock) (site new later ahead)
 replies_by bytes l result runner last old new filed later clock ahead is said told = wherever_map filed.limits runner old new filed later _ _ told (λ r before after lists later_lists at g.
     let t : Timed = record { line = bytes; second = g.second; found = g.found } in
     record {
@@ -257,7 +260,7 @@ replies_by bytes l result runner last old new filed later clock ahead is said to
       line_is = line_of bytes result;
       seconds = takes_line runner.is_scripted t l clock ahead said g.seconds;
       may = subst (λ (x : Result Line ParseFail). MayFindBy r.world x g.found) (sym is) g.may;
-      goes = subst (λ (n : Running). Goes r n result last old new before after filed.limits lists later_lists) (sym (carry_is runner.is_scripted r t (Ok l) is)) g.goes;
+      goes = subst (λ (n : Running). Goes r n result last old new (content before lists) (content after later_lists)) (sym (carry_is runner.is_scripted r t (Ok l) is)) g.goes;
     })
 
 filled_answer : (bytes : List ℕ) (b : Bool) (fail : ParseFail) → is_blank (without_return bytes) ≡ b → answer bytes ≡ Err fail → is_blank (without_return bytes) ≡ false
@@ -267,7 +270,7 @@ filled_answer bytes false fail e is = e
 -- one that is refused
 pub replies_refused : (bytes name : List ℕ) (fail : ParseFail) (second : ℕ) (result : Result (List ℕ) LineFail) (runner last : Runner) (s : State) (filed : notaries.State) (clock ahead : clocks.State) → answer bytes ≡ Err fail
     → ((scripted : Bool) (now : ℕ) (r : Running) → answered scripted now no_finding r (Err fail) ≡ refused_line r name) → GivesSeconds runner.is_scripted runner second clock ahead
-    → Wherever filed.limits runner s s filed filed (GoesTo (λ r. refused_line r name) result last filed.limits s s) → RepliesFrom bytes result runner last s s filed filed clock ahead
+    → Wherever filed.limits runner s s filed filed (GoesTo (λ r. refused_line r name) result last s s) → RepliesFrom bytes result runner last (site s filed clock) (site s filed ahead)
 replies_refused bytes name fail second result runner last s filed clock ahead is names gives told = wherever_map filed.limits runner s s filed filed _ _ told (λ r before after lists later_lists at goes.
     let t : Timed = record { line = bytes; second = second; found = no_finding } in
     record {
@@ -275,11 +278,11 @@ replies_refused bytes name fail second result runner last s filed clock ahead is
       line_is = line_of bytes result;
       seconds = takes_filled kinds.Unbuilt runner.is_scripted t clock ahead (λ e. cc) (filled_answer bytes (is_blank (without_return bytes)) fail refl is) (takes_for kinds.Unbuilt runner.is_scripted runner second clock ahead (λ e. cc) gives);
       may = subst (λ (x : Result Line ParseFail). MayFindBy r.world x no_finding) (sym is) tt;
-      goes = subst (λ (n : Running). Goes r n result last s s before after filed.limits lists later_lists) (sym (carry_is runner.is_scripted r t (Err fail) is ∙ names runner.is_scripted (seconds_of runner.is_scripted r second) r)) goes;
+      goes = subst (λ (n : Running). Goes r n result last s s (content before lists) (content after later_lists)) (sym (carry_is runner.is_scripted r t (Err fail) is ∙ names runner.is_scripted (seconds_of runner.is_scripted r second) r)) goes;
     })
 
 -- none was begun
-pub replies_none : (bytes : List ℕ) (runner last : Runner) (s : State) (filed : notaries.State) (clock : clocks.State) → IsStill s → RepliesFrom bytes (Err line_fails.NoMemory) runner last s s filed filed clock clock
+pub replies_none : (bytes : List ℕ) (runner last : Runner) (s : State) (filed : notaries.State) (clock : clocks.State) → IsStill s → RepliesFrom bytes (Err line_fails.NoMemory) runner last (site s filed clock) (site s filed clock)
 replies_none bytes runner last s filed clock still = wherever_same filed.limits runner s filed _ (λ r all lists at. record {
   timed = nothing;
   line_is = inl refl;

@@ -6,12 +6,11 @@ use Rattle.std.proofs.lemmas.Bool.{cases_lt, ltb-true}
 use Rattle.std.proofs.lemmas.Bool.Decides.{nat_tests, Decides-eqb}
 use Rattle.std.proofs.lemmas.List.{get_or-take}
 use Rattle.std.proofs.lemmas.Slice.Eq.{slice_eq-Decides}
+use Rattle.outside_words.specs.Told.{WhereTold}
 use Rattle.outside_words.proofs.Told.{told_map, told_same}
 use Rattle.disk_words.specs.Disk as disks
 use Rattle.notary_link.specs.Notary as notaries
 use Rattle.notary_link.specs.Batches.{Batch}
-use Rattle.outside_io.specs.Sink as sinks
-use Rattle.outside_io.specs.Clock as clocks
 use Rattle.byte_grammar.specs.Gated.{records, open_gate}
 use Rattle.byte_grammar.specs.Reading.{constant, seq, mapped, whole, ◌>>=◌}
 use Rattle.tuple_bytes.specs.declared.header.Header.{Header}
@@ -24,11 +23,13 @@ use Rattle.txn_journal.specs.Create.{IsFree, IsTaken}
 use Rattle.audit_model.specs.Altered.{history_in}
 use Rattle.audit_model.specs.Sound.{IsSound, AllNotarized, HoldsNotarized}
 use Rattle.store_engine.specs.Opened.{Opened, IsOpenOn}
-use Rattle.validator.specs.Safe.{KeepsSound}
+use Rattle.validator.specs.Desk.{KeepsSound, desk}
 use Rattle.dragoon_app.specs.declared.command.NewStore.{NewStore}
 use Rattle.dragoon_app.specs.declared.status.Status.{Status}
+use Rattle.dragoon_app.specs.Devices.{Devices, StaysSound}
 use Rattle.dragoon_app.specs.Init.{Inits, MakesStore, header_at as new_header}
-use Rattle.dragoon_app.proofs.Notarized.{only_before, told_from}
+use Rattle.dragoon_app.proofs.OnStore.{only_before, told_from}
+use Rattle.dragoon_app.proofs.Behaving.{unchanged_same}
 
 -- ---- an unchanged store
 
@@ -38,17 +39,26 @@ sound_images old new batches id same sound = ⊎_elim
     (λ (some : (n : ℕ) × (length batches ≡ n + 1) × AllNotarized old.is_image batches id n). inr (some.0, some.1, λ bytes is. some.2 bytes ((same bytes).0 is)))
     sound
 
-pub sound_unchanged : (Stands : List ℕ → Type 0) (old new : disks.State) (filed : notaries.State) → disks.Unchanged old new → KeepsSound Stands old new filed filed
+pub sound_unchanged : (Stands : List ℕ → Type 0) (old new : disks.State) (filed : notaries.State) → disks.Unchanged old new → KeepsSound Stands (desk old filed) (desk new filed)
 sound_unchanged Stands old new filed same =
     told_same old.reads new.reads _ same.reads (λ before. told_same filed.lists filed.lists _ refl (λ lists id stands only sound. sound_images old new (lists.batches id) id same.images sound))
 
+pub image_on : (first old : disks.State) → disks.Unchanged first old → IfSome first.reads first.is_image → IfSome old.reads old.is_image
+image_on first old same image = by first.reads old.reads same.reads image
+  where
+    by : (o m : Option (List ℕ)) → m ≡ o → IfSome o first.is_image → IfSome m old.is_image
+    by None None e is = tt
+    by None (Some b) e is = absurd cc
+    by (Some b) None e is = tt
+    by (Some b) (Some a) e is = let x : a ≡ b = cc in (same.images a).1 (subst first.is_image (sym x) is)
+
 -- nothing was called
-pub sound_same : (Stands : List ℕ → Type 0) (s : disks.State) (filed : notaries.State) → KeepsSound Stands s s filed filed
-sound_same Stands s filed = sound_unchanged Stands s s filed (record { reads = refl; trace = refl; images = λ c. ((λ is. is), (λ is. is)); since = λ t c. ((λ was. was), (λ was. was)) })
+pub sound_same : (Stands : List ℕ → Type 0) (s : disks.State) (filed : notaries.State) → KeepsSound Stands (desk s filed) (desk s filed)
+sound_same Stands s filed = sound_unchanged Stands s s filed (unchanged_same s)
 
 -- the store was opened before
 pub sound_opened : (s : Opened) (first old new : disks.State) (filed later : notaries.State) → IfSome first.reads (λ bytes. IsOpenOn s (stored bytes).items bytes) → disks.Unchanged first old
-    → KeepsSound (λ before. (items : List Item) × IsOpenOn s items before) old new filed later → KeepsSound (λ before. ⊤) first new filed later
+    → KeepsSound (λ before. (items : List Item) × IsOpenOn s items before) (desk old filed) (desk new later) → KeepsSound (λ before. ⊤) (desk first filed) (desk new later)
 sound_opened s first old new filed later opened same keeps =
     told_from first.reads old.reads new.reads _ _ _ same.reads opened keeps (λ before after is_open h. told_map filed.lists later.lists _ _ h
     (λ lists later_lists k id stands only sound. k id ((stored before).items, is_open) (only_before first old before same only) (sound_images first old (lists.batches id) id same.images sound)))
@@ -107,13 +117,21 @@ sound_free old new before batches id free here sound = ⊎_elim
     (λ (some : (n : ℕ) × (length batches ≡ n + 1) × AllNotarized old.is_image batches id n). absurd (free_holds_none before batches id some.0 free (some.2 before here)))
     sound
 
-pub sound_new : (s : NewStore) (result : Status) (old new : disks.State) (filed : notaries.State) (clock ahead : clocks.State) (out written : sinks.State)
-    → IfSome old.reads old.is_image → Inits s result old new clock ahead out written → KeepsSound (λ before. ⊤) old new filed filed
-sound_new s result old new filed clock ahead out written image i = ⊎_elim
-    (λ (late : max_moment < i.now). sound_unchanged (λ before. ⊤) old new filed (i.inits.late late).same)
-    (λ (early : i.now ≤ max_moment). told_from old.reads old.reads new.reads _ (MakesStore (new_header s i.now) result old new) _ refl image (i.inits.made early) (λ before after here made.
-    told_same filed.lists filed.lists _ refl (λ lists id stands only sound. ⊎_elim
-    (λ (free : IsFree before). sound_free old new before (lists.batches id) id free here sound)
-    (λ (taken : IsTaken before). sound_images old new (lists.batches id) id (made.kept taken).images sound)
-    (free_or_taken before))))
+pub sound_new : (s : NewStore) (result : Status) (old new : Devices) → IfSome old.desk.disk.reads old.desk.disk.is_image → Inits s result old new → StaysSound old.desk new.desk
+sound_new s result old new image i = ⊎_elim
+    (λ (late : max_moment < i.now). told_same before.reads after.reads _ (i.inits.late late).same.reads (λ bytes. lists _ (λ filed id stands only sound. sound_images before after (filed.batches id) id (i.inits.late late).same.images sound)))
+    (λ (early : i.now ≤ max_moment). told_from before.reads before.reads after.reads _ (MakesStore (new_header s i.now) result before after) _ refl image (i.inits.made early) (λ bytes later here made.
+    lists _ (λ filed id stands only sound. ⊎_elim
+    (λ (free : IsFree bytes). sound_free before after bytes (filed.batches id) id free here sound)
+    (λ (taken : IsTaken bytes). sound_images before after (filed.batches id) id (made.kept taken).images sound)
+    (free_or_taken bytes))))
     (cases_lt max_moment i.now)
+  where
+    before : disks.State
+    before = old.desk.disk
+
+    after : disks.State
+    after = new.desk.disk
+
+    lists : (P : notaries.Lists → notaries.Lists → Type 0) → ((filed : notaries.Lists) → P filed filed) → WhereTold old.desk.notary.lists new.desk.notary.lists P
+    lists P f = told_same old.desk.notary.lists new.desk.notary.lists P (ap (λ (n : notaries.State). n.lists) i.none_asked) f

@@ -1,9 +1,13 @@
 -- A sound world stays sound along a run, and no line tells of an alteration.
-use Rattle.std.proofs.Common.{ℕ, Bool, true, false, List, [], ◌∷◌, Option, refl, sym, subst, Result, Ok, Err}
+use Rattle.std.proofs.Common.{◌≡◌, ◌⊎◌, ℕ, ◌+◌, Bool, true, false, List, [], ◌∷◌, length, Option, Some, refl, sym, subst, inl, inr, ⊎_elim, Result, Ok, Err}
 use Rattle.tuple_bytes.specs.declared.header.Header.{Header}
 use Rattle.history_model.specs.Stored.{stored}
 use Rattle.history_model.specs.StoredHistory.{StoredIsHistory}
+use Rattle.notary_link.specs.declared.notary.NotaryLimits.{NotaryLimits}
+use Rattle.notary_link.specs.Batches.{Batch}
+use Rattle.notary_link.specs.Notary.{Lists}
 use Rattle.audit_model.specs.Altered.{history_in}
+use Rattle.audit_model.specs.Sound.{IsSound, AllNotarized}
 use Rattle.stmt_text.specs.declared.error.ParseFail.{ParseFail}
 use Rattle.stmt_text.specs.declared.error.ParseFail.TheVariants as fails
 use Rattle.stmt_text.specs.declared.line.Line.{Line}
@@ -15,7 +19,7 @@ use Rattle.drill_core.specs.Steps.{MayFind}
 use Rattle.drill_core.specs.Laws.{HoldsFiled, IsSoundWorld, HasFitHeader, SoundWorldsStaySound}
 use Rattle.dragoon_app.specs.declared.line_kind.LineKind.{LineKind}
 use Rattle.dragoon_app.specs.declared.line_kind.LineKind.TheVariants as kinds
-use Rattle.dragoon_app.specs.Running.{Running, Timed, carry, carried, answered, said_by, kind_of, seconds_of, set_moment, MayFindBy, AllMayFind}
+use Rattle.dragoon_app.specs.Running.{Running, Timed, start, world_of, carry, carried, answered, said_by, kind_of, seconds_of, set_moment, MayFindBy, AllMayFind}
 use Rattle.dragoon_app.specs.Laws.{TellsNoneBy, AllTellNone, SoundRunsAreUnaltered, SoundBytesBeginSound}
 use Rattle.dragoon_app.proofs.Nothing.{carry_is}
 
@@ -51,6 +55,16 @@ module _ (law : SoundWorldsStaySound) (scripted : Bool) where
 
 pub sound_runs : SoundWorldsStaySound → SoundRunsAreUnaltered
 sound_runs law = λ scripted begin timed fit sound may. all_good law scripted begin timed (fit, sound) may
+
+-- over bytes that are an image of a sound disk
+pub sound_begin : (is_image : List ℕ → Type 0) (bytes : List ℕ) (header : Header) (lists : Lists) (limits : NotaryLimits) → is_image bytes → (stored bytes).header ≡ Some header → IsSound is_image (lists.batches header.id) header.id
+    → IsSoundWorld (start (world_of header bytes) lists limits).world
+sound_begin is_image bytes header lists limits here has sound =
+    let batches : List Batch = lists.batches header.id in
+    subst (λ (o : Option Header). HoldsFiled batches header.id (history_in (record { header = o; items = (stored bytes).items; end = (stored bytes).end }))) has (⊎_elim
+    (λ (none : batches ≡ []). inl none)
+    (λ (some : (n : ℕ) × (length batches ≡ n + 1) × AllNotarized is_image batches header.id n). inr (some.0, some.1, some.2 bytes here))
+    sound)
 
 pub sound_start : StoredIsHistory → SoundBytesBeginSound
 sound_start law = λ bytes header lists limits fits has holds. (

@@ -10,10 +10,12 @@ use Rattle.notary_link.specs.declared.notary.NotaryLimits.{NotaryLimits}
 use Rattle.notary_link.specs.Notary.{Lists}
 use Rattle.stmt_text.specs.Lines.{answer}
 use Rattle.drill_core.specs.declared.fail.LineFail.{LineFail}
+use Rattle.validator.specs.Filing.{HasFiledMore}
 use Rattle.drill_core.specs.World.{World, StoresWorld, StoresEither, AreBetween}
 use Rattle.dragoon_app.specs.declared.runner.Runner.{Runner}
 use Rattle.dragoon_app.specs.Running.{Running, Timed, carry, carried, MayFindBy, AllMayFind}
 use Rattle.dragoon_app.specs.Ran.{StoresFront}
+use Rattle.dragoon_app.specs.Devices.{content}
 use Rattle.dragoon_app.specs.Carrying.{IsAt, StaysSound, Goes}
 use Rattle.dragoon_app.proofs.Worlds.{stores_of, all_between}
 
@@ -28,16 +30,21 @@ IsStill s = (c : List ℕ) → s.was_image (turn s) c → s.is_image c
 
 -- a line that leaves the world alone
 pub goes_still : (r next : Running) (result : Result (List ℕ) LineFail) (runner later : Runner) (s : State) (bytes : List ℕ) (limits : NotaryLimits) (lists : Lists) → IsStill s → IsAt r runner bytes limits lists → next.world ≡ r.world
-    → IfOk result (λ text. next.text ≡ r.text ++ text) → OnOk result (IsAt next later bytes limits lists) → Goes r next result later s s bytes bytes limits lists lists
+    → IfOk result (λ text. next.text ≡ r.text ++ text) → OnOk result (IsAt next later bytes limits lists) → Goes r next result later s s (content bytes lists) (content bytes lists)
 goes_still r next result runner later s bytes limits lists still at same reply stands = record {
   reply = reply;
-  stands = stands;
+  stands = moved result stands;
   settled = λ only. settled result only;
   images = λ only. started s (StoresEither r.world next.world) still (λ c here. inl (subst (StoresWorld r.world) (sym (only c here)) (stores_in r runner bytes limits lists at)));
   between = subst (λ (w : World). AreBetween r.world.lists w.lists lists) (sym same) (all_between r.world.lists lists at.stands.lists);
+  ordered = λ id more. absurd (more (at.stands.lists.batches id));
   sound = λ id only sound. sound;
 }
   where
+    moved : (result : Result (List ℕ) LineFail) → OnOk result (IsAt next later bytes limits lists) → OnOk result (IsAt next later bytes r.world.limits lists)
+    moved (Ok text) is = subst (λ (l : NotaryLimits). IsAt next later bytes l lists) (sym at.within) is
+    moved (Err fail) is = tt
+
     settled : (result : Result (List ℕ) LineFail) → Only bytes s → OnOk result (Only bytes s)
     settled (Ok text) only = only
     settled (Err fail) only = tt
@@ -103,14 +110,14 @@ module _ (scripted : Bool) (begin : Running) (done : List Timed) (t : Timed) (ru
   Far = Stands scripted begin done runner old mid before here limits lists here_lists
 
   abbrev Step : Result (List ℕ) LineFail → Type 0
-  Step result = Goes (carried scripted begin done) (carry scripted (carried scripted begin done) t) result later mid new here after limits here_lists later_lists
+  Step result = Goes (carried scripted begin done) (carry scripted (carried scripted begin done) t) result later mid new (content here here_lists) (content after later_lists)
 
   pub sound_on : (result : Result (List ℕ) LineFail) → Far → Step result → StaysSound old new before lists later_lists
   sound_on result so_far goes = λ id only sound. goes.sound id (so_far.settled only) (so_far.sound id only sound)
 
   pub stands_more : (text : List ℕ) → Far → MayFindBy (carried scripted begin done).world (answer t.line) t.found → Step (Ok text) → Stands scripted begin (done ++ t ∷ []) later old new before after limits lists later_lists
   stands_more text so_far may goes = record {
-    at = subst (λ (r : Running). IsAt r later after limits later_lists) (sym (carried_more scripted begin done t)) goes.stands;
+    at = subst (λ (r : Running). IsAt r later after limits later_lists) (sym (carried_more scripted begin done t)) (subst (λ (l : NotaryLimits). IsAt (carry scripted (carried scripted begin done) t) later after l later_lists) so_far.at.within goes.stands);
     found = found_more scripted begin done t so_far.found may;
     settled = λ only. goes.settled (so_far.settled only);
     images = λ only. images_more scripted begin done t old mid new (so_far.images only) (goes.images (so_far.settled only));
@@ -126,6 +133,12 @@ module _ (scripted : Bool) (begin : Running) (done : List Timed) (t : Timed) (ru
   kept_on fail counts so_far goes only c is =
       let every = goes.images (so_far.settled only) in
       subst (λ (r : Running). StoresWorld (carried scripted begin done).world c ⊎ StoresWorld r.world c) (sym (carried_more scripted begin done t)) (every.each c (counts (turn mid) c every.later is))
+
+  pub ordered_on : (fail : LineFail) → Far → Step (Err fail) → (id : ℕ) → HasFiledMore id (carried scripted begin done).world.lists later_lists → Only before old
+      → Only after new × StoresWorld (carried scripted begin (done ++ t ∷ [])).world after
+  ordered_on fail so_far goes id more only =
+      let in_order = goes.ordered id more (so_far.settled only) in
+      (in_order.0, subst (λ (r : Running). StoresWorld r.world after) (sym (carried_more scripted begin done t)) in_order.1)
 
   pub between_on : (fail : LineFail) → Step (Err fail) → AreBetween (carried scripted begin done).world.lists (carried scripted begin (done ++ t ∷ [])).world.lists later_lists
   between_on fail goes = subst (λ (r : Running). AreBetween (carried scripted begin done).world.lists r.world.lists later_lists) (sym (carried_more scripted begin done t)) goes.between

@@ -1,17 +1,16 @@
 -- Of a sound store it isn't said that it is altered.
-use Rattle.std.proofs.Common.{◌≡◌, ◌⊎◌, ℕ, ◌+◌, Bool, true, false, List, [], length, Option, Some, None, sym, ap, subst, ◌∙◌, inl, inr, ⊎_elim, Result, Ok, Err}
+use Rattle.std.proofs.Common.{◌≡◌, ◌⊎◌, ℕ, ◌+◌, Bool, true, false, List, [], length, Option, Some, None, refl, sym, ap, subst, ◌∙◌, inl, inr, ⊎_elim, Result, Ok, Err}
 use Rattle.std.specs.Prelude.{IfSome}
 use Rattle.outside_words.specs.Told.{WhereTold}
 use Rattle.outside_words.proofs.Told.{told_map}
 use Rattle.disk_words.specs.Disk as disks
 use Rattle.notary_link.specs.Notary as notaries
 use Rattle.notary_link.specs.Batches.{Batch}
-use Rattle.outside_io.specs.Clock as clocks
 use Rattle.outside_io.specs.Sink as sinks
-use Rattle.outside_io.specs.Source as sources
 use Rattle.tuple_bytes.specs.declared.header.Header.{Header}
 use Rattle.tuple_bytes.specs.declared.item.Item.{Item}
 use Rattle.history_model.specs.History.{history}
+use Rattle.digest_model.specs.Layout.{layout}
 use Rattle.history_model.specs.Stored.{stored}
 use Rattle.audit_model.specs.Altered.{history_in}
 use Rattle.audit_model.specs.Sound.{IsSound, AllNotarized, HoldsNotarized}
@@ -28,31 +27,17 @@ use Rattle.validator.specs.Verdicts.{IsFound, IsFoundIn, Validates, history_with
 use Rattle.validator.specs.Laws.{SoundIsClean, SoundIsNotRefused}
 use Rattle.dragoon_app.specs.declared.status.Status.{Status}
 use Rattle.dragoon_app.specs.declared.status.Status.TheVariants as statuses
-use Rattle.dragoon_app.specs.Outcome.{Outcome, Said}
-use Rattle.dragoon_app.specs.Audited.{status_of_audit, notarize_outcome, validate_outcome, NotarizesStore, NotarizesOpened, IsUnaltered, SaysUnaltered}
-use Rattle.dragoon_app.proofs.Notarized.{told_from, told_of, if_both}
+use Rattle.dragoon_app.specs.Outcome.{Outcome, CutsOff, Said}
+use Rattle.dragoon_app.specs.Devices.{Desk, Content, Devices, desk}
+use Rattle.dragoon_app.specs.Audited.{status_of_audit, notarize_outcome, validate_outcome, NotarizesHeader, NotarizesOpened, ValidatesOn, IsUnaltered, SaysUnaltered}
+use Rattle.dragoon_app.proofs.OnStore.{told_from, told_of, if_both, both_map, both_from}
+use Rattle.dragoon_app.proofs.SoundKept.{sound_images, image_on}
 
 -- ---- what was said
 
-unaltered_said : (d : Outcome) (s : Status) (old new : sinks.State) → Said d s old new → IsUnaltered d.status → IsUnaltered s
-unaltered_said d statuses.Ok old new h is = tt
-unaltered_said d statuses.Altered old new h is = subst IsUnaltered (sym h.0) is
-unaltered_said d statuses.Usage old new h is = tt
-unaltered_said d statuses.Refused old new h is = tt
-unaltered_said d statuses.NotAStore old new h is = tt
-unaltered_said d statuses.DiskFault old new h is = tt
-unaltered_said d statuses.NotaryFault old new h is = tt
-unaltered_said d statuses.ReadFault old new h is = tt
-unaltered_said d statuses.WriteFault old new h is = tt
-unaltered_said d statuses.NoMemory old new h is = tt
-unaltered_said d statuses.Broken old new h is = subst IsUnaltered (sym h.0) is
-unaltered_said d (statuses.SealMissing name) old new h is = subst IsUnaltered (sym h.0) is
-unaltered_said d (statuses.OutOfTurn count) old new h is = subst IsUnaltered (sym h.0) is
-unaltered_said d statuses.AlreadyThere old new h is = tt
-unaltered_said d (statuses.ClockBack last) old new h is = tt
-unaltered_said d statuses.TooLate old new h is = tt
-unaltered_said d statuses.Full old new h is = tt
-unaltered_said d statuses.InputLimit old new h is = tt
+pub unaltered_said : (d : Outcome) (s : Status) (old new : sinks.State) → Said d s old new → IsUnaltered d.status → IsUnaltered s
+unaltered_said d s old new h is = ⊎_elim (λ (whole : (s ≡ d.status) × sinks.IsOut d.text old new). subst IsUnaltered (sym whole.0) is)
+    (λ (cut : CutsOff s × sinks.FrontIsOut d.text old new). ⊎_elim (λ (e : s ≡ statuses.WriteFault). subst IsUnaltered (sym e) tt) (λ (e : s ≡ statuses.NoMemory). subst IsUnaltered (sym e) tt) cut.0) h
 
 -- ---- a validation
 
@@ -73,26 +58,26 @@ not_well found well = ⊎_elim
     (λ (e : (n : ℕ) × (found ≡ Ok (verdicts.Clean n))). subst (λ (x : Result Verdict AuditFail). IsUnaltered (validate_outcome x).status) (sym e.1) tt)
     well
 
-validated : SoundIsClean → (is_image : List ℕ → Type 0) (id now : ℕ) (limits : _) (bytes : List ℕ) (answer : Result Verdict AuditFail) (lists later : notaries.Lists) → is_image bytes → IsSound is_image (lists.batches id) id
-    → Validates id now limits (stored bytes) answer lists later → IsUnaltered (validate_outcome answer).status
-validated law is_image id now limits bytes (Ok verdict) lists later here sound v = not_well (Ok verdict) (sound_found law is_image (lists.batches id) id bytes (Ok verdict) here sound v.0)
-validated law is_image id now limits bytes (Err (fails.SealMissing name)) lists later here sound v = not_well (Err (fails.SealMissing name)) (sound_found law is_image (lists.batches id) id bytes (Err (fails.SealMissing name)) here sound v.0)
-validated law is_image id now limits bytes (Err fails.Full) lists later here sound v = tt
-validated law is_image id now limits bytes (Err fails.NotaryFault) lists later here sound v = tt
-validated law is_image id now limits bytes (Err fails.NoMemory) lists later here sound v = tt
-validated law is_image id now limits bytes (Err fails.DiskFault) lists later here sound v = tt
-validated law is_image id now limits bytes (Err (fails.ClockBack last)) lists later here sound v = tt
-validated law is_image id now limits bytes (Err fails.TooLate) lists later here sound v = tt
-validated law is_image id now limits bytes (Err fails.StoreFull) lists later here sound v = tt
-validated law is_image id now limits bytes (Err fails.Closed) lists later here sound v = tt
-validated law is_image id now limits bytes (Err fails.Broken) lists later here sound v = absurd v
-validated law is_image id now limits bytes (Err (fails.OutOfTurn count)) lists later here sound v = absurd v
+validated : SoundIsClean → (is_image : List ℕ → Type 0) (id now : ℕ) (limits : _) (bytes : List ℕ) (answer : Result Verdict AuditFail) (was is : Option (List notaries.Entry)) (lists later : notaries.Lists) → is_image bytes → IsSound is_image (lists.batches id) id
+    → Validates id now limits (stored bytes) answer was is lists later → IsUnaltered (validate_outcome answer).status
+validated law is_image id now limits bytes (Ok verdict) was is lists later here sound v = not_well (Ok verdict) (sound_found law is_image (lists.batches id) id bytes (Ok verdict) here sound v.0)
+validated law is_image id now limits bytes (Err (fails.SealMissing name)) was is lists later here sound v = not_well (Err (fails.SealMissing name)) (sound_found law is_image (lists.batches id) id bytes (Err (fails.SealMissing name)) here sound v.0)
+validated law is_image id now limits bytes (Err fails.Full) was is lists later here sound v = tt
+validated law is_image id now limits bytes (Err fails.NotaryFault) was is lists later here sound v = tt
+validated law is_image id now limits bytes (Err fails.NoMemory) was is lists later here sound v = tt
+validated law is_image id now limits bytes (Err fails.DiskFault) was is lists later here sound v = tt
+validated law is_image id now limits bytes (Err (fails.ClockBack last)) was is lists later here sound v = tt
+validated law is_image id now limits bytes (Err fails.TooLate) was is lists later here sound v = tt
+validated law is_image id now limits bytes (Err fails.StoreFull) was is lists later here sound v = tt
+validated law is_image id now limits bytes (Err fails.Closed) was is lists later here sound v = tt
+validated law is_image id now limits bytes (Err fails.Broken) was is lists later here sound v = absurd v
+validated law is_image id now limits bytes (Err (fails.OutOfTurn count)) was is lists later here sound v = absurd v
 
-pub validate_unaltered : SoundIsClean → (id now : ℕ) (answer : Result Verdict AuditFail) (result : Status) (old new : disks.State) (filed later : notaries.State) (out written : sinks.State) → IfSome old.reads old.is_image
-    → IfSome old.reads (λ bytes. WhereTold filed.lists later.lists (Validates id now filed.limits (stored bytes) answer)) → Said (validate_outcome answer) result out written → SaysUnaltered id result old new filed later
-validate_unaltered law id now answer result old new filed later out written image told said =
-    told_of old.reads new.reads _ _ (if_both old.reads old.is_image (λ bytes. WhereTold filed.lists later.lists (Validates id now filed.limits (stored bytes) answer)) image told) (λ before after h. told_map filed.lists later.lists _ _ h.1
-    (λ lists later_lists v sound. unaltered_said (validate_outcome answer) result out written said (validated law old.is_image id now filed.limits before answer lists later_lists h.0 sound v)))
+pub validate_unaltered : SoundIsClean → (id : ℕ) (result : Status) (old new : Devices) → IfSome old.desk.disk.reads old.desk.disk.is_image → ValidatesOn id result old new → SaysUnaltered id result old.desk new.desk
+validate_unaltered law id result old new image once =
+    let is_image = old.desk.disk.is_image in
+    told_of old.desk.disk.reads new.desk.disk.reads _ _ (if_both old.desk.disk.reads is_image _ image once.done.found) (λ before after h. told_map old.desk.notary.lists new.desk.notary.lists _ _ h.1
+    (λ lists later_lists v sound. unaltered_said (validate_outcome once.answer) result old.out new.out once.said (validated law is_image id once.now old.desk.notary.limits before once.answer old.desk.notary.trace new.desk.notary.trace lists later_lists h.0 sound v)))
 
 -- ---- a notarization
 
@@ -130,7 +115,7 @@ fault_harmless : (t : Tail) (is_closed : Bool) (now : ℕ) (items : List Item) (
 fault_harmless t is_closed now items batches none =
     else_harmless (early_fault t is_closed now) _
     (where_harmless is_closed fails.Closed _ tt (where_harmless (is_back t now) (fails.ClockBack t.last) _ tt (where_harmless (is_late t now) fails.TooLate None tt tt)))
-    (else_harmless (filed_fault batches (history t.header items)) _ (subst IsHarmless (sym none) tt) (room_harmless t (frontier_for t now batches)))
+    (else_harmless (filed_fault batches (history t.header items)) _ (subst IsHarmless (sym none) tt) (room_harmless t (frontier_for (layout (history t.header items)) t now batches)))
 
 refused_harmless : (fault : Option AuditFail) (answer : Result ℕ AuditFail) → IsHarmless fault → IsRefusedBy fault answer → IsUnaltered (notarize_outcome answer).status
 refused_harmless fault (Ok tiles) is r = tt
@@ -155,35 +140,38 @@ sound_filed law is_image batches id bytes header here has sound = ⊎_elim
     (subst (λ (o : Option Header). HoldsNotarized batches id some.0 (history_in (record { header = o; items = (stored bytes).items; end = (stored bytes).end }))) has (some.2 bytes here)))
     sound
 
-notarized : SoundIsNotRefused → (is_image : List ℕ → Type 0) (id : ℕ) (header : Header) (result : Status) (old new : disks.State) (before after : List ℕ) (filed later : notaries.State) (lists later_lists : notaries.Lists) (clock ahead : clocks.State) (input left : sources.State) (out written : sinks.State)
-    → header.id ≡ id → is_image before → IsSound is_image (lists.batches id) id
-    → NotarizesStore header result old new before after filed later lists later_lists clock ahead input left out written → IsUnaltered result
-notarized law is_image id header result old new before after filed later lists later_lists clock ahead input left out written is here sound n =
+notarized : SoundIsNotRefused → (id : ℕ) (header : Header) (result : Status) (old new : Devices) → header.id ≡ id → IfSome old.desk.disk.reads old.desk.disk.is_image → NotarizesHeader header result old new → SaysUnaltered id result old.desk new.desk
+notarized law id header result old new is image once =
+    let n = once.done in
+    let is_image = old.desk.disk.is_image in
+    told_from old.desk.disk.reads old.desk.disk.reads new.desk.disk.reads _ _ _ refl (if_both old.desk.disk.reads is_image _ image n.opened) n.notarizes (λ before after here h. told_map old.desk.notary.lists new.desk.notary.lists _ _ h (λ lists later_lists m sound.
     let same : id ≡ n.store.header.id = sym (ap (λ (h : Header). h.id) n.header_is ∙ is) in
-    let none = sound_filed law is_image (lists.batches n.store.header.id) id before n.store.header here n.opened.stores.header_is (subst (λ (i : ℕ). IsSound is_image (lists.batches i) id) same sound) in
-    unaltered_said (notarize_outcome n.answer) result out written n.said
-    (refused_harmless _ n.answer (fault_harmless (tail_of n.store) n.store.at.is_closed n.now (stored before).items (lists.batches n.store.header.id) none) n.notarizes.refused)
-
-pub notarize_unaltered : SoundIsNotRefused → (id : ℕ) (s : Opened) (result : Status) (first old new : disks.State) (filed later : notaries.State) (clock ahead : clocks.State) (out written : sinks.State)
-    → IfSome first.reads first.is_image → IfSome first.reads (λ bytes. IsOpenOn s (stored bytes).items bytes) → s.header.id ≡ id → disks.Unchanged first old
-    → NotarizesOpened s result old new filed later clock ahead out written → SaysUnaltered id result first new filed later
-notarize_unaltered law id s result first old new filed later clock ahead out written image opened is same told =
-    told_from first.reads old.reads new.reads _ _ _ same.reads (if_both first.reads first.is_image (λ bytes. IsOpenOn s (stored bytes).items bytes) image opened) told (λ before after p h. told_map filed.lists later.lists _ _ h
-    (λ lists later_lists n sound. notarized law first.is_image id s.header result old new before after filed later lists later_lists clock ahead nothing nothing out written is p.0 sound (n nothing p.1)))
-  where
-    nothing : sources.State
-    nothing = record { rest = None; faults = 0 }
+    let none = sound_filed law is_image (lists.batches n.store.header.id) id before n.store.header here.0 here.1.stores.header_is (subst (λ (i : ℕ). IsSound is_image (lists.batches i) id) same sound) in
+    unaltered_said (notarize_outcome once.answer) result old.out new.out once.said
+    (refused_harmless _ once.answer (fault_harmless (tail_of n.store) n.store.at.is_closed once.now (stored before).items (lists.batches n.store.header.id) none) m.refused)))
 
 -- it was refused before anything was asked
-pub refused_unaltered : (id : ℕ) (result : Status) (old new : disks.State) (filed later : notaries.State) → IsUnaltered result → SaysUnaltered id result old new filed later
-refused_unaltered id result old new filed later is = by old.reads new.reads
+pub refused_unaltered : (id : ℕ) (result : Status) (old new : Desk) → IsUnaltered result → SaysUnaltered id result old new
+refused_unaltered id result old new is = by old.disk.reads new.disk.reads
   where
     lists : (o n : Option notaries.Lists) (P : notaries.Lists → Type 0) → WhereTold o n (λ lists later_lists. P lists → IsUnaltered result)
     lists (Some l) (Some m) P = λ p. is
     lists (Some l) None P = tt
     lists None n P = tt
 
-    by : (o n : Option (List ℕ)) → WhereTold o n (λ before after. WhereTold filed.lists later.lists (λ lists later_lists. IsSound old.is_image (lists.batches id) id → IsUnaltered result))
-    by (Some b) (Some a) = lists filed.lists later.lists (λ l. IsSound old.is_image (l.batches id) id)
+    by : (o n : Option (List ℕ)) → WhereTold o n (λ before after. WhereTold old.notary.lists new.notary.lists (λ lists later_lists. IsSound old.disk.is_image (lists.batches id) id → IsUnaltered result))
+    by (Some b) (Some a) = lists old.notary.lists new.notary.lists (λ l. IsSound old.disk.is_image (l.batches id) id)
     by (Some b) None = tt
     by None n = tt
+
+pub notarize_unaltered : SoundIsNotRefused → (id : ℕ) (s : Opened) (result : Status) (first : disks.State) (old new : Devices) → IfSome first.reads first.is_image → IfSome first.reads (λ bytes. IsOpenOn s (stored bytes).items bytes)
+    → s.header.id ≡ id → disks.Unchanged first old.desk.disk → NotarizesOpened s result old new → SaysUnaltered id result (desk first old.desk.notary) new.desk
+notarize_unaltered law id s result first old new image opened is same leaves =
+    let is_image = old.desk.disk.is_image in
+    let here : IfSome old.desk.disk.reads (λ bytes. IsOpenOn s (stored bytes).items bytes) = subst (λ (o : Option (List ℕ)). IfSome o (λ bytes. IsOpenOn s (stored bytes).items bytes)) (sym same.reads) opened in
+    let still = image_on first old.desk.disk same image in
+    both_from first old.desk new.desk (Says first) same.reads (both_map old.desk new.desk (Says old.desk.disk) (Says first) (notarized law id s.header result old new is still (leaves here)) (λ before after is_unaltered sound.
+    is_unaltered (sound_images first old.desk.disk (before.lists.batches id) id same.images sound)))
+  where
+    Says : disks.State → Content → Content → Type 0
+    Says disk before after = IsSound disk.is_image (before.lists.batches id) id → IsUnaltered result

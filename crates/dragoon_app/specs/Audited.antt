@@ -1,15 +1,11 @@
 -- What `notarize` and `validate` write, and what becomes of the store, the notary and the clock.
-use Rattle.std.specs.Prelude.{◌≡◌, ◌≢◌, ◌⊎◌, ◌≤◌, ◌+◌, ℕ, false, List, ◌++◌, ◌∷◌, [], codes, Option, Some, None, IfOk, IfErr, IfSome, Result, Ok, Err}
+use Rattle.std.specs.Prelude.{◌≡◌, ◌≤◌, ◌+◌, ℕ, false, List, ◌++◌, ◌∷◌, [], codes, IsSome, IfOk, IfErr, IfSome, Result, Ok, Err}
 use Rattle.outside_words.specs.Told.{WhereTold}
-use Rattle.outside_words.specs.Faults.{Rose, HasCause}
 use Rattle.disk_words.specs.Disk as disks
-use Rattle.notary_link.specs.Notary as notaries
-use Rattle.outside_io.specs.Sink as sinks
-use Rattle.outside_io.specs.Source as sources
-use Rattle.outside_io.specs.Clock as clocks
 use Rattle.tuple_bytes.specs.declared.header.Header.{Header}
 use Rattle.history_model.specs.Stored.{stored}
 use Rattle.store_engine.specs.Opened.{Opened, IsOpenOn}
+use Rattle.store_engine.specs.Refusals.{tail_of}
 use Rattle.audit_model.specs.Sound.{IsSound}
 use Rattle.validator.specs.declared.verdict.Verdict.{Verdict}
 use Rattle.validator.specs.declared.verdict.Verdict.TheVariants as verdicts
@@ -17,12 +13,14 @@ use Rattle.validator.specs.declared.fail.AuditFail.{AuditFail}
 use Rattle.validator.specs.declared.fail.AuditFail.TheVariants as fails
 use Rattle.validator.specs.Texts.{numbered, verdict_text, refusal_text}
 use Rattle.validator.specs.Verdicts.{Validates, MakesMark, IsOfValidation, questions}
+use Rattle.validator.specs.Notarizing.{early_fault, IsEarly}
 use Rattle.validator.specs.Reaching.{Notarizes}
 use Rattle.dragoon_app.specs.declared.status.Status.{Status}
 use Rattle.dragoon_app.specs.declared.status.Status.TheVariants as statuses
 use Rattle.dragoon_app.specs.Texts.{status_name, fault_line}
-use Rattle.dragoon_app.specs.Outcome.{Outcome, IsSaid, Said}
-use Rattle.dragoon_app.specs.Ran.{EndsEarly, EndsUnopened}
+use Rattle.dragoon_app.specs.Outcome.{Outcome, IsSaid}
+use Rattle.dragoon_app.specs.Devices.{Desk, DeskIsLeft, Effect, WhereBothTell}
+use Rattle.dragoon_app.specs.Commands.{DoesOnce, OnStore}
 
 -- ---- the output
 
@@ -76,63 +74,39 @@ validate_outcome (Err fail) = refused_audit fail
 
 -- ---- `notarize`
 
--- a notarization of an open store of this id, at the second that the clock gave
-pub record NotarizesStore (header : Header) (result : Status) (old new : disks.State) (before after : List ℕ) (filed later : notaries.State) (lists later_lists : notaries.Lists) (clock ahead : clocks.State) (input left : sources.State) (out written : sinks.State) : Type 0 where
-  pub now : ℕ
-  pub taken : clocks.Tells now clock ahead
-  pub none_read : left ≡ input
-  pub answer : Result ℕ AuditFail
-  pub said : Said (notarize_outcome answer) result out written
-  pub disk_cause : HasCause fails.DiskFault old.faults new.faults answer
-  pub notary_cause : HasCause fails.NotaryFault filed.faults later.faults answer
-  -- the store before and after
+-- an open store of this header was notarized; where something spoke against it early, that was answered, and nothing asked
+pub record NotarizesStore (header : Header) (now : ℕ) (answer : Result ℕ AuditFail) (old new : Desk) : Type 0 where
   pub store : Opened
   pub later_store : Opened
-  pub opened : IsOpenOn store (stored before).items before
+  pub opened : IfSome old.disk.reads (λ bytes. IsOpenOn store (stored bytes).items bytes)
   pub is_open : store.at.is_closed ≡ false
   pub header_is : store.header ≡ header
-  pub notarizes : Notarizes now (stored before).items answer store later_store old new before after filed later lists later_lists
+  pub early : IsEarly (early_fault (tail_of store) false now) answer
+  pub untouched : IsSome (early_fault (tail_of store) false now) → DeskIsLeft old new
+  pub notarizes : WhereBothTell old new (λ before after. Notarizes now (stored before.bytes).items answer store later_store old new before after)
 
--- the same of a store that was opened, where it stands for the bytes
-abbrev pub NotarizesOpened : Opened → Status → disks.State → disks.State → notaries.State → notaries.State → clocks.State → clocks.State → sinks.State → sinks.State → Type 0
-NotarizesOpened store result old new filed later clock ahead out written =
-    WhereTold old.reads new.reads (λ before after. WhereTold filed.lists later.lists (λ lists later_lists.
-    (input : sources.State) → IsOpenOn store (stored before).items before
-    → NotarizesStore store.header result old new before after filed later lists later_lists clock ahead input input out written))
+abbrev pub NotarizesHeader : Header → Effect
+NotarizesHeader header = DoesOnce notarize_outcome (NotarizesStore header)
 
--- over bytes with this header, or with none
-abbrev pub NotarizesUnder : ℕ → Option Header → Status → disks.State → disks.State → List ℕ → List ℕ → notaries.State → notaries.State → clocks.State → clocks.State → sources.State → sources.State → sinks.State → sinks.State → Type 0
-NotarizesUnder id None result old new before after filed later clock ahead input left out written =
-    EndsEarly statuses.NotAStore result old new filed later clock ahead input left out written
-NotarizesUnder id (Some header) result old new before after filed later clock ahead input left out written =
-    (header.id ≡ id → WhereTold filed.lists later.lists (λ lists later_lists. NotarizesStore header result old new before after filed later lists later_lists clock ahead input left out written))
-    × (header.id ≢ id → EndsEarly statuses.NotAStore result old new filed later clock ahead input left out written)
+abbrev pub NotarizesOn : ℕ → Effect
+NotarizesOn id = OnStore id NotarizesHeader
 
--- NotAStore comes exactly where the bytes have no header of this id. A fault of the disk while the store is opened, and want
--- of memory then, end the command before anything else.
-abbrev pub NotarizesOn : ℕ → Status → disks.State → disks.State → notaries.State → notaries.State → clocks.State → clocks.State → sources.State → sources.State → sinks.State → sinks.State → Type 0
-NotarizesOn id result old new filed later clock ahead input left out written =
-    (Rose old.faults new.faults × EndsEarly statuses.DiskFault result old new filed later clock ahead input left out written)
-    ⊎ EndsUnopened result old new filed later clock ahead input left out written
-    ⊎ WhereTold old.reads new.reads (λ before after.
-    NotarizesUnder id (stored before).header result old new before after filed later clock ahead input left out written)
+-- over a store that was opened, where it stands for the bytes
+abbrev pub NotarizesOpened : Opened → Effect
+NotarizesOpened store result old new = IfSome old.desk.disk.reads (λ bytes. IsOpenOn store (stored bytes).items bytes) → NotarizesHeader store.header result old new
 
 -- ---- `validate`
 
--- a validation at the second that the clock gave
-pub record ValidatesOn (id : ℕ) (result : Status) (old new : disks.State) (filed later : notaries.State) (clock ahead : clocks.State) (input left : sources.State) (out written : sinks.State) : Type 0 where
-  pub now : ℕ
-  pub taken : clocks.Tells now clock ahead
-  pub none_read : left ≡ input
-  pub same : disks.Unchanged old new
-  pub answer : Result Verdict AuditFail
-  pub said : Said (validate_outcome answer) result out written
+-- what was found and marked, over a store that is as it was, and how often the notary was asked
+pub record Judges (id now : ℕ) (answer : Result Verdict AuditFail) (old new : Desk) : Type 0 where
+  pub same : disks.Unchanged old.disk new.disk
   pub none_other : IfErr answer IsOfValidation
-  pub disk_cause : HasCause fails.DiskFault old.faults new.faults answer
-  pub notary_cause : HasCause fails.NotaryFault filed.faults later.faults answer
-  pub trace : WhereTold filed.trace later.trace (MakesMark id now answer)
-  pub asked : IfOk answer (λ verdict. later.asked ≤ filed.asked + questions verdict)
-  pub validates : IfSome old.reads (λ bytes. WhereTold filed.lists later.lists (Validates id now filed.limits (stored bytes) answer))
+  pub found : IfSome old.disk.reads (λ bytes. WhereTold old.notary.lists new.notary.lists (Validates id now old.notary.limits (stored bytes) answer old.notary.trace new.notary.trace))
+  pub trace : WhereTold old.notary.trace new.notary.trace (MakesMark id now answer)
+  pub asked : IfOk answer (λ verdict. new.notary.asked ≤ old.notary.asked + questions verdict)
+
+abbrev pub ValidatesOn : ℕ → Effect
+ValidatesOn id = DoesOnce validate_outcome (Judges id)
 
 -- ---- sound stores
 
@@ -142,9 +116,9 @@ IsUnaltered statuses.Altered = ⊥
 IsUnaltered statuses.Broken = ⊥
 IsUnaltered (statuses.SealMissing name) = ⊥
 IsUnaltered (statuses.OutOfTurn count) = ⊥
+IsUnaltered (statuses.NotaryInconsistent level index) = ⊥
 IsUnaltered s = Unit {0}
 
 -- Of a store that is sound under the id it isn't said that it is altered.
-abbrev pub SaysUnaltered : ℕ → Status → disks.State → disks.State → notaries.State → notaries.State → Type 0
-SaysUnaltered id result old new filed later = WhereTold old.reads new.reads (λ before after. WhereTold filed.lists later.lists (λ lists later_lists.
-    IsSound old.is_image (lists.batches id) id → IsUnaltered result))
+abbrev pub SaysUnaltered : ℕ → Status → Desk → Desk → Type 0
+SaysUnaltered id result old new = WhereBothTell old new (λ before after. IsSound old.disk.is_image (before.lists.batches id) id → IsUnaltered result)

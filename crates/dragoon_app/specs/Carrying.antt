@@ -6,19 +6,20 @@ use Rattle.disk_model.specs.Moments.{EveryImage}
 use Rattle.outside_io.specs.declared.sink.StreamFail.{StreamFail}
 use Rattle.outside_io.specs.declared.sink.StreamFail.TheVariants as streams
 use Rattle.outside_io.specs.Sink as sinks
-use Rattle.outside_io.specs.Source as sources
 use Rattle.outside_io.specs.Clock as clocks
 use Rattle.notary_link.specs.declared.notary.NotaryLimits.{NotaryLimits}
 use Rattle.notary_link.specs.Notary as notaries
 use Rattle.line_input.specs.declared.fail.InputFail.{InputFail}
 use Rattle.line_input.specs.declared.fail.InputFail.TheVariants as inputs
 use Rattle.tuple_bytes.specs.declared.header.Header.{Header}
+use Rattle.tuple_bytes.specs.Spelling.{FitsHeader}
 use Rattle.history_model.specs.Stored.{stored}
 use Rattle.audit_model.specs.Sound.{IsSound}
 use Rattle.stmt_text.specs.declared.line.Line.{Line}
 use Rattle.stmt_text.specs.Lines.{answer}
 use Rattle.validator.specs.declared.verdict.Verdict.{Verdict}
 use Rattle.validator.specs.declared.fail.AuditFail.{AuditFail}
+use Rattle.validator.specs.Filing.{HasFiledMore}
 use Rattle.drill_core.specs.declared.fail.LineFail.{LineFail}
 use Rattle.drill_core.specs.declared.fail.LineFail.TheVariants as lines
 use Rattle.drill_core.specs.World.{IsIn, StoresWorld, StoresEither, AreBetween}
@@ -30,8 +31,9 @@ use Rattle.dragoon_app.specs.declared.run_fail.RunFail.TheVariants as fails
 use Rattle.dragoon_app.specs.declared.runner.Runner.{Runner}
 use Rattle.dragoon_app.specs.declared.line_kind.LineKind.{LineKind}
 use Rattle.dragoon_app.specs.declared.line_kind.LineKind.TheVariants as kinds
-use Rattle.dragoon_app.specs.Numbers.{max_u64}
+use Rattle.stmt_text.specs.Numbers.{max_u64}
 use Rattle.dragoon_app.specs.Outcome.{Said, refused}
+use Rattle.dragoon_app.specs.Devices.{Desk, Content, Site, Devices, content}
 use Rattle.dragoon_app.specs.Running.{Running, Timed, start, carry, carried, stepped, world_of, seconds_of, said_by, kind_of, refused_text, MayFindBy, AllMayFind}
 use Rattle.dragoon_app.specs.Ran.{Runs, Reads, AreFirst, IsOutBut, lines_in, text_before, StoresFront, Takes}
 
@@ -81,6 +83,7 @@ pub record IsReady (runner : Runner) (bytes : List ℕ) : Type 0 where
   pub header : Header
   pub is : (stored bytes).header ≡ Some header
   pub id : header.id ≡ runner.world.id
+  pub fits : FitsHeader header
   pub at : (lists : notaries.Lists) (limits : NotaryLimits) → IsAt (start (world_of header bytes) lists limits) runner bytes limits lists
 
 -- the clock seconds of a line, which a scripted run has without the clock
@@ -131,26 +134,32 @@ SetsMoment false moment result runner later = Refuses (codes "NotScripted") resu
 -- ---- one line
 
 -- On the way from r to next: what is replied, where the last runner stands then, and the store and the lists.
-pub record Goes (r next : Running) (result : Result (List ℕ) LineFail) (last : Runner) (old new : disks.State) (before after : List ℕ) (limits : NotaryLimits) (lists later_lists : notaries.Lists) : Type 0 where
+pub record Goes (r next : Running) (result : Result (List ℕ) LineFail) (last : Runner) (old new : disks.State) (before after : Content) : Type 0 where
   pub reply : IfOk result (λ text. next.text ≡ r.text ++ text)
-  pub stands : OnOk result (IsAt next last after limits later_lists)
-  pub settled : disks.Only before old → OnOk result (disks.Only after new)
+  pub stands : OnOk result (IsAt next last after.bytes r.world.limits after.lists)
+  pub settled : disks.Only before.bytes old → OnOk result (disks.Only after.bytes new)
   -- whatever was answered
-  pub images : disks.Only before old → EveryImage old new (StoresEither r.world next.world)
-  pub between : AreBetween r.world.lists next.world.lists later_lists
-  pub sound : StaysSound old new before lists later_lists
+  pub images : disks.Only before.bytes old → EveryImage old new (StoresEither r.world next.world)
+  pub between : AreBetween r.world.lists next.world.lists after.lists
+  -- on a settled disk a batch is filed only where every image has reached the end of its tile
+  pub ordered : (id : ℕ) → HasFiledMore id r.world.lists after.lists → disks.Only before.bytes old → disks.Only after.bytes new × StoresWorld next.world after.bytes
+  pub sound : StaysSound old new before.bytes before.lists after.lists
 
-abbrev pub GoesTo : (Running → Running) → Result (List ℕ) LineFail → Runner → NotaryLimits → disks.State → disks.State → Saying
-GoesTo next result last limits old new r before after lists later_lists = Goes r (next r) result last old new before after limits lists later_lists
+abbrev pub GoesTo : (Running → Running) → Result (List ℕ) LineFail → Runner → disks.State → disks.State → Saying
+GoesTo next result last old new r before after lists later_lists = Goes r (next r) result last old new (content before lists) (content after later_lists)
+
+-- of a run from where this runner stands
+abbrev pub FromWhere : Runner → Desk → Desk → (Running → Content → Content → Type 0) → Type 0
+FromWhere runner old new P = Wherever old.notary.limits runner old.disk new.disk old.notary new.notary (λ r before after lists later_lists. P r (content before lists) (content after later_lists))
 
 -- a line of the world was carried out, and this was found
-pub record Steps (line : Line) (now : ℕ) (result : Result (List ℕ) LineFail) (last : Runner) (limits : NotaryLimits) (old new : disks.State) (r : Running) (before after : List ℕ) (lists later_lists : notaries.Lists) : Type 0 where
+pub record Steps (line : Line) (now : ℕ) (result : Result (List ℕ) LineFail) (last : Runner) (old new : disks.State) (r : Running) (before after : Content) : Type 0 where
   pub found : Result Verdict AuditFail
   pub may : MayFind r.world line found
-  pub goes : Goes r (stepped r (step r.world line now found)) result last old new before after limits lists later_lists
+  pub goes : Goes r (stepped r (step r.world line now found)) result last old new before after
 
-abbrev pub StepsFrom : Line → ℕ → Result (List ℕ) LineFail → Runner → Runner → disks.State → disks.State → notaries.State → notaries.State → Type 0
-StepsFrom line now result runner last old new filed later = Wherever filed.limits runner old new filed later (Steps line now result last filed.limits old new)
+abbrev pub StepsFrom : Line → ℕ → Result (List ℕ) LineFail → Runner → Runner → Desk → Desk → Type 0
+StepsFrom line now result runner last old new = FromWhere runner old new (Steps line now result last old.disk new.disk)
 
 -- a line that is not blank takes the clock's second, unless the run is scripted
 abbrev pub TakesFor : LineKind → Bool → ℕ → clocks.State → clocks.State → Type 0
@@ -159,15 +168,15 @@ TakesFor kind true second clock ahead = ahead ≡ clock
 TakesFor kind false second clock ahead = clocks.Tells second clock ahead
 
 -- a line of the grammar was carried out
-pub record GoesBy (line : Line) (scripted : Bool) (result : Result (List ℕ) LineFail) (last : Runner) (limits : NotaryLimits) (old new : disks.State) (clock ahead : clocks.State) (r : Running) (before after : List ℕ) (lists later_lists : notaries.Lists) : Type 0 where
+pub record GoesBy (line : Line) (scripted : Bool) (result : Result (List ℕ) LineFail) (last : Runner) (old new : Site) (r : Running) (before after : Content) : Type 0 where
   pub second : ℕ
   pub found : Result Verdict AuditFail
-  pub seconds : TakesFor (kind_of line) scripted second clock ahead
+  pub seconds : TakesFor (kind_of line) scripted second old.clock new.clock
   pub may : MayFind r.world line found
-  pub goes : Goes r (said_by (kind_of line) scripted (seconds_of scripted r second) found r line) result last old new before after limits lists later_lists
+  pub goes : Goes r (said_by (kind_of line) scripted (seconds_of scripted r second) found r line) result last old.desk.disk new.desk.disk before after
 
-abbrev pub LineFrom : Line → Result (List ℕ) LineFail → Runner → Runner → disks.State → disks.State → notaries.State → notaries.State → clocks.State → clocks.State → Type 0
-LineFrom line result runner last old new filed later clock ahead = Wherever filed.limits runner old new filed later (GoesBy line runner.is_scripted result last filed.limits old new clock ahead)
+abbrev pub LineFrom : Line → Result (List ℕ) LineFail → Runner → Runner → Site → Site → Type 0
+LineFrom line result runner last old new = FromWhere runner old.desk new.desk (GoesBy line runner.is_scripted result last old new)
 
 -- a line was carried out, or begun; where memory was wanting it may not have been, which an empty one stands for
 abbrev pub IsLineOf : {A : Type 0} → List ℕ → Result A LineFail → List ℕ → Type 0
@@ -177,15 +186,15 @@ IsLineOf line (Err lines.NotaryFault) taken = taken ≡ line
 IsLineOf line (Err lines.NoMemory) taken = (taken ≡ []) ⊎ (taken ≡ line)
 
 -- a line was read, its second taken, and it was carried out
-pub record Replies (line : List ℕ) (scripted : Bool) (result : Result (List ℕ) LineFail) (last : Runner) (limits : NotaryLimits) (old new : disks.State) (clock ahead : clocks.State) (r : Running) (before after : List ℕ) (lists later_lists : notaries.Lists) : Type 0 where
+pub record Replies (line : List ℕ) (scripted : Bool) (result : Result (List ℕ) LineFail) (last : Runner) (old new : Site) (r : Running) (before after : Content) : Type 0 where
   pub timed : Timed
   pub line_is : IsLineOf line result timed.line
-  pub seconds : Takes scripted (timed ∷ []) clock ahead
+  pub seconds : Takes scripted (timed ∷ []) old.clock new.clock
   pub may : MayFindBy r.world (answer timed.line) timed.found
-  pub goes : Goes r (carry scripted r timed) result last old new before after limits lists later_lists
+  pub goes : Goes r (carry scripted r timed) result last old.desk.disk new.desk.disk before after
 
-abbrev pub RepliesFrom : List ℕ → Result (List ℕ) LineFail → Runner → Runner → disks.State → disks.State → notaries.State → notaries.State → clocks.State → clocks.State → Type 0
-RepliesFrom line result runner last old new filed later clock ahead = Wherever filed.limits runner old new filed later (Replies line runner.is_scripted result last filed.limits old new clock ahead)
+abbrev pub RepliesFrom : List ℕ → Result (List ℕ) LineFail → Runner → Runner → Site → Site → Type 0
+RepliesFrom line result runner last old new = FromWhere runner old.desk new.desk (Replies line runner.is_scripted result last old new)
 
 -- ---- all lines
 
@@ -194,11 +203,12 @@ abbrev pub ending : Result (Unit {0}) RunFail → Status
 ending (Ok _) = statuses.Ok
 ending (Err fail) = status_of fail
 
--- What was written before the fault line: all replies. The last is cut short where the output failed or memory was wanting.
-abbrev pub IsWritten : List ℕ → List ℕ → Result (Unit {0}) RunFail → sinks.State → sinks.State → Type 0
-IsWritten before text (Err fails.WriteFault) out written = IsOutBut before text out written
-IsWritten before text (Err fails.NoMemory) out written = IsOutBut before text out written
-IsWritten before text result out written = sinks.IsOut text out written
+-- What was written before the fault line: all replies. The last is cut short where the output failed or memory was wanting, and
+-- no line was begun behind it then.
+abbrev pub IsWritten : Type 0 → List ℕ → List ℕ → Result (Unit {0}) RunFail → sinks.State → sinks.State → Type 0
+IsWritten Idle before text (Err fails.WriteFault) out written = Idle × IsOutBut before text out written
+IsWritten Idle before text (Err fails.NoMemory) out written = (Idle × IsOutBut before text out written) ⊎ sinks.IsOut text out written
+IsWritten Idle before text result out written = sinks.IsOut text out written
 
 -- no line was under way
 abbrev pub IsBetween : Result (Unit {0}) RunFail → Type 0
@@ -208,31 +218,30 @@ IsBetween (Err fails.NoMemory) = ⊥
 IsBetween result = Unit {0}
 
 -- The lines of an input were carried out from this beginning on, up to its end or a failure.
-pub record Carries (scripted : Bool) (result : Result (Unit {0}) RunFail) (last : Runner) (limits : NotaryLimits) (old new : disks.State) (clock ahead : clocks.State) (input left : sources.State) (out written : sinks.State) (begin : Running) (before after : List ℕ) (lists later_lists : notaries.Lists) : Type 0 where
+pub record Carries (scripted : Bool) (result : Result (Unit {0}) RunFail) (last : Runner) (old new : Devices) (begin : Running) (before after : Content) : Type 0 where
   -- these lines were, and this one was perhaps under way
   pub done : List Timed
   pub next : Timed
-  pub first : WhereTold input.rest left.rest (λ all others. AreFirst (lines_in done) all)
-  pub read : WhereTold input.rest left.rest (Reads (ending result) done next)
+  pub first : WhereTold old.input.rest new.input.rest (λ all others. AreFirst (lines_in done) all)
+  pub read : WhereTold old.input.rest new.input.rest (Reads (ending result) done next)
   pub none : IsBetween result → next.line ≡ []
   pub found : AllMayFind scripted begin (done ++ next ∷ [])
-  pub seconds : Takes scripted (done ++ next ∷ []) clock ahead
-  pub images : disks.Only before old → EveryImage old new (StoresFront scripted begin (done ++ next ∷ []))
-  pub kept : disks.Only before old → (c : List ℕ) → new.is_image c → StoresWorld (carried scripted begin done).world c ⊎ StoresWorld (carried scripted begin (done ++ next ∷ [])).world c
-  pub settled : IsBetween result → disks.Only before old → disks.Only after new
-  pub stands : IsBetween result → IsAt (carried scripted begin done) last after limits later_lists
-  pub between : AreBetween (carried scripted begin done).world.lists (carried scripted begin (done ++ next ∷ [])).world.lists later_lists
-  pub sound : StaysSound old new before lists later_lists
-  pub said : begin.text ≡ [] → IsWritten (text_before scripted begin done) (carried scripted begin done).text result out written
+  pub seconds : Takes scripted (done ++ next ∷ []) old.clock new.clock
+  pub images : disks.Only before.bytes old.desk.disk → EveryImage old.desk.disk new.desk.disk (StoresFront scripted begin (done ++ next ∷ []))
+  pub kept : disks.Only before.bytes old.desk.disk → (c : List ℕ) → new.desk.disk.is_image c → StoresWorld (carried scripted begin done).world c ⊎ StoresWorld (carried scripted begin (done ++ next ∷ [])).world c
+  pub settled : IsBetween result → disks.Only before.bytes old.desk.disk → disks.Only after.bytes new.desk.disk
+  pub stands : IsBetween result → IsAt (carried scripted begin done) last after.bytes old.desk.notary.limits after.lists
+  pub between : AreBetween (carried scripted begin done).world.lists (carried scripted begin (done ++ next ∷ [])).world.lists after.lists
+  pub ordered : (id : ℕ) → HasFiledMore id (carried scripted begin done).world.lists after.lists → disks.Only before.bytes old.desk.disk → disks.Only after.bytes new.desk.disk × StoresWorld (carried scripted begin (done ++ next ∷ [])).world after.bytes
+  pub sound : StaysSound old.desk.disk new.desk.disk before.bytes before.lists after.lists
+  pub said : begin.text ≡ [] → IsWritten (next.line ≡ []) (text_before scripted begin done) (carried scripted begin done).text result old.out new.out
 
-abbrev pub CarriesFrom : Result (Unit {0}) RunFail → Runner → Runner → disks.State → disks.State → notaries.State → notaries.State → clocks.State → clocks.State → sources.State → sources.State → sinks.State → sinks.State → Type 0
-CarriesFrom result runner last old new filed later clock ahead input left out written =
-    Wherever filed.limits runner old new filed later (Carries runner.is_scripted result last filed.limits old new clock ahead input left out written)
+abbrev pub CarriesFrom : Result (Unit {0}) RunFail → Runner → Runner → Devices → Devices → Type 0
+CarriesFrom result runner last old new = FromWhere runner old.desk new.desk (Carries runner.is_scripted result last old new)
 
--- a run from where the runner stands, before its first reply
-abbrev pub RunsFrom : Status → Runner → disks.State → disks.State → notaries.State → notaries.State → clocks.State → clocks.State → sources.State → sources.State → sinks.State → sinks.State → Type 0
-RunsFrom result runner old new filed later clock ahead input left out written = Wherever filed.limits runner old new filed later (λ begin before after lists later_lists.
-    begin.text ≡ [] → Runs runner.is_scripted begin result old new before after filed later later_lists clock ahead input left out written)
+-- before its first reply
+abbrev pub RunsFrom : Status → Runner → Devices → Devices → Type 0
+RunsFrom result runner old new = FromWhere runner old.desk new.desk (λ begin before after. begin.text ≡ [] → Runs runner.is_scripted begin result old new before after)
 
-abbrev pub SoundFrom : Runner → disks.State → disks.State → notaries.State → notaries.State → Type 0
-SoundFrom runner old new filed later = Wherever filed.limits runner old new filed later (λ begin before after lists later_lists. StaysSound old new before lists later_lists)
+abbrev pub SoundFrom : Runner → Desk → Desk → Type 0
+SoundFrom runner old new = Wherever old.notary.limits runner old.disk new.disk old.notary new.notary (λ begin before after lists later_lists. StaysSound old.disk new.disk before lists later_lists)

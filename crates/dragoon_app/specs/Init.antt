@@ -19,7 +19,8 @@ use Rattle.txn_journal.specs.Create.{IsFree, IsTaken, IsHalfMade}
 use Rattle.dragoon_app.specs.declared.command.NewStore.{NewStore}
 use Rattle.dragoon_app.specs.declared.status.Status.{Status}
 use Rattle.dragoon_app.specs.declared.status.Status.TheVariants as statuses
-use Rattle.dragoon_app.specs.Outcome.{Outcome, AnswersFor, Said, refused}
+use Rattle.dragoon_app.specs.Devices.{Devices}
+use Rattle.dragoon_app.specs.Outcome.{Outcome, AnswersFor, Said, WhereOut, refused}
 
 -- ---- the store
 
@@ -73,6 +74,11 @@ pub record MakesStore (h : Header) (result : Status) (old new : disks.State) (be
   pub durable : result ≡ statuses.Ok → disks.Only after new
   pub images : IsFree before → disks.Only before old → EveryImage old new (IsHalfMade store_shape (spell_header h) before)
 
+-- the store has this header and no item, and is durable
+pub record IsMade (h : Header) (new : disks.State) (before after : List ℕ) : Type 0 where
+  pub made : after ≡ new_bytes h
+  pub durable : disks.Only after new
+
 -- too late: the line that tells it, and the store as it was
 pub record IsTooLate (result : Status) (old new : disks.State) (out later : sinks.State) : Type 0 where
   pub said : Said (refused statuses.TooLate) result out later
@@ -84,9 +90,13 @@ pub record InitsAt (s : NewStore) (now : ℕ) (result : Status) (old new : disks
   pub late : max_moment < now → IsTooLate result old new out later
   pub too_late : result ≡ statuses.TooLate → max_moment < now
   pub made : now ≤ max_moment → WhereTold old.reads new.reads (MakesStore (header_at s now) result old new)
+  -- whatever was answered, the whole line is out only where the store is made, and durable
+  pub ready : WhereOut (ready_line s.id) out later (WhereTold old.reads new.reads (IsMade (header_at s now) new))
 
--- the clock was taken once
-pub record Inits (s : NewStore) (result : Status) (old new : disks.State) (clock ahead : clocks.State) (out later : sinks.State) : Type 0 where
+-- the clock was taken once, and neither the notary nor the input was called
+pub record Inits (s : NewStore) (result : Status) (old new : Devices) : Type 0 where
   pub now : ℕ
-  pub taken : clocks.Tells now clock ahead
-  pub inits : InitsAt s now result old new out later
+  pub taken : clocks.Tells now old.clock new.clock
+  pub inits : InitsAt s now result old.desk.disk new.desk.disk old.out new.out
+  pub none_asked : new.desk.notary ≡ old.desk.notary
+  pub none_read : new.input ≡ old.input

@@ -1,12 +1,15 @@
-pub mod Numbers
 pub mod Words
 pub mod Texts
 pub mod Outcome
+pub mod Devices
+pub mod Commands
 pub mod Init
 pub mod Linked
 pub mod Running
 pub mod Ran
 pub mod Laws
+pub mod Acknowledged
 pub mod Audited
+pub mod Analysed
 pub mod Carrying
 pub mod Top

@@ -1,23 +1,29 @@
 -- What `run` leaves: what it wrote, what its store holds at every moment, and what it took from its input and the clock.
-use Rattle.std.specs.Prelude.{◌≡◌, ◌≢◌, ◌⊎◌, ◌<◌, ◌≤◌, ◌+◌, ◌-◌, ℕ, Bool, true, false, List, [], ◌∷◌, ◌++◌, length, take, drop, map, slice_index, Option, Some, None}
+use Rattle.std.specs.Prelude.{if◌then◌else◌, ◌≡◌, ◌≢◌, ◌⊎◌, ◌<◌, ◌≤◌, ◌+◌, ◌-◌, ℕ, Bool, true, false, List, [], ◌∷◌, ◌++◌, length, take, drop, map, slice_index}
 use Rattle.outside_words.specs.Told.{WhereTold}
 use Rattle.outside_words.specs.Faults.{Rose}
 use Rattle.disk_words.specs.Disk as disks
 use Rattle.disk_model.specs.Moments.{EveryImage}
 use Rattle.outside_io.specs.Sink as sinks
-use Rattle.outside_io.specs.Source as sources
 use Rattle.outside_io.specs.Clock as clocks
 use Rattle.line_input.specs.Lines.{lines_of, complete_lines, joined}
 use Rattle.line_input.specs.Limits.{input_limit, piece_limit}
 use Rattle.tuple_bytes.specs.declared.header.Header.{Header}
-use Rattle.history_model.specs.Stored.{stored}
 use Rattle.notary_link.specs.Notary as notaries
+use Rattle.history_model.specs.Stored.{stored}
+use Rattle.audit_model.specs.Sound.{IsSound}
+use Rattle.validator.specs.Filing.{HasFiledMore}
 use Rattle.drill_core.specs.World.{StoresWorld, AreBetween}
+use Rattle.drill_core.specs.Acknowledged.{HasTxn, ok_text}
 use Rattle.dragoon_app.specs.declared.status.Status.{Status}
 use Rattle.dragoon_app.specs.declared.status.Status.TheVariants as statuses
-use Rattle.dragoon_app.specs.Outcome.{Said, refused}
+use Rattle.dragoon_app.specs.Devices.{Desk, Content, Devices, Effect, WhereBothTell}
+use Rattle.dragoon_app.specs.Outcome.{CutsOff}
+use Rattle.dragoon_app.specs.Commands.{OnStore}
 use Rattle.dragoon_app.specs.Texts.{fault_line}
 use Rattle.dragoon_app.specs.Running.{Running, Timed, start, carried, world_of, seconds_taken, AllMayFind}
+use Rattle.dragoon_app.specs.Laws.{AllTellNone}
+use Rattle.dragoon_app.specs.Acknowledged.{IsReplied, StoresMore}
 
 -- ---- which lines were carried out, of an input that told its bytes before and after
 
@@ -95,44 +101,35 @@ abbrev pub text_before : Bool → Running → List Timed → List ℕ
 text_before scripted begin done = (carried scripted begin (take (length done - 1) done)).text
 
 -- why a fault line is told: the faults of a device rose; that the limit was met is said by what was read
-abbrev pub CauseOf : Status → disks.State → disks.State → notaries.State → notaries.State → sources.State → sources.State → Type 0
-CauseOf statuses.DiskFault old new filed later input left = Rose old.faults new.faults
-CauseOf statuses.NotaryFault old new filed later input left = Rose filed.faults later.faults
-CauseOf statuses.ReadFault old new filed later input left = Rose input.faults left.faults
-CauseOf statuses.InputLimit old new filed later input left = Unit {0}
-CauseOf s old new filed later input left = ⊥
+abbrev pub CauseOf : Status → Devices → Devices → Type 0
+CauseOf s old new =
+    ((s ≡ statuses.DiskFault) × Rose old.desk.disk.faults new.desk.disk.faults)
+    ⊎ ((s ≡ statuses.NotaryFault) × Rose old.desk.notary.faults new.desk.notary.faults)
+    ⊎ ((s ≡ statuses.ReadFault) × Rose old.input.faults new.input.faults)
+    ⊎ (s ≡ statuses.InputLimit)
 
 -- this fault line may stand behind the replies
-pub record IsToTell (done : List Timed) (next : Timed) (old new : disks.State) (filed later : notaries.State) (input left : sources.State) (s : Status) : Type 0 where
-  pub cause : CauseOf s old new filed later input left
-  pub read : WhereTold input.rest left.rest (Reads s done next)
+pub record IsToTell (done : List Timed) (next : Timed) (old new : Devices) (s : Status) : Type 0 where
+  pub cause : CauseOf s old new
+  pub read : WhereTold old.input.rest new.input.rest (Reads s done next)
 
--- at most the last reply is cut short, or a fault line behind all replies
-abbrev pub IsCutAtEnd : (Status → Type 0) → List ℕ → List ℕ → sinks.State → sinks.State → Type 0
-IsCutAtEnd Told before text old new = IsOutBut before text old new ⊎ ((s : Status) × Told s × IsOutBut text (text ++ fault_line s) old new)
+-- The last reply is cut short, and no line was begun behind it; or all replies are out; or a fault line behind them is cut short.
+abbrev pub IsCutAtEnd : Type 0 → (Status → Type 0) → List ℕ → List ℕ → sinks.State → sinks.State → Type 0
+IsCutAtEnd Idle Told before text old new =
+    (Idle × IsOutBut before text old new)
+    ⊎ sinks.IsOut text old new
+    ⊎ ((s : Status) × Told s × IsOutBut text (text ++ fault_line s) old new)
 
--- After Ok and Refused all replies are out, and no other text; then some reply is a refusal exactly where the status
--- says so. After a fault that is told the fault line is behind them. Else the end is cut short. No other status ends a
--- run whose store was opened.
-abbrev pub Writes : (Status → Type 0) → List ℕ → Running → Status → sinks.State → sinks.State → Type 0
-Writes Told before r statuses.Ok old new = sinks.IsOut r.text old new × (r.is_refused ≡ false)
-Writes Told before r statuses.Refused old new = sinks.IsOut r.text old new × (r.is_refused ≡ true)
-Writes Told before r statuses.DiskFault old new = sinks.IsOut (r.text ++ fault_line statuses.DiskFault) old new
-Writes Told before r statuses.NotaryFault old new = sinks.IsOut (r.text ++ fault_line statuses.NotaryFault) old new
-Writes Told before r statuses.ReadFault old new = sinks.IsOut (r.text ++ fault_line statuses.ReadFault) old new
-Writes Told before r statuses.InputLimit old new = sinks.IsOut (r.text ++ fault_line statuses.InputLimit) old new
-Writes Told before r statuses.WriteFault old new = IsCutAtEnd Told before r.text old new
-Writes Told before r statuses.NoMemory old new = IsCutAtEnd Told before r.text old new
-Writes Told before r statuses.Usage old new = ⊥
-Writes Told before r statuses.NotAStore old new = ⊥
-Writes Told before r statuses.AlreadyThere old new = ⊥
-Writes Told before r statuses.TooLate old new = ⊥
-Writes Told before r statuses.Altered old new = ⊥
-Writes Told before r statuses.Broken old new = ⊥
-Writes Told before r (statuses.SealMissing name) old new = ⊥
-Writes Told before r (statuses.OutOfTurn count) old new = ⊥
-Writes Told before r (statuses.ClockBack last) old new = ⊥
-Writes Told before r statuses.Full old new = ⊥
+-- how a run ends whose lines were all carried out: by whether some reply is a refusal
+abbrev pub ending_of : Running → Status
+ending_of r = if r.is_refused then statuses.Refused else statuses.Ok
+
+-- All replies are out, and no other text; or the line of a fault that is told is behind them; or the end is cut short.
+abbrev pub Writes : Type 0 → (Status → Type 0) → List ℕ → Running → Status → sinks.State → sinks.State → Type 0
+Writes Idle Told before r s old new =
+    ((s ≡ ending_of r) × sinks.IsOut r.text old new)
+    ⊎ (Told s × sinks.IsOut (r.text ++ fault_line s) old new)
+    ⊎ (CutsOff s × IsCutAtEnd Idle Told before r.text old new)
 
 -- ---- the clock
 
@@ -154,69 +151,60 @@ StoresFront scripted begin timed c = (n : ℕ) × StoresWorld (carried scripted 
 
 -- Whether no line was under way: not after a fault of the disk or the notary, which stands behind a fault of the output where
 -- the line that tells it was cut short.
-abbrev pub IsSettled : Status → disks.State → disks.State → notaries.State → notaries.State → Type 0
-IsSettled statuses.DiskFault old new filed later = ⊥
-IsSettled statuses.NotaryFault old new filed later = ⊥
-IsSettled statuses.NoMemory old new filed later = ⊥
-IsSettled statuses.WriteFault old new filed later = (Rose old.faults new.faults → ⊥) × (Rose filed.faults later.faults → ⊥)
-IsSettled s old new filed later = Unit {0}
+pub record IsSettled (s : Status) (old new : Desk) : Type 0 where
+  pub disk : s ≢ statuses.DiskFault
+  pub notary : s ≢ statuses.NotaryFault
+  pub memory : s ≢ statuses.NoMemory
+  pub write : s ≡ statuses.WriteFault → (Rose old.disk.faults new.disk.faults → ⊥) × (Rose old.notary.faults new.notary.faults → ⊥)
 
 -- What a run from this beginning leaves, with these lines carried out and this one perhaps under way.
-pub record RunsOver (scripted : Bool) (begin : Running) (done : List Timed) (next : Timed) (result : Status) (old new : disks.State) (before after : List ℕ) (filed later : notaries.State) (later_lists : notaries.Lists) : Type 0 where
+pub record RunsOver (scripted : Bool) (begin : Running) (done : List Timed) (next : Timed) (result : Status) (old new : Desk) (before after : Content) : Type 0 where
   -- a crash at any moment leaves what stood there after some first lines
-  pub images : disks.Only before old → EveryImage old new (StoresFront scripted begin (done ++ next ∷ []))
+  pub images : disks.Only before.bytes old.disk → EveryImage old.disk new.disk (StoresFront scripted begin (done ++ next ∷ []))
   -- and now at least what the lines left that were carried out, so each reply that is out stands for good
-  pub kept : disks.Only before old → (c : List ℕ) → new.is_image c → StoresWorld (carried scripted begin done).world c ⊎ StoresWorld (carried scripted begin (done ++ next ∷ [])).world c
-  pub settled : IsSettled result old new filed later → disks.Only before old → disks.Only after new
-  pub stores : IsSettled result old new filed later → StoresWorld (carried scripted begin done).world after
+  pub kept : disks.Only before.bytes old.disk → (c : List ℕ) → new.disk.is_image c → StoresWorld (carried scripted begin done).world c ⊎ StoresWorld (carried scripted begin (done ++ next ∷ [])).world c
+  pub settled : IsSettled result old new → disks.Only before.bytes old.disk → disks.Only after.bytes new.disk
+  pub stores : IsSettled result old new → StoresWorld (carried scripted begin done).world after.bytes
   -- the notary holds all that these lines filed and marked, and perhaps some of what the one under way would
-  pub between : AreBetween (carried scripted begin done).world.lists (carried scripted begin (done ++ next ∷ [])).world.lists later_lists
-  pub holds : IsSettled result old new filed later → notaries.Keeps (carried scripted begin done).world.lists later_lists
+  pub between : AreBetween (carried scripted begin done).world.lists (carried scripted begin (done ++ next ∷ [])).world.lists after.lists
+  -- a batch of the line under way is filed only where every image has what the line stores, and so the end of the batch's tile
+  pub ordered : (id : ℕ) → HasFiledMore id (carried scripted begin done).world.lists after.lists → disks.Only before.bytes old.disk → disks.Only after.bytes new.disk × StoresWorld (carried scripted begin (done ++ next ∷ [])).world after.bytes
+  pub holds : IsSettled result old new → notaries.Keeps (carried scripted begin done).world.lists after.lists
+
+-- Lines were carried out, and one was perhaps under way, wherever they came from and whatever became of their replies.
+pub record RunsLines (scripted : Bool) (begin : Running) (done : List Timed) (next : Timed) (result : Status) (old new : Devices) (before after : Content) : Type 0 where
+  pub none : IsSettled result old.desk new.desk → next.line ≡ []
+  -- each validation found what its world allows
+  pub found : AllMayFind scripted begin (done ++ next ∷ [])
+  pub seconds : Takes scripted (done ++ next ∷ []) old.clock new.clock
+  pub store : RunsOver scripted begin done next result old.desk new.desk before after
 
 -- A run whose store was opened.
-pub record Runs (scripted : Bool) (begin : Running) (result : Status) (old new : disks.State) (before after : List ℕ) (filed later : notaries.State) (later_lists : notaries.Lists) (clock ahead : clocks.State) (input left : sources.State) (out written : sinks.State) : Type 0 where
+pub record Runs (scripted : Bool) (begin : Running) (result : Status) (old new : Devices) (before after : Content) : Type 0 where
   -- the lines that were carried out, and the one under way
   pub done : List Timed
   pub next : Timed
-  pub read : WhereTold input.rest left.rest (Reads result done next)
-  pub none : IsSettled result old new filed later → next.line ≡ []
-  -- each validation found what its world allows
-  pub found : AllMayFind scripted begin (done ++ next ∷ [])
-  pub said : Writes (IsToTell done next old new filed later input left) (text_before scripted begin done) (carried scripted begin done) result out written
-  pub seconds : Takes scripted (done ++ next ∷ []) clock ahead
-  pub store : RunsOver scripted begin done next result old new before after filed later later_lists
+  pub lines : RunsLines scripted begin done next result old new before after
+  pub read : WhereTold old.input.rest new.input.rest (Reads result done next)
+  pub said : Writes (next.line ≡ []) (IsToTell done next old new) (text_before scripted begin done) (carried scripted begin done) result old.out new.out
 
--- Only a fault line is out, and nothing was asked but the store.
-pub record EndsEarly (why : Status) (result : Status) (old new : disks.State) (filed later : notaries.State) (clock ahead : clocks.State) (input left : sources.State) (out written : sinks.State) : Type 0 where
-  pub said : Said (refused why) result out written
-  pub same : disks.Unchanged old new
-  pub none_asked : later ≡ filed
-  pub none_taken : ahead ≡ clock
-  pub none_read : left ≡ input
+-- where a run begins over a store of this header
+abbrev pub opened : Header → Devices → Content → Running
+opened header old before = start (world_of header before.bytes) before.lists old.desk.notary.limits
 
--- Memory was wanting while the store was opened: nothing is out, and nothing was asked but the store.
-pub record EndsUnopened (result : Status) (old new : disks.State) (filed later : notaries.State) (clock ahead : clocks.State) (input left : sources.State) (out written : sinks.State) : Type 0 where
-  pub wanting : result ≡ statuses.NoMemory
-  pub none_out : sinks.Unchanged out written
-  pub same : disks.Unchanged old new
-  pub none_asked : later ≡ filed
-  pub none_taken : ahead ≡ clock
-  pub none_read : left ≡ input
+-- A run over a store of this header.
+pub record RunsStore (scripted : Bool) (header : Header) (result : Status) (old new : Devices) (before after : Content) : Type 0 where
+  pub runs : Runs scripted (opened header old before) result old new before after
+  -- no line tells of an alteration where the store is sound
+  pub unaltered : IsSound old.desk.disk.is_image (before.lists.batches header.id) header.id → AllTellNone scripted (opened header old before) (runs.done ++ runs.next ∷ [])
+  -- a crash at any moment leaves all items that were stored, and perhaps more
+  pub appends : disks.Only before.bytes old.desk.disk → EveryImage old.desk.disk new.desk.disk (StoresMore (stored before.bytes).items)
+  -- each transaction of which `ok N` was replied stands in every image, by its number
+  pub acknowledged : disks.Only before.bytes old.desk.disk → (digits : List ℕ) → IsReplied (ok_text digits) scripted (opened header old before) runs.done → (c : List ℕ) → new.desk.disk.is_image c → HasTxn digits (stored c).items
 
--- a run over bytes with this header, or with none
-abbrev pub RunsUnder : Bool → ℕ → Option Header → Status → disks.State → disks.State → List ℕ → List ℕ → notaries.State → notaries.State → clocks.State → clocks.State → sources.State → sources.State → sinks.State → sinks.State → Type 0
-RunsUnder scripted id None result old new before after filed later clock ahead input left out written =
-    EndsEarly statuses.NotAStore result old new filed later clock ahead input left out written
-RunsUnder scripted id (Some header) result old new before after filed later clock ahead input left out written =
-    (header.id ≡ id → WhereTold filed.lists later.lists (λ lists later_lists.
-    Runs scripted (start (world_of header before) lists filed.limits) result old new before after filed later later_lists clock ahead input left out written))
-    × (header.id ≢ id → EndsEarly statuses.NotAStore result old new filed later clock ahead input left out written)
+-- a run whose store was opened, where both tell what they hold
+abbrev pub RunsHeader : Bool → Header → Effect
+RunsHeader scripted header result old new = WhereBothTell old.desk new.desk (RunsStore scripted header result old new)
 
--- NotAStore comes exactly where the bytes have no header of this id. A fault of the disk while the store is opened ends a
--- run before its first line, and so does want of memory.
-abbrev pub RunsOn : Bool → ℕ → Status → disks.State → disks.State → notaries.State → notaries.State → clocks.State → clocks.State → sources.State → sources.State → sinks.State → sinks.State → Type 0
-RunsOn scripted id result old new filed later clock ahead input left out written =
-    (Rose old.faults new.faults × EndsEarly statuses.DiskFault result old new filed later clock ahead input left out written)
-    ⊎ EndsUnopened result old new filed later clock ahead input left out written
-    ⊎ WhereTold old.reads new.reads (λ before after.
-    RunsUnder scripted id (stored before).header result old new before after filed later clock ahead input left out written)
+abbrev pub RunsOn : Bool → ℕ → Effect
+RunsOn scripted id = OnStore id (RunsHeader scripted)

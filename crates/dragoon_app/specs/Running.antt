@@ -19,7 +19,7 @@ use Rattle.drill_core.specs.World.{World}
 use Rattle.drill_core.specs.Steps.{Step, step, MayFind}
 use Rattle.dragoon_app.specs.declared.line_kind.LineKind.{LineKind}
 use Rattle.dragoon_app.specs.declared.line_kind.LineKind.TheVariants as kinds
-use Rattle.dragoon_app.specs.Numbers.{max_u64}
+use Rattle.stmt_text.specs.Numbers.{max_u64}
 
 -- where a run stands
 pub record Running : Type 0 where

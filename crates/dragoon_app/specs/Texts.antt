@@ -1,5 +1,6 @@
 -- Lines that the program writes.
 use Rattle.std.specs.Prelude.{ℕ, List, ◌++◌, codes}
+use Rattle.notary_link.specs.declared.name.Name.TheVariants as names
 use Rattle.validator.specs.Texts.{numbered, name_text}
 use Rattle.dragoon_app.specs.declared.status.Status.{Status}
 use Rattle.dragoon_app.specs.declared.status.Status.TheVariants as statuses
@@ -24,6 +25,8 @@ status_code (statuses.ClockBack last) = 14
 status_code statuses.TooLate = 15
 status_code statuses.Full = 16
 status_code statuses.InputLimit = 17
+status_code statuses.NotSealedSo = 18
+status_code (statuses.NotaryInconsistent level index) = 19
 
 -- its name, and its detail
 abbrev pub status_name : Status → List ℕ
@@ -45,6 +48,8 @@ status_name (statuses.ClockBack last) = numbered (codes "ClockBack ") last
 status_name statuses.TooLate = codes "TooLate"
 status_name statuses.Full = codes "Full"
 status_name statuses.InputLimit = codes "InputLimit"
+status_name statuses.NotSealedSo = codes "NotSealedSo"
+status_name (statuses.NotaryInconsistent level index) = codes "NotaryInconsistent " ++ name_text (names.Node level index)
 
 -- the last line of a run that ends so
 unfoldable pub fault_line : Status → List ℕ

@@ -3,10 +3,13 @@ use Rattle.std.specs.Prelude.{◌≡◌, ◌<◌, ◌≤◌, ◌&&◌, not, nat_
 use Rattle.std.specs.List.{list_any, starts_with}
 use Rattle.std.specs.Str.{bytes_eq}
 use Rattle.tuple_bytes.specs.Limits.{max_width, max_exponent}
+use Rattle.forensic_report.specs.declared.algorithm.Algorithm.{Algorithm}
+use Rattle.forensic_report.specs.declared.algorithm.Algorithm.TheVariants as algorithms
 use Rattle.dragoon_app.specs.declared.command.NewStore.{NewStore}
 use Rattle.dragoon_app.specs.declared.command.Command.{Command}
 use Rattle.dragoon_app.specs.declared.command.Command.TheVariants as commands
-use Rattle.dragoon_app.specs.Numbers.{number_of, max_u64}
+use Rattle.stmt_text.specs.Numbers.{plain_number as number_of, max_u64}
+use Rattle.stmt_text.specs.Words.{algs as algorithms_of}
 
 -- ---- leading words
 
@@ -36,15 +39,6 @@ pub record IsLeading (words : List (List ℕ)) (n : ℕ) : Type 0 where
   pub next : n < length words → is_leading (take n words) (slice_index_or words n []) ≡ false
 
 -- ---- the words behind them
-
--- `t` for tile chains, `a` for the tree, `ta` for both and `m` for neither
-abbrev pub algorithms_of : List ℕ → Option ℕ
-algorithms_of word =
-    if bytes_eq word (codes "m") then Some 0
-    else if bytes_eq word (codes "t") then Some 1
-    else if bytes_eq word (codes "a") then Some 2
-    else if bytes_eq word (codes "ta") then Some 3
-    else None
 
 abbrev pub new_store : Option ℕ → Option ℕ → Option ℕ → Option ℕ → Option NewStore
 new_store (Some id) (Some width) (Some k) (Some algs) = Some (record { id = id; width = width; k = k; algs = algs })
@@ -84,6 +78,29 @@ abbrev pub id_of : List (List ℕ) → Option ℕ
 id_of (id ∷ []) = number_of 0 max_u64 id
 id_of words = None
 
+-- as many granules as a tile has at most
+abbrev pub max_kappa : ℕ
+max_kappa = 1024
+
+-- how an analysis finds altered granules; for tiles perhaps with how many of them each tile that fails has
+abbrev pub algorithm_of : List (List ℕ) → Option Algorithm
+algorithm_of (word ∷ []) =
+    if bytes_eq word (codes "mono") then Some algorithms.Mono
+    else if bytes_eq word (codes "tiled") then Some algorithms.Tiled
+    else if bytes_eq word (codes "a3d") then Some algorithms.A3d
+    else None
+algorithm_of (word ∷ kappa ∷ []) = if bytes_eq word (codes "tiled") then option_map algorithms.TiledExactly (number_of 1 max_kappa kappa) else None
+algorithm_of words = None
+
+abbrev pub new_analysis : Option ℕ → Option Algorithm → Option Command
+new_analysis (Some id) (Some algorithm) = Some (commands.Analyse id algorithm)
+new_analysis id algorithm = None
+
+-- behind `analyse` stand any id and an algorithm
+abbrev pub analyse_of : List (List ℕ) → Option Command
+analyse_of [] = None
+analyse_of (id ∷ words) = new_analysis (number_of 0 max_u64 id) (algorithm_of words)
+
 -- the command that the words are
 abbrev pub command_of : List (List ℕ) → Option Command
 command_of [] = None
@@ -93,4 +110,5 @@ command_of (word ∷ words) =
     else if bytes_eq word (codes "run") then run_of words
     else if bytes_eq word (codes "notarize") then option_map commands.Notarize (id_of words)
     else if bytes_eq word (codes "validate") then option_map commands.Validate (id_of words)
+    else if bytes_eq word (codes "analyse") then analyse_of words
     else None

@@ -2,14 +2,17 @@
 
 ghost use Rattle.std.specs.Prelude.{◌≡◌, ◌≤◌, ◌<◌, map, Some, IfSome};
 ghost use Rattle.std.specs.String.{string_bytes};
-ghost use Rattle.byte_grammar.specs.Reading.{Gives};
 ghost use Rattle.dragoon_app.specs.Init.{FitsStore};
 ghost use Rattle.dragoon_app.specs.Top.{FitsCommand};
-ghost use Rattle.dragoon_app.specs.Words.{algorithms_of, new_store_of, link_of, init_of};
-ghost use Rattle.dragoon_app.specs.Words.{scripted_of, run_of, id_of, command_of};
+ghost use Rattle.dragoon_app.specs.Words.{new_store_of, link_of, init_of};
+ghost use Rattle.dragoon_app.specs.Words.{scripted_of, run_of, id_of, algorithm_of, analyse_of, command_of};
 
-use crate::number::number_of;
+use forensic_report::Algorithm;
+use stmt_text::{algs_of, plain_number_of as number_of};
 use tuple_bytes::{MAX_EXPONENT, MAX_WIDTH};
+
+/// As many granules as a tile has at most.
+const MAX_KAPPA: u64 = 1024;
 
 /// What `init` is told of a store: its header but for the epoch.
 #[derive(Clone, Copy, Debug, PartialEq, Eq)]
@@ -44,23 +47,9 @@ pub enum Command {
 
     /// The store is held against what was filed.
     Validate { id: u64 },
-}
 
-/// The algorithms that a word names.
-fn algorithms_of(word: &[u8]) -> Option<u8>
-    ensures value { Gives (λ n. n) result (algorithms_of word.now) }
-{
-    if word == b"m".as_slice() {
-        Some(0)
-    } else if word == b"t".as_slice() {
-        Some(1)
-    } else if word == b"a".as_slice() {
-        Some(2)
-    } else if word == b"ta".as_slice() {
-        Some(3)
-    } else {
-        None
-    }
+    /// Which granules of it are altered, and when they were.
+    Analyse { id: u64, algorithm: Algorithm },
 }
 
 /// What the four words behind `init` say.
@@ -72,7 +61,7 @@ fn new_store_of(id: &[u8], width: &[u8], k: &[u8], algs: &[u8]) -> Option<NewSto
     let id = number_of(id, 0, u64::MAX)?;
     let width = number_of(width, 1, u64::from(MAX_WIDTH))?;
     let k = number_of(k, 0, u64::from(MAX_EXPONENT))?;
-    let algs = algorithms_of(algs)?;
+    let algs = algs_of(algs)?;
     Some(NewStore {
         id,
         width: width as u32,
@@ -146,6 +135,46 @@ fn id_of(words: &[String]) -> Option<u64>
     }
 }
 
+/// The algorithm that stands behind an id.
+fn algorithm_of(words: &[String]) -> Option<Algorithm>
+    ensures value { result ≡ algorithm_of (map string_bytes words.now) }
+{
+    match words {
+        [word] => {
+            if word.as_bytes() == b"mono".as_slice() {
+                Some(Algorithm::Mono)
+            } else if word.as_bytes() == b"tiled".as_slice() {
+                Some(Algorithm::Tiled)
+            } else if word.as_bytes() == b"a3d".as_slice() {
+                Some(Algorithm::A3d)
+            } else {
+                None
+            }
+        }
+        [word, kappa] => {
+            if word.as_bytes() == b"tiled".as_slice() {
+                let kappa = number_of(kappa.as_bytes(), 1, MAX_KAPPA)?;
+                Some(Algorithm::TiledExactly {
+                    kappa: kappa as u32,
+                })
+            } else {
+                None
+            }
+        }
+        _ => None,
+    }
+}
+
+fn analyse_of(words: &[String]) -> Option<Command>
+    ensures value { result ≡ analyse_of (map string_bytes words.now) }
+    ensures fits { IfSome result FitsCommand }
+{
+    let (id, words) = words.split_first()?;
+    let id = number_of(id.as_bytes(), 0, u64::MAX)?;
+    let algorithm = algorithm_of(words)?;
+    Some(Command::Analyse { id, algorithm })
+}
+
 /// The command that the words are, if they are one.
 pub fn command_of(words: &[String]) -> Option<Command>
     ensures value { result ≡ command_of (map string_bytes words.now) }
@@ -164,6 +193,8 @@ pub fn command_of(words: &[String]) -> Option<Command>
     } else if word.as_bytes() == b"validate".as_slice() {
         let id = id_of(words)?;
         Some(Command::Validate { id })
+    } else if word.as_bytes() == b"analyse".as_slice() {
+        analyse_of(words)
     } else {
         None
     }

@@ -2,15 +2,16 @@
 
 ghost use Rattle.std.specs.Prelude.{◌≡◌, ◌≢◌, ◌<◌, ◌≤◌, IfOk};
 ghost use Rattle.std.specs.String.{string_bytes};
-ghost use Rattle.disk_words.specs.Disk as disks;
 ghost use Rattle.outside_io.specs.Sink as sinks;
 ghost use Rattle.outside_io.specs.Clock as clocks;
-ghost use Rattle.outside_words.specs.Told.{WhereTold};
+ghost use Rattle.notary_link.specs.Notary as notaries;
 ghost use Rattle.tuple_bytes.specs.Limits.{max_moment};
 ghost use Rattle.tuple_bytes.specs.Spelling.{FitsHeader};
-ghost use Rattle.dragoon_app.specs.Outcome.{AnswersFor, Said, DiskCause, WriteCause};
+ghost use Rattle.outside_io.specs.Source as sources;
+ghost use Rattle.dragoon_app.specs.Devices.{desk, devices, StaysSound, HasCauses, AllGoOn};
+ghost use Rattle.dragoon_app.specs.Outcome.{Said, WriteCause};
 ghost use Rattle.dragoon_app.specs.Init.{FitsStore, header_at, ready_line, says_ready};
-ghost use Rattle.dragoon_app.specs.Init.{init_outcome, IsTooLate, MakesStore, Inits};
+ghost use Rattle.dragoon_app.specs.Init.{InitsAt, Inits};
 
 use crate::Status;
 use crate::command::NewStore;
@@ -64,20 +65,15 @@ fn init_at<D: Disk, O: Sink>(
     out: &mut O,
 ) -> Status
     requires fits { FitsStore new.now }
-    ensures told { AnswersFor (init_outcome new.now now) (D.state store.old).reads
-        result (O.state out.old) (O.state out.new) }
-    ensures late { max_moment < now → IsTooLate result (D.state store.old) (D.state store.new)
+    ensures told { InitsAt new.now now result (D.state store.old) (D.state store.new)
         (O.state out.old) (O.state out.new) }
-    ensures too_late { result ≡ Status.TooLate → max_moment < now }
-    ensures made { now ≤ max_moment → WhereTold (D.state store.old).reads (D.state store.new).reads
-        (MakesStore (header_at new.now now) result (D.state store.old) (D.state store.new)) }
     ensures no_usage { result ≢ Status.Usage }
-    ensures no_read_fault { result ≢ Status.ReadFault }
-    ensures no_notary_fault { result ≢ Status.NotaryFault }
-    ensures store_frame { disks.GoesOn (D.state store.old) (D.state store.new) }
-    ensures out_frame { sinks.GoesOn (O.state out.old) (O.state out.new) }
-    ensures disk_cause { DiskCause result (D.state store.old) (D.state store.new) }
-    ensures write_cause { WriteCause result (O.state out.old) (O.state out.new) }
+    ensures causes { (notary : notaries.State) (clock : clocks.State) (input : sources.State) → HasCauses result
+        (devices (D.state store.old) notary clock input (O.state out.old))
+        (devices (D.state store.new) notary clock input (O.state out.new)) }
+    ensures goes_on { (notary : notaries.State) (clock : clocks.State) (input : sources.State) → AllGoOn
+        (devices (D.state store.old) notary clock input (O.state out.old))
+        (devices (D.state store.new) notary clock input (O.state out.new)) }
 {
     if now > MAX_MOMENT {
         return refuse(out, Status::TooLate);
@@ -100,16 +96,18 @@ pub fn run_init<D: Disk, C: Clock, O: Sink>(
     out: &mut O,
 ) -> Status
     requires fits { FitsStore new.now }
-    ensures told { Inits new.now result (D.state store.old) (D.state store.new)
-        (C.state clock.old) (C.state clock.new) (O.state out.old) (O.state out.new) }
+    ensures leaves { (notary : notaries.State) (input : sources.State) → Inits new.now result
+        (devices (D.state store.old) notary (C.state clock.old) input (O.state out.old))
+        (devices (D.state store.new) notary (C.state clock.new) input (O.state out.new)) }
+    ensures sound { (notary : notaries.State) → StaysSound
+        (desk (D.state store.old) notary) (desk (D.state store.new) notary) }
     ensures no_usage { result ≢ Status.Usage }
-    ensures no_read_fault { result ≢ Status.ReadFault }
-    ensures no_notary_fault { result ≢ Status.NotaryFault }
-    ensures store_frame { disks.GoesOn (D.state store.old) (D.state store.new) }
-    ensures clock_frame { clocks.GoesOn (C.state clock.old) (C.state clock.new) }
-    ensures out_frame { sinks.GoesOn (O.state out.old) (O.state out.new) }
-    ensures disk_cause { DiskCause result (D.state store.old) (D.state store.new) }
-    ensures write_cause { WriteCause result (O.state out.old) (O.state out.new) }
+    ensures causes { (notary : notaries.State) (input : sources.State) → HasCauses result
+        (devices (D.state store.old) notary (C.state clock.old) input (O.state out.old))
+        (devices (D.state store.new) notary (C.state clock.new) input (O.state out.new)) }
+    ensures goes_on { (notary : notaries.State) (input : sources.State) → AllGoOn
+        (devices (D.state store.old) notary (C.state clock.old) input (O.state out.old))
+        (devices (D.state store.new) notary (C.state clock.new) input (O.state out.new)) }
 {
     let now = clock.now();
     init_at(alloc, new, store, now, out)

@@ -1,5 +1,6 @@
-//! What a run over a sound store tells, each law the contract of a function that does nothing.
+//! What the lines of a run keep, each law the contract of a function that does nothing.
 
+ghost use Rattle.dragoon_app.specs.Acknowledged.{AcknowledgedIsStored, RunsOnlyAppend};
 ghost use Rattle.dragoon_app.specs.Laws.{SoundBytesBeginSound, SoundRunsAreUnaltered};
 
 use drill_core::sound_worlds_stay_sound;
@@ -18,3 +19,13 @@ pub fn sound_runs_are_unaltered()
 {
     sound_worlds_stay_sound();
 }
+
+/// A transaction of which `ok N` was replied is stored when the lines were carried out, as the N-th.
+pub fn acknowledged_is_stored()
+    ensures { AcknowledgedIsStored }
+{}
+
+/// No line of a run takes an item away, or changes one.
+pub fn runs_only_append()
+    ensures { RunsOnlyAppend }
+{}

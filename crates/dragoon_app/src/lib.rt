@@ -8,43 +8,62 @@
 //! | `run ID`, `run ID scripted` | `run` | `carried` over the lines of the input: the reply of each line |
 //! | `notarize ID` | `notarize` | `notarize_outcome` of what the notarization answers: how many tiles are sealed |
 //! | `validate ID` | `validate` | `validate_outcome` of what the validation answers: its verdict |
+//! | `analyse ID ALG` | `analyse` | `analyse_outcome` of what the analysis answers: its report |
 //!
 //! | The layer above may rely on | Clause of `dragoon` |
 //! |---|---|
-//! | for `link`, `init` and words that are no command: where the store tells its bytes, the status and the whole text are the defined ones, for `init` at the second that the clock gave, up to a fault or want of memory; of a text that was cut short a front is out | `told`, `answers` of `InitsAt` in `leaves` |
-//! | `Usage` comes exactly where the words are no command, whatever the store is | `usage`, `no_command` |
-//! | a fault is answered only where the count of that device's faults rose | `disk_cause`, `notary_cause`, `read_cause`, `write_cause` |
-//! | a sound store, one whose every image is what is filed, stays sound under each id, whatever is answered | `sound` |
-//! | of a sound store neither `notarize` nor `validate` says that it is altered | `unaltered` |
-//! | `link` leaves all devices but the output as they were, `init` the input and the notary, and `notarize` and `validate` the input | `leaves` |
+//! | for `link`, `init` and words that are no command: where the store tells its bytes, the status and the whole text are the defined ones, for `init` at the second that the clock gave, up to a fault or want of memory; of a text that was cut short a front is out | `leaves`: `Links`, `answers` of `InitsAt`, `EndsBy` |
+//! | `Usage` comes exactly where the words are no command, whatever the store is | `usage`, `leaves` |
+//! | a fault is answered only where the count of that device's faults rose | `causes` |
+//! | each device keeps what every call of it keeps | `goes_on` |
+//! | where the store's disk is settled: a sound store, one whose every image is what is filed, stays sound under each id, whatever is answered | `sound` |
+//! | of a sound store neither `notarize`, `validate` nor `analyse` says that it is altered; of the lines of a run see below | `unaltered` |
+//! | after any replacement of the store's bytes, of a history whose batches the notary holds: a report names each altered granule that its algorithm promises, or two inputs in two finite lists share a digest (`Shows`) | `leaves`: `shows` of `Reports` |
+//! | `link` leaves all devices but the output as they were, `init` the input and the notary, `notarize` and `validate` the input, and `analyse` all that the store and the notary hold | `leaves` |
 //! | after `init` answered `Ok` the store has 65 bytes: the header of the words and the clock's second, and no item; and it is durable | `made`, `stores`, `durable` of `MakesStore` in `leaves` |
 //! | a taken device, and each device where it is too late, is left as it was | `kept`, `late` there |
 //! | on a settled device a crash during `init` leaves no item, and no header but the new one or one whose bytes stood there | `images` there |
+//! | the whole line `ready ID` is out only where the store is made and durable, whatever is answered | `ready` of `InitsAt` |
 //!
-//! What `run` does is `RunsOn` in `leaves`, where the store tells its bytes and the notary its lists:
+//! What `run` does is `RunsOn` in `leaves`. Of what it does to a store it speaks where the store tells its bytes and the notary its lists:
 //!
 //! | The layer above may rely on | Field of `Runs` |
 //! |---|---|
 //! | `NotAStore` comes exactly where the bytes have no header of this id; a fault of the disk while the store is opened, and want of memory, end a run before its first line | `RunsOn` |
-//! | after `Ok` and `Refused` all lines of the input were carried out, and exactly their replies are out | `lines` of `read`, `said` |
-//! | where the output fails or memory is wanting at most the last reply is cut short; or all are out, and a front of a fault line that has its cause | `said` |
-//! | at a fault of the disk or the notary the line under way is the next of the input; at one of these or of the output less than a piece was taken beyond the lines that were begun | `under_way`, `little` of `read` |
-//! | a scripted run asks no clock, and others take one second for each line that isn't blank, the one under way too; none is under way unless the disk or the notary failed or memory was wanting | `seconds`, `none` |
-//! | a validation tells what is found in the world that its line finds | `found` |
-//! | on a settled store a crash at any moment leaves what stood there after some first lines | `images` of `store` |
-//! | each reply that is out stands for good: every image has what the lines say that were carried out, and the notary all that they filed and marked | `kept`, `between` there |
-//! | the notary holds no more than that, unless a line was under way | `holds` there |
-//! | a run over bytes that hold what is filed begins over a sound world; it ends over one, and none of its lines tells of an alteration | the laws `sound_bytes_begin_sound` and `sound_runs_are_unaltered`, by `found` |
+//! | after `Ok` and `Refused` all lines of the input were carried out, and exactly their replies are out | `read`, `said` |
+//! | where the output fails or memory is wanting at most the last reply is cut short, and then no line was begun behind it; or all are out, and perhaps a front of a fault line that has its cause | `said` |
+//! | at a fault of the disk or the notary the line under way is the next of the input | `under_way` of `read` |
+//! | at one of these or of the output less than a piece was taken beyond the lines that were begun, or no line end more | `little` of `read` |
+//! | a scripted run asks no clock, and others take one second for each line that isn't blank, the one under way too; none is under way unless the disk or the notary failed or memory was wanting | `seconds`, `none` of `lines` |
+//! | a validation tells what is found in the world that its line finds | `found` there |
+//! | on a settled store a crash at any moment leaves what stood there after some first lines | `images` of `store` there |
+//! | on a settled store every image of now has what the lines say that were carried out, or those and the one under way | `kept` there |
+//! | the notary holds all that the lines filed and marked, and no more unless a line was under way | `between`, `holds` there |
+//! | on a settled store a batch is filed only where every image has what its line stores, and so the end of the batch's tile | `ordered` there |
+//!
+//! And of a run over a store of a header, in its terms:
+//!
+//! | The layer above may rely on | Field of `RunsStore` |
+//! |---|---|
+//! | on a settled store each transaction of which `ok N` was replied stands in every image, as the N-th | `acknowledged` |
+//! | on a settled store a crash at any moment leaves all items that were stored, and perhaps more | `appends` |
+//! | where the store is sound no line tells of an alteration | `unaltered` |
+//! | the laws behind it, over any lines: a run over bytes that hold what is filed begins over a sound world; it ends over one, and no line tells of an alteration | `sound_bytes_begin_sound`, `sound_runs_are_unaltered` |
+//! | and: what was acknowledged is stored when the lines were carried out, and no line takes an item away | `acknowledged_is_stored`, `runs_only_append` |
 //!
 //! `notarize` is `NotarizesOn` in `leaves`: the store is opened, the clock's second taken, and the tiles that have
 //! ended by then are filed, as `validator` says it; `NotAStore` comes exactly where the bytes have no header of the
 //! id, and before the clock or the notary is asked. `validate` is `ValidatesOn`: the verdict at the clock's second, and
-//! its mark; the store is as it was. Where either answers a fault its count rose, also where the output then failed;
-//! want of memory writes nothing.
+//! its mark; the store is as it was. `analyse` is `AnalysesOn`: the report, at the clock's second, of what the notary's
+//! answers show of the bytes (`analyses` of `Reports`), a report by a bounded number of questions; and it shows what is
+//! altered of each history whose batches the notary holds (`shows`). Where one of them answers a fault its count rose,
+//! also where the output then failed; an operation that wants memory writes nothing, and where the output wants it
+//! a front of the text is out.
 //!
 //! `leading` says how many words in front of the command name devices. A further device is one more
-//! prefix there, and one more parameter of `dragoon`. A further command is a case of `command_of`, of
-//! `AnswersBy`, of `Leaves` and of the call, and a module with its function, its definition and its contract.
+//! prefix there, one more parameter of `dragoon` and one more field of `Devices`. A further command is a case of
+//! `command_of`, of `Leaves` and of the call, and a module with its function, its definition (an `Effect`, mostly by
+//! `OnStore` and `DoesOnce`) and its contract, in the clauses of `dragoon`.
 //!
 //! Only tested: that memory is found where there is plenty of it.
 //!
@@ -56,6 +75,7 @@
 //! ```
 #![tactic(auto)]
 
+mod analyse;
 mod audit_fail;
 mod command;
 mod init;
@@ -64,7 +84,6 @@ mod leading_words;
 mod line_kind;
 mod link;
 mod notarize;
-mod number;
 mod run;
 mod run_fail;
 mod runner;
@@ -73,12 +92,9 @@ mod status;
 mod top;
 mod validate;
 
-pub use laws::{sound_bytes_begin_sound, sound_runs_are_unaltered};
+pub use laws::{
+    acknowledged_is_stored, runs_only_append, sound_bytes_begin_sound, sound_runs_are_unaltered,
+};
 pub use leading_words::leading;
 pub use status::Status;
 pub use top::dragoon;
-
-#[cfg(test)]
-mod run_tests;
-#[cfg(test)]
-mod tests;

@@ -7,13 +7,17 @@ ghost use Rattle.outside_words.specs.Faults.{HasCause};
 ghost use Rattle.disk_words.specs.declared.DiskFail.TheVariants.{Failed};
 ghost use Rattle.disk_words.specs.Disk as disks;
 ghost use Rattle.outside_io.specs.Sink as sinks;
+ghost use Rattle.outside_io.specs.Clock as clocks;
+ghost use Rattle.notary_link.specs.Notary as notaries;
 ghost use Rattle.tuple_bytes.specs.declared.item.Item.{Item};
 ghost use Rattle.tuple_bytes.specs.Items.{item_of};
 ghost use Rattle.tuple_bytes.specs.HeaderBytes.{header_of};
 ghost use Rattle.step_count.specs.Blank.{IsBlankOf};
 ghost use Rattle.txn_journal.specs.Reading.{IsSeenIn};
-ghost use Rattle.dragoon_app.specs.Outcome.{AnswersFor, Said, DiskCause, WriteCause};
-ghost use Rattle.dragoon_app.specs.Linked.{two_lines, says_link, link_outcome, items_behind};
+ghost use Rattle.outside_io.specs.Source as sources;
+ghost use Rattle.dragoon_app.specs.Devices.{desk, devices, StaysSound, HasCauses, AllGoOn};
+ghost use Rattle.dragoon_app.specs.Outcome.{Said, WriteCause};
+ghost use Rattle.dragoon_app.specs.Linked.{two_lines, says_link, Links, items_behind};
 ghost use Rattle.dragoon_app.specs.Linked.{after_item, linked_from, linked_at_seed};
 ghost use Rattle.dragoon_app.specs.Linked.{IsLinkUnder, IsLinkOf};
 
@@ -167,16 +171,18 @@ fn say_linked<O: Sink>(alloc: Global, out: &mut O, linked: &Linked) -> Status
 
 /// The command.
 pub fn run_link<D: Disk, O: Sink>(alloc: Global, store: &mut D, out: &mut O) -> Status
-    ensures told { AnswersFor link_outcome (D.state store.old).reads
-        result (O.state out.old) (O.state out.new) }
+    ensures leaves { (notary : notaries.State) (clock : clocks.State) (input : sources.State) → Links result
+        (devices (D.state store.old) notary clock input (O.state out.old))
+        (devices (D.state store.new) notary clock input (O.state out.new)) }
+    ensures sound { (notary : notaries.State) → StaysSound
+        (desk (D.state store.old) notary) (desk (D.state store.new) notary) }
     ensures no_usage { result ≢ Status.Usage }
-    ensures no_read_fault { result ≢ Status.ReadFault }
-    ensures no_notary_fault { result ≢ Status.NotaryFault }
-    ensures same { disks.Unchanged (D.state store.old) (D.state store.new) }
-    ensures store_frame { disks.GoesOn (D.state store.old) (D.state store.new) }
-    ensures out_frame { sinks.GoesOn (O.state out.old) (O.state out.new) }
-    ensures disk_cause { DiskCause result (D.state store.old) (D.state store.new) }
-    ensures write_cause { WriteCause result (O.state out.old) (O.state out.new) }
+    ensures causes { (notary : notaries.State) (clock : clocks.State) (input : sources.State) → HasCauses result
+        (devices (D.state store.old) notary clock input (O.state out.old))
+        (devices (D.state store.new) notary clock input (O.state out.new)) }
+    ensures goes_on { (notary : notaries.State) (clock : clocks.State) (input : sources.State) → AllGoOn
+        (devices (D.state store.old) notary clock input (O.state out.old))
+        (devices (D.state store.new) notary clock input (O.state out.new)) }
 {
     match link_counted::<D, Brand>(alloc, store, Blank::new(1)) {
         Ok(Some(linked)) => say_linked(alloc, out, &linked),

@@ -1,18 +1,16 @@
 //! The command `notarize`: the tiles that have ended are filed with the notary.
 
-ghost use Rattle.std.specs.Prelude.{◌≡◌, ◌≢◌, ◌++◌, ◌∷◌, [], codes, List, IfOk, ⊤, false};
+ghost use Rattle.std.specs.Prelude.{◌≡◌, ◌≢◌, ◌++◌, ◌∷◌, [], codes, List, IfOk, false};
 ghost use Rattle.std.specs.String.{string_bytes};
-ghost use Rattle.disk_words.specs.Disk as disks;
-ghost use Rattle.notary_link.specs.Notary as notaries;
-ghost use Rattle.outside_io.specs.Clock as clocks;
 ghost use Rattle.outside_io.specs.Sink as sinks;
-ghost use Rattle.outside_io.specs.Source as sources;
 ghost use Rattle.tuple_bytes.specs.declared.item.Item.{Item};
 ghost use Rattle.store_engine.specs.Opened.{IsOpenOn};
-ghost use Rattle.validator.specs.Safe.{KeepsSound};
+ghost use Rattle.validator.specs.Desk.{KeepsSound};
 ghost use Rattle.validator.specs.Texts.{numbered};
 ghost use Rattle.dragoon_app.specs.Audited.{notarize_outcome, NotarizesOpened, NotarizesOn, SaysUnaltered};
-ghost use Rattle.dragoon_app.specs.Outcome.{Said, DiskCause, NotaryCause, WriteCause};
+ghost use Rattle.outside_io.specs.Source as sources;
+ghost use Rattle.dragoon_app.specs.Devices.{desk, devices, StaysSound, HasCauses, AllGoOn};
+ghost use Rattle.dragoon_app.specs.Outcome.{Said, WriteCause};
 
 use crate::Status;
 use crate::audit_fail::refuse_audit;
@@ -65,20 +63,18 @@ fn notarize_opened<D: Disk, N: Notary, C: Clock, O: Sink>(
     out: &mut O,
 ) -> Status
     requires open { store.old.at.is_closed ≡ false }
-    ensures told { NotarizesOpened store.old result (D.state disk.old) (D.state disk.new)
-        (N.state notary.old) (N.state notary.new) (C.state clock.old) (C.state clock.new)
-        (O.state out.old) (O.state out.new) }
+    ensures leaves { (input : sources.State) → NotarizesOpened store.old result
+        (devices (D.state disk.old) (N.state notary.old) (C.state clock.old) input (O.state out.old))
+        (devices (D.state disk.new) (N.state notary.new) (C.state clock.new) input (O.state out.new)) }
     ensures sound { KeepsSound (λ before. (items : List Item) × IsOpenOn store.old items before)
-        (D.state disk.old) (D.state disk.new) (N.state notary.old) (N.state notary.new) }
+        (desk (D.state disk.old) (N.state notary.old)) (desk (D.state disk.new) (N.state notary.new)) }
     ensures no_usage { result ≢ Status.Usage }
-    ensures no_read_fault { result ≢ Status.ReadFault }
-    ensures disk_frame { disks.GoesOn (D.state disk.old) (D.state disk.new) }
-    ensures notary_frame { notaries.GoesOn (N.state notary.old) (N.state notary.new) }
-    ensures clock_frame { clocks.GoesOn (C.state clock.old) (C.state clock.new) }
-    ensures out_frame { sinks.GoesOn (O.state out.old) (O.state out.new) }
-    ensures disk_cause { DiskCause result (D.state disk.old) (D.state disk.new) }
-    ensures notary_cause { NotaryCause result (N.state notary.old) (N.state notary.new) }
-    ensures write_cause { WriteCause result (O.state out.old) (O.state out.new) }
+    ensures causes { (input : sources.State) → HasCauses result
+        (devices (D.state disk.old) (N.state notary.old) (C.state clock.old) input (O.state out.old))
+        (devices (D.state disk.new) (N.state notary.new) (C.state clock.new) input (O.state out.new)) }
+    ensures goes_on { (input : sources.State) → AllGoOn
+        (devices (D.state disk.old) (N.state notary.old) (C.state clock.old) input (O.state out.old))
+        (devices (D.state disk.new) (N.state notary.new) (C.state clock.new) input (O.state out.new)) }
 {
     let now = clock.now();
     let answer = notarize(alloc, store, disk, notary, now);
@@ -94,22 +90,18 @@ pub fn run_notarize<D: Disk, N: Notary, C: Clock, O: Sink>(
     clock: &mut C,
     out: &mut O,
 ) -> Status
-    ensures told { (input : sources.State) → NotarizesOn id result
-        (D.state disk.old) (D.state disk.new) (N.state notary.old) (N.state notary.new)
-        (C.state clock.old) (C.state clock.new) input input (O.state out.old) (O.state out.new) }
-    ensures sound { KeepsSound (λ before. ⊤)
-        (D.state disk.old) (D.state disk.new) (N.state notary.old) (N.state notary.new) }
-    ensures unaltered { SaysUnaltered id result
-        (D.state disk.old) (D.state disk.new) (N.state notary.old) (N.state notary.new) }
+    ensures leaves { (input : sources.State) → NotarizesOn id result
+        (devices (D.state disk.old) (N.state notary.old) (C.state clock.old) input (O.state out.old))
+        (devices (D.state disk.new) (N.state notary.new) (C.state clock.new) input (O.state out.new)) }
+    ensures sound { StaysSound (desk (D.state disk.old) (N.state notary.old)) (desk (D.state disk.new) (N.state notary.new)) }
+    ensures unaltered { SaysUnaltered id result (desk (D.state disk.old) (N.state notary.old)) (desk (D.state disk.new) (N.state notary.new)) }
     ensures no_usage { result ≢ Status.Usage }
-    ensures no_read_fault { result ≢ Status.ReadFault }
-    ensures disk_frame { disks.GoesOn (D.state disk.old) (D.state disk.new) }
-    ensures notary_frame { notaries.GoesOn (N.state notary.old) (N.state notary.new) }
-    ensures clock_frame { clocks.GoesOn (C.state clock.old) (C.state clock.new) }
-    ensures out_frame { sinks.GoesOn (O.state out.old) (O.state out.new) }
-    ensures disk_cause { DiskCause result (D.state disk.old) (D.state disk.new) }
-    ensures notary_cause { NotaryCause result (N.state notary.old) (N.state notary.new) }
-    ensures write_cause { WriteCause result (O.state out.old) (O.state out.new) }
+    ensures causes { (input : sources.State) → HasCauses result
+        (devices (D.state disk.old) (N.state notary.old) (C.state clock.old) input (O.state out.old))
+        (devices (D.state disk.new) (N.state notary.new) (C.state clock.new) input (O.state out.new)) }
+    ensures goes_on { (input : sources.State) → AllGoOn
+        (devices (D.state disk.old) (N.state notary.old) (C.state clock.old) input (O.state out.old))
+        (devices (D.state disk.new) (N.state notary.new) (C.state clock.new) input (O.state out.new)) }
 {
     sound_is_not_refused();
     match Store::open_store(alloc, disk, id) {

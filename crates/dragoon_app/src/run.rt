@@ -1,6 +1,6 @@
 //! The command `run`: the lines of the input, carried out one after another.
 
-ghost use Rattle.std.specs.Prelude.{◌≢◌, ⊤};
+ghost use Rattle.std.specs.Prelude.{◌≢◌};
 ghost use Rattle.outside_words.specs.Faults.{HasCause};
 ghost use Rattle.disk_words.specs.Disk as disks;
 ghost use Rattle.notary_link.specs.Notary as notaries;
@@ -8,8 +8,7 @@ ghost use Rattle.outside_io.specs.Sink as sinks;
 ghost use Rattle.outside_io.specs.Source as sources;
 ghost use Rattle.outside_io.specs.Clock as clocks;
 ghost use Rattle.dragoon_app.specs.declared.run_fail.RunFail.TheVariants as fails;
-ghost use Rattle.validator.specs.Safe.{KeepsSound};
-ghost use Rattle.dragoon_app.specs.Outcome.{DiskCause, NotaryCause, ReadCause, WriteCause};
+ghost use Rattle.dragoon_app.specs.Devices.{desk, devices, StaysSound, HasCauses, AllGoOn};
 ghost use Rattle.dragoon_app.specs.Carrying.{CarriesFrom, RunsFrom, SoundFrom};
 ghost use Rattle.dragoon_app.specs.Ran.{RunsOn};
 
@@ -34,9 +33,9 @@ fn carry_lines<D: Disk, N: Notary, C: Clock, I: Source, O: Sink>(
     input: &mut I,
     out: &mut O,
 ) -> Result<(), RunFail>
-    ensures told { CarriesFrom result runner.old runner.new (D.state disk.old) (D.state disk.new)
-        (N.state notary.old) (N.state notary.new) (C.state clock.old) (C.state clock.new)
-        (I.state input.old) (I.state input.new) (O.state out.old) (O.state out.new) }
+    ensures told { CarriesFrom result runner.old runner.new
+        (devices (D.state disk.old) (N.state notary.old) (C.state clock.old) (I.state input.old) (O.state out.old))
+        (devices (D.state disk.new) (N.state notary.new) (C.state clock.new) (I.state input.new) (O.state out.new)) }
     ensures disk_frame { disks.GoesOn (D.state disk.old) (D.state disk.new) }
     ensures notary_frame { notaries.GoesOn (N.state notary.old) (N.state notary.new) }
     ensures clock_frame { clocks.GoesOn (C.state clock.old) (C.state clock.new) }
@@ -65,21 +64,17 @@ fn run_opened<D: Disk, N: Notary, C: Clock, I: Source, O: Sink>(
     input: &mut I,
     out: &mut O,
 ) -> Status
-    ensures told { RunsFrom result runner.old (D.state disk.old) (D.state disk.new)
-        (N.state notary.old) (N.state notary.new) (C.state clock.old) (C.state clock.new)
-        (I.state input.old) (I.state input.new) (O.state out.old) (O.state out.new) }
-    ensures sound { SoundFrom runner.old
-        (D.state disk.old) (D.state disk.new) (N.state notary.old) (N.state notary.new) }
+    ensures told { RunsFrom result runner.old
+        (devices (D.state disk.old) (N.state notary.old) (C.state clock.old) (I.state input.old) (O.state out.old))
+        (devices (D.state disk.new) (N.state notary.new) (C.state clock.new) (I.state input.new) (O.state out.new)) }
+    ensures sound { SoundFrom runner.old (desk (D.state disk.old) (N.state notary.old)) (desk (D.state disk.new) (N.state notary.new)) }
     ensures no_usage { result ≢ Status.Usage }
-    ensures disk_frame { disks.GoesOn (D.state disk.old) (D.state disk.new) }
-    ensures notary_frame { notaries.GoesOn (N.state notary.old) (N.state notary.new) }
-    ensures clock_frame { clocks.GoesOn (C.state clock.old) (C.state clock.new) }
-    ensures input_frame { sources.GoesOn (I.state input.old) (I.state input.new) }
-    ensures out_frame { sinks.GoesOn (O.state out.old) (O.state out.new) }
-    ensures disk_cause { DiskCause result (D.state disk.old) (D.state disk.new) }
-    ensures notary_cause { NotaryCause result (N.state notary.old) (N.state notary.new) }
-    ensures read_cause { ReadCause result (I.state input.old) (I.state input.new) }
-    ensures write_cause { WriteCause result (O.state out.old) (O.state out.new) }
+    ensures causes { HasCauses result
+        (devices (D.state disk.old) (N.state notary.old) (C.state clock.old) (I.state input.old) (O.state out.old))
+        (devices (D.state disk.new) (N.state notary.new) (C.state clock.new) (I.state input.new) (O.state out.new)) }
+    ensures goes_on { AllGoOn
+        (devices (D.state disk.old) (N.state notary.old) (C.state clock.old) (I.state input.old) (O.state out.old))
+        (devices (D.state disk.new) (N.state notary.new) (C.state clock.new) (I.state input.new) (O.state out.new)) }
 {
     match carry_lines(alloc, runner, disk, notary, clock, input, out) {
         Ok(()) => {
@@ -104,21 +99,17 @@ pub fn run_lines<D: Disk, N: Notary, C: Clock, I: Source, O: Sink>(
     input: &mut I,
     out: &mut O,
 ) -> Status
-    ensures told { RunsOn is_scripted id result (D.state disk.old) (D.state disk.new)
-        (N.state notary.old) (N.state notary.new) (C.state clock.old) (C.state clock.new)
-        (I.state input.old) (I.state input.new) (O.state out.old) (O.state out.new) }
-    ensures sound { KeepsSound (λ before. ⊤)
-        (D.state disk.old) (D.state disk.new) (N.state notary.old) (N.state notary.new) }
+    ensures leaves { RunsOn is_scripted id result
+        (devices (D.state disk.old) (N.state notary.old) (C.state clock.old) (I.state input.old) (O.state out.old))
+        (devices (D.state disk.new) (N.state notary.new) (C.state clock.new) (I.state input.new) (O.state out.new)) }
+    ensures sound { StaysSound (desk (D.state disk.old) (N.state notary.old)) (desk (D.state disk.new) (N.state notary.new)) }
     ensures no_usage { result ≢ Status.Usage }
-    ensures disk_frame { disks.GoesOn (D.state disk.old) (D.state disk.new) }
-    ensures notary_frame { notaries.GoesOn (N.state notary.old) (N.state notary.new) }
-    ensures clock_frame { clocks.GoesOn (C.state clock.old) (C.state clock.new) }
-    ensures input_frame { sources.GoesOn (I.state input.old) (I.state input.new) }
-    ensures out_frame { sinks.GoesOn (O.state out.old) (O.state out.new) }
-    ensures disk_cause { DiskCause result (D.state disk.old) (D.state disk.new) }
-    ensures notary_cause { NotaryCause result (N.state notary.old) (N.state notary.new) }
-    ensures read_cause { ReadCause result (I.state input.old) (I.state input.new) }
-    ensures write_cause { WriteCause result (O.state out.old) (O.state out.new) }
+    ensures causes { HasCauses result
+        (devices (D.state disk.old) (N.state notary.old) (C.state clock.old) (I.state input.old) (O.state out.old))
+        (devices (D.state disk.new) (N.state notary.new) (C.state clock.new) (I.state input.new) (O.state out.new)) }
+    ensures goes_on { AllGoOn
+        (devices (D.state disk.old) (N.state notary.old) (C.state clock.old) (I.state input.old) (O.state out.old))
+        (devices (D.state disk.new) (N.state notary.new) (C.state clock.new) (I.state input.new) (O.state out.new)) }
 {
     match Runner::open(alloc, disk, id, is_scripted) {
         Ok(mut runner) => run_opened(alloc, &mut runner, disk, notary, clock, input, out),

@@ -11,6 +11,7 @@ ghost use Rattle.store_engine.specs.declared.fail.StoreFail.TheVariants as store
 ghost use Rattle.store_engine.specs.Refusals.{IsOfOpening, IsNoStore};
 ghost use Rattle.drill_core.specs.declared.fail.LineFail.TheVariants as lines;
 ghost use Rattle.drill_core.specs.Steps.{IsWorldLine};
+ghost use Rattle.dragoon_app.specs.Devices.{desk, site};
 ghost use Rattle.dragoon_app.specs.Carrying.{IsReady, GivesSeconds, StepsFrom, LineFrom, RepliesFrom};
 ghost use Rattle.dragoon_app.specs.Carrying.{refusing, SetsMoment};
 
@@ -111,8 +112,8 @@ impl Runner {
         requires is_line { IsWorldLine line.now }
         requires fits { FitsParts line.now }
         ensures scripted { self.new.is_scripted ≡ self.old.is_scripted }
-        ensures told { StepsFrom line.now now result self.old self.new (D.state disk.old) (D.state disk.new)
-            (N.state notary.old) (N.state notary.new) }
+        ensures told { StepsFrom line.now now result self.old self.new
+            (desk (D.state disk.old) (N.state notary.old)) (desk (D.state disk.new) (N.state notary.new)) }
         ensures disk_frame { disks.GoesOn (D.state disk.old) (D.state disk.new) }
         ensures notary_frame { notaries.GoesOn (N.state notary.old) (N.state notary.new) }
         ensures disk_cause { HasCause lines.DiskFault (D.state disk.old).faults (D.state disk.new).faults result }
@@ -134,8 +135,8 @@ impl Runner {
     ) -> Result<Blob, LineFail>
         requires fits { FitsParts line.now }
         ensures scripted { self.new.is_scripted ≡ self.old.is_scripted }
-        ensures told { LineFrom line.now result self.old self.new (D.state disk.old) (D.state disk.new)
-            (N.state notary.old) (N.state notary.new) (C.state clock.old) (C.state clock.new) }
+        ensures told { LineFrom line.now result self.old self.new
+            (site (D.state disk.old) (N.state notary.old) (C.state clock.old)) (site (D.state disk.new) (N.state notary.new) (C.state clock.new)) }
         ensures disk_frame { disks.GoesOn (D.state disk.old) (D.state disk.new) }
         ensures notary_frame { notaries.GoesOn (N.state notary.old) (N.state notary.new) }
         ensures clock_frame { clocks.GoesOn (C.state clock.old) (C.state clock.new) }
@@ -169,8 +170,8 @@ impl Runner {
         line: &[u8],
     ) -> Result<Blob, LineFail>
         ensures scripted { self.new.is_scripted ≡ self.old.is_scripted }
-        ensures told { RepliesFrom line.now result self.old self.new (D.state disk.old) (D.state disk.new)
-            (N.state notary.old) (N.state notary.new) (C.state clock.old) (C.state clock.new) }
+        ensures told { RepliesFrom line.now result self.old self.new
+            (site (D.state disk.old) (N.state notary.old) (C.state clock.old)) (site (D.state disk.new) (N.state notary.new) (C.state clock.new)) }
         ensures disk_frame { disks.GoesOn (D.state disk.old) (D.state disk.new) }
         ensures notary_frame { notaries.GoesOn (N.state notary.old) (N.state notary.new) }
         ensures clock_frame { clocks.GoesOn (C.state clock.old) (C.state clock.new) }

@@ -1,15 +1,12 @@
 //! The command `validate`: the store is held against what was filed.
 
-ghost use Rattle.std.specs.Prelude.{◌≡◌, ◌≢◌, ◌++◌, ◌∷◌, [], IfOk, ⊤};
-ghost use Rattle.disk_words.specs.Disk as disks;
-ghost use Rattle.notary_link.specs.Notary as notaries;
-ghost use Rattle.outside_io.specs.Clock as clocks;
+ghost use Rattle.std.specs.Prelude.{◌≡◌, ◌≢◌, ◌++◌, ◌∷◌, [], IfOk};
 ghost use Rattle.outside_io.specs.Sink as sinks;
-ghost use Rattle.outside_io.specs.Source as sources;
-ghost use Rattle.validator.specs.Safe.{KeepsSound};
 ghost use Rattle.validator.specs.Texts.{verdict_text};
 ghost use Rattle.dragoon_app.specs.Audited.{verdict_status, validate_outcome, ValidatesOn, SaysUnaltered};
-ghost use Rattle.dragoon_app.specs.Outcome.{Said, DiskCause, NotaryCause, WriteCause};
+ghost use Rattle.outside_io.specs.Source as sources;
+ghost use Rattle.dragoon_app.specs.Devices.{desk, devices, StaysSound, HasCauses, AllGoOn};
+ghost use Rattle.dragoon_app.specs.Outcome.{Said, WriteCause};
 
 use crate::Status;
 use crate::audit_fail::refuse_audit;
@@ -74,22 +71,18 @@ pub fn run_validate<D: Disk, N: Notary, C: Clock, O: Sink>(
     clock: &mut C,
     out: &mut O,
 ) -> Status
-    ensures told { (input : sources.State) → ValidatesOn id result
-        (D.state disk.old) (D.state disk.new) (N.state notary.old) (N.state notary.new)
-        (C.state clock.old) (C.state clock.new) input input (O.state out.old) (O.state out.new) }
-    ensures sound { KeepsSound (λ before. ⊤)
-        (D.state disk.old) (D.state disk.new) (N.state notary.old) (N.state notary.new) }
-    ensures unaltered { SaysUnaltered id result
-        (D.state disk.old) (D.state disk.new) (N.state notary.old) (N.state notary.new) }
+    ensures leaves { (input : sources.State) → ValidatesOn id result
+        (devices (D.state disk.old) (N.state notary.old) (C.state clock.old) input (O.state out.old))
+        (devices (D.state disk.new) (N.state notary.new) (C.state clock.new) input (O.state out.new)) }
+    ensures sound { StaysSound (desk (D.state disk.old) (N.state notary.old)) (desk (D.state disk.new) (N.state notary.new)) }
+    ensures unaltered { SaysUnaltered id result (desk (D.state disk.old) (N.state notary.old)) (desk (D.state disk.new) (N.state notary.new)) }
     ensures no_usage { result ≢ Status.Usage }
-    ensures no_read_fault { result ≢ Status.ReadFault }
-    ensures disk_frame { disks.GoesOn (D.state disk.old) (D.state disk.new) }
-    ensures notary_frame { notaries.GoesOn (N.state notary.old) (N.state notary.new) }
-    ensures clock_frame { clocks.GoesOn (C.state clock.old) (C.state clock.new) }
-    ensures out_frame { sinks.GoesOn (O.state out.old) (O.state out.new) }
-    ensures disk_cause { DiskCause result (D.state disk.old) (D.state disk.new) }
-    ensures notary_cause { NotaryCause result (N.state notary.old) (N.state notary.new) }
-    ensures write_cause { WriteCause result (O.state out.old) (O.state out.new) }
+    ensures causes { (input : sources.State) → HasCauses result
+        (devices (D.state disk.old) (N.state notary.old) (C.state clock.old) input (O.state out.old))
+        (devices (D.state disk.new) (N.state notary.new) (C.state clock.new) input (O.state out.new)) }
+    ensures goes_on { (input : sources.State) → AllGoOn
+        (devices (D.state disk.old) (N.state notary.old) (C.state clock.old) input (O.state out.old))
+        (devices (D.state disk.new) (N.state notary.new) (C.state clock.new) input (O.state out.new)) }
 {
     sound_is_clean();
     let now = clock.now();

@@ -1,38 +1,49 @@
-use Rattle.std.proofs.Common.{Ok, Err}
+use Rattle.std.proofs.Common.{Ok, Err, rules}
+use Rattle.dragoon_app.specs.Devices.{devices}
 use Rattle.dragoon_app.proofs.Ending.{ran_ok, ran_refused, ran_failed, ran_sound, written_cause}
 use Rattle.dragoon_app.proofs.run.run_opened.Goals as goal
 
 pub returns-then-runner-clause-told : goal.returns-then-runner-clause-told
 returns-then-runner-clause-told g c =
-    ran_refused c.args.runner.now c.carry_lines.new.runner (g.D.Disk.state c.args.disk.now) (g.D.Disk.state c.carry_lines.new.disk) (g.N.Notary.state c.args.notary.now) (g.N.Notary.state c.carry_lines.new.notary) (g.C.Clock.state c.args.clock.now) (g.C.Clock.state c.carry_lines.new.clock) (g.I.Source.state c.args.input.now) (g.I.Source.state c.carry_lines.new.input) (g.O.Sink.state c.args.out.now) (g.O.Sink.state c.carry_lines.new.out)
+    ran_refused c.args.runner.now c.carry_lines.new.runner (devices (g.D.Disk.state c.args.disk.now) (g.N.Notary.state c.args.notary.now) (g.C.Clock.state c.args.clock.now) (g.I.Source.state c.args.input.now) (g.O.Sink.state c.args.out.now))
+    (devices (g.D.Disk.state c.carry_lines.new.disk) (g.N.Notary.state c.carry_lines.new.notary) (g.C.Clock.state c.carry_lines.new.clock) (g.I.Source.state c.carry_lines.new.input) (g.O.Sink.state c.carry_lines.new.out))
     c.in-Ok.ensures.told c.if-runner.true
 
 pub returns-else-runner-clause-told : goal.returns-else-runner-clause-told
 returns-else-runner-clause-told g c =
-    ran_ok c.args.runner.now c.carry_lines.new.runner (g.D.Disk.state c.args.disk.now) (g.D.Disk.state c.carry_lines.new.disk) (g.N.Notary.state c.args.notary.now) (g.N.Notary.state c.carry_lines.new.notary) (g.C.Clock.state c.args.clock.now) (g.C.Clock.state c.carry_lines.new.clock) (g.I.Source.state c.args.input.now) (g.I.Source.state c.carry_lines.new.input) (g.O.Sink.state c.args.out.now) (g.O.Sink.state c.carry_lines.new.out)
+    ran_ok c.args.runner.now c.carry_lines.new.runner (devices (g.D.Disk.state c.args.disk.now) (g.N.Notary.state c.args.notary.now) (g.C.Clock.state c.args.clock.now) (g.I.Source.state c.args.input.now) (g.O.Sink.state c.args.out.now))
+    (devices (g.D.Disk.state c.carry_lines.new.disk) (g.N.Notary.state c.carry_lines.new.notary) (g.C.Clock.state c.carry_lines.new.clock) (g.I.Source.state c.carry_lines.new.input) (g.O.Sink.state c.carry_lines.new.out))
     c.in-Ok.ensures.told c.if-runner.false
 
 pub returns-in-Err-clause-told : goal.returns-in-Err-clause-told
 returns-in-Err-clause-told g c =
-    ran_failed c.args.runner.now c.carry_lines.new.runner (g.D.Disk.state c.args.disk.now) (g.D.Disk.state c.carry_lines.new.disk) (g.N.Notary.state c.args.notary.now) (g.N.Notary.state c.carry_lines.new.notary) (g.C.Clock.state c.args.clock.now) (g.C.Clock.state c.carry_lines.new.clock) (g.I.Source.state c.args.input.now) (g.I.Source.state c.carry_lines.new.input) (g.O.Sink.state c.args.out.now) (g.O.Sink.state c.carry_lines.new.out) (g.O.Sink.state c.end.new.out)
+    ran_failed c.args.runner.now c.carry_lines.new.runner (devices (g.D.Disk.state c.args.disk.now) (g.N.Notary.state c.args.notary.now) (g.C.Clock.state c.args.clock.now) (g.I.Source.state c.args.input.now) (g.O.Sink.state c.args.out.now))
+    (devices (g.D.Disk.state c.carry_lines.new.disk) (g.N.Notary.state c.carry_lines.new.notary) (g.C.Clock.state c.carry_lines.new.clock) (g.I.Source.state c.carry_lines.new.input) (g.O.Sink.state c.carry_lines.new.out)) (g.O.Sink.state c.end.new.out)
     c.in-Err.fail c.end.result c.in-Err.ensures.told c.in-Err.ensures.disk_cause c.in-Err.ensures.notary_cause c.in-Err.ensures.read_cause c.end.ensures.value
 
-pub returns-in-Err-clause-write_cause : goal.returns-in-Err-clause-write_cause
-returns-in-Err-clause-write_cause g c =
-    written_cause c.in-Err.fail c.end.result (g.O.Sink.state c.args.out.now) (g.O.Sink.state c.carry_lines.new.out) (g.O.Sink.state c.end.new.out)
-    c.in-Err.ensures.write_cause c.carry_lines.ensures.out_frame.faults c.end.ensures.frame.faults c.end.ensures.cause
+pub returns-in-Err-clause-causes : goal.returns-in-Err-clause-causes
+returns-in-Err-clause-causes g c = record {
+  disk = search rules;
+  notary = search rules;
+  read = search rules;
+  write = written_cause c.in-Err.fail c.end.result (g.O.Sink.state c.args.out.now) (g.O.Sink.state c.carry_lines.new.out) (g.O.Sink.state c.end.new.out)
+      c.in-Err.ensures.write_cause c.carry_lines.ensures.out_frame.faults c.end.ensures.frame.faults c.end.ensures.cause;
+}
 
 pub returns-then-runner-clause-sound : goal.returns-then-runner-clause-sound
 returns-then-runner-clause-sound g c =
-    ran_sound (Ok tt) c.args.runner.now c.carry_lines.new.runner (g.D.Disk.state c.args.disk.now) (g.D.Disk.state c.carry_lines.new.disk) (g.N.Notary.state c.args.notary.now) (g.N.Notary.state c.carry_lines.new.notary) (g.C.Clock.state c.args.clock.now) (g.C.Clock.state c.carry_lines.new.clock) (g.I.Source.state c.args.input.now) (g.I.Source.state c.carry_lines.new.input) (g.O.Sink.state c.args.out.now) (g.O.Sink.state c.carry_lines.new.out)
+    ran_sound (Ok tt) c.args.runner.now c.carry_lines.new.runner (devices (g.D.Disk.state c.args.disk.now) (g.N.Notary.state c.args.notary.now) (g.C.Clock.state c.args.clock.now) (g.I.Source.state c.args.input.now) (g.O.Sink.state c.args.out.now))
+    (devices (g.D.Disk.state c.carry_lines.new.disk) (g.N.Notary.state c.carry_lines.new.notary) (g.C.Clock.state c.carry_lines.new.clock) (g.I.Source.state c.carry_lines.new.input) (g.O.Sink.state c.carry_lines.new.out))
     c.in-Ok.ensures.told
 
 pub returns-else-runner-clause-sound : goal.returns-else-runner-clause-sound
 returns-else-runner-clause-sound g c =
-    ran_sound (Ok tt) c.args.runner.now c.carry_lines.new.runner (g.D.Disk.state c.args.disk.now) (g.D.Disk.state c.carry_lines.new.disk) (g.N.Notary.state c.args.notary.now) (g.N.Notary.state c.carry_lines.new.notary) (g.C.Clock.state c.args.clock.now) (g.C.Clock.state c.carry_lines.new.clock) (g.I.Source.state c.args.input.now) (g.I.Source.state c.carry_lines.new.input) (g.O.Sink.state c.args.out.now) (g.O.Sink.state c.carry_lines.new.out)
+    ran_sound (Ok tt) c.args.runner.now c.carry_lines.new.runner (devices (g.D.Disk.state c.args.disk.now) (g.N.Notary.state c.args.notary.now) (g.C.Clock.state c.args.clock.now) (g.I.Source.state c.args.input.now) (g.O.Sink.state c.args.out.now))
+    (devices (g.D.Disk.state c.carry_lines.new.disk) (g.N.Notary.state c.carry_lines.new.notary) (g.C.Clock.state c.carry_lines.new.clock) (g.I.Source.state c.carry_lines.new.input) (g.O.Sink.state c.carry_lines.new.out))
     c.in-Ok.ensures.told
 
 pub returns-in-Err-clause-sound : goal.returns-in-Err-clause-sound
 returns-in-Err-clause-sound g c =
-    ran_sound (Err c.in-Err.fail) c.args.runner.now c.carry_lines.new.runner (g.D.Disk.state c.args.disk.now) (g.D.Disk.state c.carry_lines.new.disk) (g.N.Notary.state c.args.notary.now) (g.N.Notary.state c.carry_lines.new.notary) (g.C.Clock.state c.args.clock.now) (g.C.Clock.state c.carry_lines.new.clock) (g.I.Source.state c.args.input.now) (g.I.Source.state c.carry_lines.new.input) (g.O.Sink.state c.args.out.now) (g.O.Sink.state c.carry_lines.new.out)
+    ran_sound (Err c.in-Err.fail) c.args.runner.now c.carry_lines.new.runner (devices (g.D.Disk.state c.args.disk.now) (g.N.Notary.state c.args.notary.now) (g.C.Clock.state c.args.clock.now) (g.I.Source.state c.args.input.now) (g.O.Sink.state c.args.out.now))
+    (devices (g.D.Disk.state c.carry_lines.new.disk) (g.N.Notary.state c.carry_lines.new.notary) (g.C.Clock.state c.carry_lines.new.clock) (g.I.Source.state c.carry_lines.new.input) (g.O.Sink.state c.carry_lines.new.out))
     c.in-Err.ensures.told
