@@ -63,3 +63,62 @@ pub fn made(alloc: Global, text: &str) -> Result<MemDisk, AllocError> {
     let _ready = call(alloc, &mut store, text, b"", &[0])?;
     Ok(store)
 }
+
+/// A table, and a row in each of the first granules of a minute, the first one at moment 0.
+fn rows(alloc: Global, granules: u32) -> Result<Vec<u8>, AllocError> {
+    let mut script = b"create t k int v int\n".to_vec(alloc)?;
+    for granule in 0..granules {
+        let moment = u64::from(granule) * 60;
+        let lines = format!(in alloc; "now {moment}\ninsert t {granule} 0\n")?;
+        script.extend_from_slice(lines.as_bytes())?;
+    }
+    Ok(script)
+}
+
+/// A store made by these words and filled with rows, all tiles of which are sealed.
+pub fn sealed(
+    alloc: Global,
+    text: &str,
+    granules: u32,
+    notary: &mut MemNotary,
+) -> Result<MemDisk, AllocError> {
+    let mut store = made(alloc, text)?;
+    let mut script = rows(alloc, granules)?;
+    let end = u64::from(granules) * 60;
+    script.extend_from_slice(format!(in alloc; "now {end}\nnotarize\n")?.as_bytes())?;
+    let _filled = audit(alloc, &mut store, notary, "run 7 scripted", &script, &[])?;
+    Ok(store)
+}
+
+/// The same store with other bytes at these places.
+pub fn altered(
+    alloc: Global,
+    store: &MemDisk,
+    changes: &[(usize, u8)],
+) -> Result<MemDisk, AllocError> {
+    let mut bytes = store.bytes().to_vec(alloc)?;
+    for (place, byte) in changes {
+        if let Some(changed) = bytes.get_mut(*place) {
+            *changed = *byte;
+        }
+    }
+    Ok(MemDisk::holding(alloc, bytes))
+}
+
+/// 400 entries of a week in granules of an hour. The tiles that have ended are sealed on the fifth
+/// day, when a validation finds them clean, and at the week's end.
+pub fn week(alloc: Global, notary: &mut MemNotary) -> Result<MemDisk, AllocError> {
+    let mut script = b"create ledger id int name text cents int\n".to_vec(alloc)?;
+    for entry in 1u32..401 {
+        let moment = (entry - 1) * 1512;
+        let lines = format!(in alloc; "now {moment}\ninsert ledger {entry} 'entry' 1000\n")?;
+        script.extend_from_slice(lines.as_bytes())?;
+        if entry == 286 {
+            script.extend_from_slice(b"now 432000\nnotarize\nvalidate\n")?;
+        }
+    }
+    script.extend_from_slice(b"now 604800\nnotarize\n")?;
+    let mut store = made(alloc, "init 18 3600 3 ta")?;
+    let _filled = audit(alloc, &mut store, notary, "run 18 scripted", &script, &[])?;
+    Ok(store)
+}

@@ -5,6 +5,10 @@
 #![tactic(auto)]
 
 #[cfg(test)]
+mod analysed;
+#[cfg(test)]
+mod commands;
+#[cfg(test)]
 mod crashes;
 #[cfg(test)]
 mod desk;
@@ -12,6 +16,8 @@ mod desk;
 mod limits;
 #[cfg(test)]
 mod notarized;
+#[cfg(test)]
+mod runs;
 #[cfg(test)]
 mod scripts;
 #[cfg(test)]

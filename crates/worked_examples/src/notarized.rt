@@ -1,47 +1,9 @@
 //! What is filed of a store, and what is found of it later.
 
-use crate::desk::{audit, call, made, notary};
+use crate::desk::{altered, audit, call, made, notary, sealed, week};
 use disk_model::MemDisk;
 use notary_link::{MemNotary, Notary, NotaryLimits};
-use std::alloc::{AllocError, Global};
 use std::test::Fail;
-
-/// A table, and a row in each of the first granules of a minute, the first one at moment 0.
-fn rows(alloc: Global, granules: u32) -> Result<Vec<u8>, AllocError> {
-    let mut script = b"create t k int v int\n".to_vec(alloc)?;
-    for granule in 0..granules {
-        let moment = u64::from(granule) * 60;
-        let lines = format!(in alloc; "now {moment}\ninsert t {granule} 0\n")?;
-        script.extend_from_slice(lines.as_bytes())?;
-    }
-    Ok(script)
-}
-
-/// A store made by these words and filled with rows, all tiles of which are sealed.
-fn sealed(
-    alloc: Global,
-    text: &str,
-    granules: u32,
-    notary: &mut MemNotary,
-) -> Result<MemDisk, AllocError> {
-    let mut store = made(alloc, text)?;
-    let mut script = rows(alloc, granules)?;
-    let end = u64::from(granules) * 60;
-    script.extend_from_slice(format!(in alloc; "now {end}\nnotarize\n")?.as_bytes())?;
-    let _filled = audit(alloc, &mut store, notary, "run 7 scripted", &script, &[])?;
-    Ok(store)
-}
-
-/// The same store with other bytes at these places.
-fn altered(alloc: Global, store: &MemDisk, changes: &[(usize, u8)]) -> Result<MemDisk, AllocError> {
-    let mut bytes = store.bytes().to_vec(alloc)?;
-    for (place, byte) in changes {
-        if let Some(changed) = bytes.get_mut(*place) {
-            *changed = *byte;
-        }
-    }
-    Ok(MemDisk::holding(alloc, bytes))
-}
 
 #[test]
 fn a_tile_is_sealed_when_it_has_ended(rt: HostRuntime) -> Result<(), Fail> {
@@ -170,31 +132,11 @@ fn a_notary_without_room_refuses(rt: HostRuntime) -> Result<(), Fail> {
     Ok(())
 }
 
-/// 400 entries of a week in granules of an hour; one is changed after all were filed.
 #[test]
 fn a_week_of_a_ledger_is_found_altered(rt: HostRuntime) -> Result<(), Fail> {
     let alloc = rt.alloc();
-    let mut script = b"create ledger id int name text cents int\n".to_vec(alloc)?;
-    for entry in 1u32..401 {
-        let moment = (entry - 1) * 1512;
-        let lines = format!(in alloc; "now {moment}\ninsert ledger {entry} 'entry' 1000\n")?;
-        script.extend_from_slice(lines.as_bytes())?;
-        if entry == 286 {
-            script.extend_from_slice(b"now 432000\nnotarize\nvalidate\n")?;
-        }
-    }
-    script.extend_from_slice(b"now 604800\nnotarize\n")?;
-    let mut store = made(alloc, "init 18 3600 3 ta")?;
     let mut filed = notary(alloc);
-    let answered = audit(
-        alloc,
-        &mut store,
-        &mut filed,
-        "run 18 scripted",
-        &script,
-        &[],
-    )?;
-    assert!(rt; answered.1.ends_with(b"ok\nsealed 21\n"));
+    let store = week(alloc, &mut filed)?;
     let mut other = altered(alloc, &store, &[(6764, 0xe9)])?;
     let answered = audit(
         alloc,

@@ -1,0 +1,26 @@
+//! Worked examples of analyses: stores and notaries in memory, held against answers worked by hand.
+//!
+//! What is answered is proved where it stands. These examples show that a call answers at all where there
+//! is memory, and hold the definitions against texts that were written by hand.
+//!
+//! | File | Shows |
+//! |---|---|
+//! | `reports` | whole reports; that every damage to a store is told |
+//! | `targets` | the candidates of a tile, by its target and by how many granules are altered |
+//! | `descents` | which granules a descent finds, and how many nodes it asks |
+//! | `spans` | when a tile was changed; how many events a diagram has |
+//! | `refusals` | what refuses an analysis |
+#![tactic(auto)]
+
+#[cfg(test)]
+mod descents;
+#[cfg(test)]
+mod desk;
+#[cfg(test)]
+mod refusals;
+#[cfg(test)]
+mod reports;
+#[cfg(test)]
+mod spans;
+#[cfg(test)]
+mod targets;
