@@ -7,3 +7,4 @@ pub record HasRead (told : ℕ) (all : List ℕ) (old new : State) : Type 0 wher
   pub front : IfSome old.reads (λ bytes. (told ≡ length bytes) × (all ≡ take (length all) bytes))
   pub same : Unchanged old new
   pub frame : GoesOn old new
+  pub counted : new.faults ≡ old.faults

@@ -23,7 +23,7 @@ pub struct Gathering {
 
 impl Gathering {
     ghost use Rattle.std.specs.Prelude.{◌≡◌, ◌<◌, [], false, IfOk, IfErr, OnErr, IsErrOf, IsFalse};
-    ghost use Rattle.outside_words.specs.Faults.{HasCause};
+    ghost use Rattle.outside_words.specs.Faults.{HasCause, HidesNoFault};
     ghost use Rattle.outside_io.specs.Source.{GoesOn};
     ghost use Rattle.line_input.specs.declared.fail.InputFail.TheVariants.{ReadFault, InputLimit};
     ghost use Rattle.line_input.specs.Reader.{IsAtLimit};
@@ -49,6 +49,7 @@ impl Gathering {
         ensures read_fault { IsErrOf result ReadFault → HasNoEnd self.new }
         ensures frame { GoesOn (I.state input.old) (I.state input.new) }
         ensures cause { HasCause ReadFault (I.state input.old).faults (I.state input.new).faults result }
+        ensures counted { HidesNoFault (I.state input.old).faults (I.state input.new).faults result }
     {
         while !self.gather()? {
             if !self.take_piece(input)? {
@@ -89,6 +90,7 @@ impl Gathering {
         ensures input_limit { IsErrOf result InputLimit → self.new.taken ≡ input_limit }
         ensures frame { GoesOn (I.state input.old) (I.state input.new) }
         ensures cause { HasCause ReadFault (I.state input.old).faults (I.state input.new).faults result }
+        ensures counted { HidesNoFault (I.state input.old).faults (I.state input.new).faults result }
     {
         if self.taken == INPUT_LIMIT {
             return Err(InputFail::InputLimit);

@@ -25,6 +25,7 @@
 //! | and the end of input is seen only below the limit | `end`, `told` |
 //! | with each line more bytes are given out, so a loop over lines ends | `more` |
 //! | `ReadFault` comes only where the source counted a fault, and with no line's end pending | `cause`, `read_fault` |
+//! | after Ok the source counted no fault: no read that failed was tried again | `counted` |
 //! | the source stays told or untold, its faults never fall | `frame` |
 //!
 //! The lines of bytes are defined in `specs/Lines`, and [`lines_are_the_only_ones`] says that bytes

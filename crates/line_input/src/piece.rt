@@ -20,7 +20,7 @@ pub struct Piece {
 
 impl Piece {
     ghost use Rattle.std.specs.Prelude.{◌≡◌, ◌<◌, [], IfOk, OnErr};
-    ghost use Rattle.outside_words.specs.Faults.{HasCause};
+    ghost use Rattle.outside_words.specs.Faults.{HasCause, HidesNoFault};
     ghost use Rattle.outside_io.specs.Source.{Unchanged, GoesOn};
     ghost use Rattle.line_input.specs.declared.fail.InputFail.TheVariants.{ReadFault, InputLimit};
     ghost use Rattle.line_input.specs.Piece.{rest_of, IsNext};
@@ -55,6 +55,7 @@ impl Piece {
         ensures no_limit { result ≡ Err InputLimit → ⊥ }
         ensures frame { GoesOn (I.state input.old) (I.state input.new) }
         ensures cause { HasCause ReadFault (I.state input.old).faults (I.state input.new).faults result }
+        ensures counted { HidesNoFault (I.state input.old).faults (I.state input.new).faults result }
     {
         self.bytes.resize(most, 0)?;
         self.from = 0;

@@ -1,7 +1,7 @@
 //! The reader of lines.
 
 ghost use Rattle.std.specs.Prelude.{◌≡◌, ◌<◌, [], OnErr, IfOk, IsFalse, IsErrOf};
-ghost use Rattle.outside_words.specs.Faults.{HasCause};
+ghost use Rattle.outside_words.specs.Faults.{HasCause, HidesNoFault};
 ghost use Rattle.outside_io.specs.Source.{GoesOn};
 ghost use Rattle.line_input.specs.declared.fail.InputFail.TheVariants.{ReadFault, InputLimit};
 ghost use Rattle.line_input.specs.Limits.{input_limit};
@@ -66,6 +66,7 @@ impl LineReader {
         ensures read_fault { IsErrOf result ReadFault → IsFeedless self.new.pending }
         ensures frame { GoesOn (I.state input.old) (I.state input.new) }
         ensures cause { HasCause ReadFault (I.state input.old).faults (I.state input.new).faults result }
+        ensures counted { HidesNoFault (I.state input.old).faults (I.state input.new).faults result }
     {
         if self.is_given {
             self.gathering.line.clear();

@@ -14,6 +14,29 @@
 //! Numbers stand with the highest byte first. The outcome is 00 clean, 01 altered, 02 header altered;
 //! the first bad tile is 0 unless the outcome is 01. A part is 0 to 9 or 255, a level 0 to 20.
 //!
+//! One record in full: batch 0 of `examples/worked.book`, as
+//! `xxd -g 1 -s 64 -l 62 examples/worked.book` shows it.
+//!
+//! | Place | Bytes | Field |
+//! |---|---|---|
+//! | 64 | `a7` | the gate: open |
+//! | 65 | `00 00 00 38` | the length of the payload: 56 |
+//! | 69 | `01` | the payload is a batch |
+//! | 70 | `00 00 00 00 00 00 00 07` | the id of the store: 7 |
+//! | 78 | `00 00 00 00` | the index of the batch: 0 |
+//! | 82 | `00 00 00 00 00 00 01 e0` | the moment at which it was filed: second 480 |
+//! | 90 | `00 01` | it has 1 seal |
+//! | 92 | `00` | whose name is Header |
+//! | 93 | `bb 06 d0 08 7b f6 d3 43 a9 f0 05 6f 4c 65 60 b4` | its digest, the first half |
+//! | 109 | `ae 64 5e 19 b8 25 e2 8a 35 e4 6a 7e 53 be 24 42` | the second half |
+//! | 125 | `a7` | the gate of the next record |
+//!
+//! The digest is SHA-256 of a byte 05 and the 22 header fields of the store. So this prints it too:
+//!
+//! ```text
+//! (printf '\005'; tail -c +10 examples/worked.store | head -c 22) | sha256sum
+//! ```
+//!
 //! What bytes say is `told_by` of `specs/Books`: the lists that the calls of the longest prefix of valid
 //! records leave, each of which is in turn and within 16,777,216 seals and 65,536 marks, or nothing
 //! where one is not. A device on which a file may be made stands for an empty book.

@@ -39,7 +39,7 @@ impl MemSource {
 
 impl Source for MemSource {
     ghost use Rattle.std.specs.Prelude.{IfOk, OnErr, IsErrOf};
-    ghost use Rattle.outside_words.specs.Faults.{HasCause};
+    ghost use Rattle.outside_words.specs.Faults.{HasCause, HidesNoFault};
     ghost use Rattle.outside_words.specs.Listed.{counted, FailsAsListed};
     ghost use Rattle.outside_io.specs.declared.sink.StreamFail.TheVariants.{Failed, NoMemory};
     ghost use Rattle.outside_io.specs.Source.{Reads, Unchanged, GoesOn};
@@ -52,9 +52,10 @@ impl Source for MemSource {
         ensures kept { OnErr result (Unchanged (state_of self.old) (state_of self.new)) }
         ensures frame { GoesOn (state_of self.old) (state_of self.new) }
         ensures cause { HasCause Failed (state_of self.old).faults (state_of self.new).faults result }
+        ensures counted { HidesNoFault (state_of self.old).faults (state_of self.new).faults result }
         ensures listed { FailsAsListed Failed (listed_of self.old) result }
         ensures no_memory { ¬ IsErrOf result NoMemory }
-        ensures counted { listed_of self.new ≡ counted (listed_of self.old) }
+        ensures numbered { listed_of self.new ≡ counted (listed_of self.old) }
         ensures piece { IfOk result (λ n. n ≤ piece_of self.old) }
         ensures same { piece_of self.new ≡ piece_of self.old }
     {

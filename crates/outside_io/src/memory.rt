@@ -40,7 +40,7 @@ impl MemSink {
 
 impl Sink for MemSink {
     ghost use Rattle.std.specs.Prelude.{length, IfOk, OnErr};
-    ghost use Rattle.outside_words.specs.Faults.{HasCause};
+    ghost use Rattle.outside_words.specs.Faults.{HasCause, HidesNoFault};
     ghost use Rattle.outside_words.specs.Listed.{counted, FailsAsListed};
     ghost use Rattle.outside_io.specs.declared.sink.StreamFail.TheVariants.{Failed};
     ghost use Rattle.outside_io.specs.Sink.{Writes, Unchanged, GoesOn};
@@ -54,8 +54,9 @@ impl Sink for MemSink {
         ensures kept { OnErr result (Unchanged (state_of self.old) (state_of self.new)) }
         ensures frame { GoesOn (state_of self.old) (state_of self.new) }
         ensures cause { HasCause Failed (state_of self.old).faults (state_of self.new).faults result }
+        ensures counted { HidesNoFault (state_of self.old).faults (state_of self.new).faults result }
         ensures listed { FailsAsListed Failed (listed_of self.old) result }
-        ensures counted { listed_of self.new ≡ counted (listed_of self.old) }
+        ensures numbered { listed_of self.new ≡ counted (listed_of self.old) }
     {
         self.writes = self.writes.saturating_add(1);
         if self.failing.contains(&self.writes) {

@@ -1,6 +1,6 @@
 //! A source as its callers see it.
 ghost use Rattle.std.specs.Prelude.{IfOk, OnErr};
-ghost use Rattle.outside_words.specs.Faults.{HasCause};
+ghost use Rattle.outside_words.specs.Faults.{HasCause, HidesNoFault};
 ghost use Rattle.outside_io.specs.declared.sink.StreamFail.TheVariants.{Failed};
 ghost use Rattle.outside_io.specs.Source.{State, Reads, Unchanged, GoesOn};
 
@@ -17,5 +17,6 @@ pub trait Source {
         ensures value { IfOk result (Reads into.new (state self.old) (state self.new)) }
         ensures kept { OnErr result (Unchanged (state self.old) (state self.new)) }
         ensures frame { GoesOn (state self.old) (state self.new) }
-        ensures cause { HasCause Failed (state self.old).faults (state self.new).faults result };
+        ensures cause { HasCause Failed (state self.old).faults (state self.new).faults result }
+        ensures counted { HidesNoFault (state self.old).faults (state self.new).faults result };
 }

@@ -29,10 +29,11 @@ module _ {X : Type 0} (read : List ℕ → Option X) (shape : Shape) where
     pub head : r.head ≡ opened.head
     pub same : Unchanged first now
     pub frame : GoesOn first now
+    pub counted : now.faults ≡ first.faults
 
   -- before the first record
   pub starts : (first : State) (opened : Reading) → IsGathering first first opened opened []
-  starts first opened = record { told = by first.reads; head = refl; same = unchanged_same first; frame = goes_on_same first }
+  starts first opened = record { told = by first.reads; head = refl; same = unchanged_same first; frame = goes_on_same first; counted = refl }
     where
       by : (told : Option (List ℕ)) → IfSome told (λ bytes. IsSeenIn bytes opened → Completes opened opened [] bytes)
       by None = tt
@@ -40,13 +41,14 @@ module _ {X : Type 0} (read : List ℕ → Option X) (shape : Shape) where
 
   -- the next record was read
   pub one_more : (first old new : State) (opened r s : Reading) (gathered more : List X) → IsGathering first old opened r gathered
-      → IfSome old.reads (λ bytes. IsSeenIn bytes r → ReadsNext shape bytes r true s) → IfSome old.reads (λ bytes. IsSeenIn bytes r → IsSeenIn bytes s) → s.head ≡ r.head → Unchanged old new → GoesOn old new
+      → IfSome old.reads (λ bytes. IsSeenIn bytes r → ReadsNext shape bytes r true s) → IfSome old.reads (λ bytes. IsSeenIn bytes r → IsSeenIn bytes s) → s.head ≡ r.head → Unchanged old new → GoesOn old new → new.faults ≡ old.faults
       → more ≡ gathered ++ filter_map read (s.payload ∷ []) → IsGathering first new opened s more
-  one_more first old new opened r s gathered more so_far reads seen head same frame is = record {
+  one_more first old new opened r s gathered more so_far reads seen head same frame none is = record {
     told = by first.reads so_far.told (subst (λ (o : Option (List ℕ)). IfSome o (λ bytes. IsSeenIn bytes r → ReadsNext shape bytes r true s)) so_far.same.reads reads) (subst (λ (o : Option (List ℕ)). IfSome o (λ bytes. IsSeenIn bytes r → IsSeenIn bytes s)) so_far.same.reads seen);
     head = head ∙ so_far.head;
     same = unchanged_then first old new so_far.same same;
     frame = goes_on_then first old new so_far.frame frame;
+    counted = none ∙ so_far.counted;
   }
     where
       by : (told : Option (List ℕ)) → IfSome told (λ bytes. IsSeenIn bytes opened → Completes opened r gathered bytes)

@@ -6,7 +6,8 @@ use Rattle.disk_model.specs.Moments.{EveryImage, MakesCalls, calls_of}
 use Rattle.byte_grammar.specs.Gated.{Shape, open_gate}
 use Rattle.txn_journal.specs.declared.fail.JournalFail.{JournalFail}
 use Rattle.txn_journal.specs.declared.fail.JournalFail.TheVariants as fails
-use Rattle.txn_journal.specs.Reading.{head_length, left}
+use Rattle.history_model.specs.Stored.{header_length}
+use Rattle.txn_journal.specs.Reading.{left}
 use Rattle.txn_journal.specs.Held.{held_by, new_file}
 use Rattle.txn_journal.specs.Append.{closed_gate}
 
@@ -32,9 +33,9 @@ creation head = (0, closed_gate ∷ []) ∷ (1, drop 1 head ++ closed_gate ∷ [
 
 -- A file that is being made holds no payload. Its head, where that is gated open, is the new one or stood there.
 pub record IsHalfMade (shape : Shape) (head before c : List ℕ) : Type 0 where
-  pub empty : left shape head_length c ≡ ([], head_length)
-  pub head_is : slice_index c 0 ≡ open_gate → head_length < length c → (take head_length c ≡ head) ⊎ (drop 1 (take head_length c) ≡ drop 1 (take head_length before))
-  pub from_empty : before ≡ [] → IsFree c ⊎ ((take head_length c ≡ head) × (head_length < length c))
+  pub empty : left shape header_length c ≡ ([], header_length)
+  pub head_is : slice_index c 0 ≡ open_gate → header_length < length c → (take header_length c ≡ head) ⊎ (drop 1 (take header_length c) ≡ drop 1 (take header_length before))
+  pub from_empty : before ≡ [] → IsFree c ⊎ ((take header_length c ≡ head) × (header_length < length c))
 
 -- the answers that making a file may give
 abbrev pub IsOfCreation : Result (Unit {0}) JournalFail → Type 0

@@ -1,7 +1,8 @@
 -- What a file of gated records holds, and where a journal stands in it.
 use Rattle.std.specs.Prelude.{◌≡◌, ◌⊎◌, ◌==◌, ℕ, Bool, true, false, List, [], ◌∷◌, ◌++◌, length, slice_index, Option, Some, None}
 use Rattle.byte_grammar.specs.Gated.{Shape, open_gate, end_behind}
-use Rattle.txn_journal.specs.Reading.{head_length, head_of, left}
+use Rattle.history_model.specs.Stored.{header_length}
+use Rattle.txn_journal.specs.Reading.{head_of, left}
 
 -- its head, the payloads behind it, and the place of the gate behind these
 pub record Held : Type 0 where
@@ -15,11 +16,11 @@ held_under (Some head) found = Some (record { head = head; payloads = found.0; e
 
 -- what stands in these bytes, where they have a head of this kind
 abbrev pub held_by : (List ℕ → Bool) → Shape → List ℕ → Option Held
-held_by is_head shape bytes = held_under (head_of is_head bytes) (left shape head_length bytes)
+held_by is_head shape bytes = held_under (head_of is_head bytes) (left shape header_length bytes)
 
 -- nothing yet behind a head
 abbrev pub new_file : List ℕ → Held
-new_file head = record { head = head; payloads = []; end = head_length }
+new_file head = record { head = head; payloads = []; end = header_length }
 
 -- one payload more
 abbrev pub with_payload : Held → List ℕ → Held

@@ -1,14 +1,11 @@
 -- A file of gated records, as it is read record by record.
 use Rattle.std.specs.Prelude.{◌≡◌, ◌<◌, ◌≤◌, ℕ, ◌+◌, ◌-◌, ◌&&◌, nat_lt, Bool, true, false, IsTrue, List, [], length, take, drop, slice_index, Option, Some, None, if◌then◌else◌}
 use Rattle.byte_grammar.specs.Gated.{Shape, FitsRecord, payload_at, records, with_first}
-
--- the length of a head, and the place of the first record's gate
-abbrev pub head_length : ℕ
-head_length = 64
+use Rattle.history_model.specs.Stored.{header_length}
 
 -- the head that stands at the front of the bytes, with a gate behind it
 abbrev pub head_of : (List ℕ → Bool) → List ℕ → Option (List ℕ)
-head_of is_head bytes = if nat_lt head_length (length bytes) && is_head (take head_length bytes) then Some (take head_length bytes) else None
+head_of is_head bytes = if nat_lt header_length (length bytes) && is_head (take header_length bytes) then Some (take header_length bytes) else None
 
 -- the payloads that are still to be read from a place on, and the place of the gate behind them
 abbrev pub left : Shape → ℕ → List ℕ → List (List ℕ) × ℕ
@@ -58,7 +55,7 @@ StepsOver shape old false new = (payload_at shape old.place (ahead old) ≡ None
 -- it stands at the first record, behind a head
 pub record Begins (is_head : List ℕ → Bool) (r : Reading) : Type 0 where
   pub head : IsTrue (is_head r.head)
-  pub place : r.place ≡ head_length
+  pub place : r.place ≡ header_length
 
 -- the gate at the place ends the records, and it is seen where there is one
 pub record StopsAt (shape : Shape) (bytes : List ℕ) (r : Reading) : Type 0 where

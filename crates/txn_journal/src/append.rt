@@ -4,7 +4,7 @@
 //! Once the record is durable, and a closed gate behind it, its own gate is opened.
 
 ghost use Rattle.std.specs.Prelude.{◌≡◌, ◌+◌, ◌<◌, ◌^◌, true, false, [], ◌∷◌, length, IfOk};
-ghost use Rattle.outside_words.specs.Faults.{HasCause};
+ghost use Rattle.outside_words.specs.Faults.{HasCause, HidesNoFault};
 ghost use Rattle.outside_words.specs.Told.{WhereTold};
 ghost use Rattle.disk_words.specs.declared.DiskFail.TheVariants.{Failed};
 ghost use Rattle.disk_words.specs.Disk.{GoesOn};
@@ -16,7 +16,7 @@ use disk_model::{Disk, DiskFail, write_durably, write_gated};
 use std::alloc::{AllocError, Global};
 
 /// What stands behind the gate of a record: its length, its payload, and the next gate, which is closed.
-pub(crate) fn spelled(alloc: Global, payload: &[u8]) -> Result<Vec<u8>, AllocError>
+pub(crate) fn record_bytes(alloc: Global, payload: &[u8]) -> Result<Vec<u8>, AllocError>
     requires { length payload.now < 2 ^ 32 }
     ensures value { IfOk result (λ bytes. bytes.items ≡ behind_gate payload.now) }
 {
@@ -38,6 +38,7 @@ pub(crate) fn add<D: Disk>(
         (Secures (writes_at gate_is_open end bytes.now) result (D.state disk.old) (D.state disk.new)) }
     ensures frame { GoesOn (D.state disk.old) (D.state disk.new) }
     ensures cause { HasCause Failed (D.state disk.old).faults (D.state disk.new).faults result }
+    ensures counted { HidesNoFault (D.state disk.old).faults (D.state disk.new).faults result }
 {
     if gate_is_open {
         close_and_add(disk, end, bytes)
@@ -53,6 +54,7 @@ fn close_and_add<D: Disk>(disk: &mut D, end: u64, bytes: &[u8]) -> Result<(), Di
         (Secures (writes_at true end bytes.now) result (D.state disk.old) (D.state disk.new)) }
     ensures frame { GoesOn (D.state disk.old) (D.state disk.new) }
     ensures cause { HasCause Failed (D.state disk.old).faults (D.state disk.new).faults result }
+    ensures counted { HidesNoFault (D.state disk.old).faults (D.state disk.new).faults result }
 {
     close_gate(disk, end)?;
     add_behind_closed(disk, end, bytes)
@@ -64,6 +66,7 @@ fn close_gate<D: Disk>(disk: &mut D, end: u64) -> Result<(), DiskFail>
         (Secures ((end, closed_gate ∷ []) ∷ []) result (D.state disk.old) (D.state disk.new)) }
     ensures frame { GoesOn (D.state disk.old) (D.state disk.new) }
     ensures cause { HasCause Failed (D.state disk.old).faults (D.state disk.new).faults result }
+    ensures counted { HidesNoFault (D.state disk.old).faults (D.state disk.new).faults result }
 {
     write_durably(disk, end, &[CLOSED])
 }
@@ -75,6 +78,7 @@ fn add_behind_closed<D: Disk>(disk: &mut D, end: u64, bytes: &[u8]) -> Result<()
         (Secures (writes_at false end bytes.now) result (D.state disk.old) (D.state disk.new)) }
     ensures frame { GoesOn (D.state disk.old) (D.state disk.new) }
     ensures cause { HasCause Failed (D.state disk.old).faults (D.state disk.new).faults result }
+    ensures counted { HidesNoFault (D.state disk.old).faults (D.state disk.new).faults result }
 {
     write_gated(disk, end, OPEN, bytes)
 }

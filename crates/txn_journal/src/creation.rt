@@ -5,7 +5,7 @@
 //! stood on the device already.
 
 ghost use Rattle.std.specs.Prelude.{◌≡◌, ◌≤◌, [], ◌∷◌, ◌++◌, drop, slice_index, IsTrue, IfSome, IfOk};
-ghost use Rattle.outside_words.specs.Faults.{HasCause};
+ghost use Rattle.outside_words.specs.Faults.{HasCause, HidesNoFault};
 ghost use Rattle.outside_words.specs.Told.{WhereTold};
 ghost use Rattle.disk_words.specs.declared.DiskFail.TheVariants.{Failed};
 ghost use Rattle.disk_words.specs.Disk.{GoesOn, Unchanged};
@@ -29,6 +29,7 @@ pub fn create<D: Disk, S: Shape>(disk: &mut D, head: &[u8; 64]) -> Result<(), Jo
         (Creates S.is_head S.shape head.now result (D.state disk.old) (D.state disk.new)) }
     ensures frame { GoesOn (D.state disk.old) (D.state disk.new) }
     ensures cause { HasCause DiskFault (D.state disk.old).faults (D.state disk.new).faults result }
+    ensures counted { HidesNoFault (D.state disk.old).faults (D.state disk.new).faults result }
 {
     if !is_free(disk)? {
         return Err(JournalFail::AlreadyThere);
@@ -46,6 +47,7 @@ pub fn is_free<D: Disk>(disk: &mut D) -> Result<bool, DiskFail>
     ensures same { Unchanged (D.state disk.old) (D.state disk.new) }
     ensures frame { GoesOn (D.state disk.old) (D.state disk.new) }
     ensures cause { HasCause Failed (D.state disk.old).faults (D.state disk.new).faults result }
+    ensures counted { HidesNoFault (D.state disk.old).faults (D.state disk.new).faults result }
 {
     let length = disk.length()?;
     if length <= 1 {
@@ -65,6 +67,7 @@ fn make<D: Disk>(disk: &mut D, head: &[u8; 64]) -> Result<(), DiskFail>
         (Secures (creation head.now) result (D.state disk.old) (D.state disk.new)) }
     ensures frame { GoesOn (D.state disk.old) (D.state disk.new) }
     ensures cause { HasCause Failed (D.state disk.old).faults (D.state disk.new).faults result }
+    ensures counted { HidesNoFault (D.state disk.old).faults (D.state disk.new).faults result }
 {
     close_head(disk)?;
     fill_head(disk, head)?;
@@ -76,6 +79,7 @@ fn close_head<D: Disk>(disk: &mut D) -> Result<(), DiskFail>
         (Secures ((0, closed_gate ∷ []) ∷ []) result (D.state disk.old) (D.state disk.new)) }
     ensures frame { GoesOn (D.state disk.old) (D.state disk.new) }
     ensures cause { HasCause Failed (D.state disk.old).faults (D.state disk.new).faults result }
+    ensures counted { HidesNoFault (D.state disk.old).faults (D.state disk.new).faults result }
 {
     write_durably(disk, 0, &[CLOSED])
 }
@@ -86,6 +90,7 @@ fn fill_head<D: Disk>(disk: &mut D, head: &[u8; 64]) -> Result<(), DiskFail>
         (D.state disk.old) (D.state disk.new)) }
     ensures frame { GoesOn (D.state disk.old) (D.state disk.new) }
     ensures cause { HasCause Failed (D.state disk.old).faults (D.state disk.new).faults result }
+    ensures counted { HidesNoFault (D.state disk.old).faults (D.state disk.new).faults result }
 {
     let mut bytes = [CLOSED; 64];
     bytes[..63].copy_from_slice(&head[1..]);
@@ -97,6 +102,7 @@ fn open_head<D: Disk>(disk: &mut D) -> Result<(), DiskFail>
         (Secures ((0, open_gate ∷ []) ∷ []) result (D.state disk.old) (D.state disk.new)) }
     ensures frame { GoesOn (D.state disk.old) (D.state disk.new) }
     ensures cause { HasCause Failed (D.state disk.old).faults (D.state disk.new).faults result }
+    ensures counted { HidesNoFault (D.state disk.old).faults (D.state disk.new).faults result }
 {
     write_durably(disk, 0, &[OPEN])
 }

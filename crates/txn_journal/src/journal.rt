@@ -1,14 +1,14 @@
 //! A file of gated records that is open for appending.
 
 ghost use Rattle.std.specs.Prelude.{◌≡◌, ◌+◌, ◌≤◌, ℕ, List, false, length, IsTrue, ◌↔◌, if◌then◌else◌, IsErrOf, OnErr};
-ghost use Rattle.outside_words.specs.Faults.{HasCause};
+ghost use Rattle.outside_words.specs.Faults.{HasCause, HidesNoFault};
 ghost use Rattle.outside_words.specs.Told.{WhereTold};
 ghost use Rattle.disk_words.specs.Disk.{GoesOn};
 ghost use Rattle.byte_grammar.specs.Gated.{FitsRecord};
 ghost use Rattle.txn_journal.specs.declared.fail.JournalFail.TheVariants.{DiskFault, StoreFull, Closed};
 ghost use Rattle.txn_journal.specs.Append.{append_calls, IsRefusedAsFull, StandsAfter, Appends};
 
-use crate::append::{add, spelled};
+use crate::append::{add, record_bytes};
 use crate::{JournalFail, Shape};
 use disk_model::Disk;
 use std::alloc::Global;
@@ -48,7 +48,7 @@ impl<S: Shape> Journal<S> {
     /// How many changing calls an append makes that is carried out.
     pub fn calls(&self) -> u8
         ensures value { result ≡ (if self.now.gate_is_open then 6 else 4) }
-        ensures spelled { (payload : List ℕ) → result ≡ length (append_calls self.now payload) }
+        ensures each { (payload : List ℕ) → result ≡ length (append_calls self.now payload) }
     {
         if self.gate_is_open { 6 } else { 4 }
     }
@@ -86,6 +86,7 @@ impl<S: Shape> Journal<S> {
             (Appends S.is_head S.shape self.old payload.now result (D.state disk.old) (D.state disk.new)) }
         ensures frame { GoesOn (D.state disk.old) (D.state disk.new) }
         ensures cause { HasCause DiskFault (D.state disk.old).faults (D.state disk.new).faults result }
+        ensures counted { HidesNoFault (D.state disk.old).faults (D.state disk.new).faults result }
     {
         if self.is_closed {
             return Err(JournalFail::Closed);
@@ -94,7 +95,7 @@ impl<S: Shape> Journal<S> {
         if next >= S::WHOLE {
             return Err(JournalFail::StoreFull);
         }
-        let record = spelled(alloc, payload)?;
+        let record = record_bytes(alloc, payload)?;
         match add(disk, self.gate_is_open, self.end, &record) {
             Ok(()) => {
                 self.end = next;

@@ -10,6 +10,27 @@
 //! | the payload | n |
 //! | the gate of the next record | 1 |
 //!
+//! One record in full: the put of row 5 in `examples/worked.store`, as
+//! `xxd -g 1 -s 304 -l 43 examples/worked.store` shows it.
+//!
+//! | Place | Bytes | Field |
+//! |---|---|---|
+//! | 304 | `a7` | the gate: open |
+//! | 305 | `00 00 00 25` | the length of the payload: 37 |
+//! | 309 | `01` | the payload is a transaction |
+//! | 310 | `00 00 00 07` | its number: 7 |
+//! | 314 | `00 00 00 00 00 00 01 2c` | its moment: 300 seconds after the epoch of the store |
+//! | 322 | `00 01` | it has 1 operation |
+//! | 324 | `02` | which puts a row |
+//! | 325 | `01 74` | into the table whose name is the 1 letter `t` |
+//! | 327 | `02` | of 2 values |
+//! | 328 | `01 00 00 00 00 00 00 00 05` | the first, which is the key: the Int 5 |
+//! | 337 | `01 00 00 00 00 00 00 00 00` | the second: the Int 0 |
+//! | 346 | `a7` | the gate of the next record |
+//!
+//! The journal knows gates, lengths and payloads; what stands in a payload is the business of
+//! `tuple_bytes`. `examples/altered.store` is the same file with a 1 as the last byte of that Int 0.
+//!
 //! A `Shape` says which heads and payloads a kind of file has, the most bytes of a payload, and the
 //! place that no gate reaches. A record is valid where its gate is open, its payload is accepted and
 //! no longer than the limit, and the next gate is within the file and the limit. What a file holds are
@@ -27,6 +48,7 @@
 //! | after a fault the reader stands where it stood | `err` |
 //! | a store is read as what its bytes mean, and, also over a disk that tells nothing, its header and items have spellings that its records can hold | `value`, `fits` of `read_stored` |
 //! | the disk is only read, and a fault has its cause | `same`, `frame`, `cause` |
+//! | after Ok the disk counted no fault: no call that failed was tried again | `counted` of every call |
 //!
 //! `create` makes a file, and a `Journal` adds to it. Neither writes over an open gate: it is closed,
 //! what stands behind it is written, and it is opened, with a sync behind each write.

@@ -1,7 +1,7 @@
 //! Reading a gated file record by record.
 
 ghost use Rattle.std.specs.Prelude.{◌≡◌, ◌==◌, ◌≤◌, ◌-◌, ◌+◌, Bool, Some, false, IfOk, IfSome, OnOk, OnErr, List, ℕ, ◌<◌, take, slice_index};
-ghost use Rattle.outside_words.specs.Faults.{HasCause};
+ghost use Rattle.outside_words.specs.Faults.{HasCause, HidesNoFault};
 ghost use Rattle.disk_words.specs.declared.DiskFail.TheVariants.{Failed};
 ghost use Rattle.disk_words.specs.Disk.{Unchanged, GoesOn};
 ghost use Rattle.byte_grammar.specs.Gated.{open_gate};
@@ -58,6 +58,7 @@ impl<S: Shape> Records<S> {
         ensures same { Unchanged (D.state disk.old) (D.state disk.new) }
         ensures frame { GoesOn (D.state disk.old) (D.state disk.new) }
         ensures cause { HasCause Failed (D.state disk.old).faults (D.state disk.new).faults result }
+        ensures counted { HidesNoFault (D.state disk.old).faults (D.state disk.new).faults result }
     {
         let room = (2 * (S::PAYLOAD as usize + 6)).max(65);
         let mut window = Window::new(alloc, room)?;
@@ -74,7 +75,7 @@ impl<S: Shape> Records<S> {
             → Opens S.is_head bytes result }
         ensures begins { IfSome result (Begins S.is_head) }
     {
-        let head = head_of::<S>(window.from(0))?;
+        let head = head_of::<S>(window.seen_from(0))?;
         Some(Records {
             head,
             window,
@@ -110,7 +111,7 @@ impl<S: Shape> Records<S> {
     pub fn is_at_open_gate(&self) -> bool
         ensures value { result ≡ (slice_index (ahead self.now) 0 == open_gate) }
     {
-        self.window.from(self.place).first() == Some(&OPEN)
+        self.window.seen_from(self.place).first() == Some(&OPEN)
     }
 
     /// A journal that stands at the place, so behind all payloads once there is no next record.
@@ -133,6 +134,7 @@ impl<S: Shape> Records<S> {
         ensures same { Unchanged (D.state disk.old) (D.state disk.new) }
         ensures frame { GoesOn (D.state disk.old) (D.state disk.new) }
         ensures cause { HasCause Failed (D.state disk.old).faults (D.state disk.new).faults result }
+        ensures counted { HidesNoFault (D.state disk.old).faults (D.state disk.new).faults result }
     {
         if self.step() {
             return Ok(true);
@@ -148,7 +150,7 @@ impl<S: Shape> Records<S> {
         ensures moves { Moves S.shape self.old result self.new }
     {
         let place = self.place;
-        let ahead = self.window.from(place);
+        let ahead = self.window.seen_from(place);
         match payload_of::<S>(place, ahead) {
             Some(payload) => {
                 let size = payload.len();
@@ -171,6 +173,7 @@ impl<S: Shape> Records<S> {
         ensures same { Unchanged (D.state disk.old) (D.state disk.new) }
         ensures frame { GoesOn (D.state disk.old) (D.state disk.new) }
         ensures cause { HasCause Failed (D.state disk.old).faults (D.state disk.new).faults result }
+        ensures counted { HidesNoFault (D.state disk.old).faults (D.state disk.new).faults result }
     {
         self.from = 0;
         self.size = 0;

@@ -2,7 +2,7 @@
 
 ghost use Rattle.std.specs.Prelude.{◌≡◌, ◌++◌, ◌∷◌, [], Some, None, IfSome, IfOk, IfErr, OnOk, OnErr};
 ghost use Rattle.std.specs.List.{All, filter_map};
-ghost use Rattle.outside_words.specs.Faults.{HasCause};
+ghost use Rattle.outside_words.specs.Faults.{HasCause, HidesNoFault};
 ghost use Rattle.disk_words.specs.Disk.{Unchanged, GoesOn};
 ghost use Rattle.byte_grammar.specs.Gated.{FitsRecord};
 ghost use Rattle.tuple_bytes.specs.Items.{item_of};
@@ -28,6 +28,7 @@ pub fn read_stored<D: Disk>(alloc: Global, disk: &mut D) -> Result<Stored, Journ
     ensures same { Unchanged (D.state disk.old) (D.state disk.new) }
     ensures frame { GoesOn (D.state disk.old) (D.state disk.new) }
     ensures cause { HasCause DiskFault (D.state disk.old).faults (D.state disk.new).faults result }
+    ensures counted { HidesNoFault (D.state disk.old).faults (D.state disk.new).faults result }
 {
     if let Some(records) = Records::<StoreShape>::open(alloc, disk)? {
         if let Some(header) = decode_header(records.head()) {
@@ -64,6 +65,7 @@ fn read_items<D: Disk>(
     ensures same { Unchanged (D.state disk.old) (D.state disk.new) }
     ensures frame { GoesOn (D.state disk.old) (D.state disk.new) }
     ensures cause { HasCause DiskFault (D.state disk.old).faults (D.state disk.new).faults result }
+    ensures counted { HidesNoFault (D.state disk.old).faults (D.state disk.new).faults result }
 {
     let mut items = Items::new(alloc);
     'records: while records.advance(disk)? {

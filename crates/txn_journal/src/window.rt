@@ -1,7 +1,7 @@
 //! A part of a file, which is read a buffer at a time.
 
 ghost use Rattle.std.specs.Prelude.{◌≡◌, ◌≤◌, ◌-◌, [], length, take, drop, IfOk, IfSome, OnOk, OnErr};
-ghost use Rattle.outside_words.specs.Faults.{HasCause};
+ghost use Rattle.outside_words.specs.Faults.{HasCause, HidesNoFault};
 ghost use Rattle.disk_words.specs.declared.DiskFail.TheVariants.{Failed};
 ghost use Rattle.disk_words.specs.Disk.{Unchanged, GoesOn};
 
@@ -42,6 +42,7 @@ impl Window {
         ensures same { Unchanged (D.state disk.old) (D.state disk.new) }
         ensures frame { GoesOn (D.state disk.old) (D.state disk.new) }
         ensures cause { HasCause Failed (D.state disk.old).faults (D.state disk.new).faults result }
+        ensures counted { HidesNoFault (D.state disk.old).faults (D.state disk.new).faults result }
     {
         self.begin = place;
         self.filled = 0;
@@ -50,7 +51,7 @@ impl Window {
     }
 
     /// What is seen from a place on.
-    pub fn from(&self, place: u64) -> &[u8]
+    pub fn seen_from(&self, place: u64) -> &[u8]
         requires { self.now.begin ≤ place }
         ensures value { result.now ≡ drop (place - self.now.begin) (seen_by self.now) }
     {

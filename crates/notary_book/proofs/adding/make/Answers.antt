@@ -1,4 +1,5 @@
 use Rattle.std.proofs.Common.{◌≡◌, Err, rules}
+use Rattle.disk_words.proofs.Frame.{goes_on_then}
 use Rattle.notary_book.proofs.Refusals.{only_created, only_opened, end_opened}
 use Rattle.notary_book.proofs.Telling.{if_any}
 use Rattle.notary_book.proofs.Storing.{not_created, not_opened, opened}
@@ -54,3 +55,12 @@ returns-clause-gate g c =
     let o = c.in_ok-opened.opened in
     let created = rw c.book_head.ensures.value at c.in_ok-create.ensures.told in
     end_opened (S c.args.disk.now) (S c.clear.new.disk) (S c.create.new.disk) c.in_ok-clear.ensures.frame c.in_ok-clear.ensures.told c.in_ok-create.ensures.frame created o.head o.payloads o.journal c.in_ok-opened.ensures.value
+
+pub returns-in_err-create-clause-frame : goal.returns-in_err-create-clause-frame
+returns-in_err-create-clause-frame g c = goes_on_then _ _ _ c.in_ok-clear.ensures.frame c.in_err-create.ensures.frame
+
+pub returns-in_err-opened-clause-frame : goal.returns-in_err-opened-clause-frame
+returns-in_err-opened-clause-frame g c = goes_on_then _ _ _ (goes_on_then _ _ _ c.in_ok-clear.ensures.frame c.in_ok-create.ensures.frame) c.in_err-opened.ensures.frame
+
+pub returns-clause-frame : goal.returns-clause-frame
+returns-clause-frame g c = goes_on_then _ _ _ (goes_on_then _ _ _ c.in_ok-clear.ensures.frame c.in_ok-create.ensures.frame) c.in_ok-opened.ensures.frame

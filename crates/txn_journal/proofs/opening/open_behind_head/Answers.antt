@@ -24,7 +24,7 @@ records-preserved g c =
     let moves = rw found at c.in_ok-advance.ensures.moves in
     let kept : c.keep.new.payloads ≡ c.records.payloads ++ c.advance.new.self.payload ∷ [] = c.in_ok-keep.ensures.ok ∙ ap (λ (p : List ℕ). c.records.payloads ++ p ∷ []) c.payload.ensures.value in
     record {
-      gathering = one_more (λ (p : List ℕ). Some p) g.S.Shape.shape (S c.args.disk.now) (S c.records.disk) (S c.advance.new.disk) c.args.records c.records.records c.advance.new.self c.records.payloads c.keep.new.payloads c.records.invariant.gathering reads c.advance.ensures.seen c.advance.ensures.head c.advance.ensures.same c.advance.ensures.frame kept;
+      gathering = one_more (λ (p : List ℕ). Some p) g.S.Shape.shape (S c.args.disk.now) (S c.records.disk) (S c.advance.new.disk) c.args.records c.records.records c.advance.new.self c.records.payloads c.keep.new.payloads c.records.invariant.gathering reads c.advance.ensures.seen c.advance.ensures.head c.advance.ensures.same c.advance.ensures.frame c.in_ok-advance.ensures.counted kept;
       fit = subst (λ (ps : List (List ℕ)). All (FitsRecord g.S.Shape.shape) ps) (sym kept) (All-push (FitsRecord g.S.Shape.shape) c.records.payloads c.advance.new.self.payload c.records.invariant.fit moves.fits);
       few = omega (arith, ap (λ (ps : List (List ℕ)). length ps) kept, length-append c.records.payloads (c.advance.new.self.payload ∷ []), moves.place, c.records.invariant.few);
       within = omega (arith, moves.within);

@@ -1,10 +1,13 @@
-use Rattle.std.proofs.Common.{◌-◌}
+use Rattle.std.proofs.Common.{◌≡◌, ◌-◌}
 use Rattle.line_input.specs.Limits.{input_limit}
 use Rattle.line_input.proofs.Going.{IsGoing}
 use Rattle.line_input.proofs.gathering.Gathering.advance.Given as goal
 
 abbrev pub invariant-loop-self : goal.invariant-loop-self
-invariant-loop-self g l = IsGoing l.initial.self l.self (g.I.Source.state l.initial.input) (g.I.Source.state l.input)
+invariant-loop-self g l = record {
+  going : IsGoing l.initial.self l.self (g.I.Source.state l.initial.input) (g.I.Source.state l.input);
+  counted : (g.I.Source.state l.input).faults ≡ (g.I.Source.state l.initial.input).faults;
+}
 
 abbrev pub decreases-loop-self : goal.decreases-loop-self
 decreases-loop-self g l = input_limit - l.self.taken

@@ -1,8 +1,10 @@
-use Rattle.std.proofs.Common.{◌≡◌, ◌∙◌, Some, sym, arith}
+use Rattle.std.proofs.Common.{◌≡◌, ◌∙◌, None, Some, sym, arith}
+use Rattle.std.proofs.lemmas.Result.{err_from_is_err_and}
 use Rattle.notary_link.specs.declared.answer.Answer.TheVariants.{Absent}
 use Rattle.notary_link.specs.Batches.{answer}
 use Rattle.notary_link.specs.Notary.{Lists}
 use Rattle.notary_link.proofs.Standing.{answer_found, answer_absent}
+use Rattle.notary_book.proofs.Asking.{kept_none, looks_failed}
 use Rattle.notary_book.proofs.Keeping.{knows_of}
 use Rattle.notary_book.proofs.Telling.{gives, quiet, unchanged}
 use Rattle.notary_book.proofs.book.BookNotary.ask.Goals as goal
@@ -52,3 +54,29 @@ returns-in-None-digest-clause-frame g c =
     let was = c.args.self.now in
     let now = c.read.new.self in
     quiet (g.D.Disk.state was.disk) (g.D.Disk.state now.disk) was.asked now.asked was.unreadable now.unreadable c.in_ok-read.ensures.reads c.in_ok-read.ensures.faults (omega arith) c.in_ok-read.ensures.unreadable
+
+pub returns-in-None : goal.returns-in-None
+returns-in-None g c =
+    let v = c.in-None.is in
+    let is : c.read.new.self.kept ≡ None = cc in
+    absurd (kept_none c.read.new.self.kept c.in_ok-read.ensures.looks.keeps is)
+
+pub returns-in_err-read-clause-same : goal.returns-in_err-read-clause-same
+returns-in_err-read-clause-same g c =
+    let was = c.args.self.now in
+    let now = c.read.new.self in
+    unchanged (g.D.Disk.state was.disk) (g.D.Disk.state now.disk) was.asked now.asked was.unreadable now.unreadable c.in_err-read.ensures.reads
+
+pub returns-in_err-read-clause-frame : goal.returns-in_err-read-clause-frame
+returns-in_err-read-clause-frame g c =
+    let was = c.args.self.now in
+    let now = c.read.new.self in
+    quiet (g.D.Disk.state was.disk) (g.D.Disk.state now.disk) was.asked now.asked was.unreadable now.unreadable c.in_err-read.ensures.reads c.in_err-read.ensures.faults (omega arith) c.in_err-read.ensures.unreadable
+
+pub returns-in_err-read-clause-looks : goal.returns-in_err-read-clause-looks
+returns-in_err-read-clause-looks g c =
+    let S = g.D.Disk.state in
+    let was = c.args.self.now in
+    let now = c.read.new.self in
+    let p = err_from_is_err_and c.from_residual.result c.from_residual.ensures.1 in
+    rw (p.1, p.2) (looks_failed c.in_err-read.field-0.0 (S was.disk) (S now.disk) was.kept now.kept was.unreadable now.unreadable c.in_err-read.ensures.looks)

@@ -1,6 +1,7 @@
-use Rattle.std.proofs.Common.{◌≡◌, ◌∙◌, ℕ, Some, subst}
+use Rattle.std.proofs.Common.{◌≡◌, ◌∙◌, ℕ, None, Some, subst}
 use Rattle.notary_link.specs.Notary.{file, batch_of, Answers}
 use Rattle.notary_book.specs.State.{book_state}
+use Rattle.notary_book.proofs.Asking.{kept_none}
 use Rattle.notary_book.proofs.Leaving.{leaves_read, leaves_behind}
 use Rattle.notary_book.proofs.Looking.{alters_behind}
 use Rattle.notary_book.proofs.Telling.{answers_behind}
@@ -33,10 +34,11 @@ returns-in_err-read-clause-images g c =
     let S = g.D.Disk.state in
     leaves_read (file c.args.id c.args.index (batch_of c.args.moment c.args.seals.now)) (S c.args.self.now.disk) (S c.read.new.self.disk) c.in_err-read.ensures.told
 
-pub returns-in-None-clause-images : goal.returns-in-None-clause-images
-returns-in-None-clause-images g c =
-    let S = g.D.Disk.state in
-    leaves_read (file c.args.id c.args.index (batch_of c.args.moment c.args.seals.now)) (S c.args.self.now.disk) (S c.read.new.self.disk) c.in_ok-read.ensures.told
+pub returns-in-None : goal.returns-in-None
+returns-in-None g c =
+    let v = c.in-None.ensures.value in
+    let is : c.read.new.self.kept ≡ None = cc in
+    absurd (kept_none c.read.new.self.kept c.in_ok-read.ensures.looks.keeps is)
 
 pub returns-in-Some-clause-images : goal.returns-in-Some-clause-images
 returns-in-Some-clause-images g c =
