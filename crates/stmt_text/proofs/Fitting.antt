@@ -10,6 +10,7 @@ use Rattle.tuple_bytes.specs.declared.value.Value.{Value}
 use Rattle.tuple_bytes.specs.declared.value.Value.TheVariants as values
 use Rattle.tuple_bytes.specs.declared.op.Column.{Column}
 use Rattle.tuple_bytes.specs.declared.filter.Filter.{Filter}
+use Rattle.tuple_bytes.specs.Limits.{max_moment}
 use Rattle.stmt_text.specs.declared.stmt.LineAlgorithm.{LineAlgorithm}
 use Rattle.stmt_text.specs.declared.stmt.LineAlgorithm.TheVariants as algorithms
 use Rattle.stmt_text.specs.declared.stmt.Stmt.{Stmt}
@@ -21,7 +22,6 @@ use Rattle.stmt_text.specs.declared.line.Line.TheVariants as lines
 use Rattle.stmt_text.specs.Tokens.{Token, inside_after, separates, is_filled, with_byte, pieces, tokens}
 use Rattle.stmt_text.specs.Numbers.{in_range, int, number, minus, int_in_range}
 use Rattle.stmt_text.specs.Values.{SaysBytes, hex_quoted}
-use Rattle.stmt_text.specs.Parts.{max_moment}
 use Rattle.stmt_text.specs.Lines.{without_return, line_by}
 use Rattle.stmt_text.specs.Printing.{value_token, kind_token, compare_token, column_tokens, as_of_tokens, filter_tokens, algorithm_tokens, stmt_word, stmt_tokens, event_word, event_tokens, spaced, stmt_text, event_text, line_text}
 use Rattle.stmt_text.specs.Fits.{FitsValue, FitsMoment, FitsFilter, FitsColumn, FitsAlgorithm, FitsStmt, FitsEvent, FitsParts, FitsLine}
@@ -32,14 +32,14 @@ use Rattle.stmt_text.proofs.TakenLines.{says_taken}
 
 -- ---- each part is in its range
 
-value_fits : (token : Token) (v : Value) → Says token v → FitsValue v
+value_fits : (token : Token) (v : Value) → Says in_range token v → FitsValue v
 value_fits token values.Null h = tt
 value_fits token (values.Int z) h = h.1
 value_fits token (values.Text t) h = h.0.1
 value_fits token (values.Bytes b) h = (decode_of-ok h.0.digits b h.0.bytes_are).3
 value_fits token (values.Bool b) h = tt
 
-values_fit : (ts : List Token) (vs : List Value) → SayValues ts vs → AllByRecursion FitsValue vs
+values_fit : (ts : List Token) (vs : List Value) → SayValues in_range ts vs → AllByRecursion FitsValue vs
 values_fit ts [] h = tt
 values_fit [] (v ∷ vs) h = absurd h
 values_fit (t ∷ ts) (v ∷ vs) h = (value_fits t v h.0, values_fit ts vs h.1)
@@ -48,21 +48,21 @@ columns_fit : (ts : List Token) (cs : List Column) → SayColumns ts cs → AllB
 columns_fit ts [] h = tt
 columns_fit ts (c ∷ cs) h = (h.2, columns_fit h.0 cs h.3)
 
-as_of_fits : (ts : List Token) (m : Option ℕ) → SayAsOf ts m → FitsMoment m
+as_of_fits : (ts : List Token) (m : Option ℕ) → SayAsOf in_range ts m → FitsMoment m
 as_of_fits ts None h = tt
 as_of_fits ts (Some m) h = h.2.2
 
-filter_fits : (ts more : List Token) (f : Option Filter) → SayFilter ts f more → FitsFilter f
+filter_fits : (ts more : List Token) (f : Option Filter) → SayFilter in_range ts f more → FitsFilter f
 filter_fits ts more None h = tt
 filter_fits ts more (Some f) h = (h.2, value_fits h.0 f.value h.3)
 
-algorithm_fits : (ts : List Token) (a : LineAlgorithm) → SayAlgorithm ts a → FitsAlgorithm a
+algorithm_fits : (ts : List Token) (a : LineAlgorithm) → SayAlgorithm in_range ts a → FitsAlgorithm a
 algorithm_fits ts algorithms.Mono h = tt
 algorithm_fits ts algorithms.Tiled h = tt
 algorithm_fits ts (algorithms.TiledExactly n) h = (h.2.1, h.2.2)
 algorithm_fits ts algorithms.A3d h = tt
 
-stmt_fits : (ts : List Token) (s : Stmt) → SayStmt ts s → FitsStmt s
+stmt_fits : (ts : List Token) (s : Stmt) → SayStmt in_range ts s → FitsStmt s
 stmt_fits ts (stmts.Create t c) h = (h.2, (h.4, columns_fit h.0 c h.3))
 stmt_fits ts (stmts.Insert t r) h = (h.2, (h.4, values_fit h.0 r h.3))
 stmt_fits ts (stmts.Update t r) h = (h.2, (h.4, values_fit h.0 r h.3))
@@ -84,7 +84,7 @@ event_fits ts (events.Crash after choice) h = (h.1, h.2)
 event_fits ts (events.Alter place bytes) h = (h.3, h.4, (decode_of-ok h.0 bytes h.2).3)
 event_fits ts (events.Cut len) h = h.1
 
-line_fits : (ts : List Token) (l : Line) → SayLine ts l → FitsParts l
+line_fits : (ts : List Token) (l : Line) → SayLine in_range ts l → FitsParts l
 line_fits ts lines.Blank h = absurd h
 line_fits ts (lines.Plain s) h = (stmt_fits h.0 s h.2, h.3)
 line_fits ts (lines.InSession n s) h = (h.2, stmt_fits h.0 s h.3, h.4)
@@ -126,7 +126,7 @@ hex_shortest token bytes h =
     let written = length-append h.digits (39 ∷ []) in
     rw h.token_is (omega (arith, twice, own, printed, written))
 
-value_shortest : (token : Token) (v : Value) → Says token v → length (value_token v) ≤ length token
+value_shortest : (token : Token) (v : Value) → Says in_range token v → length (value_token v) ≤ length token
 value_shortest token values.Null h = rw h.0 (omega arith)
 value_shortest token (values.Int z) h = int_shortest token z h.0 h.1
 value_shortest token (values.Text t) h = rw h.0.0 (omega arith)
@@ -134,7 +134,7 @@ value_shortest token (values.Bytes b) h = hex_shortest token b h.0
 value_shortest token (values.Bool true) h = rw h.0 (omega arith)
 value_shortest token (values.Bool false) h = rw h.0 (omega arith)
 
-decimal_shortest : (least greatest n : ℕ) (token : Token) → greatest < 2 ^ 64 → SaysNumber least greatest token n → length (decimal n) ≤ length token
+decimal_shortest : (least greatest n : ℕ) (token : Token) → greatest < 2 ^ 64 → SaysNumber in_range least greatest token n → length (decimal n) ≤ length token
 decimal_shortest least greatest n token small h = let high = h.2 in number_shortest token n h.0 (omega (arith, high, small))
 
 -- ---- and so are all the tokens of a line
@@ -149,7 +149,7 @@ more t u ts us here there =
 same : (t : Token) (ts us : List Token) → length (spaced ts) ≤ length (spaced us) → length (spaced (t ∷ ts)) ≤ length (spaced (t ∷ us))
 same t ts us there = more t t ts us (omega arith) there
 
-values_shortest : (ts : List Token) (vs : List Value) → SayValues ts vs → length (spaced (map value_token vs)) ≤ length (spaced ts)
+values_shortest : (ts : List Token) (vs : List Value) → SayValues in_range ts vs → length (spaced (map value_token vs)) ≤ length (spaced ts)
 values_shortest ts [] h = omega arith
 values_shortest [] (v ∷ vs) h = absurd h
 values_shortest (t ∷ ts) (v ∷ vs) h = more (value_token v) t (map value_token vs) ts (value_shortest t v h.0) (values_shortest ts vs h.1)
@@ -159,27 +159,27 @@ columns_shortest ts [] h = omega arith
 columns_shortest ts (c ∷ cs) h =
     rw h.1 (same c.name (kind_token c.kind ∷ flat_map column_tokens cs) (kind_token c.kind ∷ h.0) (same (kind_token c.kind) (flat_map column_tokens cs) h.0 (columns_shortest h.0 cs h.3)))
 
-as_of_shortest : (ts : List Token) (m : Option ℕ) → SayAsOf ts m → length (spaced (as_of_tokens m)) ≤ length (spaced ts)
+as_of_shortest : (ts : List Token) (m : Option ℕ) → SayAsOf in_range ts m → length (spaced (as_of_tokens m)) ≤ length (spaced ts)
 as_of_shortest ts None h = omega arith
 as_of_shortest ts (Some m) h =
     rw h.1 (same (codes "as") (codes "of" ∷ decimal m ∷ []) (codes "of" ∷ h.0 ∷ []) (same (codes "of") (decimal m ∷ []) (h.0 ∷ []) (more (decimal m) h.0 [] [] (decimal_shortest 0 max_moment m h.0 (omega arith) h.2) (omega arith))))
 
-filter_shortest : (ts more_ts : List Token) (f : Option Filter) (m : Option ℕ) → SayFilter ts f more_ts → SayAsOf more_ts m → length (spaced (filter_tokens f ++ as_of_tokens m)) ≤ length (spaced ts)
+filter_shortest : (ts more_ts : List Token) (f : Option Filter) (m : Option ℕ) → SayFilter in_range ts f more_ts → SayAsOf in_range more_ts m → length (spaced (filter_tokens f ++ as_of_tokens m)) ≤ length (spaced ts)
 filter_shortest ts more_ts None m h a = rw h (as_of_shortest more_ts m a)
 filter_shortest ts more_ts (Some f) m h a =
     rw h.1 (same f.column (compare_token f.compare ∷ value_token f.value ∷ as_of_tokens m) (compare_token f.compare ∷ h.0 ∷ more_ts) (same (compare_token f.compare) (value_token f.value ∷ as_of_tokens m) (h.0 ∷ more_ts) (more (value_token f.value) h.0 (as_of_tokens m) more_ts (value_shortest h.0 f.value h.3) (as_of_shortest more_ts m a))))
 
-algorithm_shortest : (ts : List Token) (a : LineAlgorithm) → SayAlgorithm ts a → length (spaced (algorithm_tokens a)) ≤ length (spaced ts)
+algorithm_shortest : (ts : List Token) (a : LineAlgorithm) → SayAlgorithm in_range ts a → length (spaced (algorithm_tokens a)) ≤ length (spaced ts)
 algorithm_shortest ts algorithms.Mono h = rw h (omega arith)
 algorithm_shortest ts algorithms.Tiled h = rw h (omega arith)
 algorithm_shortest ts (algorithms.TiledExactly n) h =
     rw h.1 (same (codes "tiled") (decimal n ∷ []) (h.0 ∷ []) (more (decimal n) h.0 [] [] (decimal_shortest 1 1024 n h.0 (omega arith) h.2) (omega arith)))
 algorithm_shortest ts algorithms.A3d h = rw h (omega arith)
 
-key_shortest : (ts : List Token) (table : Token) (key : Value) (token : Token) → ts ≡ table ∷ token ∷ [] → Says token key → length (spaced (table ∷ value_token key ∷ [])) ≤ length (spaced ts)
+key_shortest : (ts : List Token) (table : Token) (key : Value) (token : Token) → ts ≡ table ∷ token ∷ [] → Says in_range token key → length (spaced (table ∷ value_token key ∷ [])) ≤ length (spaced ts)
 key_shortest ts table key token parts h = rw parts (same table (value_token key ∷ []) (token ∷ []) (more (value_token key) token [] [] (value_shortest token key h) (omega arith)))
 
-stmt_shortest : (ts : List Token) (s : Stmt) → SayStmt ts s → length (spaced (stmt_tokens s)) ≤ length (spaced ts)
+stmt_shortest : (ts : List Token) (s : Stmt) → SayStmt in_range ts s → length (spaced (stmt_tokens s)) ≤ length (spaced ts)
 stmt_shortest ts (stmts.Create t c) h = rw h.1 (same t (flat_map column_tokens c) h.0 (columns_shortest h.0 c h.3))
 stmt_shortest ts (stmts.Insert t r) h = rw h.1 (same t (map value_token r) h.0 (values_shortest h.0 r h.3))
 stmt_shortest ts (stmts.Update t r) h = rw h.1 (same t (map value_token r) h.0 (values_shortest h.0 r h.3))
@@ -243,7 +243,7 @@ text_shortest content first others printed parts short =
     let own = length-append first (spaced printed) in
     omega (arith, stand, written, own, short)
 
-line_shortest : (content : List ℕ) (l : Line) → SayLine (tokens content) l → length (line_text l) ≤ length content
+line_shortest : (content : List ℕ) (l : Line) → SayLine in_range (tokens content) l → length (line_text l) ≤ length content
 unfolding line_text stmt_text event_text
 line_shortest content lines.Blank h = absurd h
 line_shortest content (lines.Plain s) h = text_shortest content (stmt_word s) h.0 (stmt_tokens s) h.1 (stmt_shortest h.0 s h.2)
@@ -253,21 +253,21 @@ line_shortest content (lines.Drill e) h = text_shortest content (event_word e) h
 
 -- ---- lines
 
-words_fit : (content : List ℕ) (l : Line) → SaysWords content l → FitsLine l
+words_fit : (content : List ℕ) (l : Line) → SaysWords in_range content l → FitsLine l
 words_fit content l h =
     let shorter = line_shortest content l h.said in
     let short = h.short in
     record { parts = line_fits (tokens content) l h.said; short = omega (arith, shorter, short) }
 
-content_fits : (content : List ℕ) (l : Line) → SaysContent content l → FitsLine l
+content_fits : (content : List ℕ) (l : Line) → SaysContent in_range content l → FitsLine l
 unfolding line_text
 content_fits content lines.Blank h = record { parts = tt; short = omega arith }
 content_fits content (lines.Plain s) h = words_fit content (lines.Plain s) h
 content_fits content (lines.InSession n s) h = words_fit content (lines.InSession n s) h
 content_fits content (lines.Drill e) h = words_fit content (lines.Drill e) h
 
-pub says_fits : (bytes : List ℕ) (l : Line) → SaysLine bytes l → FitsLine l
+pub says_fits : (bytes : List ℕ) (l : Line) → SaysLine in_range bytes l → FitsLine l
 says_fits bytes l h = content_fits (without_return bytes) l h
 
 pub line_fits_read : (bytes : List ℕ) (l : Line) → line_by in_range bytes ≡ Some l → FitsLine l
-line_fits_read bytes l e = says_fits bytes l (says_taken bytes l e)
+line_fits_read bytes l e = says_fits bytes l (says_taken in_range bytes l e)

@@ -7,14 +7,15 @@ use Rattle.tuple_bytes.specs.declared.value.Value.{Value}
 use Rattle.tuple_bytes.specs.declared.value.Value.TheVariants as values
 use Rattle.tuple_bytes.specs.declared.op.Column.{Column}
 use Rattle.tuple_bytes.specs.declared.filter.Filter.{Filter}
+use Rattle.tuple_bytes.specs.Limits.{max_moment}
 use Rattle.stmt_text.specs.declared.stmt.LineAlgorithm.{LineAlgorithm}
 use Rattle.stmt_text.specs.declared.stmt.LineAlgorithm.TheVariants as algorithms
 use Rattle.stmt_text.specs.declared.stmt.Stmt.{Stmt}
 use Rattle.stmt_text.specs.declared.stmt.Stmt.TheVariants as stmts
 use Rattle.stmt_text.specs.declared.event.Event.{Event}
 use Rattle.stmt_text.specs.declared.event.Event.TheVariants as events
+use Rattle.stmt_text.specs.Numbers.{in_range}
 use Rattle.stmt_text.specs.Values.{SaysValue, value_in_range}
-use Rattle.stmt_text.specs.Parts.{max_moment}
 use Rattle.stmt_text.specs.Printing.{value_token, column_tokens, as_of_tokens, filter_tokens, algorithm_tokens, stmt_tokens, event_tokens}
 use Rattle.stmt_text.specs.Fits.{FitsValue, FitsMoment, FitsFilter, FitsColumn, FitsAlgorithm, FitsStmt, FitsEvent}
 use Rattle.stmt_text.specs.Grammar.{Says, SaysNumber, SayValues, SayColumns, SayAsOf, SayAlgorithm, SayFilter, SayStmt, SayEvent}
@@ -37,16 +38,16 @@ in_range_if (values.Text t) h = refl
 in_range_if (values.Bytes b) h = refl
 in_range_if (values.Bool b) h = refl
 
-value_says : (v : Value) → FitsValue v → Says (value_token v) v
+value_says : (v : Value) → FitsValue v → Says in_range (value_token v) v
 value_says v h = (says_printed v h, in_range_if v h)
 
-number_says : (least greatest n : ℕ) → n < 2 ^ 64 → least ≤ n → n ≤ greatest → SaysNumber least greatest (decimal n) n
+number_says : (least greatest n : ℕ) → n < 2 ^ 64 → least ≤ n → n ≤ greatest → SaysNumber in_range least greatest (decimal n) n
 number_says least greatest n small low high = (number_again n small, low, high)
 
-moment_says : (m : ℕ) → m ≤ max_moment → SaysNumber 0 max_moment (decimal m) m
+moment_says : (m : ℕ) → m ≤ max_moment → SaysNumber in_range 0 max_moment (decimal m) m
 moment_says m h = number_says 0 max_moment m (omega arith) (omega arith) h
 
-values_say : (vs : List Value) → AllByRecursion FitsValue vs → SayValues (map value_token vs) vs
+values_say : (vs : List Value) → AllByRecursion FitsValue vs → SayValues in_range (map value_token vs) vs
 values_say [] h = tt
 values_say (v ∷ vs) h = (value_says v h.0, values_say vs h.1)
 
@@ -54,15 +55,15 @@ columns_say : (cs : List Column) → AllByRecursion FitsColumn cs → SayColumns
 columns_say [] h = refl
 columns_say (c ∷ cs) h = (flat_map column_tokens cs, refl, h.0, columns_say cs h.1)
 
-as_of_says : (m : Option ℕ) → FitsMoment m → SayAsOf (as_of_tokens m) m
+as_of_says : (m : Option ℕ) → FitsMoment m → SayAsOf in_range (as_of_tokens m) m
 as_of_says None h = refl
 as_of_says (Some m) h = (decimal m, refl, moment_says m h)
 
-filter_says : (f : Option Filter) (m : Option ℕ) → FitsFilter f → SayFilter (filter_tokens f ++ as_of_tokens m) f (as_of_tokens m)
+filter_says : (f : Option Filter) (m : Option ℕ) → FitsFilter f → SayFilter in_range (filter_tokens f ++ as_of_tokens m) f (as_of_tokens m)
 filter_says None m h = refl
 filter_says (Some f) m h = (value_token f.value, refl, h.0, value_says f.value h.1)
 
-algorithm_says : (a : LineAlgorithm) → FitsAlgorithm a → SayAlgorithm (algorithm_tokens a) a
+algorithm_says : (a : LineAlgorithm) → FitsAlgorithm a → SayAlgorithm in_range (algorithm_tokens a) a
 algorithm_says algorithms.Mono h = refl
 algorithm_says algorithms.Tiled h = refl
 algorithm_says (algorithms.TiledExactly n) h = (decimal n, refl, number_says 1 1024 n (omega arith) h.0 h.1)
@@ -70,7 +71,7 @@ algorithm_says algorithms.A3d h = refl
 
 -- ---- statements and drill lines
 
-pub stmt_says : (s : Stmt) → FitsStmt s → SayStmt (stmt_tokens s) s
+pub stmt_says : (s : Stmt) → FitsStmt s → SayStmt in_range (stmt_tokens s) s
 stmt_says (stmts.Create t c) h = (flat_map column_tokens c, refl, h.0, columns_say c h.1.1, h.1.0)
 stmt_says (stmts.Insert t r) h = (map value_token r, refl, h.0, values_say r h.1.1, h.1.0)
 stmt_says (stmts.Update t r) h = (map value_token r, refl, h.0, values_say r h.1.1, h.1.0)

@@ -8,6 +8,7 @@ use Rattle.std.proofs.lemmas.Slice.Eq.{bytes_eq-Decides}
 use Rattle.tuple_bytes.specs.declared.value.Value.{Value}
 use Rattle.tuple_bytes.specs.declared.value.Value.TheVariants as values
 use Rattle.byte_grammar.specs.Reading.{◌>>=◌}
+use Rattle.tuple_bytes.specs.Limits.{max_moment}
 use Rattle.stmt_text.specs.declared.number.Numbers.{Numbers}
 use Rattle.stmt_text.specs.declared.word.Keyword.{Keyword}
 use Rattle.stmt_text.specs.declared.word.Keyword.TheVariants as words
@@ -24,7 +25,7 @@ use Rattle.stmt_text.specs.Numbers.{number, any_width, in_range, kept}
 use Rattle.stmt_text.specs.Values.{value, nearest_value, value_in_range}
 use Rattle.stmt_text.specs.Words.{keyword, compare, algorithm_word}
 use Rattle.stmt_text.specs.Keywords.{is_table_word, is_session_word, is_drill_word}
-use Rattle.stmt_text.specs.Parts.{kept_value, moment, kappa, value_in, name, front, ended, only, each, after_word, as_of, max_moment}
+use Rattle.stmt_text.specs.Parts.{kept_value, moment, kappa, value_in, name, front, ended, only, each, after_word, as_of}
 use Rattle.stmt_text.specs.Rows.{is_row, row}
 use Rattle.stmt_text.specs.Statements.{insert, update, delete, get, history, filter_of, filter_at, unfiltered, filtered, scan, exactly, algorithm, stmt_by}
 use Rattle.stmt_text.specs.Events.{event_by}

@@ -9,6 +9,7 @@ use Rattle.tuple_bytes.specs.declared.op.Column.{Column}
 use Rattle.tuple_bytes.specs.declared.filter.Filter.{Filter}
 use Rattle.tuple_bytes.specs.declared.filter.Compare.{Compare}
 use Rattle.tuple_bytes.specs.declared.filter.Compare.TheVariants as compares
+use Rattle.tuple_bytes.specs.Limits.{max_moment}
 use Rattle.stmt_text.specs.declared.stmt.LineAlgorithm.{LineAlgorithm}
 use Rattle.stmt_text.specs.declared.stmt.LineAlgorithm.TheVariants as algorithms
 use Rattle.stmt_text.specs.declared.stmt.Stmt.{Stmt}
@@ -19,11 +20,13 @@ use Rattle.stmt_text.specs.declared.line.Line.{Line}
 use Rattle.stmt_text.specs.declared.line.Line.TheVariants as lines
 use Rattle.stmt_text.specs.Options.{or_else}
 use Rattle.stmt_text.specs.Tokens.{Token, tokens}
-use Rattle.stmt_text.specs.Numbers.{in_range, max_u64}
+use Rattle.stmt_text.specs.declared.number.Numbers.{Numbers}
+use Rattle.stmt_text.specs.declared.number.Numbers.TheVariants as modes
+use Rattle.stmt_text.specs.Numbers.{max_u64}
 use Rattle.stmt_text.specs.Values.{blob_of_digits}
 use Rattle.stmt_text.specs.Words.{algorithm_word}
 use Rattle.stmt_text.specs.Keywords.{stmt_keyword, event_keyword}
-use Rattle.stmt_text.specs.Parts.{moment, kappa, value_in, name, front, only, each, after_word, as_of, max_moment}
+use Rattle.stmt_text.specs.Parts.{moment, kappa, value_in, name, front, only, each, after_word, as_of}
 use Rattle.stmt_text.specs.Rows.{is_row, are_columns, row, column, each_column, columns}
 use Rattle.stmt_text.specs.Statements.{create, insert, update, delete, get, history, filter_at, unfiltered, filtered, scan, algorithm, alone, stmt_by}
 use Rattle.stmt_text.specs.Events.{altering, init, crash, alter, cut, event_by}
@@ -37,32 +40,35 @@ use Rattle.stmt_text.proofs.WordReads.{keyword_back, kind_back, compare_back, al
 
 -- ---- parts
 
-value_said : (token : Token) (v : Value) → Says token v → value_in in_range token ≡ Some v
+value_said : (numbers : Numbers) (token : Token) (v : Value) → Says numbers token v → value_in numbers token ≡ Some v
 unfolding value_in
-value_said token v h = rw (value_again token v h.0, h.1) refl
+value_said modes.InRange token v h = rw (value_again token v h.0, h.1) refl
+value_said modes.AnyWidth token v h = rw (value_again token h.0 h.1, h.2) refl
 
-moment_said : (token : Token) (m : ℕ) → SaysNumber 0 max_moment token m → moment in_range token ≡ Some m
+moment_said : (numbers : Numbers) (token : Token) (m : ℕ) → SaysNumber numbers 0 max_moment token m → moment numbers token ≡ Some m
 unfolding moment
-moment_said token m h = rw (h.0, le-leb 0 m h.1, le-leb m max_moment h.2) refl
+moment_said modes.InRange token m h = rw (h.0, le-leb 0 m h.1, le-leb m max_moment h.2) refl
+moment_said modes.AnyWidth token m h = rw (h.1, h.2) refl
 
-kappa_said : (token : Token) (m : ℕ) → SaysNumber 1 1024 token m → kappa in_range token ≡ Some m
+kappa_said : (numbers : Numbers) (token : Token) (m : ℕ) → SaysNumber numbers 1 1024 token m → kappa numbers token ≡ Some m
 unfolding kappa
-kappa_said token m h = rw (h.0, le-leb 1 m h.1, le-leb m 1024 h.2) refl
+kappa_said modes.InRange token m h = rw (h.0, le-leb 1 m h.1, le-leb m 1024 h.2) refl
+kappa_said modes.AnyWidth token m h = rw (h.1, h.2) refl
 
 name_said : (n : List ℕ) → FitsName n → name n ≡ Some n
 unfolding name
 name_said n h = rw h refl
 
-each_said : (ts : List Token) (vs : List Value) → SayValues ts vs → each (value_in in_range) ts ≡ Some vs
+each_said : (numbers : Numbers) (ts : List Token) (vs : List Value) → SayValues numbers ts vs → each (value_in numbers) ts ≡ Some vs
 unfolding each
-each_said [] [] h = refl
-each_said [] (v ∷ vs) h = absurd h
-each_said (t ∷ ts) [] h = absurd h
-each_said (t ∷ ts) (v ∷ vs) h = rw (value_said t v h.0, each_said ts vs h.1) refl
+each_said numbers [] [] h = refl
+each_said numbers [] (v ∷ vs) h = absurd h
+each_said numbers (t ∷ ts) [] h = absurd h
+each_said numbers (t ∷ ts) (v ∷ vs) h = rw (value_said numbers t v h.0, each_said numbers ts vs h.1) refl
 
-row_said : (ts : List Token) (vs : List Value) → SayValues ts vs → is_row vs ≡ true → row in_range ts ≡ Some vs
+row_said : (numbers : Numbers) (ts : List Token) (vs : List Value) → SayValues numbers ts vs → is_row vs ≡ true → row numbers ts ≡ Some vs
 unfolding row
-row_said ts vs h k = rw (each_said ts vs h, k) refl
+row_said numbers ts vs h k = rw (each_said numbers ts vs h, k) refl
 
 columns_said : (ts : List Token) (cs : List Column) → SayColumns ts cs → each_column ts ≡ Some cs
 unfolding each_column column
@@ -73,19 +79,19 @@ create_said : (ts : List Token) (cs : List Column) → SayColumns ts cs → are_
 unfolding columns
 create_said ts cs h k = rw (columns_said ts cs h, k) refl
 
-as_of_said : (ts : List Token) (m : Option ℕ) → SayAsOf ts m → as_of in_range ts ≡ Some m
+as_of_said : (numbers : Numbers) (ts : List Token) (m : Option ℕ) → SayAsOf numbers ts m → as_of numbers ts ≡ Some m
 unfolding as_of after_word only front
-as_of_said ts None h = rw h refl
-as_of_said ts (Some m) h = rw (h.1, moment_said h.0 m h.2) refl
+as_of_said numbers ts None h = rw h refl
+as_of_said numbers ts (Some m) h = rw (h.1, moment_said numbers h.0 m h.2) refl
 
 -- ---- statements
 
-algorithm_said : (ts : List Token) (a : LineAlgorithm) → SayAlgorithm ts a → algorithm in_range ts ≡ Some a
+algorithm_said : (numbers : Numbers) (ts : List Token) (a : LineAlgorithm) → SayAlgorithm numbers ts a → algorithm numbers ts ≡ Some a
 unfolding algorithm only front algorithm_word after_word
-algorithm_said ts algorithms.Mono h = rw h refl
-algorithm_said ts algorithms.Tiled h = rw h refl
-algorithm_said ts (algorithms.TiledExactly k) h = rw (h.1, kappa_said h.0 k h.2) refl
-algorithm_said ts algorithms.A3d h = rw h refl
+algorithm_said numbers ts algorithms.Mono h = rw h refl
+algorithm_said numbers ts algorithms.Tiled h = rw h refl
+algorithm_said numbers ts (algorithms.TiledExactly k) h = rw (h.1, kappa_said numbers h.0 k h.2) refl
+algorithm_said numbers ts algorithms.A3d h = rw h refl
 
 -- what begins with a name and a comparison does not begin with `as of`
 no_of : (c : Compare) → bytes_eq (compare_token c) (codes "of") ≡ false
@@ -99,44 +105,44 @@ no_of compares.GreaterOrEqual = refl
 abbrev some_moment : ℕ → Option ℕ
 some_moment m = Some m
 
-not_as_of : (table n : List ℕ) (c : Compare) (ts : List Token) → unfiltered in_range table (n ∷ compare_token c ∷ ts) ≡ None
+not_as_of : (numbers : Numbers) (table n : List ℕ) (c : Compare) (ts : List Token) → unfiltered numbers table (n ∷ compare_token c ∷ ts) ≡ None
 unfolding unfiltered as_of after_word
-not_as_of table n c ts = rw (no_of c) (by (bytes_eq n (codes "as")))
+not_as_of numbers table n c ts = rw (no_of c) (by (bytes_eq n (codes "as")))
   where
     by : (b : Bool) → (option_map some_moment (cond b None None) >>= λ at. Some (stmts.Scan table None at)) ≡ None
     by true = refl
     by false = refl
 
-unfiltered_said : (table : List ℕ) (ts : List Token) (m : Option ℕ) → SayAsOf ts m → unfiltered in_range table ts ≡ Some (stmts.Scan table None m)
+unfiltered_said : (numbers : Numbers) (table : List ℕ) (ts : List Token) (m : Option ℕ) → SayAsOf numbers ts m → unfiltered numbers table ts ≡ Some (stmts.Scan table None m)
 unfolding unfiltered
-unfiltered_said table ts m h = rw (as_of_said ts m h) refl
+unfiltered_said numbers table ts m h = rw (as_of_said numbers ts m h) refl
 
-filtered_said : (table : List ℕ) (f : Filter) (bound : Token) (more : List Token) (m : Option ℕ) → FitsName f.column → Says bound f.value → SayAsOf more m
-    → filtered in_range table (f.column ∷ compare_token f.compare ∷ bound ∷ more) ≡ Some (stmts.Scan table (Some f) m)
+filtered_said : (numbers : Numbers) (table : List ℕ) (f : Filter) (bound : Token) (more : List Token) (m : Option ℕ) → FitsName f.column → Says numbers bound f.value → SayAsOf numbers more m
+    → filtered numbers table (f.column ∷ compare_token f.compare ∷ bound ∷ more) ≡ Some (stmts.Scan table (Some f) m)
 unfolding filtered filter_at front
-filtered_said table f bound more m n v a = rw (name_said f.column n, compare_back f.compare, value_said bound f.value v, as_of_said more m a) refl
+filtered_said numbers table f bound more m n v a = rw (name_said f.column n, compare_back f.compare, value_said numbers bound f.value v, as_of_said numbers more m a) refl
 
-scan_said : (table : List ℕ) (ts more : List Token) (f : Option Filter) (m : Option ℕ) → SayFilter ts f more → SayAsOf more m
-    → or_else (unfiltered in_range table ts) (filtered in_range table ts) ≡ Some (stmts.Scan table f m)
-scan_said table ts more None m h a = rw (h, unfiltered_said table more m a) refl
-scan_said table ts more (Some f) m h a = rw (h.1, not_as_of table f.column f.compare (h.0 ∷ more)) (filtered_said table f h.0 more m h.2 h.3 a)
+scan_said : (numbers : Numbers) (table : List ℕ) (ts more : List Token) (f : Option Filter) (m : Option ℕ) → SayFilter numbers ts f more → SayAsOf numbers more m
+    → or_else (unfiltered numbers table ts) (filtered numbers table ts) ≡ Some (stmts.Scan table f m)
+scan_said numbers table ts more None m h a = rw (h, unfiltered_said numbers table more m a) refl
+scan_said numbers table ts more (Some f) m h a = rw (h.1, not_as_of numbers table f.column f.compare (h.0 ∷ more)) (filtered_said numbers table f h.0 more m h.2 h.3 a)
 
-pub stmt_said : (ts : List Token) (s : Stmt) → SayStmt ts s → stmt_by in_range (stmt_keyword s) ts ≡ Some s
+pub stmt_said : (numbers : Numbers) (ts : List Token) (s : Stmt) → SayStmt numbers ts s → stmt_by numbers (stmt_keyword s) ts ≡ Some s
 unfolding stmt_by create insert update delete get history scan alone only front
-stmt_said ts (stmts.Create t c) h = rw (h.1, name_said t h.2, create_said h.0 c h.3 h.4) refl
-stmt_said ts (stmts.Insert t r) h = rw (h.1, name_said t h.2, row_said h.0 r h.3 h.4) refl
-stmt_said ts (stmts.Update t r) h = rw (h.1, name_said t h.2, row_said h.0 r h.3 h.4) refl
-stmt_said ts (stmts.Delete t k) h = rw (h.1, name_said t h.2, value_said h.0 k h.3) refl
-stmt_said ts (stmts.Get t k m) h = rw (h.2, name_said t h.3, value_said h.0 k h.4, as_of_said h.1 m h.5) refl
-stmt_said ts (stmts.Scan t f m) h = rw (h.2, name_said t h.3) (scan_said t h.0 h.1 f m h.4 h.5)
-stmt_said ts (stmts.History t k) h = rw (h.1, name_said t h.2, value_said h.0 k h.3) refl
-stmt_said ts stmts.Begin h = rw h refl
-stmt_said ts stmts.Commit h = rw h refl
-stmt_said ts stmts.Abort h = rw h refl
-stmt_said ts stmts.Notarize h = rw h refl
-stmt_said ts stmts.Validate h = rw h refl
-stmt_said ts (stmts.Analyse a) h = rw (algorithm_said ts a h) refl
-stmt_said ts (stmts.Now m) h = rw (h.1, moment_said h.0 m h.2) refl
+stmt_said numbers ts (stmts.Create t c) h = rw (h.1, name_said t h.2, create_said h.0 c h.3 h.4) refl
+stmt_said numbers ts (stmts.Insert t r) h = rw (h.1, name_said t h.2, row_said numbers h.0 r h.3 h.4) refl
+stmt_said numbers ts (stmts.Update t r) h = rw (h.1, name_said t h.2, row_said numbers h.0 r h.3 h.4) refl
+stmt_said numbers ts (stmts.Delete t k) h = rw (h.1, name_said t h.2, value_said numbers h.0 k h.3) refl
+stmt_said numbers ts (stmts.Get t k m) h = rw (h.2, name_said t h.3, value_said numbers h.0 k h.4, as_of_said numbers h.1 m h.5) refl
+stmt_said numbers ts (stmts.Scan t f m) h = rw (h.2, name_said t h.3) (scan_said numbers t h.0 h.1 f m h.4 h.5)
+stmt_said numbers ts (stmts.History t k) h = rw (h.1, name_said t h.2, value_said numbers h.0 k h.3) refl
+stmt_said numbers ts stmts.Begin h = rw h refl
+stmt_said numbers ts stmts.Commit h = rw h refl
+stmt_said numbers ts stmts.Abort h = rw h refl
+stmt_said numbers ts stmts.Notarize h = rw h refl
+stmt_said numbers ts stmts.Validate h = rw h refl
+stmt_said numbers ts (stmts.Analyse a) h = rw (algorithm_said numbers ts a h) refl
+stmt_said numbers ts (stmts.Now m) h = rw (h.1, moment_said numbers h.0 m h.2) refl
 
 -- ---- drill lines
 
@@ -157,26 +163,26 @@ session_number : (n : ℕ) → n ≤ 15 → session (115 ∷ decimal n) ≡ Some
 unfolding session
 session_number n h = plain_back 0 15 n (omega arith) (omega arith) h
 
-pub line_said : (ts : List Token) (l : Line) → SayLine ts l → said in_range ts ≡ Some l
+pub line_said : (numbers : Numbers) (ts : List Token) (l : Line) → SayLine numbers ts l → said numbers ts ≡ Some l
 unfolding said plain plain_by in_session session_by front
-line_said ts lines.Blank h = absurd h
-line_said ts (lines.Plain s) h =
-    rw (h.1, no_session (stmt_keyword s), keyword_back (stmt_keyword s), no_drill s, h.3, stmt_said h.0 s h.2) refl
-line_said ts (lines.InSession n s) h =
-    rw (h.1, session_number n h.2, keyword_back (stmt_keyword s), h.4, stmt_said h.0 s h.3) refl
-line_said ts (lines.Drill e) h =
+line_said numbers ts lines.Blank h = absurd h
+line_said numbers ts (lines.Plain s) h =
+    rw (h.1, no_session (stmt_keyword s), keyword_back (stmt_keyword s), no_drill s, h.3, stmt_said numbers h.0 s h.2) refl
+line_said numbers ts (lines.InSession n s) h =
+    rw (h.1, session_number n h.2, keyword_back (stmt_keyword s), h.4, stmt_said numbers h.0 s h.3) refl
+line_said numbers ts (lines.Drill e) h =
     rw (h.1, no_session (event_keyword e), keyword_back (event_keyword e), is_drill e, event_said h.0 e h.2) refl
 
-words_said : (content : List ℕ) (l : Line) → SaysWords content l → content_line in_range content ≡ Some l
+words_said : (numbers : Numbers) (content : List ℕ) (l : Line) → SaysWords numbers content l → content_line numbers content ≡ Some l
 unfolding content_line
-words_said content l h = rw (h.filled, le-leb (length content) max_line h.short) (line_said (tokens content) l h.said)
+words_said numbers content l h = rw (h.filled, le-leb (length content) max_line h.short) (line_said numbers (tokens content) l h.said)
 
-content_said : (content : List ℕ) (l : Line) → SaysContent content l → content_line in_range content ≡ Some l
+content_said : (numbers : Numbers) (content : List ℕ) (l : Line) → SaysContent numbers content l → content_line numbers content ≡ Some l
 unfolding content_line
-content_said content lines.Blank h = rw h refl
-content_said content (lines.Plain s) h = words_said content (lines.Plain s) h
-content_said content (lines.InSession n s) h = words_said content (lines.InSession n s) h
-content_said content (lines.Drill e) h = words_said content (lines.Drill e) h
+content_said numbers content lines.Blank h = rw h refl
+content_said numbers content (lines.Plain s) h = words_said numbers content (lines.Plain s) h
+content_said numbers content (lines.InSession n s) h = words_said numbers content (lines.InSession n s) h
+content_said numbers content (lines.Drill e) h = words_said numbers content (lines.Drill e) h
 
-pub says_again : (bytes : List ℕ) (l : Line) → SaysLine bytes l → line_by in_range bytes ≡ Some l
-says_again bytes l h = content_said (without_return bytes) l h
+pub says_again : (numbers : Numbers) (bytes : List ℕ) (l : Line) → SaysLine numbers bytes l → line_by numbers bytes ≡ Some l
+says_again numbers bytes l h = content_said numbers (without_return bytes) l h

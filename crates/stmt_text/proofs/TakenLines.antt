@@ -12,7 +12,8 @@ use Rattle.stmt_text.specs.declared.event.Event.TheVariants as events
 use Rattle.stmt_text.specs.declared.line.Line.{Line}
 use Rattle.stmt_text.specs.declared.line.Line.TheVariants as lines
 use Rattle.stmt_text.specs.Tokens.{Token, tokens}
-use Rattle.stmt_text.specs.Numbers.{in_range, plain_number, max_u64}
+use Rattle.stmt_text.specs.declared.number.Numbers.{Numbers}
+use Rattle.stmt_text.specs.Numbers.{plain_number, max_u64}
 use Rattle.stmt_text.specs.Values.{blob_of_digits, some_of}
 use Rattle.stmt_text.specs.Words.{keyword, algs}
 use Rattle.stmt_text.specs.Keywords.{keyword_token, event_keyword, is_session_word, is_for_session, is_drill_word}
@@ -141,46 +142,46 @@ word_front ts x e =
     let f = front_takes keyword ts x e in
     f.1 ∙ ap (λ (y : Token). y ∷ x.1) (keyword_takes f.0 x.0 f.2)
 
-drill_line : (k : Keyword) (ts others : List Token) (l : Line) → ts ≡ keyword_token k ∷ others → option_map lines.Drill (event_by k others) ≡ Some l → SayLine ts l
-drill_line k ts others l parts e =
-    map_takes lines.Drill (event_by k others) l (SayLine ts) (λ v h.
+drill_line : (numbers : Numbers) (k : Keyword) (ts others : List Token) (l : Line) → ts ≡ keyword_token k ∷ others → option_map lines.Drill (event_by k others) ≡ Some l → SayLine numbers ts l
+drill_line numbers k ts others l parts e =
+    map_takes lines.Drill (event_by k others) l (SayLine numbers ts) (λ v h.
     let t = event_takes k others v h in
     (others, parts ∙ ap (λ (y : Keyword). keyword_token y ∷ others) t.0, t.1)) e
 
-plain_line : (k : Keyword) (ts others : List Token) (l : Line) → ts ≡ keyword_token k ∷ others → is_session_word k ≡ false → option_map lines.Plain (stmt_by in_range k others) ≡ Some l → SayLine ts l
-plain_line k ts others l parts free e =
-    map_takes lines.Plain (stmt_by in_range k others) l (SayLine ts) (λ s h.
-    let t = stmt_takes k others s h in
+plain_line : (numbers : Numbers) (k : Keyword) (ts others : List Token) (l : Line) → ts ≡ keyword_token k ∷ others → is_session_word k ≡ false → option_map lines.Plain (stmt_by numbers k others) ≡ Some l → SayLine numbers ts l
+plain_line numbers k ts others l parts free e =
+    map_takes lines.Plain (stmt_by numbers k others) l (SayLine numbers ts) (λ s h.
+    let t = stmt_takes numbers k others s h in
     (others, parts ∙ ap (λ (y : Keyword). keyword_token y ∷ others) t.0, t.1, subst (λ (y : Keyword). is_session_word y ≡ false) t.0 free)) e
 
-plain_by_takes : (k : Keyword) (ts others : List Token) (l : Line) → ts ≡ keyword_token k ∷ others → plain_by in_range k others ≡ Some l → SayLine ts l
+plain_by_takes : (numbers : Numbers) (k : Keyword) (ts others : List Token) (l : Line) → ts ≡ keyword_token k ∷ others → plain_by numbers k others ≡ Some l → SayLine numbers ts l
 unfolding plain_by
-plain_by_takes k ts others l parts e = by (is_drill_word k) (is_session_word k) refl e
+plain_by_takes numbers k ts others l parts e = by (is_drill_word k) (is_session_word k) refl e
   where
-    by : (d s : Bool) → is_session_word k ≡ s → cond d (option_map lines.Drill (event_by k others)) (cond s None (option_map lines.Plain (stmt_by in_range k others))) ≡ Some l → SayLine ts l
-    by true s free h = drill_line k ts others l parts h
+    by : (d s : Bool) → is_session_word k ≡ s → cond d (option_map lines.Drill (event_by k others)) (cond s None (option_map lines.Plain (stmt_by numbers k others))) ≡ Some l → SayLine numbers ts l
+    by true s free h = drill_line numbers k ts others l parts h
     by false true free h = absurd cc
-    by false false free h = plain_line k ts others l parts free h
+    by false false free h = plain_line numbers k ts others l parts free h
 
-plain_takes_line : (ts : List Token) (l : Line) → plain in_range ts ≡ Some l → SayLine ts l
+plain_takes_line : (numbers : Numbers) (ts : List Token) (l : Line) → plain numbers ts ≡ Some l → SayLine numbers ts l
 unfolding plain
-plain_takes_line ts l e =
-    let t = bind_some (front keyword ts) (λ word. plain_by in_range word.0 word.1) l e in
-    plain_by_takes t.0.0 ts t.0.1 l (word_front ts t.0 t.1) t.2
+plain_takes_line numbers ts l e =
+    let t = bind_some (front keyword ts) (λ word. plain_by numbers word.0 word.1) l e in
+    plain_by_takes numbers t.0.0 ts t.0.1 l (word_front ts t.0 t.1) t.2
 
-session_by_takes : (n : ℕ) (k : Keyword) (ts others : List Token) (l : Line) → n ≤ 15 → ts ≡ (115 ∷ decimal n) ∷ keyword_token k ∷ others → session_by in_range n k others ≡ Some l → SayLine ts l
+session_by_takes : (numbers : Numbers) (n : ℕ) (k : Keyword) (ts others : List Token) (l : Line) → n ≤ 15 → ts ≡ (115 ∷ decimal n) ∷ keyword_token k ∷ others → session_by numbers n k others ≡ Some l → SayLine numbers ts l
 unfolding session_by
-session_by_takes n k ts others l small parts e =
-    let t = if_some (is_for_session k) (option_map (lines.InSession n) (stmt_by in_range k others)) l e in
-    map_takes (lines.InSession n) (stmt_by in_range k others) l (SayLine ts) (λ s h.
-    let u = stmt_takes k others s h in
+session_by_takes numbers n k ts others l small parts e =
+    let t = if_some (is_for_session k) (option_map (lines.InSession n) (stmt_by numbers k others)) l e in
+    map_takes (lines.InSession n) (stmt_by numbers k others) l (SayLine numbers ts) (λ s h.
+    let u = stmt_takes numbers k others s h in
     (others, parts ∙ ap (λ (y : Keyword). (115 ∷ decimal n) ∷ keyword_token y ∷ others) u.0, small, u.1, subst (λ (y : Keyword). is_for_session y ≡ true) u.0 t.0)) t.1
 
-in_session_takes : (n : ℕ) (ts others : List Token) (l : Line) → n ≤ 15 → ts ≡ (115 ∷ decimal n) ∷ others → in_session in_range n others ≡ Some l → SayLine ts l
+in_session_takes : (numbers : Numbers) (n : ℕ) (ts others : List Token) (l : Line) → n ≤ 15 → ts ≡ (115 ∷ decimal n) ∷ others → in_session numbers n others ≡ Some l → SayLine numbers ts l
 unfolding in_session
-in_session_takes n ts others l small parts e =
-    let t = bind_some (front keyword others) (λ word. session_by in_range n word.0 word.1) l e in
-    session_by_takes n t.0.0 ts t.0.1 l small (onto ts others (keyword_token t.0.0 ∷ t.0.1) (115 ∷ decimal n) parts (word_front others t.0 t.1)) t.2
+in_session_takes numbers n ts others l small parts e =
+    let t = bind_some (front keyword others) (λ word. session_by numbers n word.0 word.1) l e in
+    session_by_takes numbers n t.0.0 ts t.0.1 l small (onto ts others (keyword_token t.0.0 ∷ t.0.1) (115 ∷ decimal n) parts (word_front others t.0 t.1)) t.2
 
 session_takes : (token : Token) (n : ℕ) → session token ≡ Some n → (token ≡ 115 ∷ decimal n) × (n ≤ 15)
 unfolding session
@@ -191,32 +192,32 @@ session_takes (b ∷ digits) n e =
     let is : b ≡ 115 = eqb-true b 115 t.0 in
     (rw is (ap (λ (y : List ℕ). 115 ∷ y) p.0), p.2)
 
-said_takes : (ts : List Token) (l : Line) → said in_range ts ≡ Some l → SayLine ts l
+said_takes : (numbers : Numbers) (ts : List Token) (l : Line) → said numbers ts ≡ Some l → SayLine numbers ts l
 unfolding said
-said_takes [] l e = absurd cc
-said_takes (token ∷ others) l e = by (session token) refl e
+said_takes numbers [] l e = absurd cc
+said_takes numbers (token ∷ others) l e = by (session token) refl e
   where
-    by : (o : Option ℕ) → session token ≡ o → said_by in_range o (token ∷ others) others ≡ Some l → SayLine (token ∷ others) l
+    by : (o : Option ℕ) → session token ≡ o → said_by numbers o (token ∷ others) others ≡ Some l → SayLine numbers (token ∷ others) l
     by (Some n) is h =
         let t = session_takes token n is in
-        in_session_takes n (token ∷ others) others l t.1 (ap (λ (y : Token). y ∷ others) t.0) h
-    by None is h = plain_takes_line (token ∷ others) l h
+        in_session_takes numbers n (token ∷ others) others l t.1 (ap (λ (y : Token). y ∷ others) t.0) h
+    by None is h = plain_takes_line numbers (token ∷ others) l h
 
-not_blank : (content : List ℕ) (l : Line) → is_blank content ≡ false → length content ≤ max_line → SayLine (tokens content) l → SaysContent content l
-not_blank content lines.Blank filled short h = absurd h
-not_blank content (lines.Plain s) filled short h = record { filled = filled; short = short; said = h }
-not_blank content (lines.InSession n s) filled short h = record { filled = filled; short = short; said = h }
-not_blank content (lines.Drill e) filled short h = record { filled = filled; short = short; said = h }
+not_blank : (numbers : Numbers) (content : List ℕ) (l : Line) → is_blank content ≡ false → length content ≤ max_line → SayLine numbers (tokens content) l → SaysContent numbers content l
+not_blank numbers content lines.Blank filled short h = absurd h
+not_blank numbers content (lines.Plain s) filled short h = record { filled = filled; short = short; said = h }
+not_blank numbers content (lines.InSession n s) filled short h = record { filled = filled; short = short; said = h }
+not_blank numbers content (lines.Drill e) filled short h = record { filled = filled; short = short; said = h }
 
-content_takes : (content : List ℕ) (l : Line) → content_line in_range content ≡ Some l → SaysContent content l
+content_takes : (numbers : Numbers) (content : List ℕ) (l : Line) → content_line numbers content ≡ Some l → SaysContent numbers content l
 unfolding content_line
-content_takes content l e = by (is_blank content) refl e
+content_takes numbers content l e = by (is_blank content) refl e
   where
-    by : (b : Bool) → is_blank content ≡ b → cond b (Some lines.Blank) (cond (nat_le (length content) max_line) (said in_range (tokens content)) None) ≡ Some l → SaysContent content l
-    by true is h = subst (SaysContent content) (same_Some lines.Blank l h) is
+    by : (b : Bool) → is_blank content ≡ b → cond b (Some lines.Blank) (cond (nat_le (length content) max_line) (said numbers (tokens content)) None) ≡ Some l → SaysContent numbers content l
+    by true is h = subst (SaysContent numbers content) (same_Some lines.Blank l h) is
     by false is h =
-        let t = if_some (nat_le (length content) max_line) (said in_range (tokens content)) l h in
-        not_blank content l is (leb-true (length content) max_line t.0) (said_takes (tokens content) l t.1)
+        let t = if_some (nat_le (length content) max_line) (said numbers (tokens content)) l h in
+        not_blank numbers content l is (leb-true (length content) max_line t.0) (said_takes numbers (tokens content) l t.1)
 
-pub says_taken : (bytes : List ℕ) (l : Line) → line_by in_range bytes ≡ Some l → SaysLine bytes l
-says_taken bytes l e = content_takes (without_return bytes) l e
+pub says_taken : (numbers : Numbers) (bytes : List ℕ) (l : Line) → line_by numbers bytes ≡ Some l → SaysLine numbers bytes l
+says_taken numbers bytes l e = content_takes numbers (without_return bytes) l e

@@ -7,6 +7,7 @@ use Rattle.tuple_bytes.specs.declared.op.Column.{Column}
 use Rattle.tuple_bytes.specs.declared.value.Value.{Value}
 use Rattle.tuple_bytes.specs.declared.value.Value.TheVariants as values
 use Rattle.tuple_bytes.specs.declared.filter.Filter.{Filter}
+use Rattle.tuple_bytes.specs.Limits.{max_moment}
 use Rattle.stmt_text.specs.declared.stmt.LineAlgorithm.{LineAlgorithm}
 use Rattle.stmt_text.specs.declared.stmt.LineAlgorithm.TheVariants as algorithms
 use Rattle.stmt_text.specs.declared.stmt.Stmt.{Stmt}
@@ -18,7 +19,6 @@ use Rattle.stmt_text.specs.declared.line.Line.TheVariants as lines
 use Rattle.stmt_text.specs.Numbers.{int_in_range, max_u64}
 use Rattle.stmt_text.specs.Values.{is_text}
 use Rattle.stmt_text.specs.Keywords.{stmt_keyword, is_session_word, is_for_session}
-use Rattle.stmt_text.specs.Parts.{max_moment}
 use Rattle.stmt_text.specs.Rows.{is_row, are_columns}
 use Rattle.stmt_text.specs.Events.{is_altering}
 use Rattle.stmt_text.specs.Lines.{max_line}

@@ -1,9 +1,10 @@
--- The grammar, by cases on what is said: which line says which value, with numbers in their ranges.
-use Rattle.std.specs.Prelude.{◌≡◌, ℕ, ◌≤◌, true, false, List, [], ◌∷◌, length, Option, Some, None, Ok, codes, decimal}
+-- The grammar, by cases on what is said: which line says which value, with numbers in their ranges or of any width.
+use Rattle.std.specs.Prelude.{◌≡◌, ℕ, ◌≤◌, true, false, min, List, [], ◌∷◌, length, Option, Some, None, Ok, codes, decimal}
 use Rattle.hex.specs.Hex.{decode_of}
 use Rattle.tuple_bytes.specs.declared.op.Column.{Column}
 use Rattle.tuple_bytes.specs.declared.value.Value.{Value}
 use Rattle.tuple_bytes.specs.declared.filter.Filter.{Filter}
+use Rattle.tuple_bytes.specs.Limits.{max_moment}
 use Rattle.stmt_text.specs.declared.stmt.LineAlgorithm.{LineAlgorithm}
 use Rattle.stmt_text.specs.declared.stmt.LineAlgorithm.TheVariants as algorithms
 use Rattle.stmt_text.specs.declared.stmt.Stmt.{Stmt}
@@ -13,10 +14,11 @@ use Rattle.stmt_text.specs.declared.event.Event.TheVariants as events
 use Rattle.stmt_text.specs.declared.line.Line.{Line}
 use Rattle.stmt_text.specs.declared.line.Line.TheVariants as lines
 use Rattle.stmt_text.specs.Tokens.{Token, tokens}
-use Rattle.stmt_text.specs.Numbers.{number, max_u64}
-use Rattle.stmt_text.specs.Values.{SaysValue, value_in_range}
+use Rattle.stmt_text.specs.declared.number.Numbers.{Numbers}
+use Rattle.stmt_text.specs.declared.number.Numbers.TheVariants as modes
+use Rattle.stmt_text.specs.Numbers.{number, any_width, in_range, max_u64}
+use Rattle.stmt_text.specs.Values.{SaysValue, nearest_value, value_in_range}
 use Rattle.stmt_text.specs.Keywords.{stmt_keyword, is_session_word, is_for_session}
-use Rattle.stmt_text.specs.Parts.{max_moment}
 use Rattle.stmt_text.specs.Rows.{is_row, are_columns}
 use Rattle.stmt_text.specs.Events.{is_altering}
 use Rattle.stmt_text.specs.Lines.{without_return, is_blank, max_line}
@@ -25,20 +27,22 @@ use Rattle.stmt_text.specs.Fits.{FitsName}
 
 -- ---- parts
 
--- a value whose number is in its range
-abbrev pub Says : Token → Value → Type 0
-Says token v = SaysValue token v × (value_in_range v ≡ true)
+-- A value whose number is in its range; with numbers of any width the nearest in its range stands for it.
+abbrev pub Says : Numbers → Token → Value → Type 0
+Says modes.InRange token v = SaysValue token v × (value_in_range v ≡ true)
+Says modes.AnyWidth token v = (spelled : Value) × SaysValue token spelled × (v ≡ nearest_value spelled)
 
--- a number from the least to the greatest
-abbrev pub SaysNumber : ℕ → ℕ → Token → ℕ → Type 0
-SaysNumber least greatest token n = (number token ≡ Some n) × (least ≤ n) × (n ≤ greatest)
+-- A number from the least to the greatest; with numbers of any width the greatest stands for all above it.
+abbrev pub SaysNumber : Numbers → ℕ → ℕ → Token → ℕ → Type 0
+SaysNumber modes.InRange least greatest token n = (number token ≡ Some n) × (least ≤ n) × (n ≤ greatest)
+SaysNumber modes.AnyWidth least greatest token n = (spelled : ℕ) × (number token ≡ Some spelled) × (n ≡ min spelled greatest)
 
 -- one token for each value
-abbrev pub SayValues : List Token → List Value → Type 0
-SayValues [] [] = Unit {0}
-SayValues [] (v ∷ vs) = ⊥
-SayValues (t ∷ ts) [] = ⊥
-SayValues (t ∷ ts) (v ∷ vs) = Says t v × SayValues ts vs
+abbrev pub SayValues : Numbers → List Token → List Value → Type 0
+SayValues numbers [] [] = Unit {0}
+SayValues numbers [] (v ∷ vs) = ⊥
+SayValues numbers (t ∷ ts) [] = ⊥
+SayValues numbers (t ∷ ts) (v ∷ vs) = Says numbers t v × SayValues numbers ts vs
 
 -- a name and a kind for each column
 abbrev pub SayColumns : List Token → List Column → Type 0
@@ -48,56 +52,56 @@ SayColumns ts (c ∷ cs) =
     × SayColumns others cs
 
 -- nothing, or `as of` and a moment
-abbrev pub SayAsOf : List Token → Option ℕ → Type 0
-SayAsOf ts None = ts ≡ []
-SayAsOf ts (Some m) =
-    (token : Token) × (ts ≡ codes "as" ∷ codes "of" ∷ token ∷ []) × SaysNumber 0 max_moment token m
+abbrev pub SayAsOf : Numbers → List Token → Option ℕ → Type 0
+SayAsOf numbers ts None = ts ≡ []
+SayAsOf numbers ts (Some m) =
+    (token : Token) × (ts ≡ codes "as" ∷ codes "of" ∷ token ∷ []) × SaysNumber numbers 0 max_moment token m
 
 -- the algorithm of an analysis
-abbrev pub SayAlgorithm : List Token → LineAlgorithm → Type 0
-SayAlgorithm ts algorithms.Mono = ts ≡ codes "mono" ∷ []
-SayAlgorithm ts algorithms.Tiled = ts ≡ codes "tiled" ∷ []
-SayAlgorithm ts (algorithms.TiledExactly n) =
-    (token : Token) × (ts ≡ codes "tiled" ∷ token ∷ []) × SaysNumber 1 1024 token n
-SayAlgorithm ts algorithms.A3d = ts ≡ codes "a3d" ∷ []
+abbrev pub SayAlgorithm : Numbers → List Token → LineAlgorithm → Type 0
+SayAlgorithm numbers ts algorithms.Mono = ts ≡ codes "mono" ∷ []
+SayAlgorithm numbers ts algorithms.Tiled = ts ≡ codes "tiled" ∷ []
+SayAlgorithm numbers ts (algorithms.TiledExactly n) =
+    (token : Token) × (ts ≡ codes "tiled" ∷ token ∷ []) × SaysNumber numbers 1 1024 token n
+SayAlgorithm numbers ts algorithms.A3d = ts ≡ codes "a3d" ∷ []
 
 -- a filter, where there is one, and what stands behind it
-abbrev pub SayFilter : List Token → Option Filter → List Token → Type 0
-SayFilter ts None others = ts ≡ others
-SayFilter ts (Some f) others =
+abbrev pub SayFilter : Numbers → List Token → Option Filter → List Token → Type 0
+SayFilter numbers ts None others = ts ≡ others
+SayFilter numbers ts (Some f) others =
     (bound : Token) × (ts ≡ f.column ∷ compare_token f.compare ∷ bound ∷ others)
-    × FitsName f.column × Says bound f.value
+    × FitsName f.column × Says numbers bound f.value
 
 -- ---- statements and drill lines
 
 -- what stands behind the first word of a statement
-abbrev pub SayStmt : List Token → Stmt → Type 0
-SayStmt ts (stmts.Create table columns) =
+abbrev pub SayStmt : Numbers → List Token → Stmt → Type 0
+SayStmt numbers ts (stmts.Create table columns) =
     (others : List Token) × (ts ≡ table ∷ others) × FitsName table
     × SayColumns others columns × (are_columns columns ≡ true)
-SayStmt ts (stmts.Insert table row) =
+SayStmt numbers ts (stmts.Insert table row) =
     (others : List Token) × (ts ≡ table ∷ others) × FitsName table
-    × SayValues others row × (is_row row ≡ true)
-SayStmt ts (stmts.Update table row) =
+    × SayValues numbers others row × (is_row row ≡ true)
+SayStmt numbers ts (stmts.Update table row) =
     (others : List Token) × (ts ≡ table ∷ others) × FitsName table
-    × SayValues others row × (is_row row ≡ true)
-SayStmt ts (stmts.Delete table key) =
-    (token : Token) × (ts ≡ table ∷ token ∷ []) × FitsName table × Says token key
-SayStmt ts (stmts.Get table key m) =
+    × SayValues numbers others row × (is_row row ≡ true)
+SayStmt numbers ts (stmts.Delete table key) =
+    (token : Token) × (ts ≡ table ∷ token ∷ []) × FitsName table × Says numbers token key
+SayStmt numbers ts (stmts.Get table key m) =
     (token : Token) × (others : List Token) × (ts ≡ table ∷ token ∷ others) × FitsName table
-    × Says token key × SayAsOf others m
-SayStmt ts (stmts.Scan table filter m) =
+    × Says numbers token key × SayAsOf numbers others m
+SayStmt numbers ts (stmts.Scan table filter m) =
     (others : List Token) × (more : List Token) × (ts ≡ table ∷ others) × FitsName table
-    × SayFilter others filter more × SayAsOf more m
-SayStmt ts (stmts.History table key) =
-    (token : Token) × (ts ≡ table ∷ token ∷ []) × FitsName table × Says token key
-SayStmt ts stmts.Begin = ts ≡ []
-SayStmt ts stmts.Commit = ts ≡ []
-SayStmt ts stmts.Abort = ts ≡ []
-SayStmt ts stmts.Notarize = ts ≡ []
-SayStmt ts stmts.Validate = ts ≡ []
-SayStmt ts (stmts.Analyse a) = SayAlgorithm ts a
-SayStmt ts (stmts.Now m) = (token : Token) × (ts ≡ token ∷ []) × SaysNumber 0 max_moment token m
+    × SayFilter numbers others filter more × SayAsOf numbers more m
+SayStmt numbers ts (stmts.History table key) =
+    (token : Token) × (ts ≡ table ∷ token ∷ []) × FitsName table × Says numbers token key
+SayStmt numbers ts stmts.Begin = ts ≡ []
+SayStmt numbers ts stmts.Commit = ts ≡ []
+SayStmt numbers ts stmts.Abort = ts ≡ []
+SayStmt numbers ts stmts.Notarize = ts ≡ []
+SayStmt numbers ts stmts.Validate = ts ≡ []
+SayStmt numbers ts (stmts.Analyse a) = SayAlgorithm numbers ts a
+SayStmt numbers ts (stmts.Now m) = (token : Token) × (ts ≡ token ∷ []) × SaysNumber numbers 0 max_moment token m
 
 -- what stands behind the first word of a drill line, with each number spelled as it is printed
 abbrev pub SayEvent : List Token → Event → Type 0
@@ -114,29 +118,40 @@ SayEvent ts (events.Cut len) = (ts ≡ decimal len ∷ []) × (len ≤ max_u64)
 -- ---- lines
 
 -- what the tokens of a line say that is not blank
-abbrev pub SayLine : List Token → Line → Type 0
-SayLine ts lines.Blank = ⊥
-SayLine ts (lines.Plain s) =
+abbrev pub SayLine : Numbers → List Token → Line → Type 0
+SayLine numbers ts lines.Blank = ⊥
+SayLine numbers ts (lines.Plain s) =
     (others : List Token) × (ts ≡ stmt_word s ∷ others)
-    × SayStmt others s × (is_session_word (stmt_keyword s) ≡ false)
-SayLine ts (lines.InSession n s) =
+    × SayStmt numbers others s × (is_session_word (stmt_keyword s) ≡ false)
+SayLine numbers ts (lines.InSession n s) =
     (others : List Token) × (ts ≡ (115 ∷ decimal n) ∷ stmt_word s ∷ others)
-    × (n ≤ 15) × SayStmt others s × (is_for_session (stmt_keyword s) ≡ true)
-SayLine ts (lines.Drill e) = (others : List Token) × (ts ≡ event_word e ∷ others) × SayEvent others e
+    × (n ≤ 15) × SayStmt numbers others s × (is_for_session (stmt_keyword s) ≡ true)
+SayLine numbers ts (lines.Drill e) = (others : List Token) × (ts ≡ event_word e ∷ others) × SayEvent others e
 
 -- a line of words, which is not blank and has no more bytes than a line may have
-pub record SaysWords (content : List ℕ) (l : Line) : Type 0 where
+pub record SaysWords (numbers : Numbers) (content : List ℕ) (l : Line) : Type 0 where
   pub filled : is_blank content ≡ false
   pub short : length content ≤ max_line
-  pub said : SayLine (tokens content) l
+  pub said : SayLine numbers (tokens content) l
 
 -- what a line says that has lost its carriage return
-abbrev pub SaysContent : List ℕ → Line → Type 0
-SaysContent content lines.Blank = is_blank content ≡ true
-SaysContent content (lines.Plain s) = SaysWords content (lines.Plain s)
-SaysContent content (lines.InSession n s) = SaysWords content (lines.InSession n s)
-SaysContent content (lines.Drill e) = SaysWords content (lines.Drill e)
+abbrev pub SaysContent : Numbers → List ℕ → Line → Type 0
+SaysContent numbers content lines.Blank = is_blank content ≡ true
+SaysContent numbers content (lines.Plain s) = SaysWords numbers content (lines.Plain s)
+SaysContent numbers content (lines.InSession n s) = SaysWords numbers content (lines.InSession n s)
+SaysContent numbers content (lines.Drill e) = SaysWords numbers content (lines.Drill e)
 
 -- the line that bytes say
-abbrev pub SaysLine : List ℕ → Line → Type 0
-SaysLine bytes l = SaysContent (without_return bytes) l
+abbrev pub SaysLine : Numbers → List ℕ → Line → Type 0
+SaysLine numbers bytes l = SaysContent numbers (without_return bytes) l
+
+-- ---- what is refused
+
+-- no line of the grammar, whatever the width of its numbers
+abbrev pub IsNoLine : List ℕ → Type 0
+IsNoLine bytes = (l : Line) → SaysLine any_width bytes l → ⊥
+
+-- a line of the grammar with numbers of any width, in which a number is out of its range
+pub record IsTooWide (bytes : List ℕ) : Type 0 where
+  pub wide : (l : Line) × SaysLine any_width bytes l
+  pub refused : (l : Line) → SaysLine in_range bytes l → ⊥

@@ -3,6 +3,7 @@ use Rattle.std.specs.Prelude.{◌≡◌, ℕ, if◌then◌else◌, List, [], ◌
 use Rattle.std.specs.Str.{bytes_eq}
 use Rattle.tuple_bytes.specs.declared.value.Value.{Value}
 use Rattle.byte_grammar.specs.Reading.{◌>>=◌}
+use Rattle.tuple_bytes.specs.Limits.{max_moment}
 use Rattle.tuple_bytes.specs.Word.{is_word}
 use Rattle.stmt_text.specs.declared.error.ReadFail.{ReadFail}
 use Rattle.stmt_text.specs.declared.error.ReadFail.TheVariants as fails
@@ -18,10 +19,6 @@ use Rattle.stmt_text.specs.Values.{value, nearest_value, value_in_range}
 abbrev pub kept_value : Numbers → Value → Option Value
 kept_value modes.AnyWidth v = Some (nearest_value v)
 kept_value modes.InRange v = if value_in_range v then Some v else None
-
--- the last moment
-abbrev pub max_moment : ℕ
-max_moment = 1099511627775
 
 -- the number of a moment
 unfoldable pub moment : Numbers → Token → Option ℕ

@@ -46,7 +46,8 @@
 //! | what was read can be printed | `fits` of `parse_line`; `lines_fit` |
 //! | `print_line` writes one text for each line, and reading it gives the same line | `value`, `spelled` of `print_line`; `lines_come_back` |
 //!
-//! `specs/Grammar.antt` says the grammar by cases on what is said; `Tokens`, `Numbers` and `Values` say what tokens
+//! `specs/Grammar.antt` says the grammar by cases on what is said, with numbers in their ranges or of any width, and so
+//! what is refused as Syntax and as NumberTooWide. `Tokens`, `Numbers` and `Values` say what tokens
 //! are and mean; the other files read a line part by part, as the code does. Only tested: that memory suffices, and
 //! that long lines take no long time (each byte is looked at a fixed number of times, and nothing recurses).
 //!

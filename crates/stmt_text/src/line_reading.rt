@@ -1,13 +1,14 @@
 //! Reading a line.
 
-ghost use Rattle.std.specs.Prelude.{◌≡◌, IfOk};
+ghost use Rattle.std.specs.Prelude.{◌≡◌, None, Err, IfOk};
 ghost use Rattle.std.specs.List.{list_all};
 ghost use Rattle.byte_grammar.specs.Reading.{Gives};
 ghost use Rattle.stmt_text.specs.Tokens.{tokens};
 ghost use Rattle.stmt_text.specs.Words.{keyword};
 ghost use Rattle.stmt_text.specs.Parts.{Read, front};
-ghost use Rattle.stmt_text.specs.Lines.{without_return, is_space, is_comment, is_blank, session, plain_by, plain, session_by, in_session, said, content_line, line_by, answer, IsAnswer, IsNoLine, IsTooWide, ComesExactly};
-ghost use Rattle.stmt_text.specs.Grammar.{SaysLine};
+ghost use Rattle.stmt_text.specs.Lines.{without_return, is_space, is_comment, is_blank, session, plain_by, plain, session_by, in_session, said, content_line, line_by, answer, IsAnswer, ComesExactly};
+ghost use Rattle.stmt_text.specs.Numbers.{in_range};
+ghost use Rattle.stmt_text.specs.Grammar.{SaysLine, IsNoLine, IsTooWide};
 ghost use Rattle.stmt_text.specs.Fits.{FitsLine};
 
 use crate::error::{ParseFail, ReadFail};
@@ -169,15 +170,28 @@ fn line_by(alloc: Global, numbers: Numbers, bytes: &[u8]) -> Result<Line, ReadFa
     Ok(content_line_of(alloc, numbers, content_of(bytes))?)
 }
 
+/// Why bytes are refused that say no line with numbers in their ranges.
+#[tactic(auto, using(crate::proofs::AnswerLaws::answer_wide, crate::proofs::AnswerLaws::answer_syntax))]
+fn refusal_of(alloc: Global, bytes: &[u8]) -> ParseFail
+    requires not_read { line_by in_range bytes.now ≡ None }
+    ensures value { IsAnswer (Err result) (answer bytes.now) }
+{
+    match line_by(alloc, Numbers::AnyWidth, bytes) {
+        Ok(_) => ParseFail::NumberTooWide,
+        Err(ReadFail::NoMemory) => ParseFail::NoMemory,
+        Err(ReadFail::Missing) => ParseFail::Syntax,
+    }
+}
+
 /// The line that the bytes say. A line feed at their end is no part of them.
 ///
 /// Syntax is the answer exactly where the bytes are no line with numbers of any width, and else
 /// NumberTooWide exactly where a number is out of its range, wherever in the line it stands; want of
 /// memory may take the place of each answer.
-#[tactic(auto, using(crate::proofs::AnswerLaws::answer_ok, crate::proofs::AnswerLaws::answer_wide, crate::proofs::AnswerLaws::answer_syntax))]
+#[tactic(auto, using(crate::proofs::AnswerLaws::answer_ok))]
 pub fn parse_line(alloc: Global, bytes: &[u8]) -> Result<Line, ParseFail>
     ensures value { IsAnswer result (answer bytes.now) }
-    ensures spelled { IfOk result (SaysLine bytes.now) }
+    ensures spelled { IfOk result (SaysLine in_range bytes.now) }
     ensures fits { IfOk result FitsLine }
     ensures syntax { ComesExactly result ParseFail.Syntax (IsNoLine bytes.now) }
     ensures number_too_wide { ComesExactly result ParseFail.NumberTooWide (IsTooWide bytes.now) }
@@ -185,10 +199,6 @@ pub fn parse_line(alloc: Global, bytes: &[u8]) -> Result<Line, ParseFail>
     match line_by(alloc, Numbers::InRange, bytes) {
         Ok(line) => Ok(line),
         Err(ReadFail::NoMemory) => Err(ParseFail::NoMemory),
-        Err(ReadFail::Missing) => match line_by(alloc, Numbers::AnyWidth, bytes) {
-            Ok(_) => Err(ParseFail::NumberTooWide),
-            Err(ReadFail::NoMemory) => Err(ParseFail::NoMemory),
-            Err(ReadFail::Missing) => Err(ParseFail::Syntax),
-        },
+        Err(ReadFail::Missing) => Err(refusal_of(alloc, bytes)),
     }
 }

@@ -12,14 +12,14 @@ use crate::token::next_token;
 use crate::value_reading::value_of;
 use crate::word::spells;
 use std::alloc::Global;
-use tuple_bytes::{Value, Word};
+use tuple_bytes::{MAX_MOMENT, Value, Word};
 
 /// The number of a moment.
 #[tactic(auto, unfolding(crate::specs::Parts::moment))]
 fn moment_of(numbers: Numbers, token: &[u8]) -> Option<u64>
     ensures value { Gives (λ m. m) result (moment numbers token.now) }
 {
-    let (number, fits) = number_of(token, 1_099_511_627_775)?;
+    let (number, fits) = number_of(token, MAX_MOMENT)?;
     match numbers {
         Numbers::InRange if !fits => None,
         _ => Some(number),
