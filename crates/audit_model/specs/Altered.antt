@@ -1,5 +1,5 @@
 -- Which granules of a file differ from the notarized ones.
-use Rattle.std.specs.Prelude.{◌≡◌, ◌≢◌, ℕ, ◌<◌, nat_eq, if◌then◌else◌, Bool, ⊤, List, [], Option, Some, None}
+use Rattle.std.specs.Prelude.{◌≡◌, ◌≢◌, ℕ, ◌<◌, ◌==◌, nat_eq, if◌then◌else◌, Bool, ⊤, List, [], Option, Some, None}
 use Rattle.std.specs.Cmp.Lexicographic.{pointwise}
 use Rattle.std.specs.Option.{option_map}
 use Rattle.tuple_bytes.specs.declared.header.Header.{Header}
@@ -14,6 +14,15 @@ use Rattle.audit_model.specs.Names.{inputs}
 -- the history that is stored, where there is a header
 abbrev pub history_in : Stored → Option History
 history_in s = option_map (λ header. history header s.items) s.header
+
+-- the history under a header, where that has this id
+abbrev pub under_id : ℕ → Option Header → Stored → Option History
+under_id id None s = None
+under_id id (Some header) s = if header.id == id then Some (history header s.items) else None
+
+-- the stored history, where its header has this id
+abbrev pub history_with : ℕ → Stored → Option History
+history_with id s = under_id id s.header s
 
 -- two headers have the same fields
 abbrev pub has_fields_of : Header → Header → Bool

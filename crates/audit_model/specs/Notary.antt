@@ -2,7 +2,7 @@
 use Rattle.std.specs.Prelude.{◌≡◌, ℕ, ◌+◌, ◌≤◌, List, map}
 use Rattle.std.specs.List.{range_with_len}
 use Rattle.notary_link.specs.declared.name.Name.{Name}
-use Rattle.notary_link.specs.declared.name.Name.TheVariants.{Header}
+use Rattle.notary_link.specs.declared.name.Name.TheVariants.{Header, Cum}
 use Rattle.notary_link.specs.declared.answer.Answer.{Answer}
 use Rattle.notary_link.specs.Batches.{Batch, answer}
 use Rattle.history_model.specs.History.{History}
@@ -12,6 +12,10 @@ use Rattle.audit_model.specs.Names.{digest, batch}
 -- the answer for the digest of a history under a name
 abbrev pub answers : List Batch → History → Name → Answer
 answers batches s name = answer batches name (digest s name)
+
+-- the answers for the values of a history's chain
+abbrev pub cums : List Batch → History → ℕ → Answer
+cums batches h tile = answers batches h (Cum tile)
 
 -- what the answers show of a file's header, with n sealed tiles: the same, another one, or that the seal is missing
 unfoldable pub header_answer : List Batch → History → ℕ → Answer

@@ -1,5 +1,5 @@
--- The values of the chain at the ends of tiles, over the spellings of granules by their numbers.
-use Rattle.std.specs.Prelude.{ℕ, ◌<◌, ◌≤◌, nat_lt, List, [], length, take, map, filter, slice_index_or}
+-- The values of the chain at some ends, as those of tiles, over the spellings of granules by their numbers.
+use Rattle.std.specs.Prelude.{ℕ, zero, suc, ◌-◌, ◌<◌, ◌≤◌, nat_lt, List, [], length, take, map, filter, slice_index, slice_index_or}
 use Rattle.std.specs.List.{flat_map}
 use Rattle.tuple_bytes.specs.declared.header.Header.{Header}
 use Rattle.history_model.specs.History.{history}
@@ -21,11 +21,28 @@ numbers_of granules = map (λ g. g.0) granules
 unfoldable pub spelled_below : List Granule → ℕ → List (List ℕ)
 spelled_below granules end = flat_map (λ g. g.1) (filter (λ g. nat_lt g.0 end) granules)
 
--- the value of the chain at the end of a tile
+-- the value of the chain over the granules below a number
+abbrev pub link_below : Header → List Granule → ℕ → List ℕ
+link_below header granules end = link_of_spelled header (spelled_below granules end)
+
+-- its value at the end of a tile
 abbrev pub link_at : Header → Layout → List Granule → ℕ → List ℕ
-link_at header l granules tile = link_of_spelled header (spelled_below granules (end_granule l tile))
+link_at header l granules tile = link_below header granules (end_granule l tile)
+
+-- no end is below one before it
+abbrev pub Ascend : List ℕ → Type 0
+Ascend ends = (i j : ℕ) → i ≤ j → j < length ends → slice_index ends i ≤ slice_index ends j
+
+-- the last of some ends, or the begin of all granules where there is none
+abbrev pub last_end : List ℕ → ℕ
+last_end ends = slice_index ends (length ends - 1)
 
 -- ---- going from granule to granule
+
+-- where the granules end that the first i ends bound
+unfoldable pub end_before : List ℕ → ℕ → ℕ
+end_before ends zero = 0
+end_before ends (suc i) = slice_index ends i
 
 -- the spellings of the first granules of the list
 unfoldable pub front : List Granule → ℕ → List (List ℕ)

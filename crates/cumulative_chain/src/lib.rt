@@ -7,6 +7,7 @@
 //! |---|---|
 //! | `seed` | `SHA-256(00 | header fields)`, the value of no transaction |
 //! | `link` | `SHA-256(01 | previous | spelling)`, the value after one more transaction |
+//! | `links_at_ends` | for each of some ascending ends, the value over the transactions of all granules below it, in canonical order |
 //! | `links_at_tiles` | for each tile, the value over the transactions of all granules up to its end, in canonical order |
 //! | `header_digest` | `SHA-256(05 | header fields)`, by which a header is known |
 //!
@@ -32,7 +33,7 @@ mod tiles;
 
 use sha2::{Digest, Sha256};
 use step_count::{Ledger, Steps};
-pub use tiles::links_at_tiles;
+pub use tiles::{links_at_ends, links_at_tiles};
 use tuple_bytes::{Header, header_fields};
 
 /// `SHA-256(tag | bytes)`.

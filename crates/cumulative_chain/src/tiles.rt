@@ -4,9 +4,9 @@ ghost use Rattle.std.specs.Prelude.{◌≡◌, ◌≤◌, ◌+◌, ℕ, List, If
 ghost use Rattle.std.specs.List.{range_with_len};
 ghost use Rattle.std.specs.List.Sorted.{IsStrictlyIncreasing};
 ghost use Rattle.digest_model.specs.Digests.{next_link};
-ghost use Rattle.digest_model.specs.Layout.{first_granule, max_granules};
+ghost use Rattle.digest_model.specs.Layout.{first_granule, end_granule, max_granules};
 ghost use Rattle.policy_eras.specs.Policy.{layout_by};
-ghost use Rattle.cumulative_chain.specs.Tiles.{numbers_of, spelled_below, link_at, front, AreBelow, IsSplit};
+ghost use Rattle.cumulative_chain.specs.Tiles.{numbers_of, spelled_below, link_below, link_at, Ascend, last_end, front, AreBelow, IsSplit};
 
 use crate::{link, seed};
 use policy_eras::Eras;
@@ -50,9 +50,45 @@ fn link_below<L: Ledger>(
     granules.len()
 }
 
-/// The value at the end of each of the first tiles, over granules whose numbers ascend.
+/// The value at each of these ends, over granules whose numbers ascend.
 ///
-/// Each spelling is linked once; a tile without transactions costs one copy.
+/// Each spelling is linked once; an end with no transaction behind the one before it costs one copy.
+pub fn links_at_ends<L: Ledger>(
+    alloc: Global,
+    header: &Header,
+    granules: &Granules,
+    ends: &[u32],
+    steps: &mut Steps<L>,
+) -> Result<Vec<[u8; 32]>, AllocError>
+    requires ascend { IsStrictlyIncreasing (numbers_of granules.now) }
+    requires ends { Ascend ends.now }
+    ensures value { IfOk result (λ links. links.items ≡ map (link_below header.now granules.now) ends.now) }
+    ensures steps { OnOk result (steps.new ≡ steps.old + length (spelled_below granules.now (last_end ends.now))) }
+    ensures few { steps.new ≤ steps.old + length (spelled_below granules.now (last_end ends.now)) }
+{
+    let mut links = Vec::with_capacity(alloc, ends.len())?;
+    let mut value = seed(header);
+    let mut place = 0;
+    for end in ends {
+        place = link_below(&mut value, granules.as_slice(), place, *end, steps);
+        links.push(value)?;
+    }
+    Ok(links)
+}
+
+/// The ends of the first tiles.
+fn ends_of(alloc: Global, eras: &Eras, tiles: u32) -> Result<Vec<u32>, AllocError>
+    requires within { first_granule (layout_by eras.now) tiles ≤ max_granules }
+    ensures value { IfOk result (λ ends. ends.items ≡ map (end_granule (layout_by eras.now)) (range_with_len 0 tiles)) }
+{
+    let mut ends = Vec::with_capacity(alloc, tiles as usize)?;
+    for tile in 0..tiles {
+        ends.push(eras.first(tile + 1) as u32)?;
+    }
+    Ok(ends)
+}
+
+/// The value at the end of each of the first tiles, over granules whose numbers ascend.
 pub fn links_at_tiles<L: Ledger>(
     alloc: Global,
     header: &Header,
@@ -67,13 +103,6 @@ pub fn links_at_tiles<L: Ledger>(
     ensures steps { OnOk result (steps.new ≡ steps.old + length (spelled_below granules.now (first_granule (layout_by eras.now) tiles))) }
     ensures few { steps.new ≤ steps.old + length (spelled_below granules.now (first_granule (layout_by eras.now) tiles)) }
 {
-    let mut links = Vec::with_capacity(alloc, tiles as usize)?;
-    let mut value = seed(header);
-    let mut place = 0;
-    for tile in 0..tiles {
-        let end = eras.first(tile + 1) as u32;
-        place = link_below(&mut value, granules.as_slice(), place, end, steps);
-        links.push(value)?;
-    }
-    Ok(links)
+    let ends = ends_of(alloc, eras, tiles)?;
+    links_at_ends(alloc, header, granules, ends.as_slice(), steps)
 }

@@ -17,31 +17,32 @@ use Rattle.digest_model.proofs.Clashes.{same_or_clash}
 use Rattle.digest_model.proofs.Spelled.{same_txns, rows_fit}
 use Rattle.digest_model.proofs.Lengths.{txn_is_short}
 
-abbrev IsShort : List ℕ → Type 0
-IsShort x = length x < 2 ^ 32
+-- its length fits the four bytes in front of it
+abbrev HasLength : List ℕ → Type 0
+HasLength x = length x < 2 ^ 32
 
 same_number : (m n : ℕ) → m < 2 ^ 32 → n < 2 ^ 32 → to_be_bytes w32 m ≡ to_be_bytes w32 n → m ≡ n
 same_number m n hm hn e = sym (from_be_bytes-to_be_bytes_4 m hm) ∙ ap (from_be_bytes w32) e ∙ from_be_bytes-to_be_bytes_4 n hn
 
 -- a list of texts, each behind its length, shows the texts
-same_texts : (xs ys : List (List ℕ)) → All IsShort xs → All IsShort ys → flat_map behind_length xs ≡ flat_map behind_length ys → xs ≡ ys
+same_texts : (xs ys : List (List ℕ)) → All HasLength xs → All HasLength ys → flat_map behind_length xs ≡ flat_map behind_length ys → xs ≡ ys
 same_texts [] [] hx hy e = refl
 same_texts [] (y ∷ ys) hx hy e = absurd cc
 same_texts (x ∷ xs) [] hx hy e = absurd cc
 same_texts (x ∷ xs) (y ∷ ys) hx hy e =
-    let short_x : length x < 2 ^ 32 = All-head IsShort x xs hx in
-    let short_y : length y < 2 ^ 32 = All-head IsShort y ys hy in
+    let short_x : length x < 2 ^ 32 = All-head HasLength x xs hx in
+    let short_y : length y < 2 ^ 32 = All-head HasLength y ys hy in
     let joined : to_be_bytes w32 (length x) ++ (x ++ flat_map behind_length xs) ≡ to_be_bytes w32 (length y) ++ (y ++ flat_map behind_length ys) =
     sym (append_assoc (to_be_bytes w32 (length x)) x (flat_map behind_length xs)) ∙ e ∙ append_assoc (to_be_bytes w32 (length y)) y (flat_map behind_length ys) in
     let front = same_front (to_be_bytes w32 (length x)) (to_be_bytes w32 (length y)) (x ++ flat_map behind_length xs) (y ++ flat_map behind_length ys) refl joined in
     let back = same_back (to_be_bytes w32 (length x)) (to_be_bytes w32 (length y)) (x ++ flat_map behind_length xs) (y ++ flat_map behind_length ys) refl joined in
     let long = same_number (length x) (length y) short_x short_y front in
     let head = same_front x y (flat_map behind_length xs) (flat_map behind_length ys) long back in
-    let tail = same_texts xs ys (All-tail IsShort x xs hx) (All-tail IsShort y ys hy) (same_back x y (flat_map behind_length xs) (flat_map behind_length ys) long back) in
+    let tail = same_texts xs ys (All-tail HasLength x xs hx) (All-tail HasLength y ys hy) (same_back x y (flat_map behind_length xs) (flat_map behind_length ys) long back) in
     cc
 
-short_spelled : (ts : List Txn) → All FitsTxn ts → All IsShort (map spell_txn ts)
-short_spelled ts h = All-map IsShort spell_txn ts (All-weaker FitsTxn (λ t. length (spell_txn t) < 2 ^ 32) txn_is_short ts h)
+short_spelled : (ts : List Txn) → All FitsTxn ts → All HasLength (map spell_txn ts)
+short_spelled ts h = All-map HasLength spell_txn ts (All-weaker FitsTxn (λ t. length (spell_txn t) < 2 ^ 32) txn_is_short ts h)
 
 -- equal inputs of a granule
 pub same_rows : (h s : History) (g : ℕ) → HasSpelling h → HasSpelling s

@@ -8,6 +8,7 @@
 //! | `exponent` | `exponent` of a tile, at most 10 |
 //! | `first` | `first_granule` of a tile, which is how many granules lie in the tiles before |
 //! | `tiles` | `tile_of` a granule, which is how many tiles have ended there |
+//! | `first_past` | the same of the last granule: the first tile that is never sealed |
 //! | `has_tile_chains`, `has_tree` | the same of a tile |
 //!
 //! In contracts the eras are the policy of the history that they were made of (`of`: `value`), and that
@@ -18,13 +19,11 @@ ghost use Rattle.std.specs.Prelude.{◌≡◌, ◌≤◌};
 ghost use Rattle.tuple_bytes.specs.Spelling.{FitsHeader};
 ghost use Rattle.history_model.specs.History.{history};
 ghost use Rattle.digest_model.specs.Layout.{exponent, first_granule, tile_of, has_tile_chains, has_tree};
-ghost use Rattle.policy_eras.specs.Policy.{policy_of, layout_by};
+ghost use Rattle.policy_eras.specs.Policy.{policy_of, layout_by, first_past};
 
 use std::marker::Model;
+pub use tuple_bytes::MAX_GRANULES;
 use tuple_bytes::{Header, Items};
-
-/// No granule from this one on is sealed.
-pub const MAX_GRANULES: u32 = 1_048_576;
 
 /// The eras of a store.
 #[derive(Drop)]
@@ -78,6 +77,13 @@ impl Eras {
         ensures value { result ≡ tile_of (layout_by self.now) granule }
     {
         granule >> self.k
+    }
+
+    /// The first tile that ends behind the last granule.
+    pub fn first_past(&self) -> u32
+        ensures value { result ≡ first_past (layout_by self.now) }
+    {
+        self.tiles(MAX_GRANULES)
     }
 
     /// Whether a tile has the chains of its parts.

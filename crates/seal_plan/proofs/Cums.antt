@@ -21,7 +21,7 @@ use Rattle.digest_model.proofs.Layouts.{ends_within}
 use Rattle.digest_model.proofs.Lists.{increasing_range}
 use Rattle.cumulative_chain.specs.Tiles.{Granule, numbers_of, spelled_below, front, IsSplit, link_at}
 use Rattle.cumulative_chain.proofs.Fronts.{split_front}
-use Rattle.tile_chains.specs.Short.{IsShort}
+use Rattle.digest_model.specs.Plain.{IsShort}
 use Rattle.seal_plan.specs.Grouped.{spelled_rows, numbered}
 use Rattle.seal_plan.specs.Places.{leaves_of}
 use Rattle.seal_plan.proofs.Ranges.{map-map, map_same}

@@ -3,19 +3,16 @@ use Rattle.std.proofs.Common.{◌≡◌, ℕ, suc, ◌+◌, ◌-◌, ◌*◌, �
 use Rattle.std.specs.List.{flat_map, range_with_len}
 use Rattle.std.proofs.lemmas.Bool.{cases_Bool}
 use Rattle.std.proofs.lemmas.Nat.{shr_split}
-use Rattle.std.proofs.lemmas.List.{append-nil, append_assoc, map-append, map-id}
+use Rattle.std.proofs.lemmas.List.{append-nil, append_assoc, map-append}
 use Rattle.std.proofs.lemmas.List.Concat.{flat_map-append}
-use Rattle.std.proofs.lemmas.List.FromFn.{map-range_with_len_more}
 use Rattle.notary_link.specs.declared.name.Name.{Name}
 use Rattle.notary_link.specs.declared.seal.Seal.{Seal}
 use Rattle.notary_link.specs.declared.name.Name.TheVariants as names
 use Rattle.history_model.specs.History.{History}
 use Rattle.digest_model.specs.Layout.{layout, has_tile_chains, has_tree}
+use Rattle.digest_model.proofs.Lists.{range_more}
 use Rattle.audit_model.specs.Names.{node_ending_at, nodes_ending_at, tile_names, node_names, sealed_names, batch_names, seal, batch}
 use Rattle.seal_plan.specs.Nodes.{node_at_level}
-
-range_more : (a n j : ℕ) → a + n ≡ j → range_with_len a (n + 1) ≡ range_with_len a n ++ j ∷ []
-range_more a n j e = (let same = map-range_with_len_more (λ (k : ℕ). k) a n j e in simp map-id at same)
 
 pub more_sealed : (f : ℕ → List Name) (k : Name → Seal) (before : List Seal) (a n j : ℕ) → a + n ≡ j
     → (before ++ map k (flat_map f (range_with_len a n))) ++ map k (f j) ≡ before ++ map k (flat_map f (range_with_len a (n + 1)))

@@ -5,7 +5,7 @@ ghost use Rattle.std.specs.List.{All, flat_map, range_with_len};
 ghost use Rattle.history_model.specs.History.{History};
 ghost use Rattle.digest_model.specs.Layout.{layout, first_granule, max_granules};
 ghost use Rattle.digest_model.specs.Digests.{granule_over, granule_digest};
-ghost use Rattle.tile_chains.specs.Short.{IsShort};
+ghost use Rattle.digest_model.specs.Plain.{IsShort};
 ghost use Rattle.seal_plan.specs.Places.{part_at, parts_of, leaves_of};
 
 use crate::digests::Digests;

@@ -1,15 +1,20 @@
 //! The spellings of each granule's transactions, in file order.
 
-ghost use Rattle.std.specs.Prelude.{◌≡◌, ◌<◌, ◌^◌, ℕ, ◌++◌, [], IfOk, OnOk, length, map, slice_index_or};
+ghost use Rattle.std.specs.Prelude.{◌≡◌, ◌<◌, ◌≤◌, ◌^◌, ℕ, ◌++◌, [], IfOk, OnOk, length, map, slice_index_or};
 ghost use Rattle.std.specs.List.{All, range_with_len};
 ghost use Rattle.tuple_bytes.specs.Spelling.{spell_item};
 ghost use Rattle.history_model.specs.Stored.{IsStorable};
 ghost use Rattle.history_model.specs.History.{history};
+ghost use Rattle.history_model.specs.StoredHistory.{IsHistory};
+ghost use Rattle.digest_model.specs.Layout.{first_granule, max_granules};
+ghost use Rattle.policy_eras.specs.Policy.{policy_of};
+ghost use Rattle.cumulative_chain.specs.Tiles.{layout_of};
 ghost use Rattle.seal_plan.specs.Grouped.{no_row, row_at, spelled_in, numbered};
 
+use policy_eras::Eras;
 use std::alloc::{AllocError, Global};
 use std::mem;
-use tuple_bytes::{Blob, Granules, Header, Item, Payloads, encode_item, granule};
+use tuple_bytes::{Blob, Granules, Header, Item, Items, Payloads, encode_item, granule};
 
 fn spell(alloc: Global, item: &Item) -> Result<Blob, AllocError>
     requires { IsStorable item.now }
@@ -74,7 +79,7 @@ fn number_rows(
 }
 
 /// The transactions of the first granules, each spelled once.
-pub(crate) fn group(
+fn group(
     alloc: Global,
     header: &Header,
     items: &[Item],
@@ -90,4 +95,21 @@ pub(crate) fn group(
     }
     let grouped = number_rows(alloc, rows, granules)?;
     Ok(grouped)
+}
+
+/// The transactions of the granules of the first tiles, each spelled once.
+pub(crate) fn group_tiles(
+    alloc: Global,
+    header: &Header,
+    eras: &Eras,
+    items: &Items,
+    tiles: u32,
+) -> Result<Granules, AllocError>
+    requires history { IsHistory (history header.now items.now) }
+    requires eras { eras.now ≡ policy_of (history header.now items.now) }
+    requires within { first_granule (layout_of header.now) tiles ≤ max_granules }
+    ensures value { IfOk result (λ grouped. grouped ≡ numbered (history header.now items.now) (first_granule (layout_of header.now) tiles)) }
+{
+    let granules = group(alloc, header, items.as_slice(), eras.first(tiles) as u32)?;
+    Ok(granules)
 }

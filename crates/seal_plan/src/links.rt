@@ -9,7 +9,7 @@ ghost use Rattle.digest_model.specs.Digests.{cum};
 ghost use Rattle.cumulative_chain.specs.Tiles.{layout_of};
 ghost use Rattle.policy_eras.specs.Policy.{policy_of};
 
-use crate::grouping::group;
+use crate::grouping::group_tiles;
 use cumulative_chain::links_at_tiles;
 use policy_eras::Eras;
 use std::alloc::{AllocError, Global};
@@ -33,7 +33,7 @@ pub fn links_of<L: Ledger>(
     ensures value { IfOk result (λ links. links.items ≡ map (cum (history header.now items.now)) (range_with_len 0 tiles)) }
     ensures steps { steps.new ≤ steps.old + length (txns items.now) }
 {
-    let granules = group(alloc, header, items.as_slice(), eras.first(tiles) as u32)?;
+    let granules = group_tiles(alloc, header, eras, items, tiles)?;
     let links = links_at_tiles(alloc, header, eras, &granules, tiles, steps)?;
     Ok(links)
 }

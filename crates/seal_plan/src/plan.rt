@@ -17,7 +17,7 @@ mod batch;
 
 use crate::chains::{leaves, part_digests};
 use crate::digests::Digests;
-use crate::grouping::group;
+use crate::grouping::group_tiles;
 use crate::lookup::{digest_at, node_in, part_in};
 use crate::trees::levels_over;
 use cumulative_chain::{header_digest, links_at_tiles};
@@ -70,7 +70,7 @@ fn hash_txns<L: Ledger>(
     ensures short { IfOk result (λ r. length r.1 ≤ max_granules) }
     ensures steps { steps.new ≤ steps.old + 2 * length (txns items.now) }
 {
-    let granules = group(alloc, header, items.as_slice(), eras.first(tiles) as u32)?;
+    let granules = group_tiles(alloc, header, eras, items, tiles)?;
     let links = links_at_tiles(alloc, header, eras, &granules, tiles, steps)?;
     let digests = leaves(alloc, header, &granules, steps)?;
     Ok((links, digests))

@@ -4,7 +4,7 @@ ghost use Rattle.std.specs.Prelude.{◌≡◌, ◌≤◌, ◌+◌, length};
 ghost use Rattle.std.specs.List.{All};
 ghost use Rattle.digest_model.specs.Digests.{granule_over};
 ghost use Rattle.tuple_bytes.specs.Limits.{max_payload};
-ghost use Rattle.tile_chains.specs.Short.{IsShort};
+ghost use Rattle.digest_model.specs.Plain.{IsShort};
 
 use sha2::{Digest, Sha256};
 use step_count::{Ledger, Steps};
