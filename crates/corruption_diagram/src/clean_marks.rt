@@ -54,11 +54,7 @@ impl CleanMarks {
         let mut marks = Vec::new(alloc);
         for place in 0..u32::MAX {
             match notary.mark_at(id, place)? {
-                Some(mark) => {
-                    if add(&mut marks, mark).is_err() {
-                        return Err(AskFail::NoMemory);
-                    }
-                }
+                Some(mark) => add(&mut marks, mark)?,
                 None => return Ok(CleanMarks { marks }),
             }
         }

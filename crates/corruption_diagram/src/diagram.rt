@@ -46,10 +46,8 @@ pub fn grid<N: Notary>(
     if !add_marks(alloc, notary, id, tiles, &mut events)? {
         return Ok(None);
     }
-    match draw(alloc, &events, bad, tiles, now) {
-        Ok(text) => Ok(Some(text)),
-        Err(_) => Err(AskFail::NoMemory),
-    }
+    let text = draw(alloc, &events, bad, tiles, now)?;
+    Ok(Some(text))
 }
 
 /// Adds the batches of so many tiles to no events.
@@ -72,9 +70,7 @@ fn add_batches<N: Notary>(
 {
     for tile in 0..tiles {
         let moment = notary.moment_of(id, tile + 1)?.unwrap_or(0);
-        if add_batch(alloc, moment, tile, tiles, events).is_err() {
-            return Err(AskFail::NoMemory);
-        }
+        add_batch(alloc, moment, tile, tiles, events)?;
     }
     Ok(())
 }
@@ -99,11 +95,7 @@ fn add_marks<N: Notary>(
 {
     for place in 0..MAX_EVENTS + 1 - tiles {
         match notary.mark_at(id, place)? {
-            Some(mark) => {
-                if add_mark(alloc, mark, tiles, events).is_err() {
-                    return Err(AskFail::NoMemory);
-                }
-            }
+            Some(mark) => add_mark(alloc, mark, tiles, events)?,
             None => return Ok(true),
         }
     }

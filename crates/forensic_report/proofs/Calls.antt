@@ -1,7 +1,7 @@
 -- Calls of a notary that change nothing, one after another.
 use Rattle.notary_link.specs.Notary.{State, Unchanged, GoesOn}
 use Rattle.notary_link.proofs.Frame.{goes_on_then}
-use Rattle.ask_words.proofs.Unchanged.{unchanged_then}
+use Rattle.notary_link.proofs.Unchanged.{unchanged_then}
 
 -- a call leaves the notary as it was
 pub record Leaves (old new : State) : Type 0 where

@@ -14,8 +14,8 @@ use Rattle.notary_link.specs.Batches.{Batch, answer}
 use Rattle.notary_link.specs.Notary.{Lists, Keeps}
 use Rattle.audit_model.specs.Names.{digest}
 use Rattle.audit_model.specs.Notary.{header_answer}
-use Rattle.validator.specs.Tiles.{first_past}
-use Rattle.validator.specs.Verdicts.{history_with}
+use Rattle.audit_model.specs.Altered.{history_with}
+use Rattle.policy_eras.specs.Policy.{first_past}
 use Rattle.validator.proofs.Telling.{told_of}
 use Rattle.forensic_report.specs.declared.algorithm.Algorithm.{Algorithm}
 use Rattle.forensic_report.specs.declared.fail.AnalyseFail.{AnalyseFail}

@@ -1,18 +1,21 @@
 -- The tiles that fail among the first ones.
 use Rattle.std.proofs.Common.{◌≡◌, ℕ, zero, suc, ◌+◌, ◌^◌, ◌<◌, ◌≤◌, List, [], ◌∷◌, ◌++◌, map, Option, Some, None, IfSome, Result, Ok, Err, refl, sym, ap, ◌∙◌, arith}
 use Rattle.std.specs.List.{All, filter_map, range_with_len, cons_option, sum_by}
-use Rattle.std.proofs.lemmas.List.{map-id}
+use Rattle.std.specs.List.Sorted.{IsStrictlyIncreasing}
+use Rattle.std.proofs.lemmas.List.{map-append}
 use Rattle.std.proofs.lemmas.List.Elements.{filter_map-append, All-append, All-nil, All-push}
 use Rattle.std.proofs.lemmas.List.Sums.{sum_by-append}
 use Rattle.std.proofs.lemmas.List.FromFn.{map-range_with_len_more}
 use Rattle.history_model.specs.History.{History}
 use Rattle.digest_model.specs.Layout.{Layout, layout, exponent}
+use Rattle.digest_model.proofs.Lists.{range_more}
 use Rattle.notary_link.specs.declared.fail.AskFail.{AskFail}
 use Rattle.notary_link.specs.declared.fail.AskFail.TheVariants as ask_fails
 use Rattle.notary_link.specs.Batches.{Batch}
 use Rattle.ask_words.specs.Asked.{IsTold, or_stop, first_stop, unless_stopped}
 use Rattle.tiled_forensics.specs.Target.{tile_told, target_questions}
-use Rattle.forensic_report.specs.Analysis.{Targets, Found}
+use Rattle.a3d_forensics.proofs.Finding.{increasing_append}
+use Rattle.forensic_report.specs.Analysis.{Targets, Found, AreTargets}
 use Rattle.forensic_report.specs.Entries.{entry_of}
 use Rattle.forensic_report.specs.Fails.{of_asking}
 use Rattle.forensic_report.specs.Finding.{stop_told, failing, analysis_by, targets_told}
@@ -45,9 +48,6 @@ module _ (stop : ℕ → Option AskFail) where
       let e : a + suc m ≡ a + 1 + m = omega arith in
       behind_first (stop a) (first_stop (map stop (range_with_len (a + 1) m))) (first_stop (map stop (range_with_len (a + 1) n))) fail none
       (λ rest. stops_at (a + 1) m n fail rest (rw e at is) (omega (arith, below)))
-
-range_more : (a n j : ℕ) → a + n ≡ j → range_with_len a (n + 1) ≡ range_with_len a n ++ j ∷ []
-range_more a n j e = (let same = map-range_with_len_more (λ (k : ℕ). k) a n j e in simp map-id at same)
 
 mapped_more : {Y : Type 0} (f : ℕ → Option Y) (n : ℕ) (last : List Y) → filter_map f (n ∷ []) ≡ last → filter_map f (range_with_len 0 (n + 1)) ≡ filter_map f (range_with_len 0 n) ++ last
 mapped_more {Y} f n last is =
@@ -103,13 +103,39 @@ module _ (batches : List Batch) (s : History) where
 pub none_asked : (l : Layout) (targets : List (ℕ × ℕ)) (old : ℕ) → targets ≡ [] → old ≤ old + (0 + sum_by (λ t. exponent l t.0) targets)
 none_asked l targets old none = omega arith
 
+pub none_fit : (l : Layout) (n : ℕ) (targets : List (ℕ × ℕ)) → targets ≡ [] → AreTargets l n targets
+none_fit l n targets none = rw none (record {
+  ascend = λ k below. absurd (omega (arith, below));
+  each = All-nil (λ (t : ℕ × ℕ). (t.0 < n) × (t.1 < 2 ^ exponent l t.0));
+})
+
+-- the tiles so far lie before the next one
+pub all_before : (tile : ℕ) (targets new : List (ℕ × ℕ)) (told : Option ℕ) → new ≡ targets ++ entry_of tile told → All (λ t. t < tile) (map (λ t. t.0) targets) → All (λ t. t < tile + 1) (map (λ t. t.0) new)
+all_before tile targets new told is before =
+    rw (is, map-append (λ (t : ℕ × ℕ). t.0) targets (entry_of tile told)) (All-append (λ (t : ℕ). t < tile + 1) (map (λ t. t.0) targets) (map (λ t. t.0) (entry_of tile told)) (λ k d below. (let low = before k d below in omega (arith, low))) (entry told))
+  where
+    entry : (o : Option ℕ) → All (λ t. t < tile + 1) (map (λ t. t.0) (entry_of tile o))
+    entry None = All-nil (λ (t : ℕ). t < tile + 1)
+    entry (Some target) = All-push (λ (t : ℕ). t < tile + 1) [] tile (All-nil (λ (t : ℕ). t < tile + 1)) (omega arith)
+
 module _ (l : Layout) (n tile : ℕ) (targets new : List (ℕ × ℕ)) (told : Option ℕ) (is : new ≡ targets ++ entry_of tile told) where
   entry_fits : (o : Option ℕ) → tile < n → IfSome o (λ target. target < 2 ^ exponent l tile) → All (λ t. (t.0 < n) × (t.1 < 2 ^ exponent l t.0)) (entry_of tile o)
   entry_fits None below within = All-nil (λ (t : ℕ × ℕ). (t.0 < n) × (t.1 < 2 ^ exponent l t.0))
   entry_fits (Some target) below within = All-push (λ (t : ℕ × ℕ). (t.0 < n) × (t.1 < 2 ^ exponent l t.0)) [] (tile, target) (All-nil (λ (t : ℕ × ℕ). (t.0 < n) × (t.1 < 2 ^ exponent l t.0))) (below, within)
 
-  pub fit_more : All (λ t. (t.0 < n) × (t.1 < 2 ^ exponent l t.0)) targets → tile < n → IfSome told (λ target. target < 2 ^ exponent l tile) → All (λ t. (t.0 < n) × (t.1 < 2 ^ exponent l t.0)) new
-  fit_more fit below within = rw is (All-append (λ (t : ℕ × ℕ). (t.0 < n) × (t.1 < 2 ^ exponent l t.0)) targets (entry_of tile told) fit (entry_fits told below within))
+  entries_ascend : (o : Option ℕ) → IsStrictlyIncreasing (map (λ t. t.0) (entry_of tile o))
+  entries_ascend None k below = absurd (omega (arith, below))
+  entries_ascend (Some target) k below = absurd (omega (arith, below))
+
+  entries_behind : (o : Option ℕ) → All (λ t. tile ≤ t) (map (λ t. t.0) (entry_of tile o))
+  entries_behind None = All-nil (λ (t : ℕ). tile ≤ t)
+  entries_behind (Some target) = All-push (λ (t : ℕ). tile ≤ t) [] tile (All-nil (λ (t : ℕ). tile ≤ t)) (omega arith)
+
+  pub fit_more : All (λ t. t < tile) (map (λ t. t.0) targets) → AreTargets l n targets → tile < n → IfSome told (λ target. target < 2 ^ exponent l tile) → AreTargets l n new
+  fit_more before fit below within = rw is (record {
+    ascend = rw (map-append (λ (t : ℕ × ℕ). t.0) targets (entry_of tile told)) (increasing_append (map (λ t. t.0) targets) (map (λ t. t.0) (entry_of tile told)) tile fit.ascend (entries_ascend told) before (entries_behind told));
+    each = All-append (λ (t : ℕ × ℕ). (t.0 < n) × (t.1 < 2 ^ exponent l t.0)) targets (entry_of tile told) fit.each (entry_fits told below within);
+  })
 
   questions_of : (o : Option ℕ) → target_questions (exponent l tile) o ≡ 1 + sum_by (λ t. exponent l t.0) (entry_of tile o)
   questions_of None = refl

@@ -13,9 +13,11 @@ pub mod Missing
 pub mod Inconsistent
 pub mod Refusals
 pub mod Sound
+pub mod SomethingFound
 pub mod OneEra
 pub mod Searched
 pub mod FailingTiles
+pub mod Fitting
 pub mod Counted
 pub mod Calls
 pub mod Ending
@@ -23,5 +25,6 @@ pub mod Joined
 pub mod Listed
 pub mod Marking
 pub mod Putting
+pub mod BytesRead
 pub mod Shifted
 pub mod Whole

@@ -14,7 +14,7 @@ use Rattle.notary_link.specs.declared.name.Name.{Name}
 use Rattle.notary_link.specs.declared.name.Name.TheVariants as names
 use Rattle.notary_link.specs.Batches.{Batch}
 use Rattle.audit_model.specs.Names.{planned}
-use Rattle.audit_model.specs.Notary.{NotaryOf, answers, header_answer}
+use Rattle.audit_model.specs.Notary.{NotaryOf, answers, header_answer, cums}
 use Rattle.audit_model.specs.Altered.{HashClash}
 use Rattle.audit_model.specs.Laws.{IsAudit, HasTree}
 use Rattle.audit_model.proofs.Compare.{compare}
@@ -25,7 +25,6 @@ use Rattle.tiled_forensics.specs.Target.{parts, missing_chain, target_by}
 use Rattle.a3d_forensics.specs.Descent.{nodes_of, stop_of, tree_told}
 use Rattle.a3d_forensics.proofs.Ending.{ends}
 use Rattle.a3d_forensics.proofs.Filed.{node_filed}
-use Rattle.validator.specs.Tiles.{cums}
 use Rattle.forensic_report.specs.declared.algorithm.Algorithm.{Algorithm}
 use Rattle.forensic_report.specs.declared.algorithm.Algorithm.TheVariants.{Mono, Tiled, TiledExactly, A3d}
 use Rattle.forensic_report.specs.declared.fail.AnalyseFail.{AnalyseFail}

@@ -11,7 +11,7 @@ use Rattle.audit_model.specs.Mono.{BeginsRegion, IsFirstBad}
 use Rattle.audit_model.proofs.Planned.{other_altered}
 use Rattle.audit_model.proofs.Region.{region_has}
 use Rattle.audit_model.proofs.Exact.{changed_altered, begins_altered}
-use Rattle.validator.specs.Tiles.{cums}
+use Rattle.audit_model.specs.Notary.{cums}
 use Rattle.forensic_report.specs.declared.algorithm.Algorithm.TheVariants.{Mono}
 use Rattle.forensic_report.specs.Analysis.{Analysis, Region, Targets, Leaves, Unsealed, HeaderAltered, Found, is_some_bad, bad_tiles}
 use Rattle.forensic_report.specs.Finding.{IsRegion}

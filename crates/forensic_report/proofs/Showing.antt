@@ -2,7 +2,6 @@
 use Rattle.std.proofs.Common.{◌≡◌, ◌⊎◌, ℕ, ◌≤◌, true, List, Option, Some, Result, Ok, refl, sym, subst, ◌∙◌}
 use Rattle.history_model.specs.History.{History}
 use Rattle.history_model.specs.Stored.{stored}
-use Rattle.byte_grammar.specs.Reading.{IsBytes}
 use Rattle.digest_model.specs.Layout.{layout, first_granule, max_granules}
 use Rattle.digest_model.specs.Laws.{HasSpelling}
 use Rattle.notary_link.specs.Batches.{Batch}
@@ -16,6 +15,7 @@ use Rattle.forensic_report.specs.declared.fail.AnalyseFail.{AnalyseFail}
 use Rattle.forensic_report.specs.Analysis.{Analysis, HeaderAltered}
 use Rattle.forensic_report.specs.Finding.{has_chains, IsFoundBy}
 use Rattle.forensic_report.specs.Shows.{Shows}
+use Rattle.forensic_report.specs.Held.{HoldsHistory}
 use Rattle.forensic_report.specs.Laws.{ReportsShow}
 use Rattle.forensic_report.proofs.Ways.{Way, unfiled, refused, chainless, past, asked, WayIn, other, under, way_of, spelled}
 use Rattle.forensic_report.proofs.Headers.{IsPassed, decided, header_shows, other_of}
@@ -49,11 +49,11 @@ module _ (algorithm : Algorithm) (batches : List Batch) (id n : ℕ) (h : Histor
   by_way s theirs (past same test is) = absurd cc
   by_way s theirs (asked same has small is) = by_algorithm algorithm batches id n h s a (decided batches id h s n filed ours theirs same) has small is
 
-  by_way_in : (bytes : List ℕ) → IsBytes bytes → (file : Option History) → history_in (stored bytes) ≡ file → WayIn algorithm batches id n file (Ok a) → Shows algorithm batches h file n a
-  by_way_in bytes fits file holds (other none is) = header_told file (other_of h id n file filed.header ours (λ s stands. spelled bytes s fits (holds ∙ stands)) none) is
-  by_way_in bytes fits file holds (under s stands way) =
-      subst (λ (o : Option History). Shows algorithm batches h o n a) (sym stands) (by_way s (spelled bytes s fits (holds ∙ stands)) way)
+  by_way_in : (bytes : List ℕ) → HoldsHistory batches bytes → (file : Option History) → history_in (stored bytes) ≡ file → WayIn algorithm batches id n file (Ok a) → Shows algorithm batches h file n a
+  by_way_in bytes held file holds (other none is) = header_told file (other_of h id n file filed.header ours (λ s stands. spelled batches id n h s bytes filed held (holds ∙ stands)) none) is
+  by_way_in bytes held file holds (under s stands way) =
+      subst (λ (o : Option History). Shows algorithm batches h o n a) (sym stands) (by_way s (spelled batches id n h s bytes filed held (holds ∙ stands)) way)
 
 pub shows : ReportsShow
-shows algorithm batches id n h bytes a filed ours fits is =
-    by_way_in algorithm batches id n h a filed ours bytes fits (history_in (stored bytes)) refl (way_of algorithm batches id n h (stored bytes) (Ok a) filed is)
+shows algorithm batches id n h bytes a filed ours held is =
+    by_way_in algorithm batches id n h a filed ours bytes held (history_in (stored bytes)) refl (way_of algorithm batches id n h (stored bytes) (Ok a) filed is)

@@ -1,5 +1,5 @@
 -- What a sound store is answered.
-use Rattle.std.proofs.Common.{◌≡◌, ℕ, zero, suc, ◌<◌, true, false, List, [], ◌∷◌, Option, Some, None, Result, Ok, Err, refl, sym, ap, subst, ◌∙◌, inl, inr, arith}
+use Rattle.std.proofs.Common.{◌≡◌, ℕ, zero, suc, ◌<◌, true, false, List, [], ◌∷◌, length, Option, Some, None, Result, Ok, Err, refl, sym, ap, subst, ◌∙◌, inl, inr, arith}
 use Rattle.std.specs.List.{Contains, flat_map, range_with_len}
 use Rattle.history_model.specs.Stored.{stored}
 use Rattle.history_model.specs.History.{History}
@@ -14,31 +14,30 @@ use Rattle.notary_link.specs.declared.answer.Answer.TheVariants.{Same, Differs, 
 use Rattle.notary_link.specs.declared.name.Name.TheVariants as names
 use Rattle.notary_link.specs.Batches.{Batch}
 use Rattle.notary_link.specs.declared.name.Name.{Name}
-use Rattle.audit_model.specs.Notary.{NotaryOf, answers, header_answer}
+use Rattle.audit_model.specs.Notary.{NotaryOf, answers, header_answer, cums}
 use Rattle.audit_model.specs.Mono.{BeginsRegion}
 use Rattle.audit_model.specs.Altered.{history_in}
 use Rattle.audit_model.specs.Sound.{HoldsNotarized}
 use Rattle.audit_model.specs.Tree.{as_root, found_from, found, checks}
-use Rattle.audit_model.proofs.Compare.{own_same}
+use Rattle.audit_model.proofs.Compare.{own_same, counted}
 use Rattle.audit_model.proofs.Planned.{cum_planned, part_planned}
 use Rattle.audit_model.proofs.TreeAudit.{node_planned, reached_within}
 use Rattle.audit_model.specs.Names.{planned}
 use Rattle.tiled_forensics.specs.Target.{tile_told, target_by, parts}
 use Rattle.a3d_forensics.specs.Descent.{nodes_of, stop_from, stop_of, descent, tree_told}
-use Rattle.validator.specs.Tiles.{cums}
 use Rattle.forensic_report.specs.declared.algorithm.Algorithm.{Algorithm}
 use Rattle.forensic_report.specs.declared.algorithm.Algorithm.TheVariants.{Mono, Tiled, TiledExactly, A3d}
 use Rattle.forensic_report.specs.declared.fail.AnalyseFail.{AnalyseFail}
 use Rattle.forensic_report.specs.declared.fail.AnalyseFail.TheVariants as fails
 use Rattle.forensic_report.specs.Analysis.{Analysis, Region, Targets, Leaves, Unsealed, HeaderAltered, Found, is_altered}
-use Rattle.forensic_report.specs.Finding.{IsRegion, stop_told, failing, analysis_by, targets_told, IsFoundBy, has_chains, IsAnalysis}
+use Rattle.forensic_report.specs.Finding.{IsRegion, stop_told, failing, analysis_by, targets_told, IsFoundBy, IsFoundAt, has_chains, IsAnalysisIn, IsAnalysis}
 use Rattle.forensic_report.specs.Laws.{TellsNoAlteration, SoundIsUnaltered}
 use Rattle.forensic_report.proofs.Layouts.{tile_has_chains, tile_has_tree}
 use Rattle.ask_words.proofs.Stops.{no_stop}
 use Rattle.forensic_report.proofs.Lists.{none_mapped}
 use Rattle.forensic_report.proofs.Told.{leaves, stop_at_tile, failing_tile, tile_is, tree_is}
 use Rattle.forensic_report.proofs.Filed.{header_planned}
-use Rattle.forensic_report.proofs.Ways.{Way, unfiled, refused, chainless, past, asked, not_past, WayIn, other, under, way_of}
+use Rattle.forensic_report.proofs.Ways.{Way, unfiled, refused, chainless, past, asked, not_past, by_answer, WayIn, other, under, way_of}
 
 -- this is told, of which nothing is altered
 told : (found : Result Analysis AnalyseFail) (a : Analysis) → found ≡ Ok a → is_altered a ≡ false → TellsNoAlteration found
@@ -135,6 +134,14 @@ module _ (batches : List Batch) (id n : ℕ) (h : History) (filed : NotaryOf bat
   by_way algorithm found (chainless header lacks is) = inr is
   by_way algorithm found (past header test is) = absurd (not_past (first_granule (layout h) n) filed.within test)
   by_way algorithm found (asked header has small is) = by_algorithm algorithm found has is
+
+-- the same of a history that is what is filed, whatever file has it
+pub sound_in : (algorithm : Algorithm) (batches : List Batch) (id n : ℕ) (h : History) (found : Result Analysis AnalyseFail) → NotaryOf batches id h n → IsAnalysisIn algorithm batches (Some h) found → TellsNoAlteration found
+sound_in algorithm [] id n h found filed is = absurd (let many = counted [] id h n filed in omega (arith, many))
+sound_in algorithm (first ∷ batches) id n h found filed is =
+    let many : length batches ≡ n = omega (arith, counted (first ∷ batches) id h n filed) in
+    by_way (first ∷ batches) id n h filed algorithm found (by_answer algorithm (first ∷ batches) n h found (header_answer (first ∷ batches) h n) refl
+    (subst (λ (m : ℕ). IsFoundAt (header_answer (first ∷ batches) h m) algorithm (first ∷ batches) m h found) many is))
 
 same_some : (a b : History) → Some a ≡ Some b → a ≡ b
 same_some a b e = cc

@@ -1,16 +1,14 @@
 -- The ways in which an analysis comes to what it finds.
 use Rattle.std.proofs.Common.{◌≡◌, ℕ, ◌≤◌, Bool, true, false, List, [], ◌∷◌, length, Option, Some, None, Result, Ok, Err, refl, sym, ap, subst, ◌∙◌, arith}
-use Rattle.std.specs.Prelude.{◌==◌, nat_le, if◌then◌else◌, unwrap_or}
+use Rattle.std.specs.Prelude.{◌==◌, nat_le, if◌then◌else◌, unwrap_or, IfSome}
 use Rattle.std.specs.Option.{option_map}
 use Rattle.std.proofs.lemmas.Bool.{eq-eqb}
 use Rattle.std.proofs.lemmas.Bool.Decides.{nat_tests}
-use Rattle.byte_grammar.specs.Reading.{IsBytes}
 use Rattle.tuple_bytes.specs.declared.header.Header.{Header}
 use Rattle.history_model.specs.declared.stored.Stored.{Stored}
 use Rattle.history_model.specs.History.{History, history}
 use Rattle.history_model.specs.Stored.{stored}
 use Rattle.history_model.specs.StoredHistory.{IsHistory}
-use Rattle.history_model.proofs.Stores.{stored_history}
 use Rattle.digest_model.specs.Layout.{layout, first_granule, max_granules}
 use Rattle.digest_model.specs.Laws.{HasSpelling}
 use Rattle.digest_model.proofs.Spelled.{has_spelling}
@@ -19,14 +17,14 @@ use Rattle.notary_link.specs.declared.answer.Answer.TheVariants.{Same, Differs, 
 use Rattle.notary_link.specs.declared.name.Name.TheVariants as names
 use Rattle.notary_link.specs.Batches.{Batch}
 use Rattle.audit_model.specs.Notary.{NotaryOf, header_answer}
-use Rattle.audit_model.specs.Altered.{history_in}
+use Rattle.audit_model.specs.Altered.{history_in, under_id, history_with}
 use Rattle.audit_model.proofs.Compare.{counted}
-use Rattle.validator.specs.Tiles.{first_past}
-use Rattle.validator.specs.Verdicts.{under_id, history_with}
+use Rattle.policy_eras.specs.Policy.{first_past}
 use Rattle.forensic_report.specs.declared.algorithm.Algorithm.{Algorithm}
 use Rattle.forensic_report.specs.declared.fail.AnalyseFail.{AnalyseFail}
 use Rattle.forensic_report.specs.declared.fail.AnalyseFail.TheVariants as fails
 use Rattle.forensic_report.specs.Analysis.{Analysis, HeaderAltered}
+use Rattle.forensic_report.specs.Held.{HoldsHistory}
 use Rattle.forensic_report.specs.Finding.{has_chains, IsFoundBy, IsFoundWithin, IsFoundWith, IsFoundAt, IsFoundOf, IsAnalysis}
 
 -- By the header's answer: its seal is missing, or another one was filed; or this one was, and the tiles lack the chains, or end
@@ -61,7 +59,7 @@ module _ (algorithm : Algorithm) (batches : List Batch) (n : ℕ) (s : History) 
   by_chains same true has is = by_bound same has (nat_le (first_granule (layout s) n) max_granules) refl is
   by_chains same false has is = chainless same has is
 
-  by_answer : (a : Answer) → header_answer batches s n ≡ a → IsFoundAt a algorithm batches n s found → Way algorithm batches n s found
+  pub by_answer : (a : Answer) → header_answer batches s n ≡ a → IsFoundAt a algorithm batches n s found → Way algorithm batches n s found
   by_answer Same header is = by_chains header (has_chains algorithm (layout s)) refl is
   by_answer Differs header is = refused header is
   by_answer Absent header is = unfiled header is
@@ -92,12 +90,7 @@ way_of algorithm (first ∷ batches) id n h st found filed is =
 
 -- ---- what is stored has a spelling
 
-spelled_by : (st : Stored) (s : History) (header : Option Header) → st.header ≡ header → ((hd : Header) → st.header ≡ Some hd → IsHistory (history hd st.items))
-    → option_map (λ (hd : Header). history hd st.items) header ≡ Some s → HasSpelling s
-spelled_by st s None is fits holds = absurd cc
-spelled_by st s (Some header) is fits holds =
-    let same : history header st.items ≡ s = ap (λ (o : Option History). unwrap_or o s) holds in
-    subst HasSpelling same (has_spelling (history header st.items) (fits header is))
-
-pub spelled : (bytes : List ℕ) (s : History) → IsBytes bytes → history_in (stored bytes) ≡ Some s → HasSpelling s
-spelled bytes s fits holds = spelled_by (stored bytes) s (stored bytes).header refl (λ hd is. stored_history bytes hd fits is) holds
+-- a notary that holds a history's batches has some, so the bytes were read
+pub spelled : (batches : List Batch) (id n : ℕ) (h s : History) (bytes : List ℕ) → NotaryOf batches id h n → HoldsHistory batches bytes → history_in (stored bytes) ≡ Some s → HasSpelling s
+spelled [] id n h s bytes filed held holds = absurd (let many = counted [] id h n filed in omega (arith, many))
+spelled (batch ∷ batches) id n h s bytes filed held holds = has_spelling s (subst (λ (o : Option History). IfSome o IsHistory) holds held)

@@ -5,10 +5,7 @@ use Rattle.std.proofs.lemmas.List.Elements.{All-head}
 use Rattle.digest_model.specs.Layout.{Layout, exponent, first_granule, tile_of, max_granules}
 use Rattle.digest_model.proofs.Layouts.{ascends, tile_begins, tile_within, counts}
 use Rattle.forensic_report.specs.declared.algorithm.Algorithm.{Algorithm}
-use Rattle.forensic_report.specs.Analysis.{Analysis, Findings, Found, bad_tiles, is_some_bad}
-use Rattle.forensic_report.specs.declared.found.Findings.{Findings as FindingsValue}
-use Rattle.forensic_report.specs.declared.found.Findings.TheVariants as findings
-use Rattle.forensic_report.specs.Values.{findings_of, FitsFindings}
+use Rattle.forensic_report.specs.Analysis.{Analysis, Findings, Region, Targets, Leaves, Found, bad_tiles, is_some_bad, FitsFindings}
 use Rattle.forensic_report.specs.Reporting.{Begins}
 use Rattle.forensic_report.specs.Writing.{IsFailing}
 use Rattle.forensic_report.specs.Texts.{Kept, head_words, head_line, findings_text, first_line, diagram_text, altered_text, body_text, report_text}
@@ -17,19 +14,16 @@ use Rattle.forensic_report.proofs.Marking.{region_first}
 
 -- ---- the first bad tile
 
-pub first_within : (l : Layout) (n tile : ℕ) (found : FindingsValue) → FitsFindings l n found → slice_get (bad_tiles l n (findings_of found)) 0 ≡ Some tile → tile < n
-first_within l n tile (findings.Region None) fits is = absurd cc
-first_within l n tile (findings.Region (Some first)) fits is = let same : first ≡ tile = (let e = region_first l n (Some first) fits in cc) in omega (arith, same, fits)
-first_within l n tile (findings.Targets []) fits is = absurd cc
-first_within l n tile (findings.Targets (t ∷ targets)) fits is = let same : t.0 ≡ tile = cc in omega (arith, same, (All-head (λ (t : ℕ × ℕ). (t.0 < n) × (t.1 < 2 ^ exponent l t.0)) t targets fits).0)
-first_within l n tile (findings.Leaves found) fits is = leaf found.granules fits is
-  where
-    leaf : (granules : List ℕ) → All (λ g. g < first_granule l n) granules → slice_get (map (tile_of l) granules) 0 ≡ Some tile → tile < n
-    leaf [] fits is = absurd cc
-    leaf (g ∷ granules) fits is =
-        let same : tile_of l g ≡ tile = cc in
-        let lies : tile_of l g < n = tile_within l n (tile_of l g) g (tile_begins l g) (All-head (λ (g : ℕ). g < first_granule l n) g granules fits) in
-        omega (arith, same, lies)
+pub first_within : (l : Layout) (n tile : ℕ) (found : Findings) → FitsFindings l n found → slice_get (bad_tiles l n found) 0 ≡ Some tile → tile < n
+first_within l n tile (Region None) fits is = absurd cc
+first_within l n tile (Region (Some first)) fits is = let same : first ≡ tile = (let e = region_first l n (Some first) fits in cc) in omega (arith, same, fits)
+first_within l n tile (Targets []) fits is = absurd cc
+first_within l n tile (Targets (t ∷ targets)) fits is = let same : t.0 ≡ tile = cc in omega (arith, same, (All-head (λ (t : ℕ × ℕ). (t.0 < n) × (t.1 < 2 ^ exponent l t.0)) t targets fits.each).0)
+first_within l n tile (Leaves [] checks) fits is = absurd cc
+first_within l n tile (Leaves (g ∷ granules) checks) fits is =
+    let same : tile_of l g ≡ tile = cc in
+    let lies : tile_of l g < n = tile_within l n (tile_of l g) g (tile_begins l g) (All-head (λ (g : ℕ). g < first_granule l n) g granules fits.within) in
+    omega (arith, same, lies)
 
 -- a granule's tile has no greater number
 pub tile_below : (l : Layout) (g : ℕ) → tile_of l g ≤ g

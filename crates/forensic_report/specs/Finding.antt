@@ -10,13 +10,13 @@ use Rattle.notary_link.specs.declared.name.Name.TheVariants as names
 use Rattle.notary_link.specs.declared.fail.AskFail.{AskFail}
 use Rattle.notary_link.specs.Batches.{Batch}
 use Rattle.audit_model.specs.Mono.{BeginsRegion}
-use Rattle.audit_model.specs.Notary.{header_answer}
+use Rattle.audit_model.specs.Notary.{header_answer, cums}
+use Rattle.audit_model.specs.Altered.{history_with}
 use Rattle.ask_words.specs.Asked.{first_stop, unless_stopped}
 use Rattle.tiled_forensics.specs.Target.{tile_told}
 use Rattle.a3d_forensics.specs.declared.found.A3dFound.{A3dFound}
 use Rattle.a3d_forensics.specs.Descent.{tree_told}
-use Rattle.validator.specs.Tiles.{first_past, cums}
-use Rattle.validator.specs.Verdicts.{history_with}
+use Rattle.policy_eras.specs.Policy.{first_past}
 use Rattle.forensic_report.specs.declared.algorithm.Algorithm.{Algorithm}
 use Rattle.forensic_report.specs.declared.algorithm.Algorithm.TheVariants.{Mono, Tiled, TiledExactly, A3d}
 use Rattle.forensic_report.specs.declared.fail.AnalyseFail.{AnalyseFail}

@@ -8,7 +8,7 @@ use Rattle.forensic_report.specs.declared.algorithm.Algorithm.{Algorithm}
 use Rattle.forensic_report.specs.declared.report.Report.{Report}
 use Rattle.forensic_report.specs.declared.fail.AnalyseFail.{AnalyseFail}
 use Rattle.forensic_report.specs.declared.fail.AnalyseFail.TheVariants as fails
-use Rattle.forensic_report.specs.Analysis.{Analysis, is_altered, questions}
+use Rattle.forensic_report.specs.Analysis.{Analysis, is_altered, questions, Fits}
 use Rattle.forensic_report.specs.Finding.{IsAnalysis}
 use Rattle.forensic_report.specs.Texts.{head_line, report_text, kept_of}
 
@@ -22,13 +22,14 @@ abbrev pub IsFoundOn : Algorithm → ℕ → disks.State → notaries.State → 
 IsFoundOn algorithm id disk filed later found =
     IfSome disk.reads (λ bytes. WhereTold filed.lists later.lists (λ lists later_lists. IsAnalysis algorithm id (lists.batches id) (stored bytes) found))
 
--- A report of what was found: its text by what the notary has, where it tells that, and few questions.
+-- A report of what was found: its text by what the notary has, where it tells that. Whatever is told, it took few questions.
 pub record IsReport (algorithm : Algorithm) (id now : ℕ) (filed later : notaries.State) (a : Analysis) (report : Report) : Type 0 where
   pub altered : report.altered ≡ is_altered a
   pub begins : Begins (head_line algorithm id a) report.text
   pub text : WhereTold filed.lists later.lists (λ lists later_lists.
       report.text ≡ report_text algorithm id (kept_of lists id now) a)
   pub asked : later.asked ≤ filed.asked + questions a
+  pub fits : Fits a
 
 -- What an analysis at these clock seconds answers: a report of what is found, or what refuses it.
 abbrev pub Analyses : Algorithm → ℕ → ℕ → disks.State → notaries.State → notaries.State → Result Report AnalyseFail → Type 0

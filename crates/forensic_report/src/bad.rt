@@ -4,8 +4,8 @@ ghost use Rattle.std.specs.Prelude.{◌≡◌, ◌≤◌, ◌<◌, [], ◌∷◌
 ghost use Rattle.tuple_bytes.specs.Spelling.{FitsHeader};
 ghost use Rattle.digest_model.specs.Layout.{first_granule, max_granules, tile_of};
 ghost use Rattle.cumulative_chain.specs.Tiles.{layout_of};
-ghost use Rattle.forensic_report.specs.Analysis.{bad_tiles};
-ghost use Rattle.forensic_report.specs.Values.{findings_of, FitsFindings};
+ghost use Rattle.forensic_report.specs.Analysis.{bad_tiles, FitsFindings};
+ghost use Rattle.forensic_report.specs.Values.{findings_of};
 ghost use Rattle.forensic_report.specs.Texts.{bad_row, region_tiles};
 
 use crate::found::Findings;
@@ -16,7 +16,7 @@ use tuple_bytes::Header;
 /// The first one.
 pub(crate) fn first_bad(findings: &Findings, header: &Header, tiles: u32) -> Option<u32>
     requires fits { FitsHeader header.now }
-    requires found { FitsFindings (layout_of header.now) tiles findings.now }
+    requires found { FitsFindings (layout_of header.now) tiles (findings_of findings.now) }
     ensures value { result ≡ slice_get (bad_tiles (layout_of header.now) tiles (findings_of findings.now)) 0 }
 {
     match findings {
@@ -80,7 +80,7 @@ fn mark_found(bad: &mut [bool], findings: &Findings, header: &Header, tiles: u32
     requires fits { FitsHeader header.now }
     requires size { length bad.old ≡ tiles }
     requires none { bad.old ≡ bad_row [] tiles }
-    requires found { FitsFindings (layout_of header.now) tiles findings.now }
+    requires found { FitsFindings (layout_of header.now) tiles (findings_of findings.now) }
     ensures value { bad.new ≡ bad_row (bad_tiles (layout_of header.now) tiles (findings_of findings.now)) tiles }
 {
     match findings {
@@ -98,7 +98,7 @@ pub(crate) fn bad_row(
     tiles: u32,
 ) -> Result<Vec<bool>, AllocError>
     requires fits { FitsHeader header.now }
-    requires found { FitsFindings (layout_of header.now) tiles findings.now }
+    requires found { FitsFindings (layout_of header.now) tiles (findings_of findings.now) }
     ensures value { IfOk result (λ bad. bad.items ≡ bad_row (bad_tiles (layout_of header.now) tiles (findings_of findings.now)) tiles) }
 {
     let mut bad = vec![in alloc; false; tiles as usize]?;

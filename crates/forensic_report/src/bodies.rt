@@ -15,7 +15,7 @@ ghost use Rattle.forensic_report.specs.Reporting.{Begins};
 ghost use Rattle.forensic_report.specs.Values.{IsOfWriting};
 ghost use Rattle.forensic_report.specs.Writing.{IsFailing};
 
-use crate::algorithm::Algorithm;
+use crate::algorithm::Request;
 use crate::asking::{Recent, least_from, span_after};
 use crate::fail::AnalyseFail;
 use crate::lines::{put_granule, put_region, put_target};
@@ -31,18 +31,17 @@ pub(crate) fn put_region_line<N: Notary>(
     out: &mut Vec<u8>,
     clean: &CleanMarks,
     notary: &mut N,
-    id: u64,
+    request: Request,
     header: &Header,
     tiles: u32,
     first: u32,
-    now: u64,
 ) -> Result<(), AnalyseFail>
     requires fits { FitsHeader header.now }
     requires some { first < tiles }
     requires within { first_granule (layout_of header.now) tiles ≤ max_granules }
     ensures value { WhereTold (N.state notary.old).lists (N.state notary.new).lists (λ before after.
-        StandFor (before.marks id) clean.now
-        → OnOk result (out.new.items ≡ out.old.items ++ region_line (layout_of header.now) tiles (kept_of before id now) first)) }
+        StandFor (before.marks request.id) clean.now
+        → OnOk result (out.new.items ≡ out.old.items ++ region_line (layout_of header.now) tiles (kept_of before request.id request.now) first)) }
     ensures more { OnOk result (Begins out.old.items out.new.items) }
     ensures only { IfErr result IsOfWriting }
     ensures same { Unchanged (N.state notary.old) (N.state notary.new) }
@@ -50,8 +49,11 @@ pub(crate) fn put_region_line<N: Notary>(
     ensures frame { GoesOn (N.state notary.old) (N.state notary.new) }
     ensures cause { HasCause NotaryFault (N.state notary.old).faults (N.state notary.new).faults result }
 {
-    let from = least_from(clean, notary, id, first, tiles, now)?;
-    let span = Span { from, to: now };
+    let from = least_from(clean, notary, request.id, first, tiles, request.now)?;
+    let span = Span {
+        from,
+        to: request.now,
+    };
     put_region(alloc, out, header, tiles, first, span)?;
     Ok(())
 }
@@ -62,17 +64,15 @@ pub(crate) fn put_targets<N: Notary>(
     out: &mut Vec<u8>,
     clean: &CleanMarks,
     notary: &mut N,
-    id: u64,
-    algorithm: Algorithm,
+    request: Request,
     header: &Header,
     targets: &[(u32, u16)],
-    now: u64,
 ) -> Result<(), AnalyseFail>
     requires fits { FitsHeader header.now }
     requires failing { All (IsFailing (layout_of header.now)) targets.now }
     ensures value { WhereTold (N.state notary.old).lists (N.state notary.new).lists (λ before after.
-        StandFor (before.marks id) clean.now
-        → OnOk result (out.new.items ≡ out.old.items ++ flat_map (target_line algorithm (layout_of header.now) (kept_of before id now)) targets.now)) }
+        StandFor (before.marks request.id) clean.now
+        → OnOk result (out.new.items ≡ out.old.items ++ flat_map (target_line request.algorithm (layout_of header.now) (kept_of before request.id request.now)) targets.now)) }
     ensures more { OnOk result (Begins out.old.items out.new.items) }
     ensures only { IfErr result IsOfWriting }
     ensures same { Unchanged (N.state notary.old) (N.state notary.new) }
@@ -82,8 +82,8 @@ pub(crate) fn put_targets<N: Notary>(
 {
     for failing in targets {
         let tile = failing.0;
-        let span = when_by(clean, notary, id, tile, now)?;
-        put_target(alloc, out, algorithm, header, tile, failing.1, span)?;
+        let span = when_by(clean, notary, request.id, tile, request.now)?;
+        put_target(alloc, out, request.algorithm, header, tile, failing.1, span)?;
     }
     Ok(())
 }
@@ -94,16 +94,15 @@ pub(crate) fn put_granules<N: Notary>(
     out: &mut Vec<u8>,
     clean: &CleanMarks,
     notary: &mut N,
-    id: u64,
+    request: Request,
     header: &Header,
     granules: &[u32],
-    now: u64,
 ) -> Result<(), AnalyseFail>
     requires fits { FitsHeader header.now }
     requires within { All (λ g. g < max_granules) granules.now }
     ensures value { WhereTold (N.state notary.old).lists (N.state notary.new).lists (λ before after.
-        StandFor (before.marks id) clean.now
-        → OnOk result (out.new.items ≡ out.old.items ++ flat_map (granule_line (layout_of header.now) (kept_of before id now)) granules.now)) }
+        StandFor (before.marks request.id) clean.now
+        → OnOk result (out.new.items ≡ out.old.items ++ flat_map (granule_line (layout_of header.now) (kept_of before request.id request.now)) granules.now)) }
     ensures more { OnOk result (Begins out.old.items out.new.items) }
     ensures only { IfErr result IsOfWriting }
     ensures same { Unchanged (N.state notary.old) (N.state notary.new) }
@@ -115,7 +114,7 @@ pub(crate) fn put_granules<N: Notary>(
     for granule in granules {
         let granule = *granule;
         let tile = tile_at(header, granule);
-        let span = span_after(recent, clean, notary, id, tile, now)?;
+        let span = span_after(recent, clean, notary, request.id, tile, request.now)?;
         recent = Some(Recent { tile, span });
         put_granule(alloc, out, granule, span)?;
     }

@@ -4,24 +4,24 @@ ghost use Rattle.std.specs.Prelude.{◌≡◌, ◌<◌, ◌≤◌, ◌+◌, ◌^
 ghost use Rattle.outside_words.specs.Faults.{HasCause};
 ghost use Rattle.outside_words.specs.Told.{WhereTold};
 ghost use Rattle.notary_link.specs.Notary.{Unchanged, GoesOn};
-ghost use Rattle.tuple_bytes.specs.Spelling.{FitsHeader};
 ghost use Rattle.cumulative_chain.specs.Tiles.{layout_of};
 ghost use Rattle.corruption_diagram.specs.Diagram.{diagram};
 ghost use Rattle.forensic_report.specs.declared.fail.AnalyseFail.TheVariants.{NotaryFault};
 ghost use Rattle.forensic_report.specs.Analysis.{bad_tiles};
-ghost use Rattle.forensic_report.specs.Values.{findings_of, FitsFindings};
+ghost use Rattle.forensic_report.specs.Values.{findings_of, FitsExamined};
 ghost use Rattle.forensic_report.specs.Texts.{kept_of, first_line, bad_row, diagram_text};
 ghost use Rattle.forensic_report.specs.Reporting.{Begins};
 ghost use Rattle.forensic_report.specs.Values.{IsOfWriting};
 
+use crate::algorithm::Request;
 use crate::bad::bad_row;
 use crate::fail::AnalyseFail;
-use crate::found::Findings;
+use crate::found::Examined;
 use crate::lines::put_first;
 use corruption_diagram::{first_when, grid};
 use notary_link::Notary;
 use std::alloc::Global;
-use tuple_bytes::{Blob, Header};
+use tuple_bytes::Blob;
 
 /// More tiles than events that a diagram has room for.
 const TOO_MANY: u32 = 65;
@@ -54,27 +54,24 @@ pub(crate) fn put_first_change<N: Notary>(
 fn diagram_of<N: Notary>(
     alloc: Global,
     notary: &mut N,
-    id: u64,
-    header: &Header,
-    tiles: u32,
-    findings: &Findings,
-    now: u64,
+    request: Request,
+    examined: &Examined,
 ) -> Result<Option<Blob>, AnalyseFail>
-    requires fits { FitsHeader header.now }
-    requires found { FitsFindings (layout_of header.now) tiles findings.now }
+    requires fits { FitsExamined examined.now }
     ensures value { WhereTold (N.state notary.old).lists (N.state notary.new).lists (λ before after.
-        IfOk result (λ text. text ≡ diagram (before.batches id) (before.marks id) tiles (bad_row (bad_tiles (layout_of header.now) tiles (findings_of findings.now)) tiles) now)) }
+        IfOk result (λ text. text ≡ diagram (before.batches request.id) (before.marks request.id) examined.now.tiles (bad_row (bad_tiles (layout_of examined.now.header) examined.now.tiles (findings_of examined.now.findings)) examined.now.tiles) request.now)) }
     ensures only { IfErr result IsOfWriting }
     ensures same { Unchanged (N.state notary.old) (N.state notary.new) }
     ensures asked { (N.state notary.new).asked ≡ (N.state notary.old).asked }
     ensures frame { GoesOn (N.state notary.old) (N.state notary.new) }
     ensures cause { HasCause NotaryFault (N.state notary.old).faults (N.state notary.new).faults result }
 {
+    let tiles = examined.tiles;
     if tiles >= TOO_MANY {
         return Ok(None);
     }
-    let bad = bad_row(alloc, findings, header, tiles)?;
-    Ok(grid(alloc, notary, id, tiles, &bad, now)?)
+    let bad = bad_row(alloc, &examined.findings, &examined.header, tiles)?;
+    Ok(grid(alloc, notary, request.id, tiles, &bad, request.now)?)
 }
 
 /// The diagram, or a line in its place.
@@ -82,16 +79,12 @@ pub(crate) fn put_diagram<N: Notary>(
     alloc: Global,
     out: &mut Vec<u8>,
     notary: &mut N,
-    id: u64,
-    header: &Header,
-    tiles: u32,
-    findings: &Findings,
-    now: u64,
+    request: Request,
+    examined: &Examined,
 ) -> Result<(), AnalyseFail>
-    requires fits { FitsHeader header.now }
-    requires found { FitsFindings (layout_of header.now) tiles findings.now }
+    requires fits { FitsExamined examined.now }
     ensures value { WhereTold (N.state notary.old).lists (N.state notary.new).lists (λ before after.
-        OnOk result (out.new.items ≡ out.old.items ++ diagram_text (kept_of before id now) tiles (bad_tiles (layout_of header.now) tiles (findings_of findings.now)))) }
+        OnOk result (out.new.items ≡ out.old.items ++ diagram_text (kept_of before request.id request.now) examined.now.tiles (bad_tiles (layout_of examined.now.header) examined.now.tiles (findings_of examined.now.findings)))) }
     ensures more { OnOk result (Begins out.old.items out.new.items) }
     ensures only { IfErr result IsOfWriting }
     ensures same { Unchanged (N.state notary.old) (N.state notary.new) }
@@ -99,7 +92,7 @@ pub(crate) fn put_diagram<N: Notary>(
     ensures frame { GoesOn (N.state notary.old) (N.state notary.new) }
     ensures cause { HasCause NotaryFault (N.state notary.old).faults (N.state notary.new).faults result }
 {
-    match diagram_of(alloc, notary, id, header, tiles, findings, now)? {
+    match diagram_of(alloc, notary, request, examined)? {
         Some(text) => out.extend_from_slice(text.as_slice())?,
         None => out.extend_from_slice(b"diagram left out\n")?,
     }

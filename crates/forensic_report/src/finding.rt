@@ -9,34 +9,31 @@ ghost use Rattle.step_count.specs.Blank.{IsBlankOf};
 ghost use Rattle.history_model.specs.History.{history};
 ghost use Rattle.history_model.specs.Stored.{stored};
 ghost use Rattle.history_model.specs.StoredHistory.{IsHistory};
-ghost use Rattle.tuple_bytes.specs.Spelling.{FitsHeader};
 ghost use Rattle.digest_model.specs.Layout.{layout, first_granule, max_granules};
 ghost use Rattle.cumulative_chain.specs.Tiles.{layout_of};
-ghost use Rattle.validator.specs.Tiles.{first_past};
-ghost use Rattle.validator.specs.Verdicts.{history_with};
+ghost use Rattle.audit_model.specs.Altered.{history_in, history_with};
 ghost use Rattle.forensic_report.specs.declared.fail.AnalyseFail.TheVariants.{DiskFault, NotaryFault};
 ghost use Rattle.forensic_report.specs.Analysis.{questions};
+ghost use Rattle.forensic_report.specs.Held.{HoldsFiled};
 ghost use Rattle.forensic_report.specs.Finding.{has_chains, IsFoundBy, IsFoundWith, IsFoundOf, IsAnalysis, IsOfAnalysis};
 ghost use Rattle.forensic_report.specs.Values.{analysis_of, found_as, OrGivesUp, FitsAnalysis, IsOfFinding};
 
 use crate::algorithm::Algorithm;
 use crate::fail::AnalyseFail;
-use crate::found::Analysis;
-use crate::places::{have_tile_chains, have_tree, tile_at};
+use crate::found::{Analysis, Examined};
+use crate::places::{have_tile_chains, have_tree};
 use crate::searching::search;
 use cumulative_chain::header_digest;
 use disk_model::Disk;
 use history_model::Stored;
 use notary_link::{Answer, Name, Notary};
+use policy_eras::Eras;
 use seal_plan::Plan;
 use std::alloc::Global;
 use std::marker::Brand;
 use step_count::{Blank, Ledger, Steps};
-use tuple_bytes::{Header, Items};
+use tuple_bytes::{Header, Items, MAX_GRANULES};
 use txn_journal::read_stored;
-
-/// No granule from this one on is sealed.
-const MAX_GRANULES: u32 = 1_048_576;
 
 /// What the notary's answers show of what is stored under the id. Where nothing was filed, nothing is read.
 pub(crate) fn find<D: Disk, N: Notary>(
@@ -48,6 +45,7 @@ pub(crate) fn find<D: Disk, N: Notary>(
 ) -> Result<Analysis, AnalyseFail>
     ensures value { IfSome (D.state disk.old).reads (λ bytes. WhereTold (N.state notary.old).lists (N.state notary.new).lists (λ before after.
         OrGivesUp (IsAnalysis algorithm id (before.batches id) (stored bytes)) (found_as result))) }
+    ensures held { IfOk result (λ a. HoldsFiled id (D.state disk.old) (N.state notary.old) (N.state notary.new)) }
     ensures fits { IfOk result FitsAnalysis }
     ensures none_other { IfErr result (IsOfAnalysis algorithm) }
     ensures same_disk { disks.Unchanged (D.state disk.old) (D.state disk.new) }
@@ -75,6 +73,7 @@ fn find_stored<D: Disk, N: Notary>(
 ) -> Result<Analysis, AnalyseFail>
     ensures value { IfSome (D.state disk.old).reads (λ bytes. WhereTold (N.state notary.old).lists (N.state notary.new).lists (λ before after.
         OrGivesUp (IsFoundOf algorithm (before.batches id) tiles (history_with id (stored bytes))) (found_as result))) }
+    ensures held { IfOk result (λ a. IfSome (D.state disk.old).reads (λ bytes. IfSome (history_in (stored bytes)) IsHistory)) }
     ensures fits { IfOk result FitsAnalysis }
     ensures none_other { IfErr result (IsOfAnalysis algorithm) }
     ensures same_disk { disks.Unchanged (D.state disk.old) (D.state disk.new) }
@@ -158,14 +157,6 @@ fn has_chains(algorithm: Algorithm, header: &Header) -> bool
     }
 }
 
-/// The first tile that ends behind the last granule.
-fn first_past(header: &Header) -> u32
-    requires fits { FitsHeader header.now }
-    ensures value { result ≡ first_past (layout_of header.now) }
-{
-    tile_at(header, MAX_GRANULES)
-}
-
 /// The same under the header that was filed. Tiles behind the last granule were never filed.
 fn find_tiles<N: Notary>(
     alloc: Global,
@@ -188,7 +179,8 @@ fn find_tiles<N: Notary>(
     if !has_chains(algorithm, header) {
         return Err(AnalyseFail::NotSealedSo);
     }
-    let past = first_past(header);
+    let eras = Eras::of(header, items);
+    let past = eras.first_past();
     if tiles > past {
         let name = Name::Cum { tile: past };
         return Err(AnalyseFail::SealMissing { name });
@@ -229,9 +221,10 @@ fn find_planned<N: Notary, L: Ledger>(
     let mut steps = Steps::<L>::new(blank);
     let plan = Plan::new(alloc, header, items, tiles, &mut steps)?;
     let findings = search(alloc, &plan, notary, header.id, algorithm)?;
-    Ok(Analysis::Found {
+    let examined = Examined {
         header: *header,
         tiles,
         findings,
-    })
+    };
+    Ok(Analysis::Found { examined })
 }

@@ -2,8 +2,8 @@
 
 ghost use Rattle.std.specs.Prelude.{◌≡◌, ℕ};
 ghost use Rattle.digest_model.specs.Layout.{Layout};
-ghost use Rattle.forensic_report.specs.Analysis.{bad_tiles, is_some_bad, is_altered};
-ghost use Rattle.forensic_report.specs.Values.{findings_of, analysis_of, FitsFindings, FitsAnalysis};
+ghost use Rattle.forensic_report.specs.Analysis.{bad_tiles, is_some_bad, is_altered, FitsFindings};
+ghost use Rattle.forensic_report.specs.Values.{findings_of, analysis_of, FitsAnalysis};
 
 use crate::failing::FailingTiles;
 use a3d_forensics::A3dFound;
@@ -29,22 +29,24 @@ pub(crate) enum Analysis {
     Unsealed,
 
     /// Of so many sealed tiles the header is another.
-    HeaderAltered {
-        tiles: u32,
-    },
+    HeaderAltered { tiles: u32 },
 
-    /// This was found of so many tiles, under this header.
-    Found {
-        header: Header,
-        tiles: u32,
-        findings: Findings,
-    },
+    /// The tiles were examined.
+    Found { examined: Examined },
+}
+
+/// Under which header, how many tiles were examined, and what was found of them.
+#[derive(Drop)]
+pub(crate) struct Examined {
+    pub header: Header,
+    pub tiles: u32,
+    pub findings: Findings,
 }
 
 impl Findings {
     /// Whether some tile is bad.
     fn is_some_bad(&self) -> bool
-        ensures value { (l : Layout) (n : ℕ) → FitsFindings l n self.now
+        ensures value { (l : Layout) (n : ℕ) → FitsFindings l n (findings_of self.now)
             → result ≡ is_some_bad (bad_tiles l n (findings_of self.now)) }
     {
         match self {
@@ -64,7 +66,7 @@ impl Analysis {
         match self {
             Analysis::Unsealed => false,
             Analysis::HeaderAltered { .. } => true,
-            Analysis::Found { findings, .. } => findings.is_some_bad(),
+            Analysis::Found { examined } => examined.findings.is_some_bad(),
         }
     }
 }

@@ -16,7 +16,8 @@
 //! | The layer above may rely on | Clause of `analyse` |
 //! |---|---|
 //! | what is found is what the answers show of the stored bytes (`IsAnalysis`), and the text is the report of it (`report_text`) | `told` |
-//! | the verdict and the first line, whatever is told; the number of questions, where both tell | `told`: `altered`, `begins`, `asked` of `IsReport` |
+//! | the verdict and the first line, and few questions, whatever is told: at most one for the header, and then those of the algorithm | `told`: `altered`, `begins`, `asked`, `fits` of `IsReport` |
+//! | bytes that were read and have a header hold a history | `held` |
 //! | no other cause refuses | `none_other` |
 //! | the store and the notary are as they were | `same`, `unchanged` |
 //! | a fault is answered only where the disk or the notary counted it | `disk_cause`, `notary_cause` |
@@ -49,6 +50,7 @@ mod found;
 mod laws;
 mod lines;
 mod places;
+mod printing;
 mod report;
 mod searching;
 mod text;
@@ -58,4 +60,5 @@ pub use algorithm::Algorithm;
 pub use analysing::analyse;
 pub use fail::AnalyseFail;
 pub use laws::{refusals_are_clashes, reports_show, sound_is_unaltered, worked_reports};
+pub use printing::put_refusal;
 pub use report::Report;

@@ -4,30 +4,16 @@ ghost use Rattle.std.specs.Prelude.{◌≡◌, ◌≤◌, ◌<◌, ◌^◌, ◌+
 ghost use Rattle.digest_model.specs.Layout.{exponent, first_granule, max_granules};
 ghost use Rattle.tuple_bytes.specs.Spelling.{FitsHeader};
 ghost use Rattle.cumulative_chain.specs.Tiles.{layout_of};
-ghost use Rattle.validator.specs.Texts.{numbered};
+ghost use Rattle.number_text.specs.Numbered.{numbered};
 ghost use Rattle.forensic_report.specs.Texts.{algorithm_word, head_words, when_text, region_line_in, bits_text, list_text, candidates_by, target_line_in, granule_line_in, checks_line, first_line_in, every_granule};
 
 use crate::algorithm::Algorithm;
 use crate::places::{bits_of, first_of};
 use corruption_diagram::Span;
+use number_text::put_numbered;
 use std::alloc::{AllocError, Global};
 use tiled_forensics::{Candidates, candidates, exactly};
 use tuple_bytes::Header;
-
-/// Words, and a number behind them.
-fn put_numbered(
-    alloc: Global,
-    out: &mut Vec<u8>,
-    words: &[u8],
-    number: u64,
-) -> Result<(), AllocError>
-    ensures ok { OnOk result (out.new.items ≡ out.old.items ++ numbered words.now number) }
-{
-    let digits = format!(in alloc; "{number}")?;
-    out.extend_from_slice(words)?;
-    out.extend_from_slice(digits.as_bytes())?;
-    Ok(())
-}
 
 /// The word of an algorithm.
 fn put_algorithm(out: &mut Vec<u8>, algorithm: Algorithm) -> Result<(), AllocError>

@@ -7,9 +7,9 @@ ghost use Rattle.notary_link.specs.Notary.{Unchanged, GoesOn};
 ghost use Rattle.digest_model.specs.Layout.{layout, first_granule, max_granules};
 ghost use Rattle.forensic_report.specs.declared.algorithm.Algorithm.TheVariants.{Mono, Tiled, A3d};
 ghost use Rattle.forensic_report.specs.declared.fail.AnalyseFail.TheVariants.{NotaryFault};
-ghost use Rattle.forensic_report.specs.Analysis.{asked_by};
+ghost use Rattle.forensic_report.specs.Analysis.{asked_by, FitsFindings};
 ghost use Rattle.forensic_report.specs.Finding.{IsFoundBy};
-ghost use Rattle.forensic_report.specs.Values.{findings_of, found_with, OrGivesUp, FitsFindings, IsOfFinding};
+ghost use Rattle.forensic_report.specs.Values.{findings_of, found_with, OrGivesUp, IsOfFinding};
 
 use crate::algorithm::Algorithm;
 use crate::fail::AnalyseFail;
@@ -34,7 +34,7 @@ pub(crate) fn search<N: Notary>(
     ensures value { WhereTold (N.state notary.old).lists (N.state notary.new).lists (λ before after.
         OrGivesUp (IsFoundBy algorithm (before.batches id) plan.now.tiles plan.now.history)
         (found_with (layout plan.now.history) plan.now.tiles result)) }
-    ensures fits { IfOk result (FitsFindings (layout plan.now.history) plan.now.tiles) }
+    ensures fits { IfOk result (λ found. FitsFindings (layout plan.now.history) plan.now.tiles (findings_of found)) }
     ensures none_other { IfErr result (IsOfFinding algorithm) }
     ensures same { Unchanged (N.state notary.old) (N.state notary.new) }
     ensures asked { IfOk result (λ found. (N.state notary.new).asked ≤ (N.state notary.old).asked + asked_by (layout plan.now.history) plan.now.tiles (findings_of found)) }
@@ -56,7 +56,7 @@ fn find_region<N: Notary>(plan: &Plan, notary: &mut N, id: u64) -> Result<Findin
     ensures value { WhereTold (N.state notary.old).lists (N.state notary.new).lists (λ before after.
         OrGivesUp (IsFoundBy Mono (before.batches id) plan.now.tiles plan.now.history)
         (found_with (layout plan.now.history) plan.now.tiles result)) }
-    ensures fits { IfOk result (FitsFindings (layout plan.now.history) plan.now.tiles) }
+    ensures fits { IfOk result (λ found. FitsFindings (layout plan.now.history) plan.now.tiles (findings_of found)) }
     ensures none_other { IfErr result (IsOfFinding Mono) }
     ensures same { Unchanged (N.state notary.old) (N.state notary.new) }
     ensures asked { IfOk result (λ found. (N.state notary.new).asked ≤ (N.state notary.old).asked + asked_by (layout plan.now.history) plan.now.tiles (findings_of found)) }
@@ -80,7 +80,7 @@ fn find_targets<N: Notary>(
     ensures value { WhereTold (N.state notary.old).lists (N.state notary.new).lists (λ before after.
         OrGivesUp (IsFoundBy Tiled (before.batches id) plan.now.tiles plan.now.history)
         (found_with (layout plan.now.history) plan.now.tiles result)) }
-    ensures fits { IfOk result (FitsFindings (layout plan.now.history) plan.now.tiles) }
+    ensures fits { IfOk result (λ found. FitsFindings (layout plan.now.history) plan.now.tiles (findings_of found)) }
     ensures none_other { IfErr result (IsOfFinding Tiled) }
     ensures same { Unchanged (N.state notary.old) (N.state notary.new) }
     ensures asked { IfOk result (λ found. (N.state notary.new).asked ≤ (N.state notary.old).asked + asked_by (layout plan.now.history) plan.now.tiles (findings_of found)) }
@@ -105,7 +105,7 @@ fn find_leaves<N: Notary>(
     ensures value { WhereTold (N.state notary.old).lists (N.state notary.new).lists (λ before after.
         OrGivesUp (IsFoundBy A3d (before.batches id) plan.now.tiles plan.now.history)
         (found_with (layout plan.now.history) plan.now.tiles result)) }
-    ensures fits { IfOk result (FitsFindings (layout plan.now.history) plan.now.tiles) }
+    ensures fits { IfOk result (λ found. FitsFindings (layout plan.now.history) plan.now.tiles (findings_of found)) }
     ensures none_other { IfErr result (IsOfFinding A3d) }
     ensures same { Unchanged (N.state notary.old) (N.state notary.new) }
     ensures asked { IfOk result (λ found. (N.state notary.new).asked ≤ (N.state notary.old).asked + asked_by (layout plan.now.history) plan.now.tiles (findings_of found)) }

@@ -9,7 +9,7 @@ ghost use Rattle.forensic_report.specs.Reporting.{Begins};
 ghost use Rattle.forensic_report.specs.Texts.{head_line, report_text, kept_of};
 ghost use Rattle.forensic_report.specs.Values.{analysis_of, FitsAnalysis, IsOfWriting};
 
-use crate::algorithm::Algorithm;
+use crate::algorithm::Request;
 use crate::fail::AnalyseFail;
 use crate::found::Analysis;
 use crate::text::put_report;
@@ -21,15 +21,13 @@ use tuple_bytes::Blob;
 pub(crate) fn write_report<N: Notary>(
     alloc: Global,
     notary: &mut N,
-    algorithm: Algorithm,
-    id: u64,
+    request: Request,
     analysis: &Analysis,
-    now: u64,
 ) -> Result<Blob, AnalyseFail>
     requires fits { FitsAnalysis analysis.now }
-    ensures begins { IfOk result (λ text. Begins (head_line algorithm id (analysis_of analysis.now)) text) }
+    ensures begins { IfOk result (λ text. Begins (head_line request.algorithm request.id (analysis_of analysis.now)) text) }
     ensures text { WhereTold (N.state notary.old).lists (N.state notary.new).lists (λ before after.
-        IfOk result (λ text. text ≡ report_text algorithm id (kept_of before id now) (analysis_of analysis.now))) }
+        IfOk result (λ text. text ≡ report_text request.algorithm request.id (kept_of before request.id request.now) (analysis_of analysis.now))) }
     ensures only { IfErr result IsOfWriting }
     ensures same { Unchanged (N.state notary.old) (N.state notary.new) }
     ensures asked { (N.state notary.new).asked ≡ (N.state notary.old).asked }
@@ -37,6 +35,6 @@ pub(crate) fn write_report<N: Notary>(
     ensures cause { HasCause NotaryFault (N.state notary.old).faults (N.state notary.new).faults result }
 {
     let mut out = Vec::new(alloc);
-    put_report(alloc, &mut out, notary, algorithm, id, analysis, now)?;
+    put_report(alloc, &mut out, notary, request, analysis)?;
     Ok(Blob::from_vec(out))
 }

@@ -7,7 +7,7 @@ use Rattle.notary_link.specs.declared.answer.Answer.TheVariants.{Same, Differs}
 use Rattle.notary_link.specs.declared.name.Name.TheVariants.{Cum}
 use Rattle.notary_link.specs.Batches.{Batch, answer}
 use Rattle.notary_link.specs.Notary.{Lists, Keeps}
-use Rattle.mono_forensics.specs.Finds.{cums, Compares}
+use Rattle.mono_forensics.specs.Finds.{link_answers, Compares}
 
 -- the last of all tiles and the last one that is looked at differ, and the one before these is the same
 pub record AreBetween (answers : ℕ → Answer) (last low high : ℕ) : Type 0 where
@@ -31,9 +31,9 @@ module _ (answers : ℕ → Answer) where
 -- what is known of the answers, and one answer more
 module _ (id : ℕ) (links : List (List ℕ)) (P Q R : (ℕ → Answer) → Type 0) where
   pub told_more : (o m n : Option Lists) → (is_some m ≡ false → is_some n ≡ false) → WhereTold o m Keeps
-      → WhereTold o m (λ before after. P (cums before id links)) → WhereTold m n (λ before after. Q (cums before id links))
-      → ((answers : ℕ → Answer) → P answers → Q answers → R answers) → WhereTold o n (λ before after. R (cums before id links))
-  told_more (Some b) (Some x) (Some a) stays keeps known next f = f (cums b id links) known (subst (λ (batches : List Batch). Q (λ tile. answer batches (Cum tile) (get_or links tile []))) (keeps.batches id) next)
+      → WhereTold o m (λ before after. P (link_answers before id links)) → WhereTold m n (λ before after. Q (link_answers before id links))
+      → ((answers : ℕ → Answer) → P answers → Q answers → R answers) → WhereTold o n (λ before after. R (link_answers before id links))
+  told_more (Some b) (Some x) (Some a) stays keeps known next f = f (link_answers b id links) known (subst (λ (batches : List Batch). Q (λ tile. answer batches (Cum tile) (get_or links tile []))) (keeps.batches id) next)
   told_more (Some b) None (Some a) stays keeps known next f = let h = stays refl in absurd cc
   told_more (Some b) m None stays keeps known next f = tt
   told_more None m n stays keeps known next f = tt

@@ -1,3 +1,3 @@
-pub mod Unchanged
 pub mod Halving
+pub mod Linked
 pub mod Between

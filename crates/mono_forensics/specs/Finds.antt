@@ -11,8 +11,8 @@ use Rattle.notary_link.specs.Notary.{Lists}
 use Rattle.audit_model.specs.Mono.{BeginsRegion}
 
 -- what is answered of the chain's value at the end of each tile
-abbrev pub cums : Lists → ℕ → List (List ℕ) → ℕ → Answer
-cums lists id links tile = answer (lists.batches id) (Cum tile) (slice_index_or links tile [])
+abbrev pub link_answers : Lists → ℕ → List (List ℕ) → ℕ → Answer
+link_answers lists id links tile = answer (lists.batches id) (Cum tile) (slice_index_or links tile [])
 
 -- Ok tells where the region of n tiles begins. A missing seal is that of a tile of which none was filed, and none is told where the
 -- last tile is the same.

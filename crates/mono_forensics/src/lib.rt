@@ -19,7 +19,7 @@
 //! | nothing has changed, and the notary's promises go on | `same`, `frame` |
 //! | a fault comes only where the notary counted one in this call | `cause` |
 //!
-//! What the notary answers is `cums` of `specs/Finds`. Where these answers are the same below a tile
+//! What the notary answers is `link_answers` of `specs/Finds`. Where these answers are the same below a tile
 //! and differ from it on, that tile is the one that is named, and no other: `step_is_region` of
 //! `audit_model`. There `region_begins_altered` says that this tile was altered, and
 //! `region_has_altered` that nothing was altered before it, unless two inputs clash.

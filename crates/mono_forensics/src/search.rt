@@ -6,7 +6,7 @@ ghost use Rattle.outside_words.specs.Told.{WhereTold};
 ghost use Rattle.notary_link.specs.declared.fail.AskFail.TheVariants.{NotaryFault};
 ghost use Rattle.notary_link.specs.Notary.{Unchanged, GoesOn};
 ghost use Rattle.audit_model.specs.Tree.{digit_count};
-ghost use Rattle.mono_forensics.specs.Finds.{cums, Finds, Compares, IsFindFail};
+ghost use Rattle.mono_forensics.specs.Finds.{link_answers, Finds, Compares, IsFindFail};
 
 use notary_link::{Answer, AskFail, Name, Notary};
 
@@ -22,7 +22,7 @@ pub fn first_bad<N: Notary>(
     requires some { 1 ≤ length links.now }
     requires few { length links.now ≤ 1048576 }
     ensures value { WhereTold (N.state notary.old).lists (N.state notary.new).lists
-        (λ before after. Finds (cums before id links.now) (length links.now) result) }
+        (λ before after. Finds (link_answers before id links.now) (length links.now) result) }
     ensures within { IfOk result (λ found. IfSome found (λ tile. tile < length links.now)) }
     ensures only { IsFindFail (length links.now) result }
     ensures same { Unchanged (N.state notary.old) (N.state notary.new) }
@@ -57,7 +57,7 @@ fn differs<N: Notary>(
 ) -> Result<bool, AskFail>
     requires within { tile < length links.now }
     ensures value { WhereTold (N.state notary.old).lists (N.state notary.new).lists
-        (λ before after. Compares (cums before id links.now) tile result) }
+        (λ before after. Compares (link_answers before id links.now) tile result) }
     ensures only { IsFindFail (length links.now) result }
     ensures same { Unchanged (N.state notary.old) (N.state notary.new) }
     ensures asked { (N.state notary.new).asked ≤ (N.state notary.old).asked + 1 }

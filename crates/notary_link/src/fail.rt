@@ -3,6 +3,7 @@
 ghost use Rattle.std.specs.Prelude.{◌≡◌};
 ghost use Rattle.notary_link.specs.Fails.{ask_fail_of};
 ghost use Rattle.notary_link.specs.declared.fail.NotaryFail.TheVariants.{NoMemory};
+ghost use Rattle.notary_link.specs.declared.fail.AskFail.TheVariants as ask_fails;
 
 use crate::name::Name;
 use std::alloc::AllocError;
@@ -39,6 +40,14 @@ pub enum AskFail {
     /// A node differs, and both of those below it are the same.
     NotaryInconsistent { level: u8, index: u32 },
     NoMemory,
+}
+
+impl From<AllocError> for AskFail {
+    ghost from_gives = { λ _ e. e ≡ ask_fails.NoMemory };
+
+    fn from(_: AllocError) -> Self {
+        AskFail::NoMemory
+    }
 }
 
 impl From<NotaryFail> for AskFail {

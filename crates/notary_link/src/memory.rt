@@ -126,7 +126,7 @@ impl Notary for MemNotary {
 
         ensures listed { FailsAsListed Failed (listed_asks_of self.old) result }
         ensures no_memory { ¬ IsErrOf result NoMemory }
-        ensures counted { listed_asks_of self.new ≡ counted (listed_asks_of self.old) }
+        ensures numbered { listed_asks_of self.new ≡ counted (listed_asks_of self.old) }
     {
         if is_listed(&mut self.asks, &self.failing_asks, &mut self.faults) {
             return Err(NotaryFail::Failed);
@@ -177,7 +177,7 @@ impl Notary for MemNotary {
 
         ensures listed { FailsAsListed Failed (listed_asks_of self.old) result }
         ensures no_memory { ¬ IsErrOf result NoMemory }
-        ensures counted { listed_asks_of self.new ≡ counted (listed_asks_of self.old) }
+        ensures numbered { listed_asks_of self.new ≡ counted (listed_asks_of self.old) }
         ensures rises { (state_of self.new).asked ≡ min ((state_of self.old).asked + 1) (2 ^ 64 - 1) }
     {
         self.asked = self.asked.saturating_add(1);
@@ -200,7 +200,7 @@ impl Notary for MemNotary {
 
         ensures listed { FailsAsListed Failed (listed_asks_of self.old) result }
         ensures no_memory { ¬ IsErrOf result NoMemory }
-        ensures counted { listed_asks_of self.new ≡ counted (listed_asks_of self.old) }
+        ensures numbered { listed_asks_of self.new ≡ counted (listed_asks_of self.old) }
     {
         if is_listed(&mut self.asks, &self.failing_asks, &mut self.faults) {
             return Err(NotaryFail::Failed);
@@ -241,7 +241,7 @@ impl Notary for MemNotary {
 
         ensures listed { FailsAsListed Failed (listed_asks_of self.old) result }
         ensures no_memory { ¬ IsErrOf result NoMemory }
-        ensures counted { listed_asks_of self.new ≡ counted (listed_asks_of self.old) }
+        ensures numbered { listed_asks_of self.new ≡ counted (listed_asks_of self.old) }
     {
         if is_listed(&mut self.asks, &self.failing_asks, &mut self.faults) {
             return Err(NotaryFail::Failed);

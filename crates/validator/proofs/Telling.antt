@@ -23,6 +23,11 @@ module _ {A : Type 0} where
   told_of (Some b) None P Q known f = tt
   told_of None n P Q known f = tt
 
+  -- two facts of what is told
+  pub if_both : (o : Option A) (P Q : A → Type 0) → IfSome o P → IfSome o Q → IfSome o (λ a. P a × Q a)
+  if_both None P Q p q = tt
+  if_both (Some a) P Q p q = (p, q)
+
   -- nothing
   pub told_any : (o n : Option A) → WhereTold o n (λ b a. Unit {0})
   told_any (Some b) (Some a) = tt

@@ -15,7 +15,8 @@ use Rattle.validator.specs.declared.verdict.Verdict.{Verdict}
 use Rattle.validator.specs.declared.fail.AuditFail.{AuditFail}
 use Rattle.validator.specs.declared.fail.AuditFail.TheVariants as fails
 use Rattle.validator.specs.Fails.{of_notary}
-use Rattle.validator.specs.Verdicts.{history_with, IsVerdict, IsFound, mark_of, IsMarked, IsNotMarked, MayBeMarked, AnswersMark, AfterVerdict, Validates, OrGivesUp, IsOfFinding, KeepsBatches}
+use Rattle.audit_model.specs.Altered.{history_with}
+use Rattle.validator.specs.Verdicts.{IsVerdict, IsFound, mark_of, IsMarked, IsNotMarked, MayBeMarked, AnswersMark, AfterVerdict, Validates, OrGivesUp, IsOfFinding, KeepsBatches}
 
 -- ---- behind calls that changed nothing
 

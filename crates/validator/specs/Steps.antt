@@ -22,7 +22,8 @@ use Rattle.store_engine.specs.Opened.{Opened}
 use Rattle.store_engine.specs.Refusals.{Tail, tail_of}
 use Rattle.validator.specs.declared.fail.AuditFail.{AuditFail}
 use Rattle.validator.specs.declared.fail.AuditFail.TheVariants as fails
-use Rattle.validator.specs.Tiles.{granule_at, tiles_at, first_past}
+use Rattle.policy_eras.specs.Policy.{first_past}
+use Rattle.validator.specs.Tiles.{granule_at, tiles_at}
 use Rattle.validator.specs.Notarizing.{fault_by, chain_fault, filed_fault, room_fault, early_fault, IsRefusedBy}
 use Rattle.validator.specs.Filing.{FilesFor, CallsFor}
 use Rattle.validator.specs.Reaching.{IsLeft, IsReached, StandsAfter, StoresAround, MakesFor, frontier_calls}

@@ -1,27 +1,11 @@
--- The texts of names, verdicts and refusals.
-use Rattle.std.specs.Prelude.{ℕ, ◌==◌, if◌then◌else◌, List, ◌++◌, codes}
-use Rattle.std.specs.Fmt.{decimal}
-use Rattle.digest_model.specs.Layout.{whole}
-use Rattle.notary_link.specs.declared.name.Name.{Name}
-use Rattle.notary_link.specs.declared.name.Name.TheVariants as names
+-- The texts of verdicts and refusals.
+use Rattle.std.specs.Prelude.{ℕ, List, ◌++◌, codes}
+use Rattle.number_text.specs.Numbered.{numbered}
+use Rattle.ask_words.specs.Names.{name_text}
 use Rattle.validator.specs.declared.verdict.Verdict.{Verdict}
 use Rattle.validator.specs.declared.verdict.Verdict.TheVariants as verdicts
 use Rattle.validator.specs.declared.fail.AuditFail.{AuditFail}
 use Rattle.validator.specs.declared.fail.AuditFail.TheVariants as fails
-
--- words and a number behind them
-abbrev pub numbered : List ℕ → ℕ → List ℕ
-numbered words n = words ++ decimal n
-
--- a part of a tile
-abbrev pub part_text : ℕ → List ℕ
-part_text part = if part == whole then codes " whole" else numbered (codes " bit ") part
-
-unfoldable pub name_text : Name → List ℕ
-name_text names.Header = codes "header"
-name_text (names.Cum tile) = numbered (codes "cum ") tile
-name_text (names.Tile tile part) = numbered (codes "tile ") tile ++ part_text part
-name_text (names.Node level index) = numbered (codes "node ") level ++ numbered (codes " ") index
 
 unfoldable pub verdict_text : Verdict → List ℕ
 verdict_text verdicts.Unsealed = codes "unsealed"

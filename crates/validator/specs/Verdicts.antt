@@ -17,25 +17,17 @@ use Rattle.notary_link.specs.declared.notary.NotaryLimits.{NotaryLimits}
 use Rattle.notary_link.specs.Batches.{Batch}
 use Rattle.notary_link.specs.Notary.{Lists, Entry, Keeps, Notes, HasRoom, AddsWithin, note}
 use Rattle.notary_link.specs.Runs.{is_done, was_answered}
+use Rattle.audit_model.specs.Altered.{history_with}
 use Rattle.audit_model.specs.Mono.{BeginsRegion}
-use Rattle.audit_model.specs.Notary.{header_answer}
+use Rattle.audit_model.specs.Notary.{header_answer, cums}
 use Rattle.audit_model.specs.Tree.{digit_count}
 use Rattle.validator.specs.declared.verdict.Verdict.{Verdict}
 use Rattle.validator.specs.declared.verdict.Verdict.TheVariants as verdicts
 use Rattle.validator.specs.declared.fail.AuditFail.{AuditFail}
 use Rattle.validator.specs.declared.fail.AuditFail.TheVariants as fails
-use Rattle.validator.specs.Tiles.{first_past, cums}
+use Rattle.policy_eras.specs.Policy.{first_past}
 
 -- ---- what is found
-
--- the history under a header, where that has this id
-abbrev pub under_id : ℕ → Option Header → Stored → Option History
-under_id id None s = None
-under_id id (Some header) s = if header.id == id then Some (history header s.items) else None
-
--- the stored history, where its header has this id
-abbrev pub history_with : ℕ → Stored → Option History
-history_with id s = under_id id s.header s
 
 -- of n tiles, by the answers for the chain: clean where the last is the same, else altered from the first bad tile on, or the seal
 -- of a tile is missing

@@ -8,12 +8,13 @@ ghost use Rattle.std.specs.List.{range_with_len};
 ghost use Rattle.history_model.specs.History.{History, history, txns};
 ghost use Rattle.history_model.specs.StoredHistory.{IsHistory};
 ghost use Rattle.digest_model.specs.Digests.{cum};
+ghost use Rattle.digest_model.specs.Layout.{max_granules};
 ghost use Rattle.validator.specs.declared.fail.AuditFail.TheVariants.{NotaryFault};
-ghost use Rattle.validator.specs.Tiles.{cums};
-ghost use Rattle.validator.specs.Verdicts.{history_with, IsVerdict, IsFoundUnder, IsFoundBy, OrGivesUp, IsOfFinding, questions};
+ghost use Rattle.audit_model.specs.Notary.{cums};
+ghost use Rattle.audit_model.specs.Altered.{history_with};
+ghost use Rattle.validator.specs.Verdicts.{IsVerdict, IsFoundUnder, IsFoundBy, OrGivesUp, IsOfFinding, questions};
 
 use crate::fail::AuditFail;
-use crate::tiles::first_past;
 use crate::verdict::Verdict;
 use cumulative_chain::header_digest;
 use history_model::Stored;
@@ -104,7 +105,7 @@ fn find_tiles<N: Notary, L: Ledger>(
     ensures cause { HasCause NotaryFault (N.state notary.old).faults (N.state notary.new).faults result }
 {
     let eras = Eras::of(header, items);
-    let past = first_past(&eras);
+    let past = eras.first_past();
     if tiles > past {
         let name = Name::Cum { tile: past };
         Err(AuditFail::SealMissing { name })
@@ -119,7 +120,7 @@ fn find_tiles<N: Notary, L: Ledger>(
 /// The verdict by the search for the first bad tile, over the chain at the end of each sealed one.
 fn search<N: Notary>(links: &[[u8; 32]], notary: &mut N, id: u64) -> Result<Verdict, AuditFail>
     requires some { 1 ≤ length links.now }
-    requires few { length links.now ≤ 1048576 }
+    requires few { length links.now ≤ max_granules }
     ensures value { WhereTold (N.state notary.old).lists (N.state notary.new).lists (λ before after.
         (h : History) → links.now ≡ map (cum h) (range_with_len 0 (length links.now))
         → OrGivesUp (IsFoundBy (cums (before.batches id) h) (length links.now)) result) }

@@ -24,15 +24,14 @@ ghost use Rattle.validator.specs.Notarizing.{fault_by, filed_fault, IsRefusedBy}
 ghost use Rattle.validator.specs.Steps.{IsReadAs, IsOfReading, IsOfCounting, IsOfAsking, IsOfHolding, header_fault, sealed_fault, IsPast, plan_for, IsPlanFor, Holds};
 
 use crate::fail::AuditFail;
-use crate::tiles::first_past;
 use cumulative_chain::header_digest;
 use disk_model::Disk;
 use notary_link::{Answer, Name, Notary, NotaryFail};
-use policy_eras::{Eras, MAX_GRANULES};
+use policy_eras::Eras;
 use seal_plan::{Plan, links_of};
 use std::alloc::Global;
 use step_count::{Blank, Ledger, Steps};
-use tuple_bytes::{Header, Items};
+use tuple_bytes::{Header, Items, MAX_GRANULES};
 use txn_journal::{JournalFail, read_stored};
 
 /// A notary's refusal, as it is told here.
@@ -132,7 +131,7 @@ fn link_tiles<L: Ledger>(
     ensures steps { steps.new ≤ steps.old + length (txns items.now) }
 {
     if eras.first(tiles) > u64::from(MAX_GRANULES) {
-        let tile = first_past(eras);
+        let tile = eras.first_past();
         return Err(AuditFail::SealMissing {
             name: Name::Cum { tile },
         });

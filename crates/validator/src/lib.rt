@@ -65,13 +65,12 @@ mod laws;
 mod marking;
 mod notarizing;
 mod printing;
-mod tiles;
 mod validating;
 mod verdict;
 
 pub use fail::AuditFail;
 pub use laws::{broken_is_altered, missing_is_clash, sound_is_clean, sound_is_not_refused};
 pub use notarizing::notarize;
-pub use printing::{put_name, put_refusal, put_verdict};
+pub use printing::{put_refusal, put_verdict};
 pub use validating::validate;
 pub use verdict::Verdict;

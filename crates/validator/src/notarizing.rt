@@ -20,12 +20,11 @@ use crate::filing::file_ended;
 use crate::holding::hold_stored;
 use disk_model::Disk;
 use notary_link::Notary;
-use policy_eras::MAX_GRANULES;
 use std::alloc::Global;
 use std::marker::Brand;
 use step_count::Blank;
 use store_engine::Store;
-use tuple_bytes::granule;
+use tuple_bytes::{MAX_GRANULES, granule};
 
 /// Files the digests of each tile that has ended at these clock seconds and isn't filed yet, and
 /// answers how many tiles are sealed then.

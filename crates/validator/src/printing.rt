@@ -1,62 +1,13 @@
-//! The texts of names, verdicts and refusals.
+//! The texts of verdicts and refusals.
 
 ghost use Rattle.std.specs.Prelude.{◌≡◌, ◌++◌, OnOk};
-ghost use Rattle.validator.specs.Texts.{part_text, name_text, verdict_text, refusal_text, numbered};
+ghost use Rattle.validator.specs.Texts.{verdict_text, refusal_text};
 
 use crate::fail::AuditFail;
 use crate::verdict::Verdict;
-use notary_link::Name;
+use ask_words::put_name;
+use number_text::put_numbered;
 use std::alloc::{AllocError, Global};
-
-/// The part that is a whole tile.
-const WHOLE: u8 = 255;
-
-/// Words, and a number behind them.
-fn put_numbered(
-    alloc: Global,
-    out: &mut Vec<u8>,
-    words: &[u8],
-    number: u64,
-) -> Result<(), AllocError>
-    ensures ok { OnOk result (out.new.items ≡ out.old.items ++ numbered words.now number) }
-{
-    let digits = format!(in alloc; "{number}")?;
-    out.extend_from_slice(words)?;
-    out.extend_from_slice(digits.as_bytes())?;
-    Ok(())
-}
-
-/// A part of a tile.
-fn put_part(alloc: Global, out: &mut Vec<u8>, part: u8) -> Result<(), AllocError>
-    ensures ok { OnOk result (out.new.items ≡ out.old.items ++ part_text part) }
-{
-    if part == WHOLE {
-        out.extend_from_slice(b" whole")?;
-    } else {
-        put_numbered(alloc, out, b" bit ", u64::from(part))?;
-    }
-    Ok(())
-}
-
-/// Adds the text of a name.
-#[tactic(auto, unfolding(crate::specs::Texts::name_text))]
-pub fn put_name(alloc: Global, out: &mut Vec<u8>, name: Name) -> Result<(), AllocError>
-    ensures ok { OnOk result (out.new.items ≡ out.old.items ++ name_text name) }
-{
-    match name {
-        Name::Header => out.extend_from_slice(b"header")?,
-        Name::Cum { tile } => put_numbered(alloc, out, b"cum ", u64::from(tile))?,
-        Name::Tile { tile, part } => {
-            put_numbered(alloc, out, b"tile ", u64::from(tile))?;
-            put_part(alloc, out, part)?;
-        }
-        Name::Node { level, index } => {
-            put_numbered(alloc, out, b"node ", u64::from(level))?;
-            put_numbered(alloc, out, b" ", u64::from(index))?;
-        }
-    }
-    Ok(())
-}
 
 /// Adds the text of a verdict.
 #[tactic(auto, unfolding(crate::specs::Texts::verdict_text))]

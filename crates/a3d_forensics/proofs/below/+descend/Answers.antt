@@ -1,7 +1,7 @@
 use Rattle.std.proofs.Common.{◌≡◌, suc, ◌+◌, ◌-◌, ◌*◌, List, Ok, Err, refl, arith}
 use Rattle.std.proofs.lemmas.Result.{err_from_is_err_and, on_ok_weaker}
 use Rattle.outside_words.proofs.Told.{told_same, told_map}
-use Rattle.notary_link.proofs.Frame.{goes_on_same}
+use Rattle.notary_link.proofs.Frame.{goes_on_same, goes_on_then}
 use Rattle.notary_link.specs.Batches.{Batch}
 use Rattle.notary_link.specs.Notary.{Lists}
 use Rattle.digest_model.specs.Layout.{layout, first_granule}
@@ -11,6 +11,7 @@ use Rattle.a3d_forensics.specs.Asking.{ComparesChildren}
 use Rattle.a3d_forensics.specs.Descent.{nodes_of}
 use Rattle.a3d_forensics.specs.Going.{GoesFrom}
 use Rattle.ask_words.proofs.Reading.{Reads, reads_then}
+use Rattle.notary_link.proofs.Unchanged.{unchanged_then}
 use Rattle.a3d_forensics.proofs.Going.{nothing_from, leaf_from, children_stop, left_stops, right_goes}
 use Rattle.a3d_forensics.proofs.Finding.{room_left, room_right, finds_nothing, finds_both}
 use Rattle.a3d_forensics.proofs.below.+descend.Goals as goal
@@ -30,24 +31,24 @@ returns-then-not-differs-clause-frame g t c = goes_on_same _
 
 -- ---- a leaf
 
-pub returns-in-Ok-clause-told : goal.returns-in-Ok-clause-told
-returns-in-Ok-clause-told g t c =
+pub returns-then-level-eq0-clause-told : goal.returns-then-level-eq0-clause-told
+returns-then-level-eq0-clause-told g t c =
     let new : A3dFound = record { granules = c.push.new.self; checks = c.args.found.now.checks } in
     told_same _ _ (λ (before after : Lists). GoesFrom (nodes_of (before.batches c.args.id) c.args.plan.now.history) c.args.level c.args.index c.args.differs (Ok tt) c.args.found.now new) refl
-    (λ lists. leaf_from (nodes_of (lists.batches c.args.id) c.args.plan.now.history) c.args.index c.args.found.now c.args.level c.args.differs new c.if-level-eq0.true c.if-not-differs.false c.in-Ok.ensures.ok refl)
+    (λ lists. leaf_from (nodes_of (lists.batches c.args.id) c.args.plan.now.history) c.args.index c.args.found.now c.args.level c.args.differs new c.if-level-eq0.true c.if-not-differs.false c.in_ok-push.ensures.ok refl)
 
-pub returns-in-Ok-clause-frame : goal.returns-in-Ok-clause-frame
-returns-in-Ok-clause-frame g t c = goes_on_same _
+pub returns-then-level-eq0-clause-frame : goal.returns-then-level-eq0-clause-frame
+returns-then-level-eq0-clause-frame g t c = goes_on_same _
 
-pub returns-in-Err-clause-frame : goal.returns-in-Err-clause-frame
-returns-in-Err-clause-frame g t c = goes_on_same _
+pub returns-in_err-push-clause-frame : goal.returns-in_err-push-clause-frame
+returns-in_err-push-clause-frame g t c = goes_on_same _
 
 -- ---- two children
 
 pub returns-in_err-left-clause-told : goal.returns-in_err-left-clause-told
 returns-in_err-left-clause-told g t c =
     let up : suc (c.args.level - 1) ≡ c.args.level = omega (arith, c.if-level-eq0.false) in
-    let p = err_from_is_err_and c.from_residual.result c.from_residual.ensures.1 in
+    let p = err_from_is_err_and c.from_residual-in_err-left.result c.from_residual-in_err-left.ensures.1 in
     rw (p.1, p.2) (told_map _ _ _ _ c.in_err-left.ensures.value (λ (before after : Lists) told.
     children_stop (nodes_of (before.batches c.args.id) c.args.plan.now.history) c.args.level (c.args.level - 1) c.args.index c.args.differs c.args.found.now up c.if-not-differs.false c.in_err-left.field-0.0 c.args.found.now told))
 
@@ -124,3 +125,19 @@ returns-clause-more g t c =
     (λ right. finds_both c.args.level (c.args.level - 1) c.args.index c.args.differs c.in_ok-left.left c.in_ok-left.right c.args.found.now mid c.descend.new.found c.descend-2.new.found up
     c.in_ok-left.ensures.some refl refl c.in_ok-descend.ensures.more right)
     c.descend-2.ensures.more
+
+-- ---- what stays
+
+pub returns-in_err-descend-clause-same : goal.returns-in_err-descend-clause-same
+returns-in_err-descend-clause-same g t c = unchanged_then _ _ _ c.in_ok-left.ensures.frame c.in_err-descend.ensures.frame c.in_ok-left.ensures.same c.in_err-descend.ensures.same
+
+pub returns-in_err-descend-clause-frame : goal.returns-in_err-descend-clause-frame
+returns-in_err-descend-clause-frame g t c = goes_on_then _ _ _ c.in_ok-left.ensures.frame c.in_err-descend.ensures.frame
+
+pub returns-clause-same : goal.returns-clause-same
+returns-clause-same g t c =
+    unchanged_then _ _ _ (goes_on_then _ _ _ c.in_ok-left.ensures.frame c.in_ok-descend.ensures.frame) c.descend-2.ensures.frame
+    (unchanged_then _ _ _ c.in_ok-left.ensures.frame c.in_ok-descend.ensures.frame c.in_ok-left.ensures.same c.in_ok-descend.ensures.same) c.descend-2.ensures.same
+
+pub returns-clause-frame : goal.returns-clause-frame
+returns-clause-frame g t c = goes_on_then _ _ _ (goes_on_then _ _ _ c.in_ok-left.ensures.frame c.in_ok-descend.ensures.frame) c.descend-2.ensures.frame

@@ -5,12 +5,12 @@ use Rattle.notary_link.proofs.Frame.{goes_on_same}
 use Rattle.notary_link.specs.Batches.{Batch}
 use Rattle.notary_link.specs.Notary.{Lists}
 use Rattle.notary_link.specs.declared.fail.AskFail.TheVariants.{NotSealedSo}
+use Rattle.notary_link.proofs.Unchanged.{unchanged_same}
 use Rattle.ask_words.specs.Asked.{IsTold}
 use Rattle.a3d_forensics.specs.declared.found.A3dFound.{A3dFound}
 use Rattle.a3d_forensics.specs.Descent.{nodes_of, tree_told}
 use Rattle.a3d_forensics.specs.Rooted.{root_at_level, GoesOver}
 use Rattle.ask_words.proofs.Reading.{reads_then}
-use Rattle.ask_words.proofs.Unchanged.{unchanged_same}
 use Rattle.a3d_forensics.proofs.Rooted.{GoesDown, begins, goes_down, stops_all, ends, of_tree}
 use Rattle.a3d_forensics.proofs.Above.{above_all}
 use Rattle.a3d_forensics.proofs.descent.altered.Goals as goal

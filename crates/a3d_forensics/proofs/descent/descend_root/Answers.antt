@@ -1,7 +1,7 @@
 use Rattle.std.proofs.Common.{◌+◌, ◌-◌, ◌/◌, ◌^◌, List, Ok, refl, arith}
 use Rattle.std.proofs.lemmas.Result.{err_from_is_err_and, on_ok_weaker}
 use Rattle.outside_words.proofs.Told.{told_same, told_map}
-use Rattle.notary_link.proofs.Frame.{goes_on_same}
+use Rattle.notary_link.proofs.Frame.{goes_on_same, goes_on_then}
 use Rattle.notary_link.specs.Batches.{Batch}
 use Rattle.notary_link.specs.Notary.{Lists}
 use Rattle.a3d_forensics.specs.declared.found.A3dFound.{A3dFound}
@@ -10,6 +10,7 @@ use Rattle.a3d_forensics.specs.Descent.{nodes_of}
 use Rattle.a3d_forensics.specs.Going.{GoesFrom}
 use Rattle.a3d_forensics.specs.Rooted.{root_at_level, GoesOver}
 use Rattle.ask_words.proofs.Reading.{reads_then}
+use Rattle.notary_link.proofs.Unchanged.{unchanged_then}
 use Rattle.a3d_forensics.proofs.Rooted.{over_none, root_stops, root_goes}
 use Rattle.a3d_forensics.proofs.Above.{no_root, one_root, root_place, above_none, above_root}
 use Rattle.a3d_forensics.proofs.descent.descend_root.Goals as goal
@@ -65,3 +66,9 @@ returns-clause-above g c =
     on_ok_weaker c.descend.result
     (λ more. above_root c.args.granules c.args.level c.args.found.now c.requires.above root c.in_ok-differs.differs mid c.descend.new.found c.if-nodes-eq0.false refl (omega (arith, c.requires.within)) refl refl more)
     c.descend.ensures.more
+
+pub returns-clause-same : goal.returns-clause-same
+returns-clause-same g c = unchanged_then _ _ _ c.in_ok-differs.ensures.frame c.descend.ensures.frame c.in_ok-differs.ensures.same c.descend.ensures.same
+
+pub returns-clause-frame : goal.returns-clause-frame
+returns-clause-frame g c = goes_on_then _ _ _ c.in_ok-differs.ensures.frame c.descend.ensures.frame

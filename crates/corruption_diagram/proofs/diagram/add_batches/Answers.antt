@@ -1,12 +1,12 @@
-use Rattle.std.proofs.Common.{◌≡◌, ◌+◌, [], List, Ok, map, refl, ◌∙◌, rules}
+use Rattle.std.proofs.Common.{◌≡◌, ◌+◌, [], List, map, refl, ◌∙◌}
 use Rattle.std.specs.List.{range_with_len}
 use Rattle.outside_words.proofs.Told.{told_same}
 use Rattle.notary_link.specs.Batches.{Batch}
 use Rattle.notary_link.proofs.Frame.{goes_on_same, goes_on_then}
+use Rattle.notary_link.proofs.Unchanged.{unchanged_same, unchanged_then}
 use Rattle.corruption_diagram.specs.Diagram.{batch_event, AreInOrder}
 use Rattle.corruption_diagram.proofs.Reading.{told_batch}
 use Rattle.corruption_diagram.proofs.Placing.{batch_push}
-use Rattle.ask_words.proofs.Unchanged.{unchanged_same, unchanged_then}
 use Rattle.corruption_diagram.proofs.diagram.add_batches.Goals as goal
 
 pub loop-tile-init : goal.loop-tile-init
@@ -22,8 +22,7 @@ pub loop-tile-preserved : goal.loop-tile-preserved
 loop-tile-preserved g c =
     let on = c.loop-tile.invariant in
     let got = c.in_ok-moment_of.ensures in
-    let added : c.add_batch.result ≡ Ok tt = search rules in
-    let is = rw (added, c.unwrap_or-moment.ensures) at c.add_batch.ensures.ok in record {
+    let is = rw c.unwrap_or-moment.ensures at c.in_ok-add_batch.ensures.ok in record {
       told = told_batch c.args.id (c.loop-tile.tile + 1) c.in_ok-moment_of.field-0
           (λ (batches : List Batch). AreInOrder (map (batch_event batches c.args.tiles) (range_with_len 0 c.loop-tile.tile)) c.loop-tile.events.items)
           (λ (batches : List Batch). AreInOrder (map (batch_event batches c.args.tiles) (range_with_len 0 (c.loop-tile.tile + 1))) c.add_batch.new.events.items) _ _ _
@@ -33,3 +32,15 @@ loop-tile-preserved g c =
       asked = got.asked ∙ on.asked;
       frame = goes_on_then _ _ _ on.frame got.frame;
     }
+
+pub returns-in_err-moment_of-clause-same : goal.returns-in_err-moment_of-clause-same
+returns-in_err-moment_of-clause-same g c = unchanged_then _ _ _ c.loop-tile.invariant.frame c.in_err-moment_of.ensures.frame c.loop-tile.invariant.same c.in_err-moment_of.ensures.same
+
+pub returns-in_err-moment_of-clause-frame : goal.returns-in_err-moment_of-clause-frame
+returns-in_err-moment_of-clause-frame g c = goes_on_then _ _ _ c.loop-tile.invariant.frame c.in_err-moment_of.ensures.frame
+
+pub returns-in_err-add_batch-clause-same : goal.returns-in_err-add_batch-clause-same
+returns-in_err-add_batch-clause-same g c = unchanged_then _ _ _ c.loop-tile.invariant.frame c.in_ok-moment_of.ensures.frame c.loop-tile.invariant.same c.in_ok-moment_of.ensures.same
+
+pub returns-in_err-add_batch-clause-frame : goal.returns-in_err-add_batch-clause-frame
+returns-in_err-add_batch-clause-frame g c = goes_on_then _ _ _ c.loop-tile.invariant.frame c.in_ok-moment_of.ensures.frame

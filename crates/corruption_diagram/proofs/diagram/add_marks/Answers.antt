@@ -1,13 +1,13 @@
-use Rattle.std.proofs.Common.{◌≡◌, ◌+◌, [], true, false, List, Ok, take, refl, ◌∙◌, rules, arith}
+use Rattle.std.proofs.Common.{◌+◌, [], true, false, List, take, refl, ◌∙◌, arith}
 use Rattle.outside_words.proofs.Told.{told_same, told_map}
 use Rattle.notary_link.specs.declared.mark.Mark.{Mark}
 use Rattle.notary_link.specs.Batches.{Batch}
 use Rattle.notary_link.specs.Notary.{Lists}
 use Rattle.notary_link.proofs.Frame.{goes_on_same, goes_on_then}
+use Rattle.notary_link.proofs.Unchanged.{unchanged_same, unchanged_then}
 use Rattle.corruption_diagram.specs.Diagram.{batch_events, AreInOrder, AreAll}
 use Rattle.corruption_diagram.proofs.Reading.{told_mark, told_end}
 use Rattle.corruption_diagram.proofs.Among.{Among, none_among, mark_among, all_among, too_many}
-use Rattle.ask_words.proofs.Unchanged.{unchanged_same, unchanged_then}
 use Rattle.corruption_diagram.proofs.diagram.add_marks.Goals as goal
 
 pub loop-place-init : goal.loop-place-init
@@ -23,8 +23,7 @@ pub loop-place-preserved : goal.loop-place-preserved
 loop-place-preserved g c =
     let on = c.loop-place.invariant in
     let got = c.in_ok-mark.ensures in
-    let added : c.add_mark.result ≡ Ok tt = search rules in
-    let is = rw added at c.add_mark.ensures.ok in record {
+    let is = c.in_ok-add_mark-in-Some.ensures.ok in record {
       told = told_mark c.args.id c.loop-place.place (Among c.args.tiles c.loop-place.place c.args.events.now.items c.loop-place.events.items) c.in-Some.mark (Among c.args.tiles (c.loop-place.place + 1) c.args.events.now.items c.add_mark.new.events.items) _ _ _
           got.frame.told.untold on.same.lists on.told (rw c.in-Some.is at got.value)
           (λ batches marks among. mark_among c.args.tiles c.loop-place.place c.in-Some.mark c.args.events.now.items c.loop-place.events.items c.add_mark.new.events.items is batches marks among);
@@ -49,3 +48,21 @@ returns-clause-value g c =
     (λ (before after : Lists). AreInOrder (batch_events (before.batches c.args.id) c.args.tiles) c.args.events.now.items → AreAll (before.batches c.args.id) (before.marks c.args.id) c.args.tiles c.loop-place.events.items false)
     c.loop-place.invariant.told
     (λ before after among given. too_many c.args.tiles c.loop-place.place c.args.events.now.items c.loop-place.events.items (omega (arith, c.loop-place-test.false, c.requires.few)) (before.batches c.args.id) (before.marks c.args.id) among)
+
+pub returns-in_err-mark-clause-same : goal.returns-in_err-mark-clause-same
+returns-in_err-mark-clause-same g c = unchanged_then _ _ _ c.loop-place.invariant.frame c.in_err-mark.ensures.frame c.loop-place.invariant.same c.in_err-mark.ensures.same
+
+pub returns-in_err-mark-clause-frame : goal.returns-in_err-mark-clause-frame
+returns-in_err-mark-clause-frame g c = goes_on_then _ _ _ c.loop-place.invariant.frame c.in_err-mark.ensures.frame
+
+pub returns-in_err-add_mark-in-Some-clause-same : goal.returns-in_err-add_mark-in-Some-clause-same
+returns-in_err-add_mark-in-Some-clause-same g c = unchanged_then _ _ _ c.loop-place.invariant.frame c.in_ok-mark.ensures.frame c.loop-place.invariant.same c.in_ok-mark.ensures.same
+
+pub returns-in_err-add_mark-in-Some-clause-frame : goal.returns-in_err-add_mark-in-Some-clause-frame
+returns-in_err-add_mark-in-Some-clause-frame g c = goes_on_then _ _ _ c.loop-place.invariant.frame c.in_ok-mark.ensures.frame
+
+pub returns-in-None-clause-same : goal.returns-in-None-clause-same
+returns-in-None-clause-same g c = unchanged_then _ _ _ c.loop-place.invariant.frame c.in_ok-mark.ensures.frame c.loop-place.invariant.same c.in_ok-mark.ensures.same
+
+pub returns-in-None-clause-frame : goal.returns-in-None-clause-frame
+returns-in-None-clause-frame g c = goes_on_then _ _ _ c.loop-place.invariant.frame c.in_ok-mark.ensures.frame

@@ -1,7 +1,7 @@
 use Rattle.std.proofs.Common.{◌+◌, ◌<◌, min, ◌∙◌, arith}
 use Rattle.notary_link.proofs.Frame.{goes_on_then}
+use Rattle.notary_link.proofs.Unchanged.{unchanged_then}
 use Rattle.corruption_diagram.proofs.Reading.{told_both}
-use Rattle.ask_words.proofs.Unchanged.{unchanged_then}
 use Rattle.forensic_report.proofs.Putting.{LeastIs, WasTold, least_told}
 use Rattle.forensic_report.proofs.asking.least_from.Goals as goal
 

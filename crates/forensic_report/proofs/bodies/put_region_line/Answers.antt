@@ -13,10 +13,10 @@ pub returns-clause-value : goal.returns-clause-value
 returns-clause-value g c =
     let l = layout_of c.args.header.now in
     told_map _ _
-    (λ (before after : Lists). StandFor (before.marks c.args.id) c.args.clean.now → c.in_ok-from.from ≡ least (map (changed_from (before.batches c.args.id) (before.marks c.args.id)) (region_tiles c.args.first c.args.tiles)))
-    (λ (before after : Lists). StandFor (before.marks c.args.id) c.args.clean.now → c.put_region.new.out.items ≡ c.args.out.now.items ++ region_line l c.args.tiles (kept_of before c.args.id c.args.now) c.args.first)
+    (λ (before after : Lists). StandFor (before.marks c.args.request.id) c.args.clean.now → c.in_ok-from.from ≡ least (map (changed_from (before.batches c.args.request.id) (before.marks c.args.request.id)) (region_tiles c.args.first c.args.tiles)))
+    (λ (before after : Lists). StandFor (before.marks c.args.request.id) c.args.clean.now → c.put_region.new.out.items ≡ c.args.out.now.items ++ region_line l c.args.tiles (kept_of before c.args.request.id c.args.request.now) c.args.first)
     c.in_ok-from.ensures.value
-    (λ before after is stand. region_is l c.args.tiles c.args.first c.in_ok-from.from (kept_of before c.args.id c.args.now) c.args.out.now.items c.put_region.new.out.items (is stand) c.in_ok-put_region.ensures.ok)
+    (λ before after is stand. region_is l c.args.tiles c.args.first c.in_ok-from.from (kept_of before c.args.request.id c.args.request.now) c.args.out.now.items c.put_region.new.out.items (is stand) c.in_ok-put_region.ensures.ok)
 
 pub least_from-requires-clause-small : goal.least_from-requires-clause-small
 least_from-requires-clause-small g c = omega (arith, few_tiles (layout_of c.args.header.now) c.args.tiles c.requires.within)

@@ -2,9 +2,9 @@ use Rattle.std.proofs.Common.{◌+◌, ◌<◌, length, get_or, refl, ◌∙◌,
 use Rattle.outside_words.proofs.Told.{told_same, told_map}
 use Rattle.notary_link.specs.Notary.{Lists}
 use Rattle.notary_link.proofs.Frame.{goes_on_same, goes_on_then}
+use Rattle.notary_link.proofs.Unchanged.{unchanged_same, unchanged_then}
 use Rattle.cumulative_chain.specs.Tiles.{layout_of}
 use Rattle.corruption_diagram.proofs.Reading.{told_both}
-use Rattle.ask_words.proofs.Unchanged.{unchanged_same, unchanged_then}
 use Rattle.digest_model.proofs.Layouts.{counts}
 use Rattle.forensic_report.specs.Texts.{target_line, target_line_in}
 use Rattle.forensic_report.proofs.Putting.{begins_same, begins_more, next_line, all_lines, target_is, kept_at, LinesAre, WasTold}
@@ -13,8 +13,8 @@ use Rattle.forensic_report.proofs.bodies.put_targets.Goals as goal
 pub loop-failing-init : goal.loop-failing-init
 loop-failing-init g c =
     let s = g.N.Notary.state c.args.notary.now in
-    let line = target_line c.args.algorithm (layout_of c.args.header.now) in record {
-      told = told_same s.lists s.lists (λ before after. LinesAre line c.args.targets.now 0 c.args.clean.now c.args.now c.args.out.now.items c.args.out.now.items (before.batches c.args.id) (before.marks c.args.id)) refl (λ lists stand. refl);
+    let line = target_line c.args.request.algorithm (layout_of c.args.header.now) in record {
+      told = told_same s.lists s.lists (λ before after. LinesAre line c.args.targets.now 0 c.args.clean.now c.args.request.now c.args.out.now.items c.args.out.now.items (before.batches c.args.request.id) (before.marks c.args.request.id)) refl (λ lists stand. refl);
       more = begins_same c.args.out.now.items;
       same = unchanged_same s;
       asked = refl;
@@ -29,19 +29,19 @@ loop-failing-preserved g c =
     let i = c.loop-failing.failing-index in
     let t = get_or c.args.targets.now c.loop-failing.failing-index (0, 0) in
     let l = layout_of c.args.header.now in
-    let line = target_line c.args.algorithm l in
+    let line = target_line c.args.request.algorithm l in
     let old = c.args.out.now.items in
     let out = c.loop-failing.out.items in
     let new = c.put_target.new.out.items in
     let within : c.loop-failing.failing-index < length c.args.targets.now = omega arith in record {
-      told = told_both c.args.id
-          (LinesAre line c.args.targets.now i c.args.clean.now c.args.now old out)
-          (WasTold c.args.clean.now c.args.now t.0 c.in_ok-span.span)
-          (LinesAre line c.args.targets.now (i + 1) c.args.clean.now c.args.now old new) _ _ _
+      told = told_both c.args.request.id
+          (LinesAre line c.args.targets.now i c.args.clean.now c.args.request.now old out)
+          (WasTold c.args.clean.now c.args.request.now t.0 c.in_ok-span.span)
+          (LinesAre line c.args.targets.now (i + 1) c.args.clean.now c.args.request.now old new) _ _ _
           got.frame.told.untold on.same.lists on.told got.value
-          (λ batches marks is span stand. next_line (line (kept_at c.args.now batches marks)) c.args.targets.now i (0, 0) old out new within
-          (target_is c.args.algorithm l t c.in_ok-span.span (kept_at c.args.now batches marks) out new (span stand) put) (is stand));
-      more = begins_more old out (target_line_in c.args.algorithm l t c.in_ok-span.span) new on.more put;
+          (λ batches marks is span stand. next_line (line (kept_at c.args.request.now batches marks)) c.args.targets.now i (0, 0) old out new within
+          (target_is c.args.request.algorithm l t c.in_ok-span.span (kept_at c.args.request.now batches marks) out new (span stand) put) (is stand));
+      more = begins_more old out (target_line_in c.args.request.algorithm l t c.in_ok-span.span) new on.more put;
       same = unchanged_then _ _ _ on.frame got.frame on.same got.same;
       asked = got.asked ∙ on.asked;
       frame = goes_on_then _ _ _ on.frame got.frame;
@@ -49,11 +49,11 @@ loop-failing-preserved g c =
 
 pub returns-clause-value : goal.returns-clause-value
 returns-clause-value g c =
-    let line = target_line c.args.algorithm (layout_of c.args.header.now) in
+    let line = target_line c.args.request.algorithm (layout_of c.args.header.now) in
     told_map _ _
-    (λ (before after : Lists). LinesAre line c.args.targets.now c.loop-failing.failing-index c.args.clean.now c.args.now c.args.out.now.items c.loop-failing.out.items (before.batches c.args.id) (before.marks c.args.id))
+    (λ (before after : Lists). LinesAre line c.args.targets.now c.loop-failing.failing-index c.args.clean.now c.args.request.now c.args.out.now.items c.loop-failing.out.items (before.batches c.args.request.id) (before.marks c.args.request.id))
     _ c.loop-failing.invariant.told
-    (λ before after is stand. all_lines (line (kept_at c.args.now (before.batches c.args.id) (before.marks c.args.id))) c.args.targets.now c.loop-failing.failing-index c.args.out.now.items c.loop-failing.out.items (omega arith) (is stand))
+    (λ before after is stand. all_lines (line (kept_at c.args.request.now (before.batches c.args.request.id) (before.marks c.args.request.id))) c.args.targets.now c.loop-failing.failing-index c.args.out.now.items c.loop-failing.out.items (omega arith) (is stand))
 
 pub put_target-requires-clause-below : goal.put_target-requires-clause-below
 put_target-requires-clause-below g c = (c.requires.failing c.loop-failing.failing-index (0, 0) (omega arith)).0

@@ -10,5 +10,5 @@ returns-in-Region-None-clause-frame g c = goes_on_same (g.N.Notary.state c.args.
 
 pub put_targets-requires-clause-failing : goal.put_targets-requires-clause-failing
 put_targets-requires-clause-failing g c =
-    let l = layout_of c.args.header.now in
-    subst (λ (targets : List (ℕ × ℕ)). All (IsFailing l) targets) (sym c.as_slice-targets.ensures.value) (all_failing l c.args.tiles c.in-Targets.targets c.requires.within (rw c.in-Targets.is at c.requires.found))
+    let l = layout_of c.args.examined.now.header in
+    subst (λ (targets : List (ℕ × ℕ)). All (IsFailing l) targets) (sym c.as_slice-targets.ensures.value) (all_failing l c.args.examined.now.tiles c.in-Targets.targets c.requires.fits.within (rw c.in-Targets.is at c.requires.fits.each).each)

@@ -1,8 +1,8 @@
 use Rattle.std.proofs.Common.{rules, arith, ◌≡◌, ◌+◌, ◌-◌, ◌/◌, length, true, false, Ok}
 use Rattle.outside_words.proofs.Told.{told_map}
 use Rattle.notary_link.proofs.Frame.{goes_on_then}
-use Rattle.mono_forensics.specs.Finds.{cums, Compares}
-use Rattle.mono_forensics.proofs.Unchanged.{unchanged_then}
+use Rattle.notary_link.proofs.Unchanged.{unchanged_then}
+use Rattle.mono_forensics.specs.Finds.{link_answers, Compares}
 use Rattle.mono_forensics.proofs.Halving.{questions_at_first, one_less}
 use Rattle.mono_forensics.proofs.Between.{AreBetween, all_between, lower, upper, told_more}
 use Rattle.mono_forensics.proofs.search.first_bad.Goals as goal
@@ -14,7 +14,7 @@ loop-low-init g c =
     let is_last : c.in_ok-differs.field-0 ≡ true = search rules in record {
       some = omega arith;
       within = omega (arith, c.requires.some);
-      told = told_map _ _ _ _ (rw is_last at asked.value) (λ before after is. all_between (cums before c.args.id c.args.links.now) last is);
+      told = told_map _ _ _ _ (rw is_last at asked.value) (λ before after is. all_between (link_answers before c.args.id c.args.links.now) last is);
       same = asked.same;
       few = questions_at_first (length c.args.links.now) _ _ _ (omega (arith, c.requires.few)) (omega arith) (omega (arith, c.in_ok-differs.ensures.asked));
       frame = asked.frame;
@@ -63,3 +63,9 @@ loop-low-preserved g c =
       few = one_less (high - low) _ (S c.loop-low.notary).asked _ _ (omega (arith, c.loop-low-test.true)) (omega (arith, c.loop-low-test.true)) asked.asked on.few;
       frame = goes_on_then _ _ _ on.frame asked.frame;
     }
+
+pub returns-in_err-differs-2-clause-same : goal.returns-in_err-differs-2-clause-same
+returns-in_err-differs-2-clause-same g c = unchanged_then _ _ _ c.loop-low.invariant.frame c.in_err-differs-2.ensures.frame c.loop-low.invariant.same c.in_err-differs-2.ensures.same
+
+pub returns-in_err-differs-2-clause-frame : goal.returns-in_err-differs-2-clause-frame
+returns-in_err-differs-2-clause-frame g c = goes_on_then _ _ _ c.loop-low.invariant.frame c.in_err-differs-2.ensures.frame

@@ -3,7 +3,7 @@ use Rattle.std.specs.Int.{from_bool}
 use Rattle.std.proofs.lemmas.Bool.{false≢true}
 use Rattle.std.proofs.lemmas.Result.{err_from_is_err_and}
 use Rattle.outside_words.proofs.Told.{told_same, told_map}
-use Rattle.notary_link.proofs.Frame.{goes_on_same}
+use Rattle.notary_link.proofs.Frame.{goes_on_same, goes_on_then}
 use Rattle.notary_link.specs.Batches.{Batch}
 use Rattle.notary_link.specs.Notary.{Lists}
 use Rattle.notary_link.specs.declared.fail.AskFail.TheVariants.{NotSealedSo}
@@ -12,6 +12,7 @@ use Rattle.ask_words.specs.Asked.{IsTold}
 use Rattle.tiled_forensics.specs.Asking.{part_told}
 use Rattle.tiled_forensics.specs.Target.{parts, tile_told}
 use Rattle.ask_words.proofs.Reading.{reads_then}
+use Rattle.notary_link.proofs.Unchanged.{unchanged_then}
 use Rattle.tiled_forensics.proofs.Bits.{IsSoFar, whole_same, whole_stops, begins, chain_stops, goes_on, ends, shifted, small_more, bit_at_most, of_tile}
 use Rattle.tiled_forensics.proofs.Fails.{not_unsealed}
 use Rattle.tiled_forensics.proofs.asking.target.Goals as goal
@@ -140,3 +141,11 @@ returns-clause-value g c =
     told_map _ _ _ _ on.told (λ (before after : Lists) so_far.
     of_tile (before.batches c.args.id) h c.args.tile (Ok (Some c.loop-bit.target)) on.chains
     (ends (parts (before.batches c.args.id) h c.args.tile) (exponent (layout h) c.args.tile) c.args.tile c.loop-bit.bit c.loop-bit.target all so_far))
+
+-- ---- what stays behind a chain that was not told
+
+pub returns-in_err-same-clause-same : goal.returns-in_err-same-clause-same
+returns-in_err-same-clause-same g c = unchanged_then _ _ _ c.loop-bit.invariant.frame c.in_err-same.ensures.frame c.loop-bit.invariant.same c.in_err-same.ensures.same
+
+pub returns-in_err-same-clause-frame : goal.returns-in_err-same-clause-frame
+returns-in_err-same-clause-frame g c = goes_on_then _ _ _ c.loop-bit.invariant.frame c.in_err-same.ensures.frame

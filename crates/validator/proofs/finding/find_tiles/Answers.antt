@@ -2,15 +2,16 @@ use Rattle.std.proofs.Common.{◌≡◌, ◌≤◌, ◌<◌, ℕ, Ok, Err, refl,
 use Rattle.outside_words.proofs.Told.{told_same, told_map}
 use Rattle.history_model.specs.History.{History, history}
 use Rattle.digest_model.specs.Layout.{layout, first_granule, max_granules}
-use Rattle.policy_eras.specs.Policy.{Policy, policy_of, layout_by}
+use Rattle.policy_eras.specs.Policy.{Policy, policy_of, layout_by, first_past}
 use Rattle.notary_link.specs.declared.name.Name.TheVariants as names
 use Rattle.notary_link.proofs.Frame.{goes_on_same}
 use Rattle.validator.specs.declared.verdict.Verdict.TheVariants as verdicts
 use Rattle.validator.specs.declared.fail.AuditFail.TheVariants as fails
-use Rattle.validator.specs.Tiles.{first_past, cums}
+use Rattle.audit_model.specs.Notary.{cums}
 use Rattle.validator.specs.Verdicts.{IsFoundUnder, IsFoundBy, OrGivesUp}
 use Rattle.validator.proofs.Answered.{or_gives_up}
-use Rattle.validator.proofs.Searched.{as_many, told_linked}
+use Rattle.mono_forensics.proofs.Linked.{as_many}
+use Rattle.validator.proofs.Searched.{told_linked}
 use Rattle.validator.proofs.Within.{tiles_within, tiles_few, found_within, found_past, none_sealed}
 use Rattle.validator.proofs.finding.find_tiles.Goals as goal
 

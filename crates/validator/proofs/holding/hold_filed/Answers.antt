@@ -7,7 +7,9 @@ use Rattle.digest_model.specs.Layout.{layout, tile_of, first_granule, max_granul
 use Rattle.digest_model.specs.Digests.{cum}
 use Rattle.policy_eras.specs.Policy.{Policy, policy_of, layout_by}
 use Rattle.seal_plan.specs.Plan.{Planned, planned_of}
-use Rattle.validator.proofs.Searched.{as_many}
+use Rattle.notary_link.proofs.Unchanged.{unchanged_then}
+use Rattle.notary_link.proofs.Frame.{goes_on_then}
+use Rattle.mono_forensics.proofs.Linked.{as_many}
 use Rattle.validator.proofs.Within.{tiles_in}
 use Rattle.validator.specs.declared.fail.AuditFail.{AuditFail}
 use Rattle.validator.proofs.Held.{told_by_header, told_by_links, told_by_chain, alike_of}
@@ -103,3 +105,27 @@ pub returns-clause-few : goal.returns-clause-few
 returns-clause-few g c = λ less.
     (let e = ended_is c.args.header.now c.args.items.now c.args.granule c.of-eras.result c.tiles-ended.result c.tiles-ended.ensures.value c.of-eras.ensures.value in
     absurd (omega (arith, e, less, c.if-ended-count.false)))
+
+pub returns-in_err-hold_chain-clause-same : goal.returns-in_err-hold_chain-clause-same
+returns-in_err-hold_chain-clause-same g c = unchanged_then _ _ _ c.in_ok-hold_header.ensures.frame c.in_err-hold_chain.ensures.frame c.in_ok-hold_header.ensures.same c.in_err-hold_chain.ensures.same
+
+pub returns-in_err-hold_chain-clause-frame : goal.returns-in_err-hold_chain-clause-frame
+returns-in_err-hold_chain-clause-frame g c = goes_on_then _ _ _ c.in_ok-hold_header.ensures.frame c.in_err-hold_chain.ensures.frame
+
+pub returns-then-ended-count-clause-same : goal.returns-then-ended-count-clause-same
+returns-then-ended-count-clause-same g c = unchanged_then _ _ _ c.in_ok-hold_header.ensures.frame c.in_ok-hold_chain.ensures.frame c.in_ok-hold_header.ensures.same c.in_ok-hold_chain.ensures.same
+
+pub returns-then-ended-count-clause-frame : goal.returns-then-ended-count-clause-frame
+returns-then-ended-count-clause-frame g c = goes_on_then _ _ _ c.in_ok-hold_header.ensures.frame c.in_ok-hold_chain.ensures.frame
+
+pub returns-in_err-hold_chain-2-clause-same : goal.returns-in_err-hold_chain-2-clause-same
+returns-in_err-hold_chain-2-clause-same g c = unchanged_then _ _ _ c.in_ok-hold_header.ensures.frame c.in_err-hold_chain-2.ensures.frame c.in_ok-hold_header.ensures.same c.in_err-hold_chain-2.ensures.same
+
+pub returns-in_err-hold_chain-2-clause-frame : goal.returns-in_err-hold_chain-2-clause-frame
+returns-in_err-hold_chain-2-clause-frame g c = goes_on_then _ _ _ c.in_ok-hold_header.ensures.frame c.in_err-hold_chain-2.ensures.frame
+
+pub returns-clause-same : goal.returns-clause-same
+returns-clause-same g c = unchanged_then _ _ _ c.in_ok-hold_header.ensures.frame c.in_ok-hold_chain-2.ensures.frame c.in_ok-hold_header.ensures.same c.in_ok-hold_chain-2.ensures.same
+
+pub returns-clause-frame : goal.returns-clause-frame
+returns-clause-frame g c = goes_on_then _ _ _ c.in_ok-hold_header.ensures.frame c.in_ok-hold_chain-2.ensures.frame
