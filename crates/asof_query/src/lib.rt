@@ -30,6 +30,7 @@ mod laws;
 mod rows;
 
 pub use answers::{get_at, history_of, scan_at};
+pub use filter::{filter_place, is_passing_row};
 pub use laws::answers_stand_for_transactions;
 pub use rows::Rows;
 pub use tt_table::{Version, Versions};

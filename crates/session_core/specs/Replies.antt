@@ -2,6 +2,7 @@
 use Rattle.std.specs.Prelude.{ℕ, Bool, true, false, List, ◌++◌, ◌∷◌, [], length, codes, Option, Some, None}
 use Rattle.std.specs.List.{flat_map}
 use Rattle.std.specs.Fmt.{decimal}
+use Rattle.number_text.specs.Numbered.{numbered}
 use Rattle.tuple_bytes.specs.declared.value.Value.{Value}
 use Rattle.tt_table.specs.declared.version.Version.{Version}
 use Rattle.stmt_text.specs.Printing.{row_text}
@@ -9,10 +10,6 @@ use Rattle.session_core.specs.declared.reply.Refusal.{Refusal}
 use Rattle.session_core.specs.declared.reply.Refusal.TheVariants as refusals
 use Rattle.session_core.specs.declared.reply.Reply.{Reply}
 use Rattle.session_core.specs.declared.reply.Reply.TheVariants as replies
-
--- words and a number behind them
-abbrev pub numbered : List ℕ → ℕ → List ℕ
-numbered words n = words ++ decimal n
 
 -- the name of a refusal, and its detail
 unfoldable pub refusal_text : Refusal → List ℕ
@@ -29,6 +26,9 @@ refusal_text refusals.NullKey = codes "NullKey"
 refusal_text refusals.NoColumn = codes "NoColumn"
 refusal_text (refusals.ClockBack last) = numbered (codes "ClockBack ") last
 refusal_text refusals.TooLate = codes "TooLate"
+refusal_text refusals.NoSession = codes "NoSession"
+refusal_text refusals.SessionOpen = codes "SessionOpen"
+refusal_text (refusals.Conflict txn) = numbered (codes "Conflict ") txn
 
 -- a row, on a line of its own
 abbrev pub row_line : List Value → List ℕ

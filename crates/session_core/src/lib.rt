@@ -13,7 +13,8 @@
 //! | any that is refused | as before | `refused NAME`, with the column of BadType and the last moment of ClockBack |
 //!
 //! A read without `as of` is one of the state of now, to which all transactions belong. A write is refused
-//! for the first cause of: those of the tables, ClockBack, TooLate, TooLong, StoreFull.
+//! for the first cause of: those of the tables, ClockBack, TooLate, TooLong, StoreFull. NoSession,
+//! SessionOpen and Conflict are refusals of sessions, and never come here.
 //!
 //! What the layers above may rely on:
 //!
@@ -46,5 +47,8 @@ mod sessions;
 mod writing;
 
 pub use laws::steps_keep_promises;
+pub use reading::read;
+pub use refusing::{answered, refused_by_store, refused_by_tables};
 pub use reply::{Refusal, Reply, print_reply};
-pub use sessions::{Sessions, StepFail, is_table_line};
+pub use sessions::{Sessions, StepFail, is_table_line, write_or_read};
+pub use writing::write_in;

@@ -77,7 +77,7 @@ fn history(alloc: Global, store: &Store, table: &Word, key: &Value) -> Result<Re
 }
 
 /// What a statement that only reads is replied: of the state at its moment, or of that of now.
-pub(crate) fn read(alloc: Global, store: &Store, stmt: &Stmt) -> Result<Reply, AllocError>
+pub fn read(alloc: Global, store: &Store, stmt: &Stmt) -> Result<Reply, AllocError>
     ensures value { IfOk result (λ reply. reply ≡ read_from store.now stmt.now) }
     ensures last { store.now.tables.last ≤ store.now.last }
     ensures in_order { IsHistory stmt.now → AreTables store.now.tables }

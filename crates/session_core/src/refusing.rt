@@ -3,7 +3,7 @@
 ghost use Rattle.std.specs.Prelude.{◌≡◌, ◌≢◌, IfOk, OnOk};
 ghost use Rattle.history_model.specs.declared.change.TableFail.TheVariants.{NoMemory};
 ghost use Rattle.session_core.specs.declared.reply.Reply.TheVariants as replies;
-ghost use Rattle.session_core.specs.Refusing.{refused_by_tables, answered};
+ghost use Rattle.session_core.specs.Refusing.{refused_by_tables, refused_by_store, answered};
 
 use crate::reply::{Refusal, Reply};
 use crate::sessions::StepFail;
@@ -18,7 +18,7 @@ fn refused(refusal: Refusal) -> Reply
 }
 
 /// What the tables refuse. Want of memory is no refusal.
-pub(crate) fn refused_by_tables(fail: TableFail) -> Result<Reply, AllocError>
+pub fn refused_by_tables(fail: TableFail) -> Result<Reply, AllocError>
     ensures value { IfOk result (λ reply. reply ≡ refused_by_tables fail) }
     ensures refused { OnOk result (fail ≢ NoMemory) }
 {
@@ -35,20 +35,29 @@ pub(crate) fn refused_by_tables(fail: TableFail) -> Result<Reply, AllocError>
     }
 }
 
+/// What the store refuses. Faults, a closed store and memory are no refusals.
+pub fn refused_by_store(fail: StoreFail) -> Reply
+    ensures value { result ≡ refused_by_store fail }
+{
+    match fail {
+        StoreFail::ClockBack { last } => refused(Refusal::ClockBack { last }),
+        StoreFail::TooLate => refused(Refusal::TooLate),
+        StoreFail::TooManyOps => refused(Refusal::TooManyOps),
+        StoreFail::TooLong => refused(Refusal::TooLong),
+        StoreFail::StoreFull => refused(Refusal::StoreFull),
+        StoreFail::NotAStore | StoreFail::Closed => Reply::Done,
+        StoreFail::DiskFault | StoreFail::NoMemory => Reply::Done,
+    }
+}
+
 /// What a commit answers. An open store answers neither Closed nor NotAStore.
-pub(crate) fn answered(committed: Result<u32, StoreFail>) -> Result<Reply, StepFail>
+pub fn answered(committed: Result<u32, StoreFail>) -> Result<Reply, StepFail>
     ensures value { result ≡ answered committed }
 {
     match committed {
         Ok(number) => Ok(Reply::Committed { number }),
-        Err(StoreFail::ClockBack { last }) => Ok(refused(Refusal::ClockBack { last })),
-        Err(StoreFail::TooLate) => Ok(refused(Refusal::TooLate)),
-        Err(StoreFail::TooManyOps) => Ok(refused(Refusal::TooManyOps)),
-        Err(StoreFail::TooLong) => Ok(refused(Refusal::TooLong)),
-        Err(StoreFail::StoreFull) => Ok(refused(Refusal::StoreFull)),
-        Err(StoreFail::NotAStore) => Ok(Reply::Done),
-        Err(StoreFail::Closed) => Ok(Reply::Done),
         Err(StoreFail::DiskFault) => Err(StepFail::DiskFault),
         Err(StoreFail::NoMemory) => Err(StepFail::NoMemory),
+        Err(fail) => Ok(refused_by_store(fail)),
     }
 }

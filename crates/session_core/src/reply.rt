@@ -2,9 +2,11 @@
 
 ghost use Rattle.std.specs.Prelude.{◌≡◌, ◌++◌, ◌∷◌, [], IfOk, OnOk, length};
 ghost use Rattle.std.specs.List.{flat_map};
-ghost use Rattle.session_core.specs.Replies.{reply_text, is_refusal, refusal_text, numbered, row_line, stop_text, version_line};
+ghost use Rattle.number_text.specs.Numbered.{numbered};
+ghost use Rattle.session_core.specs.Replies.{reply_text, is_refusal, refusal_text, row_line, stop_text, version_line};
 
 use asof_query::{Rows, Version, Versions};
+use number_text::put_numbered;
 use std::alloc::{AllocError, Global};
 use stmt_text::print_row;
 use tuple_bytes::{Blob, Row};
@@ -38,6 +40,10 @@ pub enum Refusal {
     NoColumn,
     ClockBack { last: u64 },
     TooLate,
+    NoSession,
+    SessionOpen,
+    /// The transaction that touched something read.
+    Conflict { txn: u32 },
 }
 
 impl Reply {
@@ -47,21 +53,6 @@ impl Reply {
     {
         matches!(self, Reply::Refused { .. })
     }
-}
-
-/// Words, and a number behind them.
-fn put_numbered(
-    alloc: Global,
-    out: &mut Vec<u8>,
-    words: &[u8],
-    number: u64,
-) -> Result<(), AllocError>
-    ensures ok { OnOk result (out.new.items ≡ out.old.items ++ numbered words.now number) }
-{
-    let digits = format!(in alloc; "{number}")?;
-    out.extend_from_slice(words)?;
-    out.extend_from_slice(digits.as_bytes())?;
-    Ok(())
 }
 
 /// The name of a refusal, and its detail.
@@ -83,6 +74,9 @@ fn put_refusal(alloc: Global, out: &mut Vec<u8>, refusal: Refusal) -> Result<(),
         Refusal::NoColumn => out.extend_from_slice(b"NoColumn")?,
         Refusal::ClockBack { last } => put_numbered(alloc, out, b"ClockBack ", last)?,
         Refusal::TooLate => out.extend_from_slice(b"TooLate")?,
+        Refusal::NoSession => out.extend_from_slice(b"NoSession")?,
+        Refusal::SessionOpen => out.extend_from_slice(b"SessionOpen")?,
+        Refusal::Conflict { txn } => put_numbered(alloc, out, b"Conflict ", u64::from(txn))?,
     }
     Ok(())
 }

@@ -103,7 +103,7 @@ pub fn is_table_line(line: &Line) -> bool
 }
 
 /// A statement that writes is carried out, and another one answered.
-fn write_or_read<D: Disk>(
+pub fn write_or_read<D: Disk>(
     alloc: Global,
     store: &mut Store,
     disk: &mut D,

@@ -23,7 +23,7 @@ use tt_table::Write;
 use tuple_bytes::Ops;
 
 /// The change that a statement asks for, if it asks for one.
-pub(crate) fn write_in(alloc: Global, stmt: &Stmt) -> Result<Option<Write>, AllocError>
+pub fn write_in(alloc: Global, stmt: &Stmt) -> Result<Option<Write>, AllocError>
     requires fits { FitsStmt stmt.now }
     ensures value { IfOk result (λ change. change ≡ write_in stmt.now) }
     ensures counted { IfOk result (λ change. IfSome change (λ change. IsCountedOp (op_of change))) }

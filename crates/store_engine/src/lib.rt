@@ -29,12 +29,13 @@
 //! | a refusal comes exactly where it has a cause, by the first cause; want of memory may come before | `refused` |
 //! | where there is a cause, the disk is untouched, also where want of memory comes before | `same` of `commit`, `unstored` of `frontier` |
 //! | the number is that of the transactions before and one more | `number` of `commit` |
+//! | why operations would be refused can be asked before, with nothing done | `value` of `commit_refusal` |
 //! | after Ok the store has the item, after a refusal it is as it was, after a fault or want of memory it is closed; the tables have nothing that is not durable | `stands` |
 //! | after Ok the file holds the item, and is durable: it is in every image | `added`, `durable` of `told` |
 //! | on a settled disk a crash at any moment leaves the old items, with the new one or without | `images` of `told` |
 //! | the changing calls are those of one append, in order, and none after one that failed; a refusal makes none | `trace` of `told` |
 //! | on a settled disk the bytes before the gate are as they were, whatever is answered | `front` of `told` |
-//! | a fault of the disk has its cause | `cause` |
+//! | a fault of the disk has its cause, and behind Ok there was none | `cause`, `counted` |
 //!
 //! Of the bytes alone, without a disk, `appends_leave_old_or_new` says what the writes of an append leave,
 //! whole (`whole`, `puts`, `within`) and cut short anywhere (`cut`, `front`).

@@ -1,7 +1,7 @@
 //! Opening a file: its header, and then its records, each read once and in file order.
 
 ghost use Rattle.std.specs.Prelude.{◌≡◌, ◌<◌, ◌≤◌, Some, false, IfOk, IfErr, IfSome, MatchResult};
-ghost use Rattle.outside_words.specs.Faults.{HasCause};
+ghost use Rattle.outside_words.specs.Faults.{HasCause, HidesNoFault};
 ghost use Rattle.disk_words.specs.Disk.{Unchanged, GoesOn};
 ghost use Rattle.tuple_bytes.specs.Spelling.{FitsHeader};
 ghost use Rattle.history_model.specs.Stored.{stored, front_header, max_file};
@@ -46,6 +46,7 @@ pub(crate) fn open_file<D: Disk>(
     ensures same { Unchanged (D.state disk.old) (D.state disk.new) }
     ensures frame { GoesOn (D.state disk.old) (D.state disk.new) }
     ensures cause { HasCause DiskFault (D.state disk.old).faults (D.state disk.new).faults result }
+    ensures counted { HidesNoFault (D.state disk.old).faults (D.state disk.new).faults result }
 {
     let Some(records) = Records::<StoreShape>::open(alloc, disk)? else {
         return Err(JournalFail::NotAStore);
@@ -73,6 +74,7 @@ fn replay<D: Disk>(
     ensures same { Unchanged (D.state disk.old) (D.state disk.new) }
     ensures frame { GoesOn (D.state disk.old) (D.state disk.new) }
     ensures cause { HasCause DiskFault (D.state disk.old).faults (D.state disk.new).faults result }
+    ensures counted { HidesNoFault (D.state disk.old).faults (D.state disk.new).faults result }
 {
     match read_in_file_order(alloc, disk, records)? {
         Some(replayed) => Ok(replayed),
@@ -93,6 +95,7 @@ fn read_in_file_order<D: Disk>(
     ensures same { Unchanged (D.state disk.old) (D.state disk.new) }
     ensures frame { GoesOn (D.state disk.old) (D.state disk.new) }
     ensures cause { HasCause DiskFault (D.state disk.old).faults (D.state disk.new).faults result }
+    ensures counted { HidesNoFault (D.state disk.old).faults (D.state disk.new).faults result }
 {
     let mut contents = Contents::new(alloc);
     'records: while records.advance(disk)? {
@@ -115,6 +118,7 @@ fn read_in_order_of_moments<D: Disk>(alloc: Global, disk: &mut D) -> Result<Repl
     ensures same { Unchanged (D.state disk.old) (D.state disk.new) }
     ensures frame { GoesOn (D.state disk.old) (D.state disk.new) }
     ensures cause { HasCause DiskFault (D.state disk.old).faults (D.state disk.new).faults result }
+    ensures counted { HidesNoFault (D.state disk.old).faults (D.state disk.new).faults result }
 {
     let opened = open_journal::<D, StoreShape>(alloc, disk)?;
     let contents = in_order_of_moments(alloc, opened.payloads.as_slice())?;

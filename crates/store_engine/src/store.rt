@@ -1,8 +1,8 @@
 //! A store that is open.
 
-ghost use Rattle.std.specs.Prelude.{◌≡◌, ◌+◌, ◌<◌, ◌≤◌, ℕ, List, [], true, false, length, IfOk, IsOk, IfErr, IfSome, IsSome, MatchOption, MatchResult, if◌then◌else◌};
+ghost use Rattle.std.specs.Prelude.{◌≡◌, ◌+◌, ◌<◌, ◌≤◌, ℕ, List, [], None, true, false, length, IfOk, IsOk, IfErr, IfSome, IsSome, MatchOption, MatchResult, if◌then◌else◌};
 ghost use Rattle.std.specs.List.{All};
-ghost use Rattle.outside_words.specs.Faults.{HasCause};
+ghost use Rattle.outside_words.specs.Faults.{HasCause, HidesNoFault};
 ghost use Rattle.outside_words.specs.Told.{WhereTold};
 ghost use Rattle.disk_words.specs.Disk.{Unchanged, GoesOn};
 ghost use Rattle.tuple_bytes.specs.declared.item.Item.TheVariants as items;
@@ -12,19 +12,21 @@ ghost use Rattle.tuple_bytes.specs.Spelling.{FitsHeader, Spells, spell_frontier}
 ghost use Rattle.history_model.specs.Stored.{stored, max_file};
 ghost use Rattle.history_model.specs.History.{MayFollow};
 ghost use Rattle.txn_journal.specs.Append.{append_calls};
-ghost use Rattle.store_engine.specs.declared.fail.StoreFail.TheVariants.{DiskFault};
+ghost use Rattle.store_engine.specs.declared.fail.StoreFail.TheVariants.{Closed, DiskFault, StoreFull};
 ghost use Rattle.store_engine.specs.Opened.{IsOpenOn};
-ghost use Rattle.store_engine.specs.Refusals.{tail_of, next_txn, commit_fault, frontier_fault, item_fault, is_back, IsNextMoment, IsRefusedBy, IsOfOpening, IsNoStore};
+ghost use Rattle.store_engine.specs.Refusals.{tail_of, next_txn, commit_fault, frontier_fault, item_fault, is_back, is_full, where_true, IsNextMoment, IsRefusedBy, IsOfOpening, IsNoStore};
 ghost use Rattle.store_engine.specs.Commits.{with_txn, with_item, frontier_at, StandsAfter, Adds};
 
 use crate::StoreFail;
 use crate::contents::Contents;
 use crate::opening::open_file;
 use disk_model::Disk;
-use std::alloc::Global;
+use std::alloc::{AllocError, Global};
 use std::marker::Model;
 use tt_table::Tables;
-use tuple_bytes::{Header, Item, MAX_GRANULES, MAX_OPS, Ops, Txn, encode_item, granule};
+use tuple_bytes::{
+    EncodeFail, Header, Item, MAX_FILE, MAX_GRANULES, MAX_OPS, Ops, Txn, encode_item, granule,
+};
 use txn_journal::{Journal, StoreShape};
 
 /// A store that is open: what its file holds, as tables, and where the next record goes. Each call on
@@ -68,6 +70,7 @@ impl Store {
         ensures same { Unchanged (D.state disk.old) (D.state disk.new) }
         ensures frame { GoesOn (D.state disk.old) (D.state disk.new) }
         ensures cause { HasCause DiskFault (D.state disk.old).faults (D.state disk.new).faults result }
+        ensures counted { HidesNoFault (D.state disk.old).faults (D.state disk.new).faults result }
     {
         match open_file(alloc, disk, id) {
             Ok((header, replayed)) => Ok(Store {
@@ -104,6 +107,7 @@ impl Store {
             self.old self.new (D.state disk.old) (D.state disk.new)) }
         ensures frame { GoesOn (D.state disk.old) (D.state disk.new) }
         ensures cause { HasCause DiskFault (D.state disk.old).faults (D.state disk.new).faults result }
+        ensures counted { HidesNoFault (D.state disk.old).faults (D.state disk.new).faults result }
     {
         let Some(moment) = self.moment_at(now) else {
             let last = self.contents.last;
@@ -131,6 +135,68 @@ impl Store {
         }
     }
 
+    /// Why `commit` would refuse these operations at these clock seconds, if it would. Nothing is done.
+    pub fn commit_refusal(
+        &self,
+        alloc: Global,
+        ops: &Ops,
+        now: u64,
+    ) -> Result<Option<StoreFail>, AllocError>
+        requires some { 0 < length ops.now }
+        requires counted { All IsCountedOp ops.now }
+        ensures value { IfOk result (λ fault. fault
+            ≡ commit_fault (tail_of self.now) self.now.at.is_closed ops.now now) }
+    {
+        let Some(moment) = self.moment_at(now) else {
+            let last = self.contents.last;
+            return Ok(Some(StoreFail::ClockBack { last }));
+        };
+        let is_late = granule(moment, self.header.width) >= u64::from(MAX_GRANULES);
+        if is_late {
+            return Ok(Some(StoreFail::TooLate));
+        }
+        if ops.as_slice().len() > usize::from(MAX_OPS) {
+            return Ok(Some(StoreFail::TooManyOps));
+        }
+        let number = self.contents.count + 1;
+        let ops = ops.copy(alloc)?;
+        let txn = Txn {
+            number,
+            moment,
+            ops,
+        };
+        self.item_refusal(alloc, &Item::Txn(txn))
+    }
+
+    /// Why an item would not be stored.
+    fn item_refusal(&self, alloc: Global, item: &Item) -> Result<Option<StoreFail>, AllocError>
+        requires counted { IsCounted item.now }
+        requires few_ops { op_count_of item.now ≤ max_ops }
+        ensures value { IfOk result (λ fault. fault
+            ≡ item_fault (tail_of self.now) self.now.at.is_closed item.now) }
+    {
+        match encode_item(alloc, item) {
+            Ok(payload) => Ok(self.room_refusal(payload.as_slice().len())),
+            Err(EncodeFail::NoMemory) => Err(AllocError),
+            Err(fail) => Ok(Some(StoreFail::from(fail))),
+        }
+    }
+
+    /// Why a record of so many bytes would not be stored.
+    fn room_refusal(&self, bytes: usize) -> Option<StoreFail>
+        requires short { bytes ≤ max_payload }
+        ensures value { result ≡ where_true self.now.at.is_closed Closed
+            (where_true (is_full self.now.at.end bytes) StoreFull None) }
+    {
+        if self.is_closed {
+            return Some(StoreFail::Closed);
+        }
+        if self.journal.end() + 5 + bytes as u64 >= MAX_FILE as u64 {
+            return Some(StoreFail::StoreFull);
+        }
+        None
+    }
+
     /// Stores a Frontier of this moment, where the last moment is before it: from then on nothing is
     /// committed below it.
     pub fn frontier<D: Disk>(
@@ -151,6 +217,7 @@ impl Store {
             (D.state disk.old) (D.state disk.new)) }
         ensures frame { GoesOn (D.state disk.old) (D.state disk.new) }
         ensures cause { HasCause DiskFault (D.state disk.old).faults (D.state disk.new).faults result }
+        ensures counted { HidesNoFault (D.state disk.old).faults (D.state disk.new).faults result }
     {
         if moment <= self.contents.last {
             return Ok(());
@@ -189,6 +256,7 @@ impl Store {
             (Adds item.now result self.old self.new (D.state disk.old) (D.state disk.new)) }
         ensures frame { GoesOn (D.state disk.old) (D.state disk.new) }
         ensures cause { HasCause DiskFault (D.state disk.old).faults (D.state disk.new).faults result }
+        ensures counted { HidesNoFault (D.state disk.old).faults (D.state disk.new).faults result }
     {
         match encode_item(alloc, item) {
             Ok(payload) => self.store_payload(alloc, disk, item, payload.as_slice()),
@@ -220,6 +288,7 @@ impl Store {
             (Adds item.now result self.old self.new (D.state disk.old) (D.state disk.new)) }
         ensures frame { GoesOn (D.state disk.old) (D.state disk.new) }
         ensures cause { HasCause DiskFault (D.state disk.old).faults (D.state disk.new).faults result }
+        ensures counted { HidesNoFault (D.state disk.old).faults (D.state disk.new).faults result }
     {
         if self.is_closed {
             return Err(StoreFail::Closed);
@@ -259,6 +328,7 @@ impl Store {
     /// How many transactions are stored.
     pub fn txn_count(&self) -> u32
         ensures value { result ≡ self.now.count }
+        ensures few { result < max_file }
     {
         self.contents.count
     }
@@ -280,7 +350,7 @@ impl Store {
     /// How many changing calls the append of a Frontier makes that is carried out.
     pub fn frontier_calls(&self) -> u8
         ensures value { result ≡ (if self.now.at.gate_is_open then 6 else 4) }
-        ensures spelled { (moment : ℕ)
+        ensures each { (moment : ℕ)
             → result ≡ length (append_calls self.now.at (spell_frontier moment)) }
     {
         self.journal.calls()

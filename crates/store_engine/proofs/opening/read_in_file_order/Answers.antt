@@ -36,7 +36,7 @@ records-preserved g c =
     let payload = c.advance.new.self.payload in
     record {
       payloads = before.payloads ++ payload ∷ [];
-      gathering = one_more (λ (p : List ℕ). Some p) store_shape (S c.args.disk.now) (S c.records.disk) (S c.advance.new.disk) c.args.records c.records.records c.advance.new.self before.payloads (before.payloads ++ payload ∷ []) before.gathering reads c.advance.ensures.seen c.advance.ensures.head c.advance.ensures.same c.advance.ensures.frame refl;
+      gathering = one_more (λ (p : List ℕ). Some p) store_shape (S c.args.disk.now) (S c.records.disk) (S c.advance.new.disk) c.args.records c.records.records c.advance.new.self before.payloads (before.payloads ++ payload ∷ []) before.gathering reads c.advance.ensures.seen c.advance.ensures.head c.advance.ensures.same c.advance.ensures.frame c.in_ok-advance.ensures.counted refl;
       read = subst (λ (p : List ℕ). IsRead (before.payloads ++ p ∷ []) c.read_next.new.contents) c.payload.ensures.value (c.in_ok-follows.ensures.value follows before.payloads before.read);
       few = omega (arith, length-append before.payloads (payload ∷ []), moves.place, before.few);
       within = omega (arith, moves.within);

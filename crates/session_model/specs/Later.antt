@@ -1,0 +1,26 @@
+-- A later history, and the statements that it does not change.
+use Rattle.std.specs.Prelude.{◌≡◌, ℕ, ◌≤◌, List, [], ◌∷◌, ◌++◌}
+use Rattle.tuple_bytes.specs.declared.op.Op.{Op}
+use Rattle.tuple_bytes.specs.declared.item.Item.{Item}
+use Rattle.history_model.specs.History.{txns, moment_in, last_moment}
+use Rattle.stmt_text.specs.declared.stmt.Stmt.{Stmt}
+use Rattle.session_core.specs.World as stores
+use Rattle.session_model.specs.Places.{reads_of, NoneTouches}
+use Rattle.session_model.specs.Statements.{say}
+
+-- items whose moments do not fall, and none is before this one
+abbrev pub Rise : ℕ → List Item → Type 0
+Rise last [] = Unit {0}
+Rise last (item ∷ items) = (last ≤ moment_in item) × Rise (moment_in item) items
+
+-- the same history, with items more that no clock set back
+pub record IsLater (w later : stores.World) : Type 0 where
+  pub items : List Item
+  pub behind : later.items ≡ w.items ++ items
+  pub rise : Rise (last_moment w.items) items
+
+-- A statement is replied over the later history as over the earlier one, and leaves the same pending, where no transaction
+-- between touches what it reads.
+abbrev pub AnswersStay : Type 0
+AnswersStay = (w later : stores.World) (pending : List Op) (stmt : Stmt) → (more : IsLater w later) → NoneTouches (reads_of stmt) (txns more.items)
+    → say later pending stmt ≡ say w pending stmt

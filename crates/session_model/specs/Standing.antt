@@ -1,0 +1,126 @@
+-- What code keeps of sessions, when it stands for a world with sessions, and what a step does to it.
+use Rattle.std.specs.Prelude.{◌≡◌, ◌≢◌, ℕ, ◌≤◌, List, [], Option, Some, None, IfSome, Result, OnOk, OnErr, IfOk}
+use Rattle.std.specs.BTreeMap.{is_at}
+use Rattle.std.specs.Map.{lookup}
+use Rattle.std.specs.Option.{unwrap_or}
+use Rattle.std.specs.Ordering.{nat_cmp}
+use Rattle.disk_words.specs.Disk.{State, Only}
+use Rattle.disk_model.specs.Moments.{EveryImage}
+use Rattle.tuple_bytes.specs.declared.op.Op.{Op}
+use Rattle.history_model.specs.History.{txns}
+use Rattle.store_engine.specs.Opened.{Opened}
+use Rattle.stmt_text.specs.declared.line.Line.{Line}
+use Rattle.stmt_text.specs.declared.line.Line.TheVariants as lines
+use Rattle.session_core.specs.declared.reply.Reply.{Reply}
+use Rattle.session_core.specs.declared.reply.Reply.TheVariants as replies
+use Rattle.session_core.specs.declared.sessions.StepFail.{StepFail}
+use Rattle.session_core.specs.World as stores
+use Rattle.session_core.specs.Steps as statements
+use Rattle.session_core.specs.Stepping as stepping
+use Rattle.session_model.specs.declared.place.Place.{Place}
+use Rattle.session_model.specs.World.{Session, World}
+use Rattle.session_model.specs.Steps.{Answer, Replied, Stopped, Step, conflict, step}
+use Rattle.session_model.specs.PlaceOrder.{place_cmp}
+use Rattle.session_model.specs.Index.{IsIndex, AreAllNumbered, least_above}
+use Rattle.session_model.specs.Conflicts.{AreSameReads}
+use Rattle.session_model.specs.Pending.{HasRoom}
+
+-- ---- what is kept
+
+-- of a session
+pub record Kept : Type 0 where
+  pub begun : ℕ
+  -- in the order of places, none twice
+  pub reads : List Place
+  pub pending : List Op
+
+-- of transactions
+pub record Touched : Type 0 where
+  -- as many are not noted
+  pub from : ℕ
+  -- the numbers of each place, in the order of places
+  pub places : List (Place × List ℕ)
+
+-- the whole, the sessions under their numbers
+pub record Machine : Type 0 where
+  pub sessions : List (ℕ × Kept)
+  pub touched : Touched
+
+-- what is kept under a number
+abbrev pub kept_at : Machine → ℕ → Option Kept
+kept_at m n = lookup (is_at (nat_cmp n)) m.sessions
+
+-- the numbers at a place, none where nothing is noted
+abbrev pub numbers_at : List (Place × List ℕ) → Place → List ℕ
+numbers_at places place = unwrap_or (lookup (is_at (place_cmp place)) places) []
+
+-- ---- what it stands for
+
+-- what is kept is this session, its reads as a set that touches the same
+abbrev pub IsSession : Option Session → Option Kept → Type 0
+IsSession (Some s) (Some k) = (k.begun ≡ s.begun) × (k.pending ≡ s.pending) × AreSameReads k.reads s.reads
+IsSession None None = Unit {0}
+IsSession (Some s) None = ⊥
+IsSession None (Some k) = ⊥
+
+-- a machine and an open store stand for this world
+pub record IsIn (w : World) (m : Machine) (stand : Opened) (bytes : List ℕ) : Type 0 where
+  pub store : stores.IsIn w.store stand bytes
+  pub sessions : (n : ℕ) → IsSession (w.sessions n) (kept_at m n)
+  pub room : (n : ℕ) → HasRoom (w.sessions n)
+  pub numbered : AreAllNumbered w
+  -- while a session is begun; with none, nothing is noted
+  pub indexed : (n : ℕ) → IfSome (w.sessions n) (λ s. (m.touched.from ≤ s.begun) × IsIndex m.touched.from (numbers_at m.touched.places) (txns w.store.items))
+
+-- what the code finds where a session commits
+abbrev pub found_conflict : Machine → Kept → Option ℕ
+found_conflict m k = least_above k.begun (numbers_at m.touched.places) k.reads
+
+-- It is the conflict.
+abbrev pub MachinesFindConflicts : Type 0
+MachinesFindConflicts = (w : World) (m : Machine) (stand : Opened) (bytes : List ℕ) (n : ℕ) (s : Session) (k : Kept) → IsIn w m stand bytes
+    → w.sessions n ≡ Some s → kept_at m n ≡ Some k → found_conflict m k ≡ conflict w s
+
+-- ---- a step
+
+-- an answer as a reply
+abbrev pub reply_of : Answer → Reply
+reply_of (Replied reply) = reply
+reply_of (Stopped refusal) = replies.Refused refusal
+
+-- a step as one of the store
+abbrev pub of_store : Step → statements.Step
+of_store next = record { world = next.world.store; reply = reply_of next.answer }
+
+-- no session is kept
+abbrev pub NoneKept : Machine → Type 0
+NoneKept m = m.sessions ≡ []
+
+-- m and new_m are the machine before and after, stand and new_stand the open store, and next what is to be done
+pub record StepsIn (w : World) (next : Step) (result : Result Reply StepFail) (m new_m : Machine) (stand new_stand : Opened) (old new : State) (before after : List ℕ) : Type 0 where
+  pub reply : IfOk result (λ reply. reply ≡ reply_of next.answer)
+  pub stands : OnOk result (IsIn next.world new_m new_stand after)
+  pub dropped : OnErr result (NoneKept new_m)
+  pub settled : Only before old → OnOk result (Only after new)
+  pub images : Only before old → EveryImage old new (stores.StoresEither w.store next.world.store)
+  pub kept : Only before old → stores.StoresEither w.store next.world.store after
+  pub trace : stepping.MakesFor w.store (of_store next) result stand old new
+
+-- whatever world they stand for, a line does this to it
+abbrev pub StepsTo : Line → ℕ → Result Reply StepFail → Machine → Machine → Opened → Opened → State → State → List ℕ → List ℕ → Type 0
+StepsTo line now result m new_m stand new_stand old new before after =
+    (w : World) → IsIn w m stand before → StepsIn w (step w line now) result m new_m stand new_stand old new before after
+
+-- ---- the conditions of a step, and what it leaves
+
+-- a statement on tables, or a line of a session
+abbrev pub IsStatementLine : Line → Type 0
+IsStatementLine (lines.Plain stmt) = statements.IsOnTables stmt
+IsStatementLine (lines.InSession n stmt) = Unit {0}
+IsStatementLine lines.Blank = ⊥
+IsStatementLine (lines.Drill event) = ⊥
+
+-- what is kept of other sessions stays
+abbrev pub OnlyOwnKept : Line → Machine → Machine → Type 0
+OnlyOwnKept (lines.InSession n stmt) m new = (k : ℕ) → k ≢ n → kept_at new k ≡ kept_at m k
+OnlyOwnKept line m new = new.sessions ≡ m.sessions

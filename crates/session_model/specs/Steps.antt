@@ -1,0 +1,92 @@
+-- What a line does to a world with sessions, and what is replied.
+use Rattle.std.specs.Prelude.{ℕ, false, List, ◌++◌, ◌∷◌, [], Option, Some, None}
+use Rattle.tuple_bytes.specs.declared.op.Op.{Op}
+use Rattle.history_model.specs.History.{txns}
+use Rattle.stmt_text.specs.declared.stmt.Stmt.{Stmt}
+use Rattle.stmt_text.specs.declared.stmt.Stmt.TheVariants as stmts
+use Rattle.stmt_text.specs.declared.line.Line.{Line}
+use Rattle.stmt_text.specs.declared.line.Line.TheVariants as lines
+use Rattle.store_engine.specs.declared.fail.StoreFail.{StoreFail}
+use Rattle.store_engine.specs.Refusals.{next_txn, commit_fault}
+use Rattle.session_core.specs.declared.reply.Refusal.{Refusal}
+use Rattle.session_core.specs.declared.reply.Refusal.TheVariants as refusals
+use Rattle.session_core.specs.declared.reply.Reply.{Reply}
+use Rattle.session_core.specs.declared.reply.Reply.TheVariants as replies
+use Rattle.session_core.specs.World as stores
+use Rattle.session_core.specs.Steps as statements
+use Rattle.session_core.specs.Refusing.{refused_by_store}
+use Rattle.session_model.specs.Places.{reads_of, first_touching, since}
+use Rattle.session_model.specs.Statements.{Said, say}
+use Rattle.session_model.specs.World.{Session, World, with_session, with_store, new_session}
+
+-- what a statement or the store replied; or the session refused the line, and neither was asked
+pub data Answer : Type 0 where
+  Replied : (reply : Reply) → Answer
+  Stopped : (refusal : Refusal) → Answer
+
+pub record Step : Type 0 where
+  pub world : World
+  pub answer : Answer
+
+abbrev pub answers : World → Answer → Step
+answers w answer = record { world = w; answer = answer }
+
+-- ---- outside sessions
+
+-- a transaction of its own, or a read; the sessions stay as they are
+abbrev pub outside : World → statements.Step → Step
+outside w next = answers (with_store w next.world) (Replied next.reply)
+
+-- ---- the end of a session
+
+abbrev pub ended : World → ℕ → World
+ended w n = with_session w n None
+
+-- what the session wants to store is stored, or it stays as it is
+abbrev pub stored : World → ℕ → List Op → ℕ → Option StoreFail → Step
+stored w n ops now None =
+    answers (ended (with_store w (stores.with_txn w.store (next_txn (stores.tail_of_world w.store) ops now))) n)
+    (Replied (replies.Committed (next_txn (stores.tail_of_world w.store) ops now).number))
+stored w n ops now (Some fail) = answers w (Replied (refused_by_store fail))
+
+-- nothing to store is no transaction, at any moment
+abbrev pub store_pending : World → ℕ → List Op → ℕ → Step
+store_pending w n [] now = answers (ended w n) (Replied replies.Done)
+store_pending w n (op ∷ ops) now = stored w n (op ∷ ops) now (commit_fault (stores.tail_of_world w.store) false (op ∷ ops) now)
+
+-- a transaction stored since the begin that touches what was read comes first
+abbrev pub unless_conflict : World → ℕ → List Op → ℕ → Option ℕ → Step
+unless_conflict w n ops now (Some number) = answers (ended w n) (Stopped (refusals.Conflict number))
+unless_conflict w n ops now None = store_pending w n ops now
+
+-- the number of the first such transaction
+abbrev pub conflict : World → Session → Option ℕ
+conflict w s = first_touching s.reads (since s.begun (txns w.store.items))
+
+abbrev pub commit : World → ℕ → Session → ℕ → Step
+commit w n s now = unless_conflict w n s.pending now (conflict w s)
+
+-- ---- a statement of a session
+
+-- the session after a statement, refused or not: it has read what the statement names
+abbrev pub heard : Session → Stmt → Said → Session
+heard s stmt said = record { begun = s.begun; reads = s.reads ++ reads_of stmt; pending = said.pending }
+
+abbrev pub speak : World → ℕ → Session → Stmt → Said → Step
+speak w n s stmt said = answers (with_session w n (Some (heard s stmt said))) (Replied said.reply)
+
+abbrev pub in_session : World → ℕ → Option Session → Stmt → ℕ → Step
+in_session w n None stmts.Begin now = answers (with_session w n (Some (new_session w))) (Replied replies.Done)
+in_session w n None stmt now = answers w (Stopped refusals.NoSession)
+in_session w n (Some s) stmts.Begin now = answers w (Stopped refusals.SessionOpen)
+in_session w n (Some s) stmts.Commit now = commit w n s now
+in_session w n (Some s) stmts.Abort now = answers (ended w n) (Replied replies.Done)
+in_session w n (Some s) stmt now = speak w n s stmt (say w.store s.pending stmt)
+
+-- ---- a line
+
+-- What a line does at these clock seconds. A line that is no statement does nothing here.
+unfoldable pub step : World → Line → ℕ → Step
+step w (lines.Plain stmt) now = outside w (statements.step w.store (lines.Plain stmt) now)
+step w (lines.InSession n stmt) now = in_session w n (w.sessions n) stmt now
+step w line now = answers w (Replied replies.Done)
