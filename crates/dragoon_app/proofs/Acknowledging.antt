@@ -13,8 +13,7 @@ use Rattle.stmt_text.specs.declared.error.ParseFail.TheVariants as parses
 use Rattle.stmt_text.specs.declared.line.Line.{Line}
 use Rattle.stmt_text.specs.Lines.{answer}
 use Rattle.session_core.specs.World as statements
-use Rattle.validator.specs.declared.verdict.Verdict.{Verdict}
-use Rattle.validator.specs.declared.fail.AuditFail.{AuditFail}
+use Rattle.drill_core.specs.Found.{Found}
 use Rattle.drill_core.specs.World.{World, StoresWorld, StoresOf}
 use Rattle.drill_core.specs.Steps.{step}
 use Rattle.drill_core.specs.Acknowledged.{HasTxn, IsStored, Extends, OnlyAppends, ok_text}
@@ -47,13 +46,13 @@ moment_appends : (b : Bool) (r : Running) (moment : ℕ) → Appends r (set_mome
 moment_appends true r moment = appends_none r.world.store
 moment_appends false r moment = appends_none r.world.store
 
-said_appends : (kind : LineKind) (scripted : Bool) (now : ℕ) (found : Result Verdict AuditFail) (r : Running) (line : Line) → Appends r (said_by kind scripted now found r line)
+said_appends : (kind : LineKind) (scripted : Bool) (now : ℕ) (found : Found) (r : Running) (line : Line) → Appends r (said_by kind scripted now found r line)
 said_appends kinds.Blank scripted now found r line = appends_none r.world.store
 said_appends kinds.InWorld scripted now found r line = steps_append r.world line now found
 said_appends (kinds.SetsMoment moment) scripted now found r line = moment_appends scripted r moment
 said_appends kinds.Unbuilt scripted now found r line = appends_none r.world.store
 
-answer_appends : (scripted : Bool) (now : ℕ) (found : Result Verdict AuditFail) (r : Running) (x : Result Line ParseFail) → Appends r (answered scripted now found r x)
+answer_appends : (scripted : Bool) (now : ℕ) (found : Found) (r : Running) (x : Result Line ParseFail) → Appends r (answered scripted now found r x)
 answer_appends scripted now found r (Ok line) = said_appends (kind_of line) scripted now found r line
 answer_appends scripted now found r (Err parses.Syntax) = appends_none r.world.store
 answer_appends scripted now found r (Err parses.NumberTooWide) = appends_none r.world.store
@@ -95,13 +94,13 @@ module _ (digits : List ℕ) where
   moment_acks true r moment = says_else digits r (set_moment true r moment) (codes "ok\n") refl moment_no
   moment_acks false r moment = says_else digits r (set_moment false r moment) (refused_text (codes "NotScripted")) refl (refusal_no (codes "NotScripted"))
 
-  said_acks : (kind : LineKind) (scripted : Bool) (now : ℕ) (found : Result Verdict AuditFail) (r : Running) (line : Line) → Acknowledges digits r (said_by kind scripted now found r line)
+  said_acks : (kind : LineKind) (scripted : Bool) (now : ℕ) (found : Found) (r : Running) (line : Line) → Acknowledges digits r (said_by kind scripted now found r line)
   said_acks kinds.Blank scripted now found r line = says_none digits r
   said_acks kinds.InWorld scripted now found r line = λ is. steps_acknowledge r.world line now found digits (append_cancel_left r.text (step r.world line now found).text (ok_text digits) is)
   said_acks (kinds.SetsMoment moment) scripted now found r line = moment_acks scripted r moment
   said_acks kinds.Unbuilt scripted now found r line = says_else digits r (said_by kinds.Unbuilt scripted now found r line) (refused_text (codes "Syntax")) refl (refusal_no (codes "Syntax"))
 
-  answer_acks : (scripted : Bool) (now : ℕ) (found : Result Verdict AuditFail) (r : Running) (x : Result Line ParseFail) → Acknowledges digits r (answered scripted now found r x)
+  answer_acks : (scripted : Bool) (now : ℕ) (found : Found) (r : Running) (x : Result Line ParseFail) → Acknowledges digits r (answered scripted now found r x)
   answer_acks scripted now found r (Ok line) = said_acks (kind_of line) scripted now found r line
   answer_acks scripted now found r (Err parses.Syntax) = says_else digits r (answered scripted now found r (Err parses.Syntax)) (refused_text (codes "Syntax")) refl (refusal_no (codes "Syntax"))
   answer_acks scripted now found r (Err parses.NumberTooWide) = says_else digits r (answered scripted now found r (Err parses.NumberTooWide)) (refused_text (codes "NumberTooWide")) refl (refusal_no (codes "NumberTooWide"))

@@ -1,32 +1,27 @@
--- What is said of an analysis, what its report shows, and what of a sound store is not said.
+-- What is said of an analysis, and what of a sound store is not said.
 use Rattle.std.proofs.Common.{◌≡◌, ℕ, ◌+◌, Bool, true, false, List, [], length, refl, sym, ap, subst, ◌∙◌, inl, inr, ⊎_elim, Result, Ok, Err}
-use Rattle.std.specs.Prelude.{IfOk, IfSome, IsErrOf}
-use Rattle.outside_words.proofs.Told.{told_map, told_same}
-use Rattle.byte_grammar.specs.Reading.{IsBytes}
-use Rattle.disk_words.specs.Disk as disks
-use Rattle.notary_link.specs.Notary as notaries
+use Rattle.std.specs.Prelude.{IfSome, IsErrOf}
+use Rattle.outside_words.proofs.Told.{told_map}
 use Rattle.notary_link.specs.Batches.{Batch}
 use Rattle.history_model.specs.Stored.{stored}
 use Rattle.audit_model.specs.Sound.{IsSound, AllNotarized}
-use Rattle.validator.specs.Verdicts.{history_with}
-use Rattle.validator.proofs.Telling.{told_both}
+use Rattle.audit_model.specs.Altered.{history_with}
 use Rattle.forensic_report.specs.declared.algorithm.Algorithm.{Algorithm}
 use Rattle.forensic_report.specs.declared.fail.AnalyseFail.{AnalyseFail}
 use Rattle.forensic_report.specs.declared.fail.AnalyseFail.TheVariants as fails
 use Rattle.forensic_report.specs.declared.report.Report.{Report}
 use Rattle.forensic_report.specs.Analysis.{Analysis, Unsealed, is_altered}
 use Rattle.forensic_report.specs.Finding.{IsAnalysisIn, IsAnalysis}
-use Rattle.forensic_report.specs.Laws.{ReportsShow, SoundIsUnaltered, TellsNoAlteration}
+use Rattle.forensic_report.specs.Laws.{SoundIsUnaltered, TellsNoAlteration}
 use Rattle.forensic_report.specs.Reporting.{IsFoundOn, Analyses}
-use Rattle.forensic_report.specs.Shown.{IsShown}
+use Rattle.validator.proofs.Telling.{if_both}
 use Rattle.dragoon_app.specs.declared.status.Status.{Status}
 use Rattle.dragoon_app.specs.declared.status.Status.TheVariants as statuses
 use Rattle.dragoon_app.specs.Analysed.{AnalysesOn, analyse_outcome, report_status, status_of_analysis}
 use Rattle.dragoon_app.specs.Audited.{IsUnaltered, SaysUnaltered}
-use Rattle.dragoon_app.specs.Devices.{Desk, Devices, StaysSound, WhereBothTell, desk}
+use Rattle.dragoon_app.specs.Devices.{Devices}
 use Rattle.dragoon_app.proofs.Once.{IsFine, IsOther}
-use Rattle.dragoon_app.proofs.OnStore.{told_of, if_both}
-use Rattle.dragoon_app.proofs.SoundKept.{sound_images}
+use Rattle.dragoon_app.proofs.OnStore.{told_of}
 use Rattle.dragoon_app.proofs.Unaltered.{unaltered_said, refused_unaltered}
 
 -- ---- the status of an answer
@@ -66,28 +61,7 @@ analyse_notary (Err fails.NotSealedSo) e = absurd cc
 analyse_notary (Err (fails.NotaryInconsistent level index)) e = absurd cc
 analyse_notary (Err fails.NoMemory) e = absurd cc
 
--- ---- what a report shows
-
-module _ (law : ReportsShow) (algorithm : Algorithm) (id now : ℕ) (old new : Desk) where
-  pub analysis_shown : (answer : Result Report AnalyseFail) → Analyses algorithm id now old.disk old.notary new.notary answer
-      → IfOk answer (λ report. WhereBothTell old new (λ before after. IsBytes before.bytes → IsShown algorithm id now before.lists before.bytes report.text))
-  analysis_shown (Err fail) is = tt
-  analysis_shown (Ok report) (a, found, is) =
-      told_of old.disk.reads new.disk.reads _ _ found (λ before after h. told_map old.notary.lists new.notary.lists _ _ (told_both old.notary.lists new.notary.lists _ _ h is.text)
-      (λ lists later_lists both are. record {
-        found = a;
-        is = both.0;
-        text_is = both.1;
-        shows = λ h n ours spelled. law algorithm (lists.batches id) id n h before a ours spelled are both.0;
-      }))
-
 -- ---- a sound store
-
--- nothing was changed
-pub left_sound : (old new : disks.State) (filed later : notaries.State) → disks.Unchanged old new → notaries.Unchanged filed later → StaysSound (desk old filed) (desk new later)
-left_sound old new filed later same unchanged =
-    told_same old.reads new.reads _ same.reads (λ before. told_map filed.lists later.lists _ _ unchanged.lists (λ lists later_lists e id stands only sound.
-    subst (λ (batches : List Batch). IsSound new.is_image batches id) (sym (e.batches id)) (sound_images old new (lists.batches id) id same.images sound)))
 
 sound_analysis : SoundIsUnaltered → (algorithm : Algorithm) (is_image : List ℕ → Type 0) (batches : List Batch) (id : ℕ) (bytes : List ℕ) (found : Result Analysis AnalyseFail) → is_image bytes → IsSound is_image batches id
     → IsAnalysis algorithm id batches (stored bytes) found → TellsNoAlteration found

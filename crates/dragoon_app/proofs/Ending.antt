@@ -13,6 +13,7 @@ use Rattle.history_model.specs.Stored.{stored}
 use Rattle.drill_core.specs.World.{StoresWorld}
 use Rattle.drill_core.specs.Acknowledged.{ok_text}
 use Rattle.drill_core.proofs.SoundWorlds.{sound_worlds}
+use Rattle.validator.proofs.Telling.{if_both}
 use Rattle.dragoon_app.specs.declared.status.Status.{Status}
 use Rattle.dragoon_app.specs.declared.status.Status.TheVariants as statuses
 use Rattle.dragoon_app.specs.declared.run_fail.RunFail.{RunFail}
@@ -24,7 +25,7 @@ use Rattle.dragoon_app.specs.Running.{Running, Timed, start, carried, world_of}
 use Rattle.dragoon_app.specs.Ran.{AreFirst, IsNext, TakesNoMore, Reads, IsOutBut, CauseOf, IsToTell, IsCutAtEnd, Writes, IsSettled, Runs, RunsStore, RunsHeader, RunsOn, opened, lines_in, text_before}
 use Rattle.dragoon_app.specs.Carrying.{IsReady, Carries, CarriesFrom, IsWritten, IsBetween, ending, EndsWith, RunsFrom, SoundFrom}
 use Rattle.dragoon_app.specs.Devices.{Content, Devices, StaysSound, content, desk, devices}
-use Rattle.dragoon_app.proofs.OnStore.{IsHeaderOf, cause_from, only_before, every_image_from, told_from, at_disk, if_both, opened_on, telling}
+use Rattle.dragoon_app.proofs.OnStore.{IsHeaderOf, cause_from, only_before, every_image_from, told_from, at_disk, opened_on, telling}
 use Rattle.dragoon_app.proofs.SoundKept.{sound_images}
 use Rattle.dragoon_app.proofs.SoundRuns.{sound_runs, sound_begin}
 use Rattle.dragoon_app.proofs.Acknowledging.{acknowledged_in, appended_in, replied_more}

@@ -1,5 +1,5 @@
 -- A command on a store that was opened before, or wasn't.
-use Rattle.std.proofs.Common.{◌≡◌, ◌⊎◌, ◌≤◌, ℕ, Bool, false, List, Option, refl, sym, ap, subst, ◌∙◌, inl, inr, ⊎_elim, Result, Ok, Err}
+use Rattle.std.proofs.Common.{◌≡◌, ◌⊎◌, ◌≤◌, ◌+◌, ℕ, Bool, false, List, Option, refl, sym, ap, subst, ◌∙◌, inl, inr, ⊎_elim, Result, Ok, Err}
 use Rattle.std.specs.Prelude.{IfSome, IsSome}
 use Rattle.outside_words.proofs.Told.{told_map}
 use Rattle.disk_words.specs.declared.DiskFail.{DiskFail}
@@ -107,8 +107,9 @@ pub notarizes_opened : (now : ℕ) (answer : Result ℕ AuditFail) (s later_s : 
     → (IsSome (early_fault (tail_of s) s.at.is_closed now) → IsLeft s later_s old.disk new.disk × (new.notary ≡ old.notary))
     → IfSome old.disk.reads (λ bytes. IsOpenOn s (stored bytes).items bytes)
     → WhereBothTell old new (λ before after. (items : List Item) → IsOpenOn s items before.bytes → Notarizes now items answer s later_s old new before after)
+    → new.notary.asked ≤ old.notary.asked + 2
     → NotarizesStore s.header now answer old new
-notarizes_opened now answer s later_s old new is_open early untouched opened told = record {
+notarizes_opened now answer s later_s old new is_open early untouched opened told asked = record {
   store = s;
   later_store = later_s;
   opened = opened;
@@ -117,6 +118,7 @@ notarizes_opened now answer s later_s old new is_open early untouched opened tol
   early = subst (λ (b : Bool). IsEarly (early_fault (tail_of s) b now) answer) is_open early;
   untouched = λ some. let left = untouched (subst (λ (b : Bool). IsSome (early_fault (tail_of s) b now)) (sym is_open) some) in record { disk = left.0.1; notary = left.1 };
   notarizes = told_from old.disk.reads old.disk.reads new.disk.reads _ _ _ refl opened told (λ before after at h. told_map old.notary.lists new.notary.lists _ _ h (λ lists later n. n (stored before).items at));
+  asked = asked;
 }
 
 store_from : (header : Header) (now : ℕ) (answer : Result ℕ AuditFail) (first : disks.State) (old new : Desk) → disks.Unchanged first old.disk → NotarizesStore header now answer old new → NotarizesStore header now answer (desk first old.notary) new
@@ -130,6 +132,7 @@ store_from header now answer first old new same n = record {
   untouched = λ some. record { disk = unchanged_then first old.disk new.disk same (n.untouched some).disk; notary = (n.untouched some).notary };
   notarizes = both_from first old new (Done first) same.reads (both_map old new (Done old.disk) (Done first) n.notarizes (λ before after m.
       notarizes_from now (stored before.bytes).items answer n.store n.later_store first old.disk new.disk before.bytes after.bytes old.notary new.notary before.lists after.lists same m));
+  asked = n.asked;
 }
   where
     Done : disks.State → Content → Content → Type 0

@@ -4,15 +4,15 @@ use Rattle.stmt_text.specs.declared.error.ParseFail.{ParseFail}
 use Rattle.stmt_text.specs.declared.line.Line.{Line}
 use Rattle.stmt_text.specs.declared.line.Line.TheVariants as lines
 use Rattle.stmt_text.specs.Lines.{answer, content_line, is_blank, without_return}
-use Rattle.validator.specs.declared.verdict.Verdict.{Verdict}
-use Rattle.validator.specs.declared.fail.AuditFail.{AuditFail}
 use Rattle.validator.specs.declared.fail.AuditFail.TheVariants as audits
+use Rattle.forensic_report.specs.declared.fail.AnalyseFail.TheVariants as analyses
+use Rattle.drill_core.specs.Found.{Found}
 use Rattle.drill_core.specs.World.{World}
 use Rattle.dragoon_app.specs.Running.{Running, Timed, carry, answered, seconds_of, MayFindBy}
 
--- stands for what a line found that is no validation
-abbrev pub no_finding : Result Verdict AuditFail
-no_finding = Err audits.Full
+-- stands for what a line found that is neither a validation nor an analysis
+abbrev pub no_finding : Found
+no_finding = record { verdict = Err audits.Full; analysis = Err analyses.NoMemory }
 
 abbrev pub nothing : Timed
 nothing = record { line = []; second = 0; found = no_finding }

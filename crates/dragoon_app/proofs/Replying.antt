@@ -12,6 +12,7 @@ use Rattle.stmt_text.specs.declared.line.Line.TheVariants as lines
 use Rattle.stmt_text.specs.declared.stmt.Stmt.{Stmt}
 use Rattle.stmt_text.specs.declared.stmt.Stmt.TheVariants as stmts
 use Rattle.stmt_text.specs.Lines.{answer, is_blank, without_return}
+use Rattle.stmt_text.specs.Numbers.{in_range}
 use Rattle.stmt_text.specs.Grammar.{SaysLine}
 use Rattle.validator.specs.Desk.{KeepsSound}
 use Rattle.drill_core.specs.declared.answered.Answered.{Answered}
@@ -160,7 +161,7 @@ finds_nothing (lines.Plain stmts.Commit) ne w = tt
 finds_nothing (lines.Plain stmts.Abort) ne w = tt
 finds_nothing (lines.Plain stmts.Notarize) ne w = tt
 finds_nothing (lines.Plain stmts.Validate) ne w = absurd (ne refl)
-finds_nothing (lines.Plain (stmts.Analyse algorithm)) ne w = tt
+finds_nothing (lines.Plain (stmts.Analyse algorithm)) ne w = absurd (ne refl)
 finds_nothing (lines.Plain (stmts.Now moment)) ne w = tt
 finds_nothing (lines.InSession n stmt) ne w = tt
 finds_nothing (lines.Drill event) ne w = tt
@@ -206,7 +207,7 @@ world_line (lines.Plain stmts.Commit) e = absurd cc
 world_line (lines.Plain stmts.Abort) e = absurd cc
 world_line (lines.Plain stmts.Notarize) e = tt
 world_line (lines.Plain stmts.Validate) e = tt
-world_line (lines.Plain (stmts.Analyse algorithm)) e = absurd cc
+world_line (lines.Plain (stmts.Analyse algorithm)) e = tt
 world_line (lines.Plain (stmts.Now moment)) e = absurd cc
 world_line (lines.InSession n stmt) e = absurd cc
 world_line (lines.Drill event) e = absurd cc
@@ -238,7 +239,7 @@ takes_filled (kinds.SetsMoment m) false t clock ahead ne filled takes = takes_se
 takes_filled kinds.Unbuilt true t clock ahead ne filled takes = takes
 takes_filled kinds.Unbuilt false t clock ahead ne filled takes = takes_second t clock ahead filled takes
 
-takes_line : (scripted : Bool) (t : Timed) (l : Line) (clock ahead : clocks.State) → SaysLine t.line l → TakesFor (kind_of l) scripted t.second clock ahead → Takes scripted (t ∷ []) clock ahead
+takes_line : (scripted : Bool) (t : Timed) (l : Line) (clock ahead : clocks.State) → SaysLine in_range t.line l → TakesFor (kind_of l) scripted t.second clock ahead → Takes scripted (t ∷ []) clock ahead
 takes_line scripted t lines.Blank clock ahead said takes = takes_blank scripted t clock ahead said takes
 takes_line scripted t (lines.Plain stmt) clock ahead said takes = takes_filled (stmt_kind stmt) scripted t clock ahead (filled_stmt stmt) said.filled takes
 takes_line scripted t (lines.InSession n stmt) clock ahead said takes = takes_filled kinds.Unbuilt scripted t clock ahead (λ e. cc) said.filled takes
@@ -251,7 +252,7 @@ line_of bytes (Err line_fails.NotaryFault) = refl
 line_of bytes (Err line_fails.NoMemory) = inr refl
 
 -- a line of the grammar
-pub replies_by : (bytes : List ℕ) (l : Line) (result : Result (List ℕ) LineFail) (runner last : Runner) (old new : State) (filed later : notaries.State) (clock ahead : clocks.State) → answer bytes ≡ Ok l → SaysLine bytes l
+pub replies_by : (bytes : List ℕ) (l : Line) (result : Result (List ℕ) LineFail) (runner last : Runner) (old new : State) (filed later : notaries.State) (clock ahead : clocks.State) → answer bytes ≡ Ok l → SaysLine in_range bytes l
     → LineFrom l result runner last (site old filed clock) (site new later ahead) → RepliesFrom bytes result runner last (site old filed clock) (site new later ahead)
 replies_by bytes l result runner last old new filed later clock ahead is said told = wherever_map filed.limits runner old new filed later _ _ told (λ r before after lists later_lists at g.
     let t : Timed = record { line = bytes; second = g.second; found = g.found } in

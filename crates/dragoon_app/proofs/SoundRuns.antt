@@ -12,8 +12,7 @@ use Rattle.stmt_text.specs.declared.error.ParseFail.{ParseFail}
 use Rattle.stmt_text.specs.declared.error.ParseFail.TheVariants as fails
 use Rattle.stmt_text.specs.declared.line.Line.{Line}
 use Rattle.stmt_text.specs.Lines.{answer}
-use Rattle.validator.specs.declared.verdict.Verdict.{Verdict}
-use Rattle.validator.specs.declared.fail.AuditFail.{AuditFail}
+use Rattle.drill_core.specs.Found.{Found}
 use Rattle.drill_core.specs.World.{World}
 use Rattle.drill_core.specs.Steps.{MayFind}
 use Rattle.drill_core.specs.Laws.{HoldsFiled, IsSoundWorld, HasFitHeader, SoundWorldsStaySound}
@@ -31,7 +30,7 @@ module _ (law : SoundWorldsStaySound) (scripted : Bool) where
   moment_good true r moment good = good
   moment_good false r moment good = good
 
-  said_good : (kind : LineKind) (now : ℕ) (found : Result Verdict AuditFail) (r : Running) (line : Line) → IsGood r.world → MayFind r.world line found → IsGood (said_by kind scripted now found r line).world
+  said_good : (kind : LineKind) (now : ℕ) (found : Found) (r : Running) (line : Line) → IsGood r.world → MayFind r.world line found → IsGood (said_by kind scripted now found r line).world
   said_good kinds.Blank now found r line good may = good
   said_good kinds.InWorld now found r line good may =
       let stays = law r.world line now found good.0 good.1 may in
@@ -39,7 +38,7 @@ module _ (law : SoundWorldsStaySound) (scripted : Bool) where
   said_good (kinds.SetsMoment moment) now found r line good may = moment_good scripted r moment good
   said_good kinds.Unbuilt now found r line good may = good
 
-  answered_good : (x : Result Line ParseFail) (now : ℕ) (found : Result Verdict AuditFail) (r : Running) → IsGood r.world → MayFindBy r.world x found → TellsNoneBy r.world x found × IsGood (answered scripted now found r x).world
+  answered_good : (x : Result Line ParseFail) (now : ℕ) (found : Found) (r : Running) → IsGood r.world → MayFindBy r.world x found → TellsNoneBy r.world x found × IsGood (answered scripted now found r x).world
   answered_good (Ok line) now found r good may = ((law r.world line now found good.0 good.1 may).2, said_good (kind_of line) now found r line good may)
   answered_good (Err fails.Syntax) now found r good may = (tt, good)
   answered_good (Err fails.NumberTooWide) now found r good may = (tt, good)

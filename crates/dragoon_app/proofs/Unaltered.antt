@@ -12,7 +12,7 @@ use Rattle.tuple_bytes.specs.declared.item.Item.{Item}
 use Rattle.history_model.specs.History.{history}
 use Rattle.digest_model.specs.Layout.{layout}
 use Rattle.history_model.specs.Stored.{stored}
-use Rattle.audit_model.specs.Altered.{history_in}
+use Rattle.audit_model.specs.Altered.{history_in, history_with}
 use Rattle.audit_model.specs.Sound.{IsSound, AllNotarized, HoldsNotarized}
 use Rattle.store_engine.specs.declared.fail.StoreFail.{StoreFail}
 use Rattle.store_engine.specs.declared.fail.StoreFail.TheVariants as stores
@@ -23,14 +23,15 @@ use Rattle.validator.specs.declared.verdict.Verdict.TheVariants as verdicts
 use Rattle.validator.specs.declared.fail.AuditFail.{AuditFail}
 use Rattle.validator.specs.declared.fail.AuditFail.TheVariants as fails
 use Rattle.validator.specs.Notarizing.{else_cause, where_true, early_fault, filed_fault, of_store, room_fault, frontier_for, notarize_fault, IsRefusedBy}
-use Rattle.validator.specs.Verdicts.{IsFound, IsFoundIn, Validates, history_with}
+use Rattle.validator.specs.Verdicts.{IsFound, IsFoundIn, Validates}
 use Rattle.validator.specs.Laws.{SoundIsClean, SoundIsNotRefused}
+use Rattle.validator.proofs.Telling.{if_both}
 use Rattle.dragoon_app.specs.declared.status.Status.{Status}
 use Rattle.dragoon_app.specs.declared.status.Status.TheVariants as statuses
 use Rattle.dragoon_app.specs.Outcome.{Outcome, CutsOff, Said}
 use Rattle.dragoon_app.specs.Devices.{Desk, Content, Devices, desk}
 use Rattle.dragoon_app.specs.Audited.{status_of_audit, notarize_outcome, validate_outcome, NotarizesHeader, NotarizesOpened, ValidatesOn, IsUnaltered, SaysUnaltered}
-use Rattle.dragoon_app.proofs.OnStore.{told_from, told_of, if_both, both_map, both_from}
+use Rattle.dragoon_app.proofs.OnStore.{told_from, told_of, both_map, both_from}
 use Rattle.dragoon_app.proofs.SoundKept.{sound_images, image_on}
 
 -- ---- what was said

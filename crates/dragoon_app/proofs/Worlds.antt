@@ -1,5 +1,5 @@
 -- The worlds of a run: the store and the lists that stand for them, and their limits, which no line changes.
-use Rattle.std.proofs.Common.{◌≡◌, ◌∙◌, ℕ, Bool, true, false, List, length, Option, Some, None, Result, Ok, Err, refl, sym, subst, arith}
+use Rattle.std.proofs.Common.{◌≡◌, ◌∙◌, ℕ, Bool, true, false, List, length, Option, Some, None, Result, Ok, Err, refl, sym, ap, subst, arith}
 use Rattle.std.specs.Prelude.{if◌then◌else◌, IfSome, nat_lt, ◌==◌}
 use Rattle.std.proofs.lemmas.List.{take_all}
 use Rattle.tuple_bytes.specs.declared.header.Header.{Header}
@@ -19,8 +19,10 @@ use Rattle.validator.specs.Notarizing.{notarize_fault, next_batches}
 use Rattle.validator.specs.Verdicts.{mark_of}
 use Rattle.validator.specs.Texts.{verdict_text}
 use Rattle.history_model.specs.History.{history}
+use Rattle.drill_core.specs.Found.{Found}
 use Rattle.drill_core.specs.World.{World, StoreIsIn, StoresOf, IsBetween, AreBetween}
-use Rattle.drill_core.specs.Steps.{Step, step, on_tables, notarized, unless, sealed, all_filed, filed_for, validated, marked}
+use Rattle.drill_core.specs.Steps.{Step, step, on_tables, notarized, unless, sealed, all_filed, filed_for, validated, algorithm_of, marked}
+use Rattle.drill_core.proofs.Analysing.{analysed_stays}
 
 -- ---- limits
 
@@ -52,7 +54,7 @@ validated_limits : (w : World) (now : ℕ) (found : Result Verdict AuditFail) �
 validated_limits w now (Ok verdict) = marked_limits w (mark_of verdict now) (verdict_text verdict)
 validated_limits w now (Err fail) = refl
 
-pub step_limits : (w : World) (line : Line) (now : ℕ) (found : Result Verdict AuditFail) → (step w line now found).world.limits ≡ w.limits
+pub step_limits : (w : World) (line : Line) (now : ℕ) (found : Found) → (step w line now found).world.limits ≡ w.limits
 unfolding step
 step_limits w lines.Blank now found = tables_limits w w.store lines.Blank now
 step_limits w (lines.Plain (stmts.Create table columns)) now found = tables_limits w w.store (lines.Plain (stmts.Create table columns)) now
@@ -66,8 +68,8 @@ step_limits w (lines.Plain stmts.Begin) now found = tables_limits w w.store (lin
 step_limits w (lines.Plain stmts.Commit) now found = tables_limits w w.store (lines.Plain stmts.Commit) now
 step_limits w (lines.Plain stmts.Abort) now found = tables_limits w w.store (lines.Plain stmts.Abort) now
 step_limits w (lines.Plain stmts.Notarize) now found = notarized_limits w w.store now
-step_limits w (lines.Plain stmts.Validate) now found = validated_limits w now found
-step_limits w (lines.Plain (stmts.Analyse algorithm)) now found = tables_limits w w.store (lines.Plain (stmts.Analyse algorithm)) now
+step_limits w (lines.Plain stmts.Validate) now found = validated_limits w now found.verdict
+step_limits w (lines.Plain (stmts.Analyse algorithm)) now found = ap (λ (x : World). x.limits) (analysed_stays w (algorithm_of algorithm) now found.analysis)
 step_limits w (lines.Plain (stmts.Now moment)) now found = tables_limits w w.store (lines.Plain (stmts.Now moment)) now
 step_limits w (lines.InSession session stmt) now found = tables_limits w w.store (lines.InSession session stmt) now
 step_limits w (lines.Drill event) now found = tables_limits w w.store (lines.Drill event) now

@@ -11,7 +11,8 @@ use Rattle.validator.specs.declared.verdict.Verdict.{Verdict}
 use Rattle.validator.specs.declared.verdict.Verdict.TheVariants as verdicts
 use Rattle.validator.specs.declared.fail.AuditFail.{AuditFail}
 use Rattle.validator.specs.declared.fail.AuditFail.TheVariants as fails
-use Rattle.validator.specs.Texts.{numbered, verdict_text, refusal_text}
+use Rattle.number_text.specs.Numbered.{numbered}
+use Rattle.validator.specs.Texts.{verdict_text, refusal_text}
 use Rattle.validator.specs.Verdicts.{Validates, MakesMark, IsOfValidation, questions}
 use Rattle.validator.specs.Notarizing.{early_fault, IsEarly}
 use Rattle.validator.specs.Reaching.{Notarizes}
@@ -84,6 +85,8 @@ pub record NotarizesStore (header : Header) (now : ℕ) (answer : Result ℕ Aud
   pub early : IsEarly (early_fault (tail_of store) false now) answer
   pub untouched : IsSome (early_fault (tail_of store) false now) → DeskIsLeft old new
   pub notarizes : WhereBothTell old new (λ before after. Notarizes now (stored before.bytes).items answer store later_store old new before after)
+  -- of the header and the last sealed tile, whatever is told
+  pub asked : new.notary.asked ≤ old.notary.asked + 2
 
 abbrev pub NotarizesHeader : Header → Effect
 NotarizesHeader header = DoesOnce notarize_outcome (NotarizesStore header)

@@ -17,9 +17,8 @@ use Rattle.history_model.specs.Stored.{stored}
 use Rattle.audit_model.specs.Sound.{IsSound}
 use Rattle.stmt_text.specs.declared.line.Line.{Line}
 use Rattle.stmt_text.specs.Lines.{answer}
-use Rattle.validator.specs.declared.verdict.Verdict.{Verdict}
-use Rattle.validator.specs.declared.fail.AuditFail.{AuditFail}
 use Rattle.validator.specs.Filing.{HasFiledMore}
+use Rattle.drill_core.specs.Found.{Found}
 use Rattle.drill_core.specs.declared.fail.LineFail.{LineFail}
 use Rattle.drill_core.specs.declared.fail.LineFail.TheVariants as lines
 use Rattle.drill_core.specs.World.{IsIn, StoresWorld, StoresEither, AreBetween}
@@ -154,7 +153,7 @@ FromWhere runner old new P = Wherever old.notary.limits runner old.disk new.disk
 
 -- a line of the world was carried out, and this was found
 pub record Steps (line : Line) (now : ℕ) (result : Result (List ℕ) LineFail) (last : Runner) (old new : disks.State) (r : Running) (before after : Content) : Type 0 where
-  pub found : Result Verdict AuditFail
+  pub found : Found
   pub may : MayFind r.world line found
   pub goes : Goes r (stepped r (step r.world line now found)) result last old new before after
 
@@ -170,7 +169,7 @@ TakesFor kind false second clock ahead = clocks.Tells second clock ahead
 -- a line of the grammar was carried out
 pub record GoesBy (line : Line) (scripted : Bool) (result : Result (List ℕ) LineFail) (last : Runner) (old new : Site) (r : Running) (before after : Content) : Type 0 where
   pub second : ℕ
-  pub found : Result Verdict AuditFail
+  pub found : Found
   pub seconds : TakesFor (kind_of line) scripted second old.clock new.clock
   pub may : MayFind r.world line found
   pub goes : Goes r (said_by (kind_of line) scripted (seconds_of scripted r second) found r line) result last old.desk.disk new.desk.disk before after

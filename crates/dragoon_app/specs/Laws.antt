@@ -9,14 +9,13 @@ use Rattle.audit_model.specs.Altered.{history_in}
 use Rattle.stmt_text.specs.declared.error.ParseFail.{ParseFail}
 use Rattle.stmt_text.specs.declared.line.Line.{Line}
 use Rattle.stmt_text.specs.Lines.{answer}
-use Rattle.validator.specs.declared.verdict.Verdict.{Verdict}
-use Rattle.validator.specs.declared.fail.AuditFail.{AuditFail}
+use Rattle.drill_core.specs.Found.{Found}
 use Rattle.drill_core.specs.World.{World}
 use Rattle.drill_core.specs.Laws.{HoldsFiled, IsSoundWorld, HasFitHeader, TellsNoAlteration}
 use Rattle.dragoon_app.specs.Running.{Running, Timed, start, world_of, carry, carried, AllMayFind}
 
 -- a line that is read so tells of no alteration in this world
-abbrev pub TellsNoneBy : World → Result Line ParseFail → Result Verdict AuditFail → Type 0
+abbrev pub TellsNoneBy : World → Result Line ParseFail → Found → Type 0
 TellsNoneBy w (Ok line) found = TellsNoAlteration w line found
 TellsNoneBy w (Err fail) found = Unit {0}
 

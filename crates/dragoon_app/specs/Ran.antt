@@ -174,7 +174,7 @@ pub record RunsOver (scripted : Bool) (begin : Running) (done : List Timed) (nex
 -- Lines were carried out, and one was perhaps under way, wherever they came from and whatever became of their replies.
 pub record RunsLines (scripted : Bool) (begin : Running) (done : List Timed) (next : Timed) (result : Status) (old new : Devices) (before after : Content) : Type 0 where
   pub none : IsSettled result old.desk new.desk → next.line ≡ []
-  -- each validation found what its world allows
+  -- each validation and each analysis found what its world allows
   pub found : AllMayFind scripted begin (done ++ next ∷ [])
   pub seconds : Takes scripted (done ++ next ∷ []) old.clock new.clock
   pub store : RunsOver scripted begin done next result old.desk new.desk before after

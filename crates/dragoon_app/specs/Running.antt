@@ -13,8 +13,7 @@ use Rattle.stmt_text.specs.Lines.{answer, is_blank, without_return}
 use Rattle.notary_link.specs.declared.notary.NotaryLimits.{NotaryLimits}
 use Rattle.notary_link.specs.Notary.{Lists}
 use Rattle.session_core.specs.World as statements
-use Rattle.validator.specs.declared.verdict.Verdict.{Verdict}
-use Rattle.validator.specs.declared.fail.AuditFail.{AuditFail}
+use Rattle.drill_core.specs.Found.{Found}
 use Rattle.drill_core.specs.World.{World}
 use Rattle.drill_core.specs.Steps.{Step, step, MayFind}
 use Rattle.dragoon_app.specs.declared.line_kind.LineKind.{LineKind}
@@ -49,12 +48,12 @@ start store lists limits = record {
 
 -- ---- a line
 
--- A line, the second that the clock gave for it, and what was found where it is a validation. A scripted run asks no clock,
--- and the second says nothing there; nor does what was found by another line.
+-- A line, the second that the clock gave for it, and what was found where it is a validation or an analysis. A scripted run
+-- asks no clock, and the second says nothing there; nor does what was found by another line.
 pub record Timed : Type 0 where
   pub line : List ℕ
   pub second : ℕ
-  pub found : Result Verdict AuditFail
+  pub found : Found
 
 -- the clock seconds of a line
 abbrev pub seconds_of : Bool → Running → ℕ → ℕ
@@ -94,7 +93,7 @@ stmt_kind stmts.Commit = kinds.Unbuilt
 stmt_kind stmts.Abort = kinds.Unbuilt
 stmt_kind stmts.Notarize = kinds.InWorld
 stmt_kind stmts.Validate = kinds.InWorld
-stmt_kind (stmts.Analyse algorithm) = kinds.Unbuilt
+stmt_kind (stmts.Analyse algorithm) = kinds.InWorld
 stmt_kind (stmts.Now moment) = kinds.SetsMoment moment
 
 -- what a line asks for; sessions are not built yet, and drills are no lines of a run
@@ -105,13 +104,13 @@ kind_of (lines.InSession n stmt) = kinds.Unbuilt
 kind_of (lines.Drill event) = kinds.Unbuilt
 
 -- a blank line is nothing, and what no layer carries out yet is no line
-abbrev pub said_by : LineKind → Bool → ℕ → Result Verdict AuditFail → Running → Line → Running
+abbrev pub said_by : LineKind → Bool → ℕ → Found → Running → Line → Running
 said_by kinds.Blank scripted now found r line = r
 said_by kinds.InWorld scripted now found r line = stepped r (step r.world line now found)
 said_by (kinds.SetsMoment moment) scripted now found r line = set_moment scripted r moment
 said_by kinds.Unbuilt scripted now found r line = refused_line r (codes "Syntax")
 
-abbrev pub answered : Bool → ℕ → Result Verdict AuditFail → Running → Result Line ParseFail → Running
+abbrev pub answered : Bool → ℕ → Found → Running → Result Line ParseFail → Running
 answered scripted now found r (Ok line) = said_by (kind_of line) scripted now found r line
 answered scripted now found r (Err fails.Syntax) = refused_line r (codes "Syntax")
 answered scripted now found r (Err fails.NumberTooWide) = refused_line r (codes "NumberTooWide")
@@ -125,10 +124,10 @@ carry scripted r t = answered scripted (seconds_of scripted r t.second) t.found 
 abbrev pub carried : Bool → Running → List Timed → Running
 carried scripted r timed = fold (carry scripted) r timed
 
--- ---- what validations find
+-- ---- what validations and analyses find
 
 -- what a line that is read so may have found in this world
-abbrev pub MayFindBy : World → Result Line ParseFail → Result Verdict AuditFail → Type 0
+abbrev pub MayFindBy : World → Result Line ParseFail → Found → Type 0
 MayFindBy w (Ok line) found = MayFind w line found
 MayFindBy w (Err fail) found = Unit {0}
 

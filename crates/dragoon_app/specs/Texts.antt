@@ -1,7 +1,8 @@
 -- Lines that the program writes.
 use Rattle.std.specs.Prelude.{ℕ, List, ◌++◌, codes}
 use Rattle.notary_link.specs.declared.name.Name.TheVariants as names
-use Rattle.validator.specs.Texts.{numbered, name_text}
+use Rattle.ask_words.specs.Names.{name_text}
+use Rattle.number_text.specs.Numbered.{numbered}
 use Rattle.dragoon_app.specs.declared.status.Status.{Status}
 use Rattle.dragoon_app.specs.declared.status.Status.TheVariants as statuses
 

@@ -12,12 +12,13 @@ ghost use Rattle.dragoon_app.specs.Texts.{fault_line};
 use crate::Status;
 use crate::audit_fail::refuse_audit;
 use crate::saying::{refuse, say};
+use ask_words::put_name;
 use disk_model::Disk;
 use forensic_report::{Algorithm, AnalyseFail, Report, analyse, reports_show, sound_is_unaltered};
 use notary_link::{Name, Notary};
 use outside_io::{Clock, Sink};
 use std::alloc::{AllocError, Global};
-use validator::{AuditFail, put_name};
+use validator::AuditFail;
 
 /// The line that tells which node isn't made of those below it.
 #[tactic(auto, unfolding(crate::specs::Texts::fault_line))]

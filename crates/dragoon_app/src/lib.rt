@@ -35,7 +35,7 @@
 //! | at a fault of the disk or the notary the line under way is the next of the input | `under_way` of `read` |
 //! | at one of these or of the output less than a piece was taken beyond the lines that were begun, or no line end more | `little` of `read` |
 //! | a scripted run asks no clock, and others take one second for each line that isn't blank, the one under way too; none is under way unless the disk or the notary failed or memory was wanting | `seconds`, `none` of `lines` |
-//! | a validation tells what is found in the world that its line finds | `found` there |
+//! | a validation or an analysis tells what is found in the world that its line finds | `found` there |
 //! | on a settled store a crash at any moment leaves what stood there after some first lines | `images` of `store` there |
 //! | on a settled store every image of now has what the lines say that were carried out, or those and the one under way | `kept` there |
 //! | the notary holds all that the lines filed and marked, and no more unless a line was under way | `between`, `holds` there |
@@ -52,8 +52,9 @@
 //! | and: what was acknowledged is stored when the lines were carried out, and no line takes an item away | `acknowledged_is_stored`, `runs_only_append` |
 //!
 //! `notarize` is `NotarizesOn` in `leaves`: the store is opened, the clock's second taken, and the tiles that have
-//! ended by then are filed, as `validator` says it; `NotAStore` comes exactly where the bytes have no header of the
-//! id, and before the clock or the notary is asked. `validate` is `ValidatesOn`: the verdict at the clock's second, and
+//! ended by then are filed, as `validator` says it; the notary is asked at most two questions, whatever is answered
+//! (`asked` of `NotarizesStore`). `NotAStore` comes exactly where the bytes have no header of the id, and before the
+//! clock or the notary is asked. `validate` is `ValidatesOn`: the verdict at the clock's second, and
 //! its mark; the store is as it was. `analyse` is `AnalysesOn`: the report, at the clock's second, of what the notary's
 //! answers show of the bytes (`analyses` of `Reports`), a report by a bounded number of questions; and it shows what is
 //! altered of each history whose batches the notary holds (`shows`). Where one of them answers a fault its count rose,

@@ -9,7 +9,7 @@ use stmt_text::{Line, Stmt};
 #[derive(Clone, Copy, Debug, PartialEq, Eq)]
 pub enum LineKind {
     Blank,
-    /// A line of the world: a statement on tables, `notarize` or `validate`, outside sessions.
+    /// A line of the world: a statement on tables, `notarize`, `validate` or `analyse`, outside sessions.
     InWorld,
     SetsMoment { moment: u64 },
     /// What no layer carries out yet.
@@ -33,7 +33,7 @@ fn stmt_kind(stmt: &Stmt) -> LineKind
         Stmt::Abort => LineKind::Unbuilt,
         Stmt::Notarize => LineKind::InWorld,
         Stmt::Validate => LineKind::InWorld,
-        Stmt::Analyse { .. } => LineKind::Unbuilt,
+        Stmt::Analyse { .. } => LineKind::InWorld,
     }
 }
 

@@ -6,7 +6,7 @@ ghost use Rattle.outside_io.specs.Sink as sinks;
 ghost use Rattle.tuple_bytes.specs.declared.item.Item.{Item};
 ghost use Rattle.store_engine.specs.Opened.{IsOpenOn};
 ghost use Rattle.validator.specs.Desk.{KeepsSound};
-ghost use Rattle.validator.specs.Texts.{numbered};
+ghost use Rattle.number_text.specs.Numbered.{numbered};
 ghost use Rattle.dragoon_app.specs.Audited.{notarize_outcome, NotarizesOpened, NotarizesOn, SaysUnaltered};
 ghost use Rattle.outside_io.specs.Source as sources;
 ghost use Rattle.dragoon_app.specs.Devices.{desk, devices, StaysSound, HasCauses, AllGoOn};

@@ -32,32 +32,35 @@ use Rattle.validator.specs.declared.verdict.Verdict.{Verdict}
 use Rattle.validator.specs.declared.fail.AuditFail.{AuditFail}
 use Rattle.validator.specs.Verdicts.{mark_of}
 use Rattle.validator.specs.Texts.{verdict_text}
+use Rattle.forensic_report.specs.declared.algorithm.Algorithm.{Algorithm}
 use Rattle.drill_core.specs.World.{World}
-use Rattle.drill_core.specs.Steps.{Step, step, on_tables, intent_in, notarized, unless, sealed, validated, marked, reached}
+use Rattle.drill_core.specs.Found.{Found}
+use Rattle.drill_core.specs.Steps.{Step, step, on_tables, intent_in, notarized, unless, sealed, validated, analysed, algorithm_of, marked, reached}
 use Rattle.drill_core.specs.Acknowledged.{HasTxn, IsStored, Extends, OnlyAppends, StepsAcknowledge, StepsOnlyAppend, ok_text}
-use Rattle.drill_core.proofs.Texts.{SaysOk, says_ok, reply_ok, refusal_no, notarized_no, validated_no}
+use Rattle.drill_core.proofs.Texts.{SaysOk, says_ok, reply_ok, refusal_no, notarized_no, validated_no, analysed_no}
+use Rattle.drill_core.proofs.Analysing.{analysed_stays}
 
--- a line is a notarization, a validation, or goes to the tables
-pub by_line : (P : Step → Type 0) (w : World) (line : Line) (now : ℕ) (found : Result Verdict AuditFail)
-    → ((line : Line) → P (on_tables w w.store line now)) → P (notarized w w.store now) → P (validated w now found) → P (step w line now found)
+-- a line is a notarization, a validation or an analysis, or goes to the tables
+pub by_line : (P : Step → Type 0) (w : World) (line : Line) (now : ℕ) (found : Found)
+    → ((line : Line) → P (on_tables w w.store line now)) → P (notarized w w.store now) → P (validated w now found.verdict) → ((algorithm : Algorithm) → P (analysed w algorithm now found.analysis)) → P (step w line now found)
 unfolding step
-by_line P w lines.Blank now found tables notarizes validates = tables lines.Blank
-by_line P w (lines.Plain (stmts.Create table columns)) now found tables notarizes validates = tables (lines.Plain (stmts.Create table columns))
-by_line P w (lines.Plain (stmts.Insert table row)) now found tables notarizes validates = tables (lines.Plain (stmts.Insert table row))
-by_line P w (lines.Plain (stmts.Update table row)) now found tables notarizes validates = tables (lines.Plain (stmts.Update table row))
-by_line P w (lines.Plain (stmts.Delete table key)) now found tables notarizes validates = tables (lines.Plain (stmts.Delete table key))
-by_line P w (lines.Plain (stmts.Get table key moment)) now found tables notarizes validates = tables (lines.Plain (stmts.Get table key moment))
-by_line P w (lines.Plain (stmts.Scan table filter moment)) now found tables notarizes validates = tables (lines.Plain (stmts.Scan table filter moment))
-by_line P w (lines.Plain (stmts.History table key)) now found tables notarizes validates = tables (lines.Plain (stmts.History table key))
-by_line P w (lines.Plain stmts.Begin) now found tables notarizes validates = tables (lines.Plain stmts.Begin)
-by_line P w (lines.Plain stmts.Commit) now found tables notarizes validates = tables (lines.Plain stmts.Commit)
-by_line P w (lines.Plain stmts.Abort) now found tables notarizes validates = tables (lines.Plain stmts.Abort)
-by_line P w (lines.Plain stmts.Notarize) now found tables notarizes validates = notarizes
-by_line P w (lines.Plain stmts.Validate) now found tables notarizes validates = validates
-by_line P w (lines.Plain (stmts.Analyse algorithm)) now found tables notarizes validates = tables (lines.Plain (stmts.Analyse algorithm))
-by_line P w (lines.Plain (stmts.Now moment)) now found tables notarizes validates = tables (lines.Plain (stmts.Now moment))
-by_line P w (lines.InSession session stmt) now found tables notarizes validates = tables (lines.InSession session stmt)
-by_line P w (lines.Drill event) now found tables notarizes validates = tables (lines.Drill event)
+by_line P w lines.Blank now found tables notarizes validates analyses = tables lines.Blank
+by_line P w (lines.Plain (stmts.Create table columns)) now found tables notarizes validates analyses = tables (lines.Plain (stmts.Create table columns))
+by_line P w (lines.Plain (stmts.Insert table row)) now found tables notarizes validates analyses = tables (lines.Plain (stmts.Insert table row))
+by_line P w (lines.Plain (stmts.Update table row)) now found tables notarizes validates analyses = tables (lines.Plain (stmts.Update table row))
+by_line P w (lines.Plain (stmts.Delete table key)) now found tables notarizes validates analyses = tables (lines.Plain (stmts.Delete table key))
+by_line P w (lines.Plain (stmts.Get table key moment)) now found tables notarizes validates analyses = tables (lines.Plain (stmts.Get table key moment))
+by_line P w (lines.Plain (stmts.Scan table filter moment)) now found tables notarizes validates analyses = tables (lines.Plain (stmts.Scan table filter moment))
+by_line P w (lines.Plain (stmts.History table key)) now found tables notarizes validates analyses = tables (lines.Plain (stmts.History table key))
+by_line P w (lines.Plain stmts.Begin) now found tables notarizes validates analyses = tables (lines.Plain stmts.Begin)
+by_line P w (lines.Plain stmts.Commit) now found tables notarizes validates analyses = tables (lines.Plain stmts.Commit)
+by_line P w (lines.Plain stmts.Abort) now found tables notarizes validates analyses = tables (lines.Plain stmts.Abort)
+by_line P w (lines.Plain stmts.Notarize) now found tables notarizes validates analyses = notarizes
+by_line P w (lines.Plain stmts.Validate) now found tables notarizes validates analyses = validates
+by_line P w (lines.Plain (stmts.Analyse algorithm)) now found tables notarizes validates analyses = analyses (algorithm_of algorithm)
+by_line P w (lines.Plain (stmts.Now moment)) now found tables notarizes validates analyses = tables (lines.Plain (stmts.Now moment))
+by_line P w (lines.InSession session stmt) now found tables notarizes validates analyses = tables (lines.InSession session stmt)
+by_line P w (lines.Drill event) now found tables notarizes validates analyses = tables (lines.Drill event)
 
 -- ---- only items more are stored
 
@@ -130,7 +133,8 @@ module _ (w : World) where
   validated_appends now (Err fail) = appends_none w.store
 
 pub steps_append : StepsOnlyAppend
-steps_append w line now found = by_line (Appends w) w line now found (λ line. tables_append w w.store refl line now) (notarized_appends w w.store refl now) (validated_appends w now found)
+steps_append w line now found = by_line (Appends w) w line now found (λ line. tables_append w w.store refl line now) (notarized_appends w w.store refl now) (validated_appends w now found.verdict)
+    (λ algorithm. none_stored w (analysed w algorithm now found.analysis) (ap (λ (x : World). x.store) (analysed_stays w algorithm now found.analysis)))
 
 -- ---- what is acknowledged is stored
 
@@ -168,4 +172,5 @@ module _ (w : World) (digits : List ℕ) where
 
 pub steps_acknowledge : StepsAcknowledge
 steps_acknowledge w line now found digits = by_line (Acknowledges digits) w line now found (λ line. tables_acknowledge w digits w.store line now)
-    (says_else w digits (notarized w w.store now) (notarized_no w w.store now)) (says_else w digits (validated w now found) (validated_no w now found))
+    (says_else w digits (notarized w w.store now) (notarized_no w w.store now)) (says_else w digits (validated w now found.verdict) (validated_no w now found.verdict))
+    (λ algorithm. says_else w digits (analysed w algorithm now found.analysis) (analysed_no w algorithm now found.analysis))

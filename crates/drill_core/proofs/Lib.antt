@@ -5,6 +5,7 @@ pub mod LineKinds
 pub mod Tables
 pub mod Sounds
 pub mod Validating
+pub mod Analysing
 pub mod Notarizing
 pub mod Nowhere
 pub mod SoundWorlds

@@ -1,5 +1,6 @@
 -- What kind of line a line is.
 use Rattle.std.proofs.Common.{◌≡◌, ℕ, Option, Some, None, Result, Ok, refl}
+use Rattle.stmt_text.specs.declared.stmt.LineAlgorithm.{LineAlgorithm}
 use Rattle.stmt_text.specs.declared.stmt.Stmt.{Stmt}
 use Rattle.stmt_text.specs.declared.stmt.Stmt.TheVariants as stmts
 use Rattle.stmt_text.specs.declared.line.Line.{Line}
@@ -8,12 +9,22 @@ use Rattle.session_core.specs.Steps.{IsTableLine, IsOnTables}
 use Rattle.validator.specs.declared.verdict.Verdict.{Verdict}
 use Rattle.validator.specs.declared.verdict.Verdict.TheVariants as verdicts
 use Rattle.validator.specs.declared.fail.AuditFail.{AuditFail}
+use Rattle.forensic_report.specs.declared.fail.AnalyseFail.{AnalyseFail}
+use Rattle.forensic_report.specs.Analysis.{Analysis, Unsealed}
 use Rattle.drill_core.specs.World.{World}
-use Rattle.drill_core.specs.Steps.{Step, step, on_tables, notarized, validated, MayFind}
+use Rattle.drill_core.specs.Found.{Found}
+use Rattle.drill_core.specs.Steps.{Step, step, on_tables, notarized, validated, analysed, algorithm_of, MayFind}
 
 -- what stands for a find where nothing is looked for
-abbrev pub none_found : Result Verdict AuditFail
-none_found = Ok verdicts.Unsealed
+abbrev pub none_found : Found
+none_found = record { verdict = Ok verdicts.Unsealed; analysis = Ok Unsealed }
+
+-- what a validation found, and what an analysis did
+abbrev pub judged : Result Verdict AuditFail → Found
+judged verdict = record { verdict = verdict; analysis = Ok Unsealed }
+
+abbrev pub shown : Result Analysis AnalyseFail → Found
+shown analysis = record { verdict = Ok verdicts.Unsealed; analysis = analysis }
 
 module _ (w : World) (now : ℕ) where
   stmt_step : (stmt : Stmt) → IsOnTables stmt → step w (lines.Plain stmt) now none_found ≡ on_tables w w.store (lines.Plain stmt) now
@@ -65,6 +76,10 @@ module _ (w : World) (now : ℕ) where
   unfolding step
   notarize_step = refl
 
-  pub validate_step : (found : Result Verdict AuditFail) → step w (lines.Plain stmts.Validate) now found ≡ validated w now found
+  pub validate_step : (verdict : Result Verdict AuditFail) → step w (lines.Plain stmts.Validate) now (judged verdict) ≡ validated w now verdict
   unfolding step
-  validate_step found = refl
+  validate_step verdict = refl
+
+  pub analyse_step : (algorithm : LineAlgorithm) (analysis : Result Analysis AnalyseFail) → step w (lines.Plain (stmts.Analyse algorithm)) now (shown analysis) ≡ analysed w (algorithm_of algorithm) now analysis
+  unfolding step
+  analyse_step algorithm analysis = refl

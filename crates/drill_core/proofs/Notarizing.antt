@@ -31,7 +31,8 @@ use Rattle.session_core.specs.World as statements
 use Rattle.validator.specs.Desk.{content, desk}
 use Rattle.validator.specs.declared.fail.AuditFail.{AuditFail}
 use Rattle.validator.specs.declared.fail.AuditFail.TheVariants as fails
-use Rattle.validator.specs.Texts.{refusal_text, numbered}
+use Rattle.number_text.specs.Numbered.{numbered}
+use Rattle.validator.specs.Texts.{refusal_text}
 use Rattle.validator.specs.Notarizing.{notarize_fault, next_batches, sealed_after, frontier_for, IsRefusedBy}
 use Rattle.validator.specs.Filing.{FilesFor, HasFiledMore}
 use Rattle.validator.specs.Reaching as reaching

@@ -19,7 +19,7 @@ abbrev pub Answers : {A : Type 0} → (A → List ℕ) → Result A AuditFail �
 Answers text (Ok a) result = IfOk result (λ answered. answered ≡ said (text a))
 Answers text (Err fail) result = AnswersTo fail result
 
-replied : (answer : Answered) (result : Result Answered LineFail) → Replies answer result → IfOk result (λ answered. answered ≡ answer)
+pub replied : (answer : Answered) (result : Result Answered LineFail) → Replies answer result → IfOk result (λ answered. answered ≡ answer)
 replied answer (Ok answered) replies = replies
 replied answer (Err fail) replies = tt
 

@@ -24,16 +24,25 @@ use Rattle.session_core.specs.Steps as statement_steps
 use Rattle.validator.specs.declared.verdict.Verdict.{Verdict}
 use Rattle.validator.specs.declared.fail.AuditFail.{AuditFail}
 use Rattle.validator.specs.declared.fail.AuditFail.TheVariants as fails
-use Rattle.validator.specs.Texts.{verdict_text, refusal_text, numbered}
+use Rattle.number_text.specs.Numbered.{numbered}
+use Rattle.validator.specs.Texts.{verdict_text, refusal_text}
 use Rattle.validator.specs.Notarizing.{notarize_fault, filed_fault, next_batches, sealed_after, frontier_for}
 use Rattle.validator.specs.Reaching.{with_frontier_for}
 use Rattle.validator.specs.Verdicts.{IsFoundIn, mark_of}
 use Rattle.validator.proofs.Growing.{IsFiledUpTo, ended_within, need_follows, notarized_more, counted_more}
 use Rattle.validator.proofs.Clean.{clean_in, sound_not_refused}
+use Rattle.forensic_report.specs.declared.algorithm.Algorithm.{Algorithm}
+use Rattle.forensic_report.specs.declared.fail.AnalyseFail.{AnalyseFail}
+use Rattle.forensic_report.specs.Analysis.{Analysis, Unsealed}
+use Rattle.forensic_report.specs.Finding.{IsAnalysisIn}
+use Rattle.forensic_report.specs.Laws as reports
+use Rattle.forensic_report.proofs.Sound.{sound_in}
 use Rattle.drill_core.specs.World.{World, with_store, with_lists, with_mark}
-use Rattle.drill_core.specs.Steps.{step, says, refuses, filed, filed_for, reached, sealed, unless, notarized, marked, validated, on_tables, history_of, MayFind}
+use Rattle.drill_core.specs.Found.{Found}
+use Rattle.drill_core.specs.Steps.{step, says, refuses, filed, filed_for, reached, sealed, unless, notarized, marked, validated, analysed, algorithm_of, on_tables, history_of, MayFind}
 use Rattle.drill_core.specs.Laws.{HoldsFiled, IsSoundWorld, HasFitHeader, IsSoundVerdict, TellsNoAlteration, SoundWorldsStaySound}
 use Rattle.drill_core.proofs.Sounds.{Adds, step_adds}
+use Rattle.drill_core.proofs.Analysing.{analysed_stays}
 
 abbrev IsSoundAndFit : World → Type 0
 IsSoundAndFit w = IsSoundWorld w × HasFitHeader w
@@ -188,9 +197,19 @@ module _ (w : World) (fits : HasFitHeader w) (sound : IsSoundWorld w) where
   clean_by None batches found (inr known) shows = absurd known.2
   clean_by (Some h) batches found (inr known) shows = inr (known.0, clean_in batches w.id known.0 h (Some h) found refl known.2.filed shows)
 
+  -- ---- an analysis
+
+  of_analysis : (algorithm : Algorithm) (now : ℕ) (found : Result Analysis AnalyseFail) → IsSoundAndFit (analysed w algorithm now found).world
+  of_analysis algorithm now found = subst IsSoundAndFit (sym (analysed_stays w algorithm now found)) (sound, fits)
+
+  none_by : (algorithm : Algorithm) (o : Option History) (batches : List Batch) (found : Result Analysis AnalyseFail) → HoldsFiled batches w.id o → IsAnalysisIn algorithm batches o found → reports.TellsNoAlteration found
+  none_by algorithm o batches found (inl none) shows = inl (Unsealed, subst (λ (bs : List Batch). IsAnalysisIn algorithm bs o found) none shows, refl)
+  none_by algorithm None batches found (inr known) shows = absurd known.2
+  none_by algorithm (Some h) batches found (inr known) shows = sound_in algorithm batches w.id known.0 h found known.2.filed shows
+
   -- ---- a line
 
-  module _ (now : ℕ) (found : Result Verdict AuditFail) where
+  module _ (now : ℕ) (found : Found) where
     abbrev Stays : Line → Type 0
     Stays line = MayFind w line found → IsSoundWorld (step w line now found).world × HasFitHeader (step w line now found).world × TellsNoAlteration w line found
 
@@ -200,7 +219,7 @@ module _ (w : World) (fits : HasFitHeader w) (sound : IsSoundWorld w) where
     of_stmt : (stmt : Stmt) → Stays (lines.Plain stmt)
     unfolding step
     of_stmt stmts.Notarize may = let both = of_notarization now in (both.0, both.1, not_refused)
-    of_stmt stmts.Validate may = let both = of_validation now found in (both.0, both.1, clean_by (history_of w.store) (filed_for w) found sound may)
+    of_stmt stmts.Validate may = let both = of_validation now found.verdict in (both.0, both.1, clean_by (history_of w.store) (filed_for w) found.verdict sound may)
     of_stmt (stmts.Create table columns) may = beside (of_tables (lines.Plain (stmts.Create table columns)) now)
     of_stmt (stmts.Insert table row) may = beside (of_tables (lines.Plain (stmts.Insert table row)) now)
     of_stmt (stmts.Update table row) may = beside (of_tables (lines.Plain (stmts.Update table row)) now)
@@ -211,7 +230,9 @@ module _ (w : World) (fits : HasFitHeader w) (sound : IsSoundWorld w) where
     of_stmt stmts.Begin may = beside (of_tables (lines.Plain stmts.Begin) now)
     of_stmt stmts.Commit may = beside (of_tables (lines.Plain stmts.Commit) now)
     of_stmt stmts.Abort may = beside (of_tables (lines.Plain stmts.Abort) now)
-    of_stmt (stmts.Analyse algorithm) may = beside (of_tables (lines.Plain (stmts.Analyse algorithm)) now)
+    of_stmt (stmts.Analyse algorithm) may =
+        let both = of_analysis (algorithm_of algorithm) now found.analysis in
+        (both.0, both.1, none_by (algorithm_of algorithm) (history_of w.store) (filed_for w) found.analysis sound may)
     of_stmt (stmts.Now moment) may = beside (of_tables (lines.Plain (stmts.Now moment)) now)
 
     of_line : (line : Line) → Stays line

@@ -13,9 +13,14 @@ use Rattle.validator.specs.declared.verdict.Verdict.TheVariants as verdicts
 use Rattle.validator.specs.declared.fail.AuditFail.{AuditFail}
 use Rattle.validator.specs.declared.fail.AuditFail.TheVariants as fails
 use Rattle.validator.specs.Verdicts.{mark_of}
-use Rattle.validator.specs.Texts.{verdict_text, refusal_text, numbered}
+use Rattle.number_text.specs.Numbered.{numbered}
+use Rattle.validator.specs.Texts.{verdict_text, refusal_text}
+use Rattle.forensic_report.specs.declared.algorithm.Algorithm.{Algorithm}
+use Rattle.forensic_report.specs.declared.fail.AnalyseFail.{AnalyseFail}
+use Rattle.forensic_report.specs.Analysis.{Analysis}
+use Rattle.forensic_report.specs.Texts.{report_text, head_line}
 use Rattle.drill_core.specs.World.{World, with_lists, with_mark}
-use Rattle.drill_core.specs.Steps.{says, refuses, unless, intent_in, notarized, sealed, validated, marked}
+use Rattle.drill_core.specs.Steps.{says, refuses, unless, intent_in, notarized, sealed, validated, analysed, marked}
 use Rattle.drill_core.specs.Acknowledged.{ok_text}
 
 -- it begins as `ok` and a number
@@ -75,3 +80,8 @@ validated_no w now (Ok verdict) ok = by (mark_of verdict now) ok
     by : (m : Option Mark) → SaysOk (marked w m (verdict_text verdict)).text → ⊥
     by None ok = verdict_no verdict w ok
     by (Some mark) ok = of_room (nat_lt (marks_in_all w.lists) w.limits.marks) (with_lists w (with_mark w.id mark w.lists)) ok
+
+pub analysed_no : (w : World) (algorithm : Algorithm) (now : ℕ) (found : Result Analysis AnalyseFail) → SaysOk (analysed w algorithm now found).text → ⊥
+unfolding report_text head_line
+analysed_no w algorithm now (Ok a) ok = (let first = ok.first in omega (arith, first))
+analysed_no w algorithm now (Err fail) ok = (let first = ok.first in omega (arith, first))

@@ -27,7 +27,8 @@ use Rattle.validator.specs.declared.verdict.Verdict.{Verdict}
 use Rattle.validator.specs.declared.fail.AuditFail.{AuditFail}
 use Rattle.validator.specs.declared.fail.AuditFail.TheVariants as fails
 use Rattle.validator.specs.Texts.{verdict_text, refusal_text}
-use Rattle.validator.specs.Verdicts.{IsFound, IsFoundIn, mark_of, history_with, under_id, IsMarked, IsNotMarked, MayBeMarked, Validates}
+use Rattle.audit_model.specs.Altered.{history_with, under_id}
+use Rattle.validator.specs.Verdicts.{IsFound, IsFoundIn, mark_of, IsMarked, IsNotMarked, MayBeMarked, Validates}
 use Rattle.drill_core.specs.declared.answered.Answered.{Answered}
 use Rattle.drill_core.specs.declared.fail.LineFail.{LineFail}
 use Rattle.drill_core.specs.World.{World, Held, IsIn, StoreIsIn, with_mark, AreBetween}
@@ -38,7 +39,7 @@ use Rattle.drill_core.specs.Steps.{Step, says, refuses, marked, validated, filed
 use Rattle.drill_core.specs.Stepping.{IsReply, Goes, Steps}
 use Rattle.drill_core.proofs.Between.{kept_between, keeps_then, noted_keeps, noted_between, unmarked_yet}
 use Rattle.validator.proofs.SomethingFound.{something_is_found}
-use Rattle.drill_core.proofs.LineKinds.{validate_step}
+use Rattle.drill_core.proofs.LineKinds.{judged, validate_step}
 use Rattle.drill_core.proofs.Left.{left}
 
 pub replies_as : (next : Step) (x : Answered) (result : Result Answered LineFail) → x.text ≡ next.text → x.refused ≡ next.is_refused → IfOk result (λ answered. answered ≡ x) → IfOk result (IsReply next)
@@ -82,7 +83,7 @@ module _ (now : ℕ) (w : World) (held : Held) (old new : State) (bytes : List �
       (subst (λ (h : Option History). IsFoundIn (lists.batches w.id) h f) (history_is w.id w.store held.store bytes i.store) is)
 
   -- the lists stand as they stood
-  keep : (next : Step) (result : Result Answered LineFail) → next.world ≡ w → Keeps lists later → IfOk result (IsReply next) → To next result
+  pub keep : (next : Step) (result : Result Answered LineFail) → next.world ≡ w → Keeps lists later → IfOk result (IsReply next) → To next result
   keep next result stays keeps reply =
       let all = keeps_then w.lists lists later i.lists keeps in
       left w held old new bytes lists i same only_now next result later (ap (λ (x : World). x.id) stays) (ap (λ (x : World). x.store) stays) reply
@@ -153,7 +154,7 @@ module _ (now : ℕ) (w : World) (held : Held) (old new : State) (bytes : List �
     fails_so (Err other) fail keeps = keep (refuses w (refusal_text other)) (Err fail) refl keeps tt
 
     steps : (result : Result Answered LineFail) (f : Result Verdict AuditFail) → IsFoundIn (filed_for w) (history_of w.store) f → To (validated w now f) result → Steps (lines.Plain stmts.Validate) now w result held old new bytes (content bytes later)
-    steps result f is goes = record { found = f; may = is; goes = subst (λ (x : Step). To x result) (sym (validate_step w now f)) goes }
+    steps result f is goes = record { found = judged f; may = is; goes = subst (λ (x : Step). To x result) (sym (validate_step w now f)) goes }
 
     -- before anything is found
     early : (result : Result Answered LineFail) → OnOk result ⊥ → Keeps lists later → Steps (lines.Plain stmts.Validate) now w result held old new bytes (content bytes later)
@@ -188,7 +189,7 @@ module _ (now : ℕ) (w : World) (held : Held) (old new : State) (bytes : List �
     validates (Err (fails.OutOfTurn count)) result answer was is never = absurd never
 
 -- where the disk is unchanged
-told_unchanged : {A : Type 0} (o n : Option A) (P : A → Type 0) (Q : A → A → Type 0) → n ≡ o → IfSome o P → ((b : A) → P b → Q b b) → WhereTold o n Q
+pub told_unchanged : {A : Type 0} (o n : Option A) (P : A → Type 0) (Q : A → A → Type 0) → n ≡ o → IfSome o P → ((b : A) → P b → Q b b) → WhereTold o n Q
 told_unchanged {A = A} o n P Q same told f = subst (λ (m : Option A). WhereTold o m Q) (sym same) (at o told)
   where
     at : (o : Option A) → IfSome o P → WhereTold o o Q

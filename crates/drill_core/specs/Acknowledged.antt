@@ -1,14 +1,13 @@
 -- What a reply acknowledges is stored, and no line takes an item away.
-use Rattle.std.specs.Prelude.{◌≡◌, ℕ, ◌+◌, List, ◌++◌, ◌∷◌, [], length, codes, Option, Some, None, Result}
+use Rattle.std.specs.Prelude.{◌≡◌, ℕ, ◌+◌, List, ◌++◌, ◌∷◌, [], length, codes, Option, Some, None}
 use Rattle.std.specs.Fmt.{decimal}
 use Rattle.tuple_bytes.specs.declared.item.Item.{Item}
 use Rattle.tuple_bytes.specs.declared.item.Txn.{Txn}
 use Rattle.history_model.specs.History.{txns}
 use Rattle.stmt_text.specs.declared.line.Line.{Line}
 use Rattle.session_core.specs.World as statements
-use Rattle.validator.specs.declared.verdict.Verdict.{Verdict}
-use Rattle.validator.specs.declared.fail.AuditFail.{AuditFail}
 use Rattle.drill_core.specs.World.{World}
+use Rattle.drill_core.specs.Found.{Found}
 use Rattle.drill_core.specs.Steps.{step}
 
 -- the reply that acknowledges a transaction, by the digits of its number
@@ -44,8 +43,8 @@ OnlyAppends (Some old) (Some new) = Extends old new
 
 -- A line that is replied `ok N` leaves a store that has the transaction N.
 abbrev pub StepsAcknowledge : Type 0
-StepsAcknowledge = (w : World) (line : Line) (now : ℕ) (found : Result Verdict AuditFail) (digits : List ℕ) → (step w line now found).text ≡ ok_text digits → IsStored digits (step w line now found).world.store
+StepsAcknowledge = (w : World) (line : Line) (now : ℕ) (found : Found) (digits : List ℕ) → (step w line now found).text ≡ ok_text digits → IsStored digits (step w line now found).world.store
 
 -- No line takes an item away, or changes one.
 abbrev pub StepsOnlyAppend : Type 0
-StepsOnlyAppend = (w : World) (line : Line) (now : ℕ) (found : Result Verdict AuditFail) → OnlyAppends w.store (step w line now found).world.store
+StepsOnlyAppend = (w : World) (line : Line) (now : ℕ) (found : Found) → OnlyAppends w.store (step w line now found).world.store

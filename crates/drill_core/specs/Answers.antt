@@ -7,6 +7,10 @@ use Rattle.session_core.specs.Replies.{reply_text, is_refusal}
 use Rattle.validator.specs.declared.fail.AuditFail.{AuditFail}
 use Rattle.validator.specs.declared.fail.AuditFail.TheVariants as audits
 use Rattle.validator.specs.Texts.{refusal_text}
+use Rattle.forensic_report.specs.declared.report.Report.{Report}
+use Rattle.forensic_report.specs.declared.fail.AnalyseFail.{AnalyseFail}
+use Rattle.forensic_report.specs.declared.fail.AnalyseFail.TheVariants as analyses
+use Rattle.forensic_report.specs.Fails as reports
 use Rattle.drill_core.specs.declared.answered.Answered.{Answered}
 use Rattle.drill_core.specs.declared.fail.LineFail.{LineFail}
 use Rattle.drill_core.specs.declared.fail.LineFail.TheVariants as fails
@@ -47,3 +51,15 @@ IsAnswerTo fail result = Replies (refusal (refusal_text fail)) result
 abbrev pub IsAnswer : {A : Type 0} → (A → List ℕ) → Result A AuditFail → Result Answered LineFail → Type 0
 IsAnswer text (Ok a) result = Replies (said (text a)) result
 IsAnswer text (Err fail) result = IsAnswerTo fail result
+
+-- a report, as it is written
+abbrev pub reported : Report → Answered
+reported report = record { refused = false; text = report.text }
+
+-- the answer to what an analysis came to: its refusals are told, and its faults have no reply
+abbrev pub IsReported : Result Report AnalyseFail → Result Answered LineFail → Type 0
+IsReported (Ok report) result = Replies (reported report) result
+IsReported (Err analyses.DiskFault) result = result ≡ Err fails.DiskFault
+IsReported (Err analyses.NotaryFault) result = result ≡ Err fails.NotaryFault
+IsReported (Err analyses.NoMemory) result = result ≡ Err fails.NoMemory
+IsReported (Err fail) result = Replies (refusal (reports.refusal_text fail)) result

@@ -11,7 +11,9 @@ use Rattle.validator.specs.declared.verdict.Verdict.{Verdict}
 use Rattle.validator.specs.declared.verdict.Verdict.TheVariants as verdicts
 use Rattle.validator.specs.declared.fail.AuditFail.{AuditFail}
 use Rattle.validator.specs.Notarizing.{filed_fault}
+use Rattle.forensic_report.specs.Laws as reports
 use Rattle.drill_core.specs.World.{World}
+use Rattle.drill_core.specs.Found.{Found}
 use Rattle.drill_core.specs.Steps.{step, filed_for, history_of, MayFind}
 
 -- these batches are none, or those of a history with n sealed tiles, which has reached their end
@@ -31,13 +33,14 @@ abbrev pub IsSoundVerdict : Result Verdict AuditFail → Type 0
 IsSoundVerdict found = (found ≡ Ok verdicts.Unsealed) ⊎ ((n : ℕ) × (found ≡ Ok (verdicts.Clean n)))
 
 -- A validation finds that nothing is altered, and a notarization is not refused for what is filed: neither as broken, nor for a
--- seal that is missing.
-abbrev pub TellsNoAlteration : World → Line → Result Verdict AuditFail → Type 0
-TellsNoAlteration w (lines.Plain stmts.Validate) found = IsSoundVerdict found
+-- seal that is missing. An analysis reports no alteration, or the header lacks its chains.
+abbrev pub TellsNoAlteration : World → Line → Found → Type 0
+TellsNoAlteration w (lines.Plain stmts.Validate) found = IsSoundVerdict found.verdict
+TellsNoAlteration w (lines.Plain (stmts.Analyse algorithm)) found = reports.TellsNoAlteration found.analysis
 TellsNoAlteration w (lines.Plain stmts.Notarize) found = IfSome (history_of w.store) (λ held. filed_fault (filed_for w) held ≡ None)
 TellsNoAlteration w line found = Unit {0}
 
 -- A sound world stays sound at every line, and no line tells of an alteration.
 abbrev pub SoundWorldsStaySound : Type 0
-SoundWorldsStaySound = (w : World) (line : Line) (now : ℕ) (found : Result Verdict AuditFail) → HasFitHeader w → IsSoundWorld w → MayFind w line found
+SoundWorldsStaySound = (w : World) (line : Line) (now : ℕ) (found : Found) → HasFitHeader w → IsSoundWorld w → MayFind w line found
     → IsSoundWorld (step w line now found).world × HasFitHeader (step w line now found).world × TellsNoAlteration w line found

@@ -1,8 +1,10 @@
 pub mod World
+pub mod Found
 pub mod Steps
 pub mod Stepping
 pub mod Answers
 pub mod Parts
+pub mod Reported
 pub mod Unheld
 pub mod Laws
 pub mod Acknowledged

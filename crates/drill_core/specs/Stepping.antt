@@ -6,12 +6,11 @@ use Rattle.tuple_bytes.specs.declared.header.Header.{Header}
 use Rattle.store_engine.specs.Opened.{Opened}
 use Rattle.stmt_text.specs.declared.line.Line.{Line}
 use Rattle.validator.specs.Desk.{Desk, Content, WhereBothTell}
-use Rattle.validator.specs.declared.verdict.Verdict.{Verdict}
-use Rattle.validator.specs.declared.fail.AuditFail.{AuditFail}
 use Rattle.validator.specs.Filing.{HasFiledMore}
 use Rattle.drill_core.specs.declared.answered.Answered.{Answered}
 use Rattle.drill_core.specs.declared.fail.LineFail.{LineFail}
 use Rattle.drill_core.specs.World.{World, Held, IsIn, StoresWorld, StoresEither, AreBetween}
+use Rattle.drill_core.specs.Found.{Found}
 use Rattle.drill_core.specs.Steps.{Step, step, MayFind}
 
 -- this was replied
@@ -35,7 +34,7 @@ pub record Goes (w : World) (next : Step) (result : Result Answered LineFail) (l
 
 -- what a line does to a world, where this was found
 pub record Steps (line : Line) (now : ℕ) (w : World) (result : Result Answered LineFail) (later : Held) (old new : disks.State) (before : List ℕ) (after : Content) : Type 0 where
-  pub found : Result Verdict AuditFail
+  pub found : Found
   pub may : MayFind w line found
   pub goes : Goes w (step w line now found) result later old new before after
 

@@ -5,6 +5,8 @@ use Rattle.notary_link.specs.declared.mark.Mark.{Mark}
 use Rattle.notary_link.specs.Batches.{Batch}
 use Rattle.notary_link.specs.Filing.{fitting, room_in}
 use Rattle.notary_link.specs.Notary.{marks_in_all}
+use Rattle.stmt_text.specs.declared.stmt.LineAlgorithm.{LineAlgorithm}
+use Rattle.stmt_text.specs.declared.stmt.LineAlgorithm.TheVariants as line_algorithms
 use Rattle.stmt_text.specs.declared.stmt.Stmt.{Stmt}
 use Rattle.stmt_text.specs.declared.stmt.Stmt.TheVariants as stmts
 use Rattle.stmt_text.specs.declared.line.Line.{Line}
@@ -17,7 +19,16 @@ use Rattle.validator.specs.declared.fail.AuditFail.{AuditFail}
 use Rattle.validator.specs.declared.fail.AuditFail.TheVariants as fails
 use Rattle.validator.specs.Notarizing.{Intent, intent_of}
 use Rattle.validator.specs.Verdicts.{IsFoundIn, mark_of}
-use Rattle.validator.specs.Texts.{verdict_text, refusal_text, numbered}
+use Rattle.number_text.specs.Numbered.{numbered}
+use Rattle.validator.specs.Texts.{verdict_text, refusal_text}
+use Rattle.forensic_report.specs.declared.algorithm.Algorithm.{Algorithm}
+use Rattle.forensic_report.specs.declared.algorithm.Algorithm.TheVariants as algorithms
+use Rattle.forensic_report.specs.declared.fail.AnalyseFail.{AnalyseFail}
+use Rattle.forensic_report.specs.Analysis.{Analysis}
+use Rattle.forensic_report.specs.Finding.{IsAnalysisIn}
+use Rattle.forensic_report.specs.Texts.{report_text, kept_of}
+use Rattle.forensic_report.specs.Fails as reports
+use Rattle.drill_core.specs.Found.{Found}
 use Rattle.drill_core.specs.World.{World, why_none, with_store, with_lists, with_batches, with_mark}
 
 -- the world after a line, the text of the reply, and whether it is a refusal
@@ -107,26 +118,47 @@ abbrev pub history_of : Option statements.World → Option History
 history_of None = None
 history_of (Some store) = Some (history store.header store.items)
 
+-- ---- an analysis
+
+-- the algorithm that a statement names
+abbrev pub algorithm_of : LineAlgorithm → Algorithm
+algorithm_of line_algorithms.Mono = algorithms.Mono
+algorithm_of line_algorithms.Tiled = algorithms.Tiled
+algorithm_of (line_algorithms.TiledExactly kappa) = algorithms.TiledExactly kappa
+algorithm_of line_algorithms.A3d = algorithms.A3d
+
+-- the report of what was found, by what the notary has of the world's id
+abbrev pub reports_on : World → Algorithm → ℕ → Analysis → Step
+reports_on w algorithm now a = record { world = w; text = report_text algorithm w.id (kept_of w.lists w.id now) a; is_refused = false }
+
+-- what was found is told, and nothing changes
+abbrev pub analysed : World → Algorithm → ℕ → Result Analysis AnalyseFail → Step
+analysed w algorithm now (Ok a) = reports_on w algorithm now a
+analysed w algorithm now (Err fail) = refuses w (reports.refusal_text fail)
+
 -- ---- a line
 
--- What a line does at these clock seconds. Where it is a validation, this was found.
-unfoldable pub step : World → Line → ℕ → Result Verdict AuditFail → Step
+-- What a line does at these clock seconds. Where it is a validation or an analysis, this was found.
+unfoldable pub step : World → Line → ℕ → Found → Step
 step w (lines.Plain stmts.Notarize) now found = notarized w w.store now
-step w (lines.Plain stmts.Validate) now found = validated w now found
+step w (lines.Plain stmts.Validate) now found = validated w now found.verdict
+step w (lines.Plain (stmts.Analyse algorithm)) now found = analysed w (algorithm_of algorithm) now found.analysis
 step w line now found = on_tables w w.store line now
 
--- What may be found: in all but odd cases there is one answer. A line that is no validation finds nothing, and anything may
--- stand for that.
-abbrev pub MayFind : World → Line → Result Verdict AuditFail → Type 0
-MayFind w (lines.Plain stmts.Validate) found = IsFoundIn (filed_for w) (history_of w.store) found
+-- What may be found: in all but odd cases there is one answer. A line that is neither finds nothing, and anything may stand for
+-- that.
+abbrev pub MayFind : World → Line → Found → Type 0
+MayFind w (lines.Plain stmts.Validate) found = IsFoundIn (filed_for w) (history_of w.store) found.verdict
+MayFind w (lines.Plain (stmts.Analyse algorithm)) found = IsAnalysisIn (algorithm_of algorithm) (filed_for w) (history_of w.store) found.analysis
 MayFind w line found = Unit {0}
 
 abbrev pub IsWorldStmt : Stmt → Type 0
 IsWorldStmt stmts.Notarize = Unit {0}
 IsWorldStmt stmts.Validate = Unit {0}
+IsWorldStmt (stmts.Analyse algorithm) = Unit {0}
 IsWorldStmt stmt = statement_steps.IsOnTables stmt
 
--- the lines that a world takes: statements on tables, `notarize` and `validate`
+-- the lines that a world takes: statements on tables, `notarize`, `validate` and `analyse`
 abbrev pub IsWorldLine : Line → Type 0
 IsWorldLine (lines.Plain stmt) = IsWorldStmt stmt
 IsWorldLine lines.Blank = ⊥

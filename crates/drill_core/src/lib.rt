@@ -9,11 +9,12 @@
 //! | a statement on tables | as `session_core` says | as `session_core` says |
 //! | `notarize` | a Frontier more, where one is needed, and a batch more for each tile that has ended | `sealed N`, the number of sealed tiles |
 //! | `validate` | a mark more, where something was filed | the verdict: `clean N`, `header altered N`, `altered N from M`, `unsealed` |
+//! | `analyse` | as before | the report of `forensic_report` |
 //! | any that is refused | as before; after `Full` with what there was room for | `refused NAME` |
 //!
-//! Without a store all but `validate` are `refused NotAStore`. What a validation finds is no function of
-//! the world in odd cases, where no honest notary made the answers; so `step` is given what was found,
-//! and `MayFind` says what that may be.
+//! Without a store all but `validate` and `analyse` are `refused NotAStore`. What these two find is no
+//! function of the world in odd cases, where no honest notary made the answers; so `step` is given what
+//! was found, and `MayFind` says what that may be.
 //!
 //! What the layers above may rely on:
 //!
@@ -28,8 +29,9 @@
 //! | a store stays open, of the same header, until a failure; after one there is none | `store` of `World::line` |
 //! | where nothing is stored, no call changes the disk | `same` of `Goes` |
 //! | a statement on tables leaves the notary | `unasked` of `World::line` |
-//! | where no store is held, whatever is told, all but `validate` are refused and call nothing | `none` of `World::line` |
+//! | where no store is held, whatever is told, all but `validate` and `analyse` are refused and call nothing | `none` of `World::line` |
 //! | a validation goes by the stored bytes and what is filed alone | `bytes` of `World::line` |
+//! | so does an analysis, which leaves the disk and the notary; its report shows what is altered of each history that was filed so | `report` of `World::line` |
 //! | a failure is a fault of the disk or of the notary, or want of memory | `disk_cause` and `notary_cause` |
 //! | the store of the id is opened, or there is none | `value` of `World::enter` |
 //! | a world whose store is what was filed stays so at every line, and no line tells of an alteration | [`sound_worlds_stay_sound`] |
@@ -44,6 +46,7 @@
 //! ```
 #![tactic(auto)]
 
+mod analyses;
 mod answered;
 mod audits;
 mod fail;

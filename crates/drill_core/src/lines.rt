@@ -15,8 +15,9 @@ ghost use Rattle.drill_core.specs.World.{StandsFor};
 ghost use Rattle.drill_core.specs.Steps.{IsWorldLine};
 ghost use Rattle.drill_core.specs.Stepping.{StepsFor};
 ghost use Rattle.drill_core.specs.Parts.{alone, no_store};
-ghost use Rattle.drill_core.specs.Unheld.{NeedsStore, IsToldNone, GoesByBytes};
+ghost use Rattle.drill_core.specs.Unheld.{NeedsStore, IsToldNone, GoesByBytes, AnalysesBy};
 
+use crate::analyses::answer_analysis;
 use crate::answered::{Answered, not_a_store};
 use crate::audits::{answer_notarization, answer_validation};
 use crate::fail::LineFail;
@@ -44,6 +45,8 @@ pub(crate) fn answer_with_store<D: Disk, N: Notary>(
     ensures open { OnOk result (store.new.at.is_closed ≡ false) }
     ensures header { store.new.header ≡ store.old.header }
     ensures bytes { line.now ≡ lines.Plain stmts.Validate → GoesByBytes store.old.header.id now result (D.state disk.old) (D.state disk.new) (N.state notary.old) (N.state notary.new) }
+    ensures report { AnalysesBy line.now store.old.header.id now result
+        (desk (D.state disk.old) (N.state notary.old)) (desk (D.state disk.new) (N.state notary.new)) }
     ensures unasked { IsTableLine line.now → N.state notary.new ≡ N.state notary.old }
     ensures told { StepsFor line.now now result (alone store.old) (alone store.new)
         (desk (D.state disk.old) (N.state notary.old)) (desk (D.state disk.new) (N.state notary.new)) }
@@ -63,6 +66,12 @@ pub(crate) fn answer_with_store<D: Disk, N: Notary>(
         } => {
             let id = store.header().id;
             answer_validation(alloc, disk, notary, id, now)
+        }
+        Line::Plain {
+            stmt: Stmt::Analyse { algorithm },
+        } => {
+            let id = store.header().id;
+            answer_analysis(alloc, disk, notary, id, *algorithm, now)
         }
         _ => answer_statement(alloc, sessions, store, disk, line, now),
     }
@@ -91,6 +100,8 @@ pub(crate) fn answer_without_store<D: Disk, N: Notary>(
     requires is_line { IsWorldLine line.now }
     ensures none { NeedsStore line.now → IsToldNone result (D.state disk.old) (D.state disk.new) (N.state notary.old) (N.state notary.new) }
     ensures bytes { line.now ≡ lines.Plain stmts.Validate → GoesByBytes id now result (D.state disk.old) (D.state disk.new) (N.state notary.old) (N.state notary.new) }
+    ensures report { AnalysesBy line.now id now result
+        (desk (D.state disk.old) (N.state notary.old)) (desk (D.state disk.new) (N.state notary.new)) }
     ensures told { StepsFor line.now now result (no_store id) (no_store id)
         (desk (D.state disk.old) (N.state notary.old)) (desk (D.state disk.new) (N.state notary.new)) }
     ensures sound { KeepsSound (λ before. ⊤)
@@ -104,17 +115,20 @@ pub(crate) fn answer_without_store<D: Disk, N: Notary>(
         Line::Plain {
             stmt: Stmt::Validate,
         } => answer_validation(alloc, disk, notary, id, now),
+        Line::Plain {
+            stmt: Stmt::Analyse { algorithm },
+        } => answer_analysis(alloc, disk, notary, id, *algorithm, now),
         _ => no_answer(alloc, line),
     }
 }
 
-/// Whether a world takes a line: a statement on tables, `notarize` or `validate`.
+/// Whether a world takes a line: a statement on tables, `notarize`, `validate` or `analyse`.
 pub fn is_world_line(line: &Line) -> bool
     ensures value { IsTrue result ↔ IsWorldLine line.now }
 {
     match line {
         Line::Plain {
-            stmt: Stmt::Notarize | Stmt::Validate,
+            stmt: Stmt::Notarize | Stmt::Validate | Stmt::Analyse { .. },
         } => true,
         _ => is_table_line(line),
     }

@@ -19,7 +19,7 @@ ghost use Rattle.drill_core.specs.declared.fail.LineFail.TheVariants.{DiskFault,
 ghost use Rattle.drill_core.specs.World.{StandsFor, IsEntered};
 ghost use Rattle.drill_core.specs.Steps.{IsWorldLine};
 ghost use Rattle.drill_core.specs.Stepping.{StepsFor, KeepsStore};
-ghost use Rattle.drill_core.specs.Unheld.{NeedsStore, IsToldNone, GoesByBytes};
+ghost use Rattle.drill_core.specs.Unheld.{NeedsStore, IsToldNone, GoesByBytes, AnalysesBy};
 
 use crate::answered::Answered;
 use crate::fail::LineFail;
@@ -102,6 +102,8 @@ impl World {
             (D.state disk.old) (D.state disk.new) (N.state notary.old) (N.state notary.new) }
         ensures bytes { line.now ≡ lines.Plain stmts.Validate → GoesByBytes self.old.id now result
             (D.state disk.old) (D.state disk.new) (N.state notary.old) (N.state notary.new) }
+        ensures report { AnalysesBy line.now self.old.id now result
+            (desk (D.state disk.old) (N.state notary.old)) (desk (D.state disk.new) (N.state notary.new)) }
         ensures unasked { IsTableLine line.now → N.state notary.new ≡ N.state notary.old }
         ensures told { StepsFor line.now now result self.old self.new
             (desk (D.state disk.old) (N.state notary.old)) (desk (D.state disk.new) (N.state notary.new)) }

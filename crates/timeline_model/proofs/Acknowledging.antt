@@ -16,6 +16,7 @@ use Rattle.notary_link.specs.declared.mark.Mark.{Mark}
 use Rattle.notary_link.specs.Notary.{marks_in_all}
 use Rattle.stmt_text.specs.declared.error.ParseFail.{ParseFail}
 use Rattle.stmt_text.specs.declared.event.Event.TheVariants as events
+use Rattle.stmt_text.specs.declared.stmt.LineAlgorithm.{LineAlgorithm}
 use Rattle.stmt_text.specs.declared.stmt.Stmt.{Stmt}
 use Rattle.stmt_text.specs.declared.stmt.Stmt.TheVariants as stmts
 use Rattle.stmt_text.specs.declared.line.Line.{Line}
@@ -24,13 +25,12 @@ use Rattle.stmt_text.specs.Fits.{FitsStmt, FitsParts}
 use Rattle.stmt_text.specs.Printing.{row_text}
 use Rattle.tt_table.specs.declared.version.Version.{Version}
 use Rattle.tuple_bytes.specs.declared.value.Value.{Value}
-use Rattle.validator.specs.declared.verdict.Verdict.{Verdict}
 use Rattle.validator.specs.declared.verdict.Verdict.TheVariants as verdicts
-use Rattle.validator.specs.declared.fail.AuditFail.{AuditFail}
 use Rattle.validator.specs.declared.fail.AuditFail.TheVariants as fails
 use Rattle.validator.specs.Notarizing.{notarize_fault}
 use Rattle.validator.specs.Verdicts.{mark_of}
-use Rattle.validator.specs.Texts.{verdict_text, refusal_text, numbered}
+use Rattle.number_text.specs.Numbered.{numbered}
+use Rattle.validator.specs.Texts.{verdict_text, refusal_text}
 use Rattle.session_core.specs.declared.reply.Reply.{Reply}
 use Rattle.session_core.specs.declared.reply.Reply.TheVariants as replies
 use Rattle.session_core.specs.Replies.{reply_text}
@@ -38,10 +38,11 @@ use Rattle.session_core.specs.Promises.{IsPromised}
 use Rattle.session_core.specs.World as statements
 use Rattle.session_core.specs.Steps as statement_steps
 use Rattle.session_core.proofs.Promising.{steps_keep, none_more}
+use Rattle.drill_core.specs.Found.{Found}
 use Rattle.drill_core.specs.World as worlds
 use Rattle.drill_core.specs.Steps as world_steps
-use Rattle.drill_core.proofs.Texts.{SaysOk, says_ok, reply_ok, notarized_no, validated_no}
-use Rattle.drill_core.specs.Steps.{on_tables, notarized, sealed, all_filed, validated, marked}
+use Rattle.drill_core.proofs.Texts.{SaysOk, says_ok, reply_ok, notarized_no, validated_no, analysed_no}
+use Rattle.drill_core.specs.Steps.{on_tables, notarized, sealed, all_filed, validated, algorithm_of, marked}
 use Rattle.txn_journal.specs.Create.{is_free}
 use Rattle.timeline_model.specs.Scene.{Scene, Crash, nothing_yet, store_in, world_of, held}
 use Rattle.timeline_model.specs.LineCalls.{notary_calls, items_added}
@@ -89,7 +90,7 @@ IfOk more t next = SaysOk next.text → Acknowledges more t next
 refusal_not : (more : List Item) (t was : Scene) (name : List ℕ) → IfOk more was (refuses t name)
 refusal_not more t was name ok = absurd (no_refusal t name ok)
 
-module _ (i : ℕ) (t : Scene) (line : Line) (stmt : Stmt) (line_is : line ≡ lines.Plain stmt) (found : Result Verdict AuditFail) (store : statements.World) (is : store_in i (stored t.bytes) ≡ Some store)
+module _ (i : ℕ) (t : Scene) (line : Line) (stmt : Stmt) (line_is : line ≡ lines.Plain stmt) (found : Found) (store : statements.World) (is : store_in i (stored t.bytes) ≡ Some store)
     (bytes_before : IsBytes t.bytes) (no_calls : notary_calls (world_with t i (Some store)) line t.clock found ≡ []) (fits : FitsStmt stmt) where
   abbrev w : worlds.World
   w = world_with t i (Some store)
@@ -131,14 +132,14 @@ module _ (i : ℕ) (t : Scene) (line : Line) (stmt : Stmt) (line_is : line ≡ l
             text = text_of_step ∙ ap (λ (x : statement_steps.Step). reply_text x.reply) more.is ∙ committed_text txn.number;
           }
 
-tables_acks : (i : ℕ) (t : Scene) (line : Line) (stmt : Stmt) → line ≡ lines.Plain stmt → FitsStmt stmt → (found : Result Verdict AuditFail) → IsBytes t.bytes → (o : Option statements.World) → store_in i (stored t.bytes) ≡ o
+tables_acks : (i : ℕ) (t : Scene) (line : Line) (stmt : Stmt) → line ≡ lines.Plain stmt → FitsStmt stmt → (found : Found) → IsBytes t.bytes → (o : Option statements.World) → store_in i (stored t.bytes) ≡ o
     → (s : world_steps.Step) → s ≡ on_tables (world_with t i o) o line t.clock → notary_calls (world_with t i o) line t.clock found ≡ [] → IfOk (items_added o s.world.store) t (over_world t (world_with t i o) line found s).next
 tables_acks i t line stmt line_is fits found bytes (Some store) is s s_is no_calls ok = statement_acks i t line stmt line_is found store is bytes no_calls fits s s_is ok
 tables_acks i t line stmt line_is fits found bytes None is s s_is no_calls ok =
     let text : s.text ≡ (refuses t (codes "NotAStore")).text = ap (λ (x : world_steps.Step). x.text) s_is in
     absurd (no_refusal t (codes "NotAStore") (subst SaysOk text ok))
 
-over_tables : (t : Scene) (o : Option ℕ) (line : Line) (stmt : Stmt) → line ≡ lines.Plain stmt → FitsStmt stmt → (found : Result Verdict AuditFail) → IsBytes t.bytes → IsOnTables line → IfOk (stored_by o t (Ok line) found) t (over_store t o line found).next
+over_tables : (t : Scene) (o : Option ℕ) (line : Line) (stmt : Stmt) → line ≡ lines.Plain stmt → FitsStmt stmt → (found : Found) → IsBytes t.bytes → IsOnTables line → IfOk (stored_by o t (Ok line) found) t (over_store t o line found).next
 unfolding world_of
 over_tables t None line stmt line_is fits found bytes is = refusal_not [] t t (codes "NotAStore")
 over_tables t (Some i) line stmt line_is fits found bytes is = tables_acks i t line stmt line_is fits found bytes (store_in i (stored t.bytes)) refl
@@ -146,15 +147,20 @@ over_tables t (Some i) line stmt line_is fits found bytes is = tables_acks i t l
 
 -- ---- other lines say something else
 
-over_notarize : (t : Scene) (o : Option ℕ) (found : Result Verdict AuditFail) → SaysOk (over_store t o (lines.Plain stmts.Notarize) found).next.text → ⊥
+over_notarize : (t : Scene) (o : Option ℕ) (found : Found) → SaysOk (over_store t o (lines.Plain stmts.Notarize) found).next.text → ⊥
 unfolding world_steps.step
 over_notarize t None found ok = no_refusal t (codes "NotAStore") ok
 over_notarize t (Some i) found ok = notarized_no (world_of t i) (world_of t i).store t.clock ok
 
-over_validate : (t : Scene) (o : Option ℕ) (found : Result Verdict AuditFail) → SaysOk (over_store t o (lines.Plain stmts.Validate) found).next.text → ⊥
+over_validate : (t : Scene) (o : Option ℕ) (found : Found) → SaysOk (over_store t o (lines.Plain stmts.Validate) found).next.text → ⊥
 unfolding world_steps.step
 over_validate t None found ok = no_refusal t (codes "NotAStore") ok
-over_validate t (Some i) found ok = validated_no (world_of t i) t.clock found ok
+over_validate t (Some i) found ok = validated_no (world_of t i) t.clock found.verdict ok
+
+over_analyse : (t : Scene) (algorithm : LineAlgorithm) (o : Option ℕ) (found : Found) → SaysOk (over_store t o (lines.Plain (stmts.Analyse algorithm)) found).next.text → ⊥
+unfolding world_steps.step
+over_analyse t algorithm None found ok = no_refusal t (codes "NotAStore") ok
+over_analyse t algorithm (Some i) found ok = analysed_no (world_of t i) (algorithm_of algorithm) t.clock found.analysis ok
 
 says_only_ok : (t : Scene) → SaysOk (says t (codes "ok")).text → ⊥
 says_only_ok t ok = (let third = ok.third in omega (arith, third))
@@ -173,7 +179,7 @@ changed_not false t later ok = no_refusal t (codes "NoPlace") ok
 
 -- ---- each line
 
-stmt_acks : (t : Scene) (stmt : Stmt) (found : Result Verdict AuditFail) → IsDrillLine (lines.Plain stmt) → FitsStmt stmt → IsBytes t.bytes → IfOk (stored_by t.id t (Ok (lines.Plain stmt)) found) t (act t (lines.Plain stmt) found).next
+stmt_acks : (t : Scene) (stmt : Stmt) (found : Found) → IsDrillLine (lines.Plain stmt) → FitsStmt stmt → IsBytes t.bytes → IfOk (stored_by t.id t (Ok (lines.Plain stmt)) found) t (act t (lines.Plain stmt) found).next
 unfolding act world_steps.step notary_calls
 stmt_acks t stmts.Notarize found is fits bytes ok = absurd (over_notarize t t.id found ok)
 stmt_acks t stmts.Validate found is fits bytes ok = absurd (over_validate t t.id found ok)
@@ -188,9 +194,9 @@ stmt_acks t (stmts.History table key) found is fits bytes ok = over_tables t t.i
 stmt_acks t stmts.Begin found is fits bytes ok = absurd is
 stmt_acks t stmts.Commit found is fits bytes ok = absurd is
 stmt_acks t stmts.Abort found is fits bytes ok = absurd is
-stmt_acks t (stmts.Analyse algorithm) found is fits bytes ok = absurd is
+stmt_acks t (stmts.Analyse algorithm) found is fits bytes ok = absurd (over_analyse t algorithm t.id found ok)
 
-line_acks : (t : Scene) (line : Line) (found : Result Verdict AuditFail) → IsDrillLine line → FitsParts line → IsBytes t.bytes → IfOk (stored_by t.id t (Ok line) found) t (act t line found).next
+line_acks : (t : Scene) (line : Line) (found : Found) → IsDrillLine line → FitsParts line → IsBytes t.bytes → IfOk (stored_by t.id t (Ok line) found) t (act t line found).next
 unfolding act
 line_acks t (lines.Plain stmt) found is fits bytes ok = stmt_acks t stmt found is fits.0 bytes ok
 line_acks t (lines.Drill (events.Init id width k algs)) found is fits bytes ok = absurd (inits_not t id width k algs ok)
@@ -200,7 +206,7 @@ line_acks t (lines.Drill (events.Cut n)) found is fits bytes ok = absurd (change
 line_acks t lines.Blank found is fits bytes ok = absurd is
 line_acks t (lines.InSession session stmt) found is fits bytes ok = absurd is
 
-reading_acks : (t : Scene) (l : Result Line ParseFail) (found : Result Verdict AuditFail) → IsReading l → FitsReading l → IsBytes t.bytes → IfOk (stored_by t.id t l found) t (act_on t l found).next
+reading_acks : (t : Scene) (l : Result Line ParseFail) (found : Found) → IsReading l → FitsReading l → IsBytes t.bytes → IfOk (stored_by t.id t l found) t (act_on t l found).next
 reading_acks t (Ok l) found is fits bytes = line_acks t l found is fits bytes
 reading_acks t (Err fail) found is fits bytes = refusal_not (stored_by t.id t (Err fail) found) t t (name_of fail)
 

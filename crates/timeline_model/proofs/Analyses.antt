@@ -14,7 +14,7 @@ use Rattle.digest_model.specs.Laws.{HasSpelling}
 use Rattle.digest_model.proofs.Spelled.{same_header}
 use Rattle.notary_link.specs.declared.notary.NotaryLimits.{NotaryLimits}
 use Rattle.notary_link.specs.Batches.{Batch}
-use Rattle.audit_model.specs.Altered.{history_in, HasOtherHeader, IsAltered, HashClash}
+use Rattle.audit_model.specs.Altered.{history_in, HasOtherHeader, IsAltered, HashClash, history_with, under_id}
 use Rattle.audit_model.specs.Laws.{IsAudit}
 use Rattle.audit_model.proofs.Region.{region_has}
 use Rattle.audit_model.proofs.TileAudit.{candidates_have}
@@ -22,7 +22,6 @@ use Rattle.audit_model.proofs.KappaAudit.{among_have}
 use Rattle.audit_model.proofs.TreeAudit.{descent_has, descent_is}
 use Rattle.audit_model.proofs.Planned.{other_altered}
 use Rattle.audit_model.proofs.Exact.{refused_other}
-use Rattle.validator.specs.Verdicts.{history_with, under_id}
 use Rattle.timeline_model.specs.Scene.{Scene, nothing_yet, held, batches_of}
 use Rattle.timeline_model.specs.Timeline.{Event, after, IsTimeline}
 use Rattle.timeline_model.specs.Filed.{filed}

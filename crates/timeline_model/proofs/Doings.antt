@@ -20,20 +20,23 @@ use Rattle.notary_link.specs.declared.mark.Mark.{Mark}
 use Rattle.notary_link.specs.Notary.{Call, Lists, marks_in_all}
 use Rattle.stmt_text.specs.declared.event.Event.{Event}
 use Rattle.stmt_text.specs.declared.event.Event.TheVariants as events
+use Rattle.stmt_text.specs.declared.stmt.LineAlgorithm.{LineAlgorithm}
 use Rattle.stmt_text.specs.declared.stmt.Stmt.TheVariants as stmts
 use Rattle.stmt_text.specs.declared.line.Line.{Line}
 use Rattle.stmt_text.specs.declared.line.Line.TheVariants as lines
 use Rattle.session_core.specs.World as statements
-use Rattle.audit_model.specs.Altered.{history_in}
+use Rattle.audit_model.specs.Altered.{history_in, history_with, under_id}
 use Rattle.validator.specs.declared.verdict.Verdict.{Verdict}
 use Rattle.validator.specs.declared.fail.AuditFail.{AuditFail}
-use Rattle.validator.specs.Verdicts.{IsFoundIn, history_with, under_id, mark_of}
+use Rattle.validator.specs.Verdicts.{IsFoundIn, mark_of}
 use Rattle.validator.specs.declared.fail.AuditFail.TheVariants as fails
 use Rattle.validator.specs.Texts.{verdict_text, refusal_text}
+use Rattle.drill_core.specs.Found.{Found}
 use Rattle.drill_core.specs.World as worlds
 use Rattle.drill_core.specs.World.{with_mark}
 use Rattle.drill_core.specs.Steps as world_steps
-use Rattle.drill_core.specs.Steps.{on_tables, notarized, validated, marked, history_of, MayFind}
+use Rattle.drill_core.specs.Steps.{on_tables, notarized, validated, algorithm_of, marked, history_of, MayFind}
+use Rattle.drill_core.proofs.Analysing.{analysed_stays}
 use Rattle.txn_journal.specs.Create.{is_free}
 use Rattle.timeline_model.specs.Scene.{Scene, Crash, store_under, store_in, world_of, batches_of}
 use Rattle.txn_journal.specs.Held.{standing}
@@ -134,10 +137,10 @@ tables_lists w (Some store) line now = refl
 
 -- a line that a world takes as one on its tables
 pub record IsOnTables (line : Line) : Type 0 where
-  pub steps : (w : worlds.World) (now : ℕ) (found : Result Verdict AuditFail) → world_steps.step w line now found ≡ on_tables w w.store line now
-  pub calls : (w : worlds.World) (now : ℕ) (found : Result Verdict AuditFail) → notary_calls w line now found ≡ []
+  pub steps : (w : worlds.World) (now : ℕ) (found : Found) → world_steps.step w line now found ≡ on_tables w w.store line now
+  pub calls : (w : worlds.World) (now : ℕ) (found : Found) → notary_calls w line now found ≡ []
 
-pub tables : (id : ℕ) (t : Scene) (o : Option ℕ) (line : Line) (found : Result Verdict AuditFail) → IsOnTables line → ActsEither id t (over_store t o line found)
+pub tables : (id : ℕ) (t : Scene) (o : Option ℕ) (line : Line) (found : Found) → IsOnTables line → ActsEither id t (over_store t o line found)
 unfolding world_of
 tables id t None line found is = without_notary id t (over_store t None line found) refl refl
 tables id t (Some i) line found is = without_notary id t (over_store t (Some i) line found) (is.calls (world_of t i) t.clock found)
@@ -178,7 +181,7 @@ drill_acts id t (events.Cut n) = cut_acts id t n
 
 -- ---- a validation
 
-module _ (id i : ℕ) (t : Scene) (found : Result Verdict AuditFail) where
+module _ (id i : ℕ) (t : Scene) (found : Found) where
   abbrev line : Line
   line = lines.Plain stmts.Validate
 
@@ -186,17 +189,17 @@ module _ (id i : ℕ) (t : Scene) (found : Result Verdict AuditFail) where
   bytes_stay : (o : Option statements.World) (lists : Lists) (end : ℕ) → with_items end (items_added o o) t.bytes ≡ t.bytes
   bytes_stay o lists end = ap (λ (is : List Item). with_items end is t.bytes) (none_added o)
 
-  module _ (o : Option statements.World) (is : store_in i (stored t.bytes) ≡ o) (may : IsFoundIn (batches_of t i) (history_of o) found) where
+  module _ (o : Option statements.World) (is : store_in i (stored t.bytes) ≡ o) (may : IsFoundIn (batches_of t i) (history_of o) found.verdict) where
     abbrev w : worlds.World
     w = world_with t i o
 
     abbrev a : Act
-    a = over_world t w line found (validated w t.clock found)
+    a = over_world t w line found (validated w t.clock found.verdict)
 
     history_is : history_of o ≡ history_with i (stored t.bytes)
     history_is = ap history_of (sym is) ∙ history_same i (stored t.bytes).header (stored t.bytes)
 
-    marks_here : (verdict : Verdict) (mark : Mark) (after : Scene) → found ≡ Ok verdict → mark_of verdict t.clock ≡ Some mark → after.bytes ≡ t.bytes → after.clock ≡ t.clock → after.lists ≡ with_mark i mark t.lists → ActsOn id t after
+    marks_here : (verdict : Verdict) (mark : Mark) (after : Scene) → found.verdict ≡ Ok verdict → mark_of verdict t.clock ≡ Some mark → after.bytes ≡ t.bytes → after.clock ≡ t.clock → after.lists ≡ with_mark i mark t.lists → ActsOn id t after
     marks_here verdict mark after found_is mark_is bytes_same clock_same lists_are bytes = by (cases_eq id i)
       where
         by : (id ≡ i) ⊎ (id ≡ i → ⊥) → Acts id t after
@@ -223,7 +226,7 @@ module _ (id i : ℕ) (t : Scene) (found : Result Verdict AuditFail) where
     -- stopped before its one call
     few_calls : length (notary_calls w line t.clock found) ≤ 1
     unfolding notary_calls
-    few_calls = by found
+    few_calls = by found.verdict
       where
         by_mark : (m : Option Mark) → length (noting i m) ≤ 1
         by_mark None = omega arith
@@ -254,29 +257,37 @@ module _ (id i : ℕ) (t : Scene) (found : Result Verdict AuditFail) where
         in_part = λ crash soon bytes. same_lists id t (stopped t crash with_s) (early crash soon);
       }
 
-      noted : (verdict : Verdict) (mark : Mark) → found ≡ Ok verdict → mark_of verdict t.clock ≡ Some mark → s.world.lists ≡ with_mark i mark t.lists → ActsEither id t with_s
+      noted : (verdict : Verdict) (mark : Mark) → found.verdict ≡ Ok verdict → mark_of verdict t.clock ≡ Some mark → s.world.lists ≡ with_mark i mark t.lists → ActsEither id t with_s
       noted verdict mark found_is mark_is lists_are = record {
         whole = λ bytes. marks_here verdict mark with_s.next.scene found_is mark_is bytes_same refl lists_are bytes;
         in_part = λ crash soon bytes. same_lists id t (stopped t crash with_s) (early crash soon);
       }
 
     validates : ActsEither id t a
-    validates = by found refl
+    validates = by found.verdict refl
       where
-        by_room : (verdict : Verdict) (mark : Mark) → found ≡ Ok verdict → mark_of verdict t.clock ≡ Some mark → (b : Bool)
+        by_room : (verdict : Verdict) (mark : Mark) → found.verdict ≡ Ok verdict → mark_of verdict t.clock ≡ Some mark → (b : Bool)
             → ActsEither id t (over_world t w line found (if b then world_steps.says (worlds.with_lists w (with_mark i mark t.lists)) (verdict_text verdict) else world_steps.refuses w (refusal_text fails.Full)))
         by_room verdict mark found_is mark_is true = noted (world_steps.says (worlds.with_lists w (with_mark i mark t.lists)) (verdict_text verdict)) refl verdict mark found_is mark_is refl
         by_room verdict mark found_is mark_is false = left (world_steps.refuses w (refusal_text fails.Full)) refl refl
 
-        by_mark : (verdict : Verdict) → found ≡ Ok verdict → (m : Option Mark) → mark_of verdict t.clock ≡ m → ActsEither id t (over_world t w line found (marked w m (verdict_text verdict)))
+        by_mark : (verdict : Verdict) → found.verdict ≡ Ok verdict → (m : Option Mark) → mark_of verdict t.clock ≡ m → ActsEither id t (over_world t w line found (marked w m (verdict_text verdict)))
         by_mark verdict found_is None mark_is = left (world_steps.says w (verdict_text verdict)) refl refl
         by_mark verdict found_is (Some mark) mark_is = by_room verdict mark found_is mark_is (nat_lt (marks_in_all t.lists) t.limits.marks)
 
-        by : (r : Result Verdict AuditFail) → found ≡ r → ActsEither id t (over_world t w line found (validated w t.clock r))
+        by : (r : Result Verdict AuditFail) → found.verdict ≡ r → ActsEither id t (over_world t w line found (validated w t.clock r))
         by (Ok verdict) found_is = by_mark verdict found_is (mark_of verdict t.clock) refl
         by (Err fail) found_is = left (world_steps.refuses w (refusal_text fail)) refl refl
 
-pub validate_acts : (id : ℕ) (t : Scene) (o : Option ℕ) (found : Result Verdict AuditFail) → MayBeFound o t (Ok (lines.Plain stmts.Validate)) found → ActsEither id t (over_store t o (lines.Plain stmts.Validate) found)
+pub validate_acts : (id : ℕ) (t : Scene) (o : Option ℕ) (found : Found) → MayBeFound o t (Ok (lines.Plain stmts.Validate)) found → ActsEither id t (over_store t o (lines.Plain stmts.Validate) found)
 unfolding world_of world_steps.step
 validate_acts id t None found may = without_notary id t (over_store t None (lines.Plain stmts.Validate) found) refl refl
 validate_acts id t (Some i) found may = validates id i t found (store_in i (stored t.bytes)) refl may
+
+-- ---- an analysis
+
+pub analyse_acts : (id : ℕ) (t : Scene) (algorithm : LineAlgorithm) (o : Option ℕ) (found : Found) → ActsEither id t (over_store t o (lines.Plain (stmts.Analyse algorithm)) found)
+unfolding world_of world_steps.step notary_calls
+analyse_acts id t algorithm None found = without_notary id t (over_store t None (lines.Plain (stmts.Analyse algorithm)) found) refl refl
+analyse_acts id t algorithm (Some i) found = without_notary id t (over_store t (Some i) (lines.Plain (stmts.Analyse algorithm)) found) refl
+    (ap (λ (w : worlds.World). w.lists) (analysed_stays (world_of t i) (algorithm_of algorithm) t.clock found.analysis))

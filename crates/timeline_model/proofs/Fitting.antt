@@ -20,10 +20,9 @@ use Rattle.stmt_text.specs.declared.stmt.Stmt.{Stmt}
 use Rattle.stmt_text.specs.declared.line.Line.{Line}
 use Rattle.stmt_text.specs.declared.line.Line.TheVariants as lines
 use Rattle.stmt_text.specs.Fits.{FitsStmt, FitsParts}
-use Rattle.validator.specs.declared.verdict.Verdict.{Verdict}
-use Rattle.validator.specs.declared.fail.AuditFail.{AuditFail}
 use Rattle.session_core.specs.World as statements
 use Rattle.session_core.specs.Steps as statement_steps
+use Rattle.drill_core.specs.Found.{Found}
 use Rattle.timeline_model.specs.LineCalls.{items_added}
 use Rattle.timeline_model.specs.Scene.{Scene, nothing_yet, store_in, world_of}
 use Rattle.timeline_model.specs.Timeline.{FitsReading, after}
@@ -67,7 +66,7 @@ module _ (i : ℕ) (t : Scene) (store : statements.World) (is : store_in i (stor
 
 -- ---- what an event stores
 
-module _ (t : Scene) (bytes : IsBytes t.bytes) (id : ℕ) (line : Line) (found : Result Verdict AuditFail) (fits : FitsParts line) where
+module _ (t : Scene) (bytes : IsBytes t.bytes) (id : ℕ) (line : Line) (found : Found) (fits : FitsParts line) where
   by_kind : (new : Option statements.World) → Stores (world_of t id) line t.clock new → All IsStorable (items_added (world_of t id).store new)
   unfolding world_of
   by_kind new (inl same) = subst (All IsStorable) (sym (same_added (world_of t id) line t.clock new same)) (All-nil IsStorable)
@@ -79,7 +78,7 @@ module _ (t : Scene) (bytes : IsBytes t.bytes) (id : ℕ) (line : Line) (found :
       subst (All IsStorable) (sym (frontier_added (world_of t id) line t.clock new frontier)) (All-cons IsStorable (items.Frontier frontier.moment) []
       (sealing.frontier_takes id t found frontier.store frontier.store_is bytes frontier.free frontier.moment frontier.need).storable (All-nil IsStorable))
 
-all_storable : (t : Scene) (o : Option ℕ) (l : Result Line ParseFail) (found : Result Verdict AuditFail) → IsBytes t.bytes → FitsReading l → All IsStorable (stored_by o t l found)
+all_storable : (t : Scene) (o : Option ℕ) (l : Result Line ParseFail) (found : Found) → IsBytes t.bytes → FitsReading l → All IsStorable (stored_by o t l found)
 all_storable t None l found bytes fits = All-nil IsStorable
 all_storable t (Some id) (Err fail) found bytes fits = All-nil IsStorable
 all_storable t (Some id) (Ok line) found bytes fits = by_kind t bytes id line found fits _ (step_stores (world_of t id) line t.clock found)

@@ -14,9 +14,9 @@ use Rattle.notary_link.specs.declared.mark.Mark.{Mark}
 use Rattle.notary_link.specs.declared.mark.Outcome.{Outcome}
 use Rattle.notary_link.specs.declared.mark.Outcome.TheVariants as outcomes
 use Rattle.notary_link.specs.Batches.{Batch}
-use Rattle.audit_model.specs.Notary.{NotaryOf, answers, header_answer}
+use Rattle.audit_model.specs.Notary.{NotaryOf, answers, header_answer, cums}
 use Rattle.audit_model.specs.Mono.{BeginsRegion, IsFirstBad}
-use Rattle.audit_model.specs.Altered.{IsAltered, HashClash}
+use Rattle.audit_model.specs.Altered.{IsAltered, HashClash, under_id}
 use Rattle.audit_model.specs.Laws.{IsAudit}
 use Rattle.audit_model.proofs.Exact.{header_shown, begins_altered}
 use Rattle.audit_model.proofs.Region.{clean_to}
@@ -24,8 +24,7 @@ use Rattle.audit_model.proofs.Planned.{adjoin, not_same_rows, places_of}
 use Rattle.validator.specs.declared.verdict.Verdict.{Verdict}
 use Rattle.validator.specs.declared.verdict.Verdict.TheVariants as verdicts
 use Rattle.validator.specs.declared.fail.AuditFail.{AuditFail}
-use Rattle.validator.specs.Tiles.{cums}
-use Rattle.validator.specs.Verdicts.{under_id, IsFoundIn, IsFoundBy, IsFoundWithin, IsFoundAt, IsVerdict, mark_of}
+use Rattle.validator.specs.Verdicts.{IsFoundIn, IsFoundBy, IsFoundWithin, IsFoundAt, IsVerdict, mark_of}
 use Rattle.digest_model.proofs.Layouts.{begins}
 use Rattle.timeline_model.specs.Kept.{HasAlteredIn}
 

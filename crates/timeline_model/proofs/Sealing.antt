@@ -1,5 +1,5 @@
 -- What a notarization files over a timeline, stopped or not.
-use Rattle.std.proofs.Common.{◌≡◌, ◌⊎◌, inl, inr, ℕ, zero, suc, ◌+◌, ◌-◌, ◌*◌, ◌^◌, ◌<◌, ◌≤◌, ◌==◌, Bool, true, false, List, [], ◌∷◌, ◌++◌, length, map, filter, take, Option, Some, None, Result, refl, sym, ap, subst, ◌∙◌, arith, length-take, length-take-le}
+use Rattle.std.proofs.Common.{◌≡◌, ◌⊎◌, inl, inr, ℕ, zero, suc, ◌+◌, ◌-◌, ◌*◌, ◌^◌, ◌<◌, ◌≤◌, ◌==◌, Bool, true, false, List, [], ◌∷◌, ◌++◌, length, map, filter, take, Option, Some, None, refl, sym, ap, subst, ◌∙◌, arith, length-take, length-take-le}
 use Rattle.std.specs.Prelude.{nat_le, nat_lt, ◌&&◌, if◌then◌else◌, codes}
 use Rattle.std.specs.List.{All, range_with_len}
 use Rattle.std.specs.Option.{option_map}
@@ -45,14 +45,16 @@ use Rattle.stmt_text.specs.declared.stmt.Stmt.TheVariants as stmts
 use Rattle.stmt_text.specs.declared.line.Line.{Line}
 use Rattle.stmt_text.specs.declared.line.Line.TheVariants as lines
 use Rattle.session_core.specs.World as statements
-use Rattle.validator.specs.declared.verdict.Verdict.{Verdict}
 use Rattle.validator.specs.declared.fail.AuditFail.{AuditFail}
 use Rattle.validator.specs.declared.fail.AuditFail.TheVariants as fails
-use Rattle.validator.specs.Texts.{refusal_text, numbered}
-use Rattle.validator.specs.Tiles.{tiles_at, end_of, first_past}
+use Rattle.number_text.specs.Numbered.{numbered}
+use Rattle.policy_eras.specs.Policy.{first_past}
+use Rattle.validator.specs.Texts.{refusal_text}
+use Rattle.validator.specs.Tiles.{tiles_at, end_of}
 use Rattle.validator.specs.Notarizing.{next_batches, sealed_after, frontier_for, else_cause, early_fault, fault_by, chain_fault, filed_fault, room_fault, notarize_fault}
 use Rattle.validator.specs.Reaching.{with_frontier_for}
 use Rattle.validator.proofs.Growing.{ended_within}
+use Rattle.drill_core.specs.Found.{Found}
 use Rattle.drill_core.specs.World as worlds
 use Rattle.drill_core.specs.World.{with_batches}
 use Rattle.drill_core.specs.Steps as world_steps
@@ -199,7 +201,7 @@ frontier_items (Some moment) = items.Frontier moment ∷ []
 line : Line
 line = lines.Plain stmts.Notarize
 
-module _ (i : ℕ) (t : Scene) (found : Result Verdict AuditFail) (store : statements.World) (is : store_in i (stored t.bytes) ≡ Some store) (bytes_before : IsBytes t.bytes) where
+module _ (i : ℕ) (t : Scene) (found : Found) (store : statements.World) (is : store_in i (stored t.bytes) ≡ Some store) (bytes_before : IsBytes t.bytes) where
   abbrev h : History
   h = history store.header store.items
 
@@ -437,12 +439,12 @@ module _ (i : ℕ) (t : Scene) (found : Result Verdict AuditFail) (store : state
 
 -- ---- whatever is stored
 
-with_store : (id i : ℕ) (t : Scene) (found : Result Verdict AuditFail) → IsBytes t.bytes → (o : Option statements.World) → store_in i (stored t.bytes) ≡ o → ActsEither id t (over_world t (world_with t i o) line found (notarized (world_with t i o) o t.clock))
+with_store : (id i : ℕ) (t : Scene) (found : Found) → IsBytes t.bytes → (o : Option statements.World) → store_in i (stored t.bytes) ≡ o → ActsEither id t (over_world t (world_with t i o) line found (notarized (world_with t i o) o t.clock))
 unfolding notary_calls line
 with_store id i t found bytes None is = without_notary id t (over_world t (world_with t i None) line found (notarized (world_with t i None) None t.clock)) refl refl
 with_store id i t found bytes (Some store) is = store_acts i t found store is bytes id
 
-pub notarize_acts : (id : ℕ) (t : Scene) (o : Option ℕ) (found : Result Verdict AuditFail) → IsBytes t.bytes → ActsEither id t (over_store t o (lines.Plain stmts.Notarize) found)
+pub notarize_acts : (id : ℕ) (t : Scene) (o : Option ℕ) (found : Found) → IsBytes t.bytes → ActsEither id t (over_store t o (lines.Plain stmts.Notarize) found)
 unfolding world_of world_steps.step line
 notarize_acts id t None found bytes = without_notary id t (over_store t None (lines.Plain stmts.Notarize) found) refl refl
 notarize_acts id t (Some i) found bytes = with_store id i t found bytes (store_in i (stored t.bytes)) refl

@@ -1,5 +1,5 @@
 -- A timeline without a change from outside stays sound.
-use Rattle.std.proofs.Common.{◌≡◌, ◌⊎◌, inl, inr, ℕ, ◌<◌, ◌≤◌, ◌==◌, Bool, true, false, cond, ltb, List, [], ◌∷◌, ◌++◌, length, take, drop, Option, Some, None, Result, Ok, refl, sym, ap, subst, ◌∙◌, arith}
+use Rattle.std.proofs.Common.{◌≡◌, ◌⊎◌, inl, inr, ℕ, ◌<◌, ◌≤◌, ◌==◌, Bool, true, false, cond, ltb, List, [], ◌∷◌, ◌++◌, length, take, drop, Option, Some, None, Ok, refl, sym, ap, subst, ◌∙◌, arith}
 use Rattle.std.specs.Prelude.{nat_le, nat_lt, ◌&&◌, if◌then◌else◌, codes, slice_index}
 use Rattle.std.specs.Option.{option_map}
 use Rattle.std.proofs.lemmas.Bool.{eq-eqb}
@@ -30,8 +30,6 @@ use Rattle.audit_model.specs.Altered.{history_in}
 use Rattle.audit_model.proofs.Adding.{added_stays}
 use Rattle.disk_model.specs.Gate.{with_piece}
 use Rattle.txn_journal.specs.Append.{behind_gate}
-use Rattle.validator.specs.declared.verdict.Verdict.{Verdict}
-use Rattle.validator.specs.declared.fail.AuditFail.{AuditFail}
 use Rattle.store_engine.specs.Opened.{Stores, StoresOldOrNew}
 use Rattle.stmt_text.specs.declared.stmt.Stmt.{Stmt}
 use Rattle.stmt_text.specs.declared.line.Line.{Line}
@@ -40,6 +38,7 @@ use Rattle.stmt_text.specs.Fits.{FitsStmt}
 use Rattle.session_core.specs.World as statements
 use Rattle.session_core.specs.World.{tail_of_world}
 use Rattle.session_core.specs.Steps as statement_steps
+use Rattle.drill_core.specs.Found.{Found}
 use Rattle.drill_core.specs.Laws.{HoldsFiled}
 use Rattle.drill_core.specs.World as worlds
 use Rattle.drill_core.specs.Steps as world_steps
@@ -232,7 +231,7 @@ module _ (header : Header) (is : List Item) (item : Item) (fits : FitsHeader hea
 -- ---- a statement on tables
 
 -- over the store of a scene
-module _ (i : ℕ) (t : Scene) (line : Line) (stmt : Stmt) (line_is : line ≡ lines.Plain stmt) (found : Result Verdict AuditFail) (store : statements.World) (is : store_in i (stored t.bytes) ≡ Some store)
+module _ (i : ℕ) (t : Scene) (line : Line) (stmt : Stmt) (line_is : line ≡ lines.Plain stmt) (found : Found) (store : statements.World) (is : store_in i (stored t.bytes) ≡ Some store)
     (bytes_before : IsBytes t.bytes) (no_calls : notary_calls (world_with t i (Some store)) line t.clock found ≡ []) where
   abbrev w : worlds.World
   w = world_with t i (Some store)
@@ -310,7 +309,7 @@ module _ (i : ℕ) (t : Scene) (line : Line) (stmt : Stmt) (line_is : line ≡ l
       by (inr more) = gets s (statement_steps.step store line t.clock) store_of_step more fits lists_of_step
 
 -- whatever is stored
-pub tables_by : (i : ℕ) (t : Scene) (line : Line) (stmt : Stmt) → line ≡ lines.Plain stmt → FitsStmt stmt → (found : Result Verdict AuditFail) → IsBytes t.bytes → (o : Option statements.World) → store_in i (stored t.bytes) ≡ o
+pub tables_by : (i : ℕ) (t : Scene) (line : Line) (stmt : Stmt) → line ≡ lines.Plain stmt → FitsStmt stmt → (found : Found) → IsBytes t.bytes → (o : Option statements.World) → store_in i (stored t.bytes) ≡ o
     → (s : world_steps.Step) → s ≡ world_steps.on_tables (world_with t i o) o line t.clock → notary_calls (world_with t i o) line t.clock found ≡ [] → SoundEither (items_added o s.world.store) t (over_world t (world_with t i o) line found s)
 tables_by i t line stmt line_is parts found bytes (Some store) is s s_is no_calls = statement_sound i t line stmt line_is found store is bytes no_calls parts s s_is
 tables_by i t line stmt line_is parts found bytes None is s s_is no_calls = record {
@@ -320,7 +319,7 @@ tables_by i t line stmt line_is parts found bytes None is s s_is no_calls = reco
   lasts = none_last t.bytes 0;
 }
 
-pub tables_sound : (t : Scene) (o : Option ℕ) (line : Line) (stmt : Stmt) → line ≡ lines.Plain stmt → FitsStmt stmt → (found : Result Verdict AuditFail) → IsBytes t.bytes → IsOnTables line → SoundEither (stored_by o t (Ok line) found) t (over_store t o line found)
+pub tables_sound : (t : Scene) (o : Option ℕ) (line : Line) (stmt : Stmt) → line ≡ lines.Plain stmt → FitsStmt stmt → (found : Found) → IsBytes t.bytes → IsOnTables line → SoundEither (stored_by o t (Ok line) found) t (over_store t o line found)
 unfolding world_of
 tables_sound t None line stmt line_is parts found bytes is = quiet_sound [] t (refuses t (codes "NotAStore")) refl refl
 tables_sound t (Some i) line stmt line_is parts found bytes is = tables_by i t line stmt line_is parts found bytes (store_in i (stored t.bytes)) refl

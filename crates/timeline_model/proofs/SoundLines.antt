@@ -23,13 +23,14 @@ use Rattle.notary_link.specs.Batches.{Batch}
 use Rattle.notary_link.specs.Notary.{Call, Lists}
 use Rattle.notary_link.specs.Filing.{filings, fitting, room_in}
 use Rattle.notary_link.proofs.Fitting.{fitting_few}
-use Rattle.audit_model.specs.Altered.{history_in}
+use Rattle.audit_model.specs.Altered.{history_in, under_id}
 use Rattle.audit_model.specs.Sound.{IsNotarized, HoldsNotarized}
 use Rattle.audit_model.proofs.Adding.{added_stays}
 use Rattle.store_engine.specs.Opened.{Stores, StoresOldOrNew}
 use Rattle.store_engine.specs.Refusals.{Tail}
 use Rattle.stmt_text.specs.declared.event.Event.TheVariants as events
 use Rattle.stmt_text.specs.declared.error.ParseFail.{ParseFail}
+use Rattle.stmt_text.specs.declared.stmt.LineAlgorithm.{LineAlgorithm}
 use Rattle.stmt_text.specs.declared.stmt.Stmt.{Stmt}
 use Rattle.stmt_text.specs.declared.stmt.Stmt.TheVariants as stmts
 use Rattle.stmt_text.specs.declared.line.Line.{Line}
@@ -40,14 +41,16 @@ use Rattle.validator.specs.declared.verdict.Verdict.{Verdict}
 use Rattle.validator.specs.declared.fail.AuditFail.{AuditFail}
 use Rattle.validator.specs.Notarizing.{notarize_fault, next_batches, frontier_for, sealed_after}
 use Rattle.validator.specs.Reaching.{with_frontier_for}
-use Rattle.validator.specs.Texts.{numbered}
-use Rattle.validator.specs.Verdicts.{mark_of, under_id}
+use Rattle.number_text.specs.Numbered.{numbered}
+use Rattle.validator.specs.Verdicts.{mark_of}
 use Rattle.validator.proofs.Growing.{IsFiledUpTo, need_follows, counted_more, notarized_more}
+use Rattle.drill_core.specs.Found.{Found}
 use Rattle.drill_core.specs.Laws.{HoldsFiled, TellsNoAlteration}
 use Rattle.drill_core.proofs.SoundWorlds.{sound_worlds}
 use Rattle.drill_core.specs.World as worlds
 use Rattle.drill_core.specs.Steps as world_steps
-use Rattle.drill_core.specs.Steps.{notarized, validated, marked, sealed, reached, history_of, MayFind}
+use Rattle.drill_core.specs.Steps.{notarized, validated, analysed, algorithm_of, marked, sealed, reached, history_of, MayFind}
+use Rattle.drill_core.proofs.Analysing.{analysed_stays}
 use Rattle.timeline_model.specs.Scene.{Scene, Crash, nothing_yet, store_in, world_of, held, batches_of}
 use Rattle.txn_journal.specs.Held.{standing}
 use Rattle.timeline_model.specs.LineCalls.{end_of_store, items_added, with_items, appends, notary_calls, validate_calls, noting, filing_calls, unless}
@@ -77,32 +80,45 @@ validated_batches : (n : ℕ) (w : worlds.World) (now : ℕ) (found : Result Ver
 validated_batches n w now (Ok verdict) lists id = noted_batches n w.id (mark_of verdict now) lists id
 validated_batches n w now (Err fail) lists id = ap (λ (calls : List Call). (with_calls calls lists).batches id) (take_none n)
 
-validate_by : (i : ℕ) (t : Scene) (found : Result Verdict AuditFail) → (o : Option statements.World) → SoundEither (items_added o (validated (world_with t i o) t.clock found).world.store) t (over_world t (world_with t i o) (lines.Plain stmts.Validate) found (validated (world_with t i o) t.clock found))
-unfolding notary_calls
-validate_by i t found o = record {
-  whole = good_same (items_added o s.world.store) t (over_world t w (lines.Plain stmts.Validate) found s).next.scene parts.1 (ap (λ (its : List Item). history_in (stored (with_items (end_of_store o) its t.bytes))) none);
-  in_part = λ crash soon. good_same (items_added o s.world.store) t (stopped t crash (over_world t w (lines.Plain stmts.Validate) found s))
-      (validated_batches (crash.after - length (appends (standing (end_of_store o) t.bytes) (items_added o s.world.store))) w t.clock found t.lists)
+-- a line that leaves the store and its batches
+asked_by : (i : ℕ) (t : Scene) (line : Line) (found : Found) (o : Option statements.World) (s : world_steps.Step) → s.world.store ≡ o → ((id : ℕ) → s.world.lists.batches id ≡ t.lists.batches id)
+    → ((n id : ℕ) → (with_calls (take n (notary_calls (world_with t i o) line t.clock found)) t.lists).batches id ≡ t.lists.batches id) → SoundEither (items_added o s.world.store) t (over_world t (world_with t i o) line found s)
+asked_by i t line found o s store_same batches_same calls_same = record {
+  whole = good_same (items_added o s.world.store) t (over_world t (world_with t i o) line found s).next.scene batches_same (ap (λ (its : List Item). history_in (stored (with_items (end_of_store o) its t.bytes))) none);
+  in_part = λ crash soon. good_same (items_added o s.world.store) t (stopped t crash (over_world t (world_with t i o) line found s))
+      (calls_same (crash.after - length (appends (standing (end_of_store o) t.bytes) (items_added o s.world.store))))
       (ap (λ (x : List ℕ). history_in (stored x)) (none_stopped crash.choice crash.after (end_of_store o) (items_added o s.world.store) t.bytes none));
   lasts = subst (ItemsLast t.bytes (end_of_store o)) (sym none) (none_last t.bytes (end_of_store o));
 }
   where
-    w : worlds.World
-    w = world_with t i o
+    none : items_added o s.world.store ≡ []
+    none = ap (items_added o) store_same ∙ none_added o
 
-    s : world_steps.Step
-    s = validated (world_with t i o) t.clock found
+validate_by : (i : ℕ) (t : Scene) (found : Found) → (o : Option statements.World) → SoundEither (items_added o (validated (world_with t i o) t.clock found.verdict).world.store) t (over_world t (world_with t i o) (lines.Plain stmts.Validate) found (validated (world_with t i o) t.clock found.verdict))
+unfolding notary_calls
+validate_by i t found o =
+    let parts = with_validated (world_with t i o) t.clock found.verdict in
+    asked_by i t (lines.Plain stmts.Validate) found o (validated (world_with t i o) t.clock found.verdict) parts.0 parts.1 (λ n id. validated_batches n (world_with t i o) t.clock found.verdict t.lists id)
 
-    parts : ((validated (world_with t i o) t.clock found).world.store ≡ o) × ((id : ℕ) → (validated (world_with t i o) t.clock found).world.lists.batches id ≡ t.lists.batches id)
-    parts = with_validated (world_with t i o) t.clock found
-
-    none : items_added o (validated (world_with t i o) t.clock found).world.store ≡ []
-    none = ap (items_added o) parts.0 ∙ none_added o
-
-validate_sound : (t : Scene) (o : Option ℕ) (found : Result Verdict AuditFail) → SoundEither (stored_by o t (Ok (lines.Plain stmts.Validate)) found) t (over_store t o (lines.Plain stmts.Validate) found)
+validate_sound : (t : Scene) (o : Option ℕ) (found : Found) → SoundEither (stored_by o t (Ok (lines.Plain stmts.Validate)) found) t (over_store t o (lines.Plain stmts.Validate) found)
 unfolding world_of world_steps.step
 validate_sound t None found = quiet_sound [] t (refuses t (codes "NotAStore")) refl refl
 validate_sound t (Some i) found = validate_by i t found (store_in i (stored t.bytes))
+
+-- ---- an analysis
+
+analyse_by : (i : ℕ) (t : Scene) (algorithm : LineAlgorithm) (found : Found) → (o : Option statements.World)
+    → SoundEither (items_added o (analysed (world_with t i o) (algorithm_of algorithm) t.clock found.analysis).world.store) t (over_world t (world_with t i o) (lines.Plain (stmts.Analyse algorithm)) found (analysed (world_with t i o) (algorithm_of algorithm) t.clock found.analysis))
+unfolding notary_calls
+analyse_by i t algorithm found o =
+    let stays_so = analysed_stays (world_with t i o) (algorithm_of algorithm) t.clock found.analysis in
+    asked_by i t (lines.Plain (stmts.Analyse algorithm)) found o (analysed (world_with t i o) (algorithm_of algorithm) t.clock found.analysis)
+    (ap (λ (w : worlds.World). w.store) stays_so) (λ id. ap (λ (w : worlds.World). w.lists.batches id) stays_so) (λ n id. ap (λ (calls : List Call). (with_calls calls t.lists).batches id) (take_none n))
+
+analyse_sound : (t : Scene) (algorithm : LineAlgorithm) (o : Option ℕ) (found : Found) → SoundEither (stored_by o t (Ok (lines.Plain (stmts.Analyse algorithm))) found) t (over_store t o (lines.Plain (stmts.Analyse algorithm)) found)
+unfolding world_of world_steps.step
+analyse_sound t algorithm None found = quiet_sound [] t (refuses t (codes "NotAStore")) refl refl
+analyse_sound t algorithm (Some i) found = analyse_by i t algorithm found (store_in i (stored t.bytes))
 
 -- ---- a notarization
 
@@ -114,7 +130,7 @@ unfolding frontier_items
 around_is None its = sym (append-nil its)
 around_is (Some moment) its = refl
 
-module _ (i : ℕ) (t : Scene) (found : Result Verdict AuditFail) (store : statements.World) (is : store_in i (stored t.bytes) ≡ Some store) (bytes_before : IsBytes t.bytes) where
+module _ (i : ℕ) (t : Scene) (found : Found) (store : statements.World) (is : store_in i (stored t.bytes) ≡ Some store) (bytes_before : IsBytes t.bytes) where
   abbrev h : History
   h = history store.header store.items
 
@@ -313,19 +329,19 @@ module _ (i : ℕ) (t : Scene) (found : Result Verdict AuditFail) (store : state
           (ap (λ (fault : Option AuditFail). (world_steps.unless fault w (sealed w store now)).world.store) cause)
           (ap (λ (fault : Option AuditFail). (world_steps.unless fault w (sealed w store now)).world.lists) cause)
 
-with_store : (i : ℕ) (t : Scene) (found : Result Verdict AuditFail) → IsBytes t.bytes → (o : Option statements.World) → store_in i (stored t.bytes) ≡ o → SoundEither (items_added o (notarized (world_with t i o) o t.clock).world.store) t (over_world t (world_with t i o) line found (notarized (world_with t i o) o t.clock))
+with_store : (i : ℕ) (t : Scene) (found : Found) → IsBytes t.bytes → (o : Option statements.World) → store_in i (stored t.bytes) ≡ o → SoundEither (items_added o (notarized (world_with t i o) o t.clock).world.store) t (over_world t (world_with t i o) line found (notarized (world_with t i o) o t.clock))
 unfolding notary_calls line
 with_store i t found bytes None is = tables_by i t line stmts.Notarize refl tt found bytes None is (notarized (world_with t i None) None t.clock) refl refl
 with_store i t found bytes (Some store) is = store_sound i t found store is bytes
 
-notarize_sound : (t : Scene) (o : Option ℕ) (found : Result Verdict AuditFail) → IsBytes t.bytes → SoundEither (stored_by o t (Ok (lines.Plain stmts.Notarize)) found) t (over_store t o (lines.Plain stmts.Notarize) found)
+notarize_sound : (t : Scene) (o : Option ℕ) (found : Found) → IsBytes t.bytes → SoundEither (stored_by o t (Ok (lines.Plain stmts.Notarize)) found) t (over_store t o (lines.Plain stmts.Notarize) found)
 unfolding world_of world_steps.step line
 notarize_sound t None found bytes = quiet_sound [] t (refuses t (codes "NotAStore")) refl refl
 notarize_sound t (Some i) found bytes = with_store i t found bytes (store_in i (stored t.bytes)) refl
 
 -- ---- each line
 
-stmt_sound : (t : Scene) (stmt : Stmt) (found : Result Verdict AuditFail) → IsDrillLine (lines.Plain stmt) → FitsStmt stmt → IsBytes t.bytes → SoundEither (stored_by t.id t (Ok (lines.Plain stmt)) found) t (act t (lines.Plain stmt) found)
+stmt_sound : (t : Scene) (stmt : Stmt) (found : Found) → IsDrillLine (lines.Plain stmt) → FitsStmt stmt → IsBytes t.bytes → SoundEither (stored_by t.id t (Ok (lines.Plain stmt)) found) t (act t (lines.Plain stmt) found)
 unfolding act world_steps.step notary_calls
 stmt_sound t stmts.Notarize found is fits bytes = notarize_sound t t.id found bytes
 stmt_sound t stmts.Validate found is fits bytes = validate_sound t t.id found
@@ -340,9 +356,9 @@ stmt_sound t (stmts.History table key) found is fits bytes = tables_sound t t.id
 stmt_sound t stmts.Begin found is fits bytes = absurd is
 stmt_sound t stmts.Commit found is fits bytes = absurd is
 stmt_sound t stmts.Abort found is fits bytes = absurd is
-stmt_sound t (stmts.Analyse algorithm) found is fits bytes = absurd is
+stmt_sound t (stmts.Analyse algorithm) found is fits bytes = analyse_sound t algorithm t.id found
 
-line_sound : (t : Scene) (line : Line) (found : Result Verdict AuditFail) → IsDrillLine line → IsFromInside (Ok line) → FitsParts line → IsBytes t.bytes → SoundEither (stored_by t.id t (Ok line) found) t (act t line found)
+line_sound : (t : Scene) (line : Line) (found : Found) → IsDrillLine line → IsFromInside (Ok line) → FitsParts line → IsBytes t.bytes → SoundEither (stored_by t.id t (Ok line) found) t (act t line found)
 unfolding act
 line_sound t (lines.Plain stmt) found is inside fits bytes = stmt_sound t stmt found is fits.0 bytes
 line_sound t (lines.Drill (events.Init id width k algs)) found is inside fits bytes = init_sound (stored_by t.id t (Ok (lines.Drill (events.Init id width k algs))) found) (record t { id = Some id }) t (header_at id t.clock width k algs) refl refl
@@ -352,13 +368,13 @@ line_sound t (lines.Drill (events.Cut n)) found is inside fits bytes = absurd in
 line_sound t lines.Blank found is inside fits bytes = absurd is
 line_sound t (lines.InSession session stmt) found is inside fits bytes = absurd is
 
-pub reading_sound : (t : Scene) (l : Result Line ParseFail) (found : Result Verdict AuditFail) → IsReading l → IsFromInside l → FitsReading l → IsBytes t.bytes → SoundEither (stored_by t.id t l found) t (act_on t l found)
+pub reading_sound : (t : Scene) (l : Result Line ParseFail) (found : Found) → IsReading l → IsFromInside l → FitsReading l → IsBytes t.bytes → SoundEither (stored_by t.id t l found) t (act_on t l found)
 reading_sound t (Ok l) found is inside fits bytes = line_sound t l found is inside fits bytes
 reading_sound t (Err fail) found is inside fits bytes = quiet_sound (stored_by t.id t (Err fail) found) t (refuses t (name_of fail)) refl refl
 
 -- ---- all events
 
-pub taken_stored : (o : Option ℕ) (t : Scene) (l : Result Line ParseFail) (found : Result Verdict AuditFail) → stored_by o (taken t) l found ≡ stored_by o t l found
+pub taken_stored : (o : Option ℕ) (t : Scene) (l : Result Line ParseFail) (found : Found) → stored_by o (taken t) l found ≡ stored_by o t l found
 unfolding world_of
 taken_stored None t l found = refl
 taken_stored (Some id) t (Ok l) found = refl
@@ -400,7 +416,7 @@ fit_header : (t : Scene) (id : ℕ) → IsBytes t.bytes → (o : Option statemen
 fit_header t id bytes None is = tt
 fit_header t id bytes (Some store) is = (let facts = store_is id t.bytes store is in ((stored_history t.bytes store.header bytes facts.header).header, facts.own))
 
-tells : (t : Scene) (id : ℕ) (line : Line) (found : Result Verdict AuditFail) → IsBytes t.bytes → IsSoundScene t → MayFind (world_of t id) line found → TellsNoAlteration (world_of t id) line found
+tells : (t : Scene) (id : ℕ) (line : Line) (found : Found) → IsBytes t.bytes → IsSoundScene t → MayFind (world_of t id) line found → TellsNoAlteration (world_of t id) line found
 unfolding world_of
 tells t id line found bytes sound may =
     let under : HoldsFiled (batches_of t id) id (history_of (store_in id (stored t.bytes))) =

@@ -25,16 +25,19 @@ use Rattle.validator.specs.declared.fail.AuditFail.TheVariants as fails
 use Rattle.validator.specs.declared.verdict.Verdict.{Verdict}
 use Rattle.validator.specs.Notarizing.{notarize_fault, next_batches, sealed_after, frontier_for}
 use Rattle.validator.specs.Verdicts.{mark_of}
-use Rattle.validator.specs.Texts.{verdict_text, refusal_text, numbered}
+use Rattle.number_text.specs.Numbered.{numbered}
+use Rattle.validator.specs.Texts.{verdict_text, refusal_text}
 use Rattle.session_core.specs.declared.reply.Reply.TheVariants as replies
 use Rattle.session_core.specs.World as statements
 use Rattle.session_core.specs.World.{tail_of_world, tables_now, with_txn}
 use Rattle.session_core.specs.Steps as statement_steps
 use Rattle.session_core.specs.Steps.{committed, commit_prepared, write_in, write_or_read}
 use Rattle.session_core.proofs.Preparing.{op_is}
+use Rattle.drill_core.specs.Found.{Found}
 use Rattle.drill_core.specs.World as worlds
 use Rattle.drill_core.specs.Steps as world_steps
-use Rattle.drill_core.specs.Steps.{on_tables, filed_for, notarized, sealed, reached, filed, validated, marked}
+use Rattle.drill_core.specs.Steps.{on_tables, filed_for, notarized, sealed, reached, filed, validated, algorithm_of, marked}
+use Rattle.drill_core.proofs.Analysing.{analysed_stays}
 use Rattle.timeline_model.specs.LineCalls.{items_added}
 use Rattle.timeline_model.proofs.Acts.{none_added}
 use Rattle.digest_model.specs.Layout.{layout}
@@ -169,10 +172,10 @@ no_statement : (w : worlds.World) (line : Line) (now : ℕ) (o : Option statemen
 no_statement w line now None is same = inl refl
 no_statement w line now (Some store) is same = inl (ap (λ (x : statements.World). Some x) (same store) ∙ sym is)
 
-pub step_stores : (w : worlds.World) (line : Line) (now : ℕ) (found : Result Verdict AuditFail) → Stores w line now (world_steps.step w line now found).world.store
+pub step_stores : (w : worlds.World) (line : Line) (now : ℕ) (found : Found) → Stores w line now (world_steps.step w line now found).world.store
 unfolding world_steps.step statement_steps.step
 step_stores w (lines.Plain stmts.Notarize) now found = of_notarize w (lines.Plain stmts.Notarize) now w.store refl
-step_stores w (lines.Plain stmts.Validate) now found = inl (with_validated w now found).0
+step_stores w (lines.Plain stmts.Validate) now found = inl (with_validated w now found.verdict).0
 step_stores w (lines.Plain (stmts.Create table columns)) now found = of_tables w (lines.Plain (stmts.Create table columns)) now (stmts.Create table columns) refl w.store refl
 step_stores w (lines.Plain (stmts.Insert table row)) now found = of_tables w (lines.Plain (stmts.Insert table row)) now (stmts.Insert table row) refl w.store refl
 step_stores w (lines.Plain (stmts.Update table row)) now found = of_tables w (lines.Plain (stmts.Update table row)) now (stmts.Update table row) refl w.store refl
@@ -183,7 +186,7 @@ step_stores w (lines.Plain (stmts.History table key)) now found = of_tables w (l
 step_stores w (lines.Plain stmts.Begin) now found = of_tables w (lines.Plain stmts.Begin) now stmts.Begin refl w.store refl
 step_stores w (lines.Plain stmts.Commit) now found = of_tables w (lines.Plain stmts.Commit) now stmts.Commit refl w.store refl
 step_stores w (lines.Plain stmts.Abort) now found = of_tables w (lines.Plain stmts.Abort) now stmts.Abort refl w.store refl
-step_stores w (lines.Plain (stmts.Analyse algorithm)) now found = of_tables w (lines.Plain (stmts.Analyse algorithm)) now (stmts.Analyse algorithm) refl w.store refl
+step_stores w (lines.Plain (stmts.Analyse algorithm)) now found = inl (ap (λ (x : worlds.World). x.store) (analysed_stays w (algorithm_of algorithm) now found.analysis))
 step_stores w (lines.Plain (stmts.Now moment)) now found = of_tables w (lines.Plain (stmts.Now moment)) now (stmts.Now moment) refl w.store refl
 step_stores w lines.Blank now found = no_statement w lines.Blank now w.store refl (λ store. refl)
 step_stores w (lines.InSession session stmt) now found = no_statement w (lines.InSession session stmt) now w.store refl (λ store. refl)

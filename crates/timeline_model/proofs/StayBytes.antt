@@ -29,8 +29,7 @@ use Rattle.stmt_text.specs.declared.line.Line.{Line}
 use Rattle.stmt_text.specs.declared.line.Line.TheVariants as lines
 use Rattle.stmt_text.specs.Fits.{FitsParts, FitsEvent}
 use Rattle.session_core.specs.World as statements
-use Rattle.validator.specs.declared.verdict.Verdict.{Verdict}
-use Rattle.validator.specs.declared.fail.AuditFail.{AuditFail}
+use Rattle.drill_core.specs.Found.{Found}
 use Rattle.drill_core.specs.World as worlds
 use Rattle.drill_core.specs.Steps as world_steps
 use Rattle.drill_core.specs.Steps.{on_tables, notarized, reached}
@@ -152,7 +151,7 @@ under_bytes t a (Some crash) was leaves = by (nat_le (calls_in a) crash.after)
 quiet_bytes : (next : Next) → IsBytes next.scene.bytes → LeavesBytes (quiet next)
 quiet_bytes next fits = record { whole = fits; calls = tt }
 
-pub world_bytes : (t : Scene) (w : worlds.World) (line : Line) (found : Result Verdict AuditFail) (s : world_steps.Step) → AllByRecursion SpelledInBytes (items_added w.store s.world.store) → IsBytes t.bytes → LeavesBytes (over_world t w line found s)
+pub world_bytes : (t : Scene) (w : worlds.World) (line : Line) (found : Found) (s : world_steps.Step) → AllByRecursion SpelledInBytes (items_added w.store s.world.store) → IsBytes t.bytes → LeavesBytes (over_world t w line found s)
 world_bytes t w line found s all was = record {
   whole = items_bytes (end_of_store w.store) (items_added w.store s.world.store) t.bytes all was;
   calls = appends_bytes (standing (end_of_store w.store) t.bytes) (items_added w.store s.world.store) all;
@@ -160,7 +159,7 @@ world_bytes t w line found s all was = record {
 
 -- ---- what a line stores
 
-pub step_bytes : (w : worlds.World) (line : Line) (now : ℕ) (found : Result Verdict AuditFail) → FitsParts line → AllByRecursion SpelledInBytes (items_added w.store (world_steps.step w line now found).world.store)
+pub step_bytes : (w : worlds.World) (line : Line) (now : ℕ) (found : Found) → FitsParts line → AllByRecursion SpelledInBytes (items_added w.store (world_steps.step w line now found).world.store)
 step_bytes w line now found fits = by (world_steps.step w line now found).world.store (step_stores w line now found)
   where
     by : (new : Option statements.World) → Stores w line now new → AllByRecursion SpelledInBytes (items_added w.store new)
@@ -174,7 +173,7 @@ step_bytes w line now found fits = by (world_steps.step w line now found).world.
 
 -- ---- each line
 
-over_bytes : (t : Scene) (o : Option ℕ) (line : Line) (found : Result Verdict AuditFail) → FitsParts line → IsBytes t.bytes → LeavesBytes (over_store t o line found)
+over_bytes : (t : Scene) (o : Option ℕ) (line : Line) (found : Found) → FitsParts line → IsBytes t.bytes → LeavesBytes (over_store t o line found)
 over_bytes t None line found fits was = quiet_bytes (refuses t (codes "NotAStore")) was
 over_bytes t (Some id) line found fits was = world_bytes t (world_of t id) line found (world_steps.step (world_of t id) line t.clock found) (step_bytes (world_of t id) line t.clock found fits) was
 
@@ -232,7 +231,7 @@ brings_bytes t (events.Crash after choice) fits was = quiet_bytes (says (record 
 brings_bytes t (events.Alter place bytes) fits was = altered_bytes t place bytes fits.2 was
 brings_bytes t (events.Cut n) fits was = shortened_bytes t n was
 
-act_bytes : (t : Scene) (line : Line) (found : Result Verdict AuditFail) → IsDrillLine line → FitsParts line → IsBytes t.bytes → LeavesBytes (act t line found)
+act_bytes : (t : Scene) (line : Line) (found : Found) → IsDrillLine line → FitsParts line → IsBytes t.bytes → LeavesBytes (act t line found)
 unfolding act
 act_bytes t (lines.Drill event) found is fits was = brings_bytes t event fits was
 act_bytes t (lines.Plain (stmts.Now moment)) found is fits was = quiet_bytes (says (record t { clock = moment }) (codes "ok")) was
@@ -248,11 +247,11 @@ act_bytes t (lines.Plain (stmts.History table key)) found is fits was = over_byt
 act_bytes t (lines.Plain stmts.Begin) found is fits was = absurd is
 act_bytes t (lines.Plain stmts.Commit) found is fits was = absurd is
 act_bytes t (lines.Plain stmts.Abort) found is fits was = absurd is
-act_bytes t (lines.Plain (stmts.Analyse algorithm)) found is fits was = absurd is
+act_bytes t (lines.Plain (stmts.Analyse algorithm)) found is fits was = over_bytes t t.id (lines.Plain (stmts.Analyse algorithm)) found fits was
 act_bytes t lines.Blank found is fits was = absurd is
 act_bytes t (lines.InSession session stmt) found is fits was = absurd is
 
-reading_bytes : (t : Scene) (line : Result Line ParseFail) (found : Result Verdict AuditFail) → IsReading line → FitsReading line → IsBytes t.bytes → LeavesBytes (act_on t line found)
+reading_bytes : (t : Scene) (line : Result Line ParseFail) (found : Found) → IsReading line → FitsReading line → IsBytes t.bytes → LeavesBytes (act_on t line found)
 reading_bytes t (Ok line) found is fits was = act_bytes t line found is fits was
 reading_bytes t (Err fail) found is fits was = quiet_bytes (refuses t (name_of fail)) was
 

@@ -20,8 +20,8 @@ use Rattle.notary_link.specs.declared.name.Name.TheVariants as names
 use Rattle.notary_link.specs.declared.seal.Seal.{Seal}
 use Rattle.notary_link.specs.Batches.{Batch}
 use Rattle.audit_model.specs.Names.{batch}
-use Rattle.audit_model.specs.Notary.{NotaryOf, answers, header_answer}
-use Rattle.audit_model.specs.Altered.{view, IsAltered, HashClash}
+use Rattle.audit_model.specs.Notary.{NotaryOf, answers, header_answer, cums}
+use Rattle.audit_model.specs.Altered.{view, IsAltered, HashClash, history_with}
 use Rattle.audit_model.specs.Laws.{IsAudit}
 use Rattle.audit_model.proofs.Filed.{same_batches}
 use Rattle.audit_model.proofs.Planned.{same_view}
@@ -30,8 +30,8 @@ use Rattle.validator.specs.declared.verdict.Verdict.{Verdict}
 use Rattle.validator.specs.declared.verdict.Verdict.TheVariants as verdicts
 use Rattle.validator.specs.Notarizing.{else_cause, fault_by, chain_fault, filed_fault}
 use Rattle.validator.specs.declared.fail.AuditFail.TheVariants as fails
-use Rattle.validator.specs.Tiles.{cums, first_past}
-use Rattle.validator.specs.Verdicts.{history_with, IsFoundBy}
+use Rattle.policy_eras.specs.Policy.{first_past}
+use Rattle.validator.specs.Verdicts.{IsFoundBy}
 use Rattle.timeline_model.specs.Scene.{Scene, held, batches_of}
 use Rattle.timeline_model.specs.Timeline.{Event, after, EachEvent}
 use Rattle.timeline_model.specs.Filed.{with_tiles, bare, filed_next, filed}

@@ -31,12 +31,15 @@ use Rattle.validator.specs.declared.fail.AuditFail.{AuditFail}
 use Rattle.validator.specs.declared.fail.AuditFail.TheVariants as fails
 use Rattle.validator.specs.Notarizing.{notarize_fault, next_batches, sealed_after, frontier_for}
 use Rattle.validator.specs.Verdicts.{mark_of}
-use Rattle.validator.specs.Texts.{verdict_text, refusal_text, numbered}
+use Rattle.number_text.specs.Numbered.{numbered}
+use Rattle.validator.specs.Texts.{verdict_text, refusal_text}
 use Rattle.session_core.specs.World as statements
 use Rattle.session_core.specs.Steps as statement_steps
+use Rattle.drill_core.specs.Found.{Found}
 use Rattle.drill_core.specs.World as worlds
 use Rattle.drill_core.specs.Steps as world_steps
-use Rattle.drill_core.specs.Steps.{on_tables, notarized, sealed, filed, filed_for, reached, validated, marked, IsWorldStmt, IsWorldLine}
+use Rattle.drill_core.specs.Steps.{on_tables, notarized, sealed, filed, filed_for, reached, validated, algorithm_of, marked, IsWorldStmt, IsWorldLine}
+use Rattle.drill_core.proofs.Analysing.{analysed_stays}
 use Rattle.store_engine.specs.Appended.{with_record, Takes}
 use Rattle.store_engine.proofs.Appended.{append_adds, append_puts, stores_record}
 use Rattle.timeline_model.specs.LineCalls.{items_added, with_items, end_of_store}
@@ -91,10 +94,10 @@ validated_rest w now (Ok verdict) = by (mark_of verdict now)
     by None = rest_same w
     by (Some mark) = of_room mark (nat_lt (marks_in_all w.lists) w.limits.marks)
 
-stmt_rest : (w : worlds.World) (stmt : Stmt) (now : ℕ) (found : Result Verdict AuditFail) → IsWorldStmt stmt → KeepsRest w (world_steps.step w (lines.Plain stmt) now found).world
+stmt_rest : (w : worlds.World) (stmt : Stmt) (now : ℕ) (found : Found) → IsWorldStmt stmt → KeepsRest w (world_steps.step w (lines.Plain stmt) now found).world
 unfolding world_steps.step
 stmt_rest w stmts.Notarize now found is = notarized_rest w w.store now
-stmt_rest w stmts.Validate now found is = validated_rest w now found
+stmt_rest w stmts.Validate now found is = validated_rest w now found.verdict
 stmt_rest w (stmts.Create table columns) now found is = tables_rest w w.store (lines.Plain (stmts.Create table columns)) now
 stmt_rest w (stmts.Insert table row) now found is = tables_rest w w.store (lines.Plain (stmts.Insert table row)) now
 stmt_rest w (stmts.Update table row) now found is = tables_rest w w.store (lines.Plain (stmts.Update table row)) now
@@ -105,10 +108,10 @@ stmt_rest w (stmts.History table key) now found is = tables_rest w w.store (line
 stmt_rest w stmts.Begin now found is = absurd is
 stmt_rest w stmts.Commit now found is = absurd is
 stmt_rest w stmts.Abort now found is = absurd is
-stmt_rest w (stmts.Analyse algorithm) now found is = absurd is
+stmt_rest w (stmts.Analyse algorithm) now found is = subst (KeepsRest w) (sym (analysed_stays w (algorithm_of algorithm) now found.analysis)) (rest_same w)
 stmt_rest w (stmts.Now moment) now found is = absurd is
 
-line_rest : (w : worlds.World) (line : Line) (now : ℕ) (found : Result Verdict AuditFail) → IsWorldLine line → KeepsRest w (world_steps.step w line now found).world
+line_rest : (w : worlds.World) (line : Line) (now : ℕ) (found : Found) → IsWorldLine line → KeepsRest w (world_steps.step w line now found).world
 line_rest w (lines.Plain stmt) now found is = stmt_rest w stmt now found is
 line_rest w lines.Blank now found is = absurd is
 line_rest w (lines.InSession session stmt) now found is = absurd is
@@ -151,7 +154,7 @@ module _ (id : ℕ) (t : Scene) (store : statements.World) (is : store_in id (st
 
 -- ---- a line
 
-module _ (id : ℕ) (t : Scene) (line : Line) (found : Result Verdict AuditFail) (bytes : IsBytes t.bytes) (fits : FitsParts line) where
+module _ (id : ℕ) (t : Scene) (line : Line) (found : Found) (bytes : IsBytes t.bytes) (fits : FitsParts line) where
   abbrev w : worlds.World
   w = world_of t id
 
@@ -194,7 +197,7 @@ module _ (id : ℕ) (t : Scene) (line : Line) (found : Result Verdict AuditFail)
         refused = refl;
       }
 
-stmt_act : (t : Scene) (stmt : Stmt) (found : Result Verdict AuditFail) → IsWorldStmt stmt → act t (lines.Plain stmt) found ≡ over_store t t.id (lines.Plain stmt) found
+stmt_act : (t : Scene) (stmt : Stmt) (found : Found) → IsWorldStmt stmt → act t (lines.Plain stmt) found ≡ over_store t t.id (lines.Plain stmt) found
 unfolding act
 stmt_act t stmts.Notarize found is = refl
 stmt_act t stmts.Validate found is = refl
@@ -208,10 +211,10 @@ stmt_act t (stmts.History table key) found is = refl
 stmt_act t stmts.Begin found is = absurd is
 stmt_act t stmts.Commit found is = absurd is
 stmt_act t stmts.Abort found is = absurd is
-stmt_act t (stmts.Analyse algorithm) found is = absurd is
+stmt_act t (stmts.Analyse algorithm) found is = refl
 stmt_act t (stmts.Now moment) found is = absurd is
 
-line_act : (t : Scene) (line : Line) (found : Result Verdict AuditFail) → IsWorldLine line → act t line found ≡ over_store t t.id line found
+line_act : (t : Scene) (line : Line) (found : Found) → IsWorldLine line → act t line found ≡ over_store t t.id line found
 line_act t (lines.Plain stmt) found is = stmt_act t stmt found is
 line_act t lines.Blank found is = absurd is
 line_act t (lines.InSession session stmt) found is = absurd is

@@ -8,9 +8,8 @@ use Rattle.history_model.specs.History.{History, history, rows}
 use Rattle.digest_model.specs.Layout.{layout, first_granule}
 use Rattle.notary_link.specs.declared.mark.Mark.{Mark}
 use Rattle.notary_link.specs.Batches.{Batch}
-use Rattle.audit_model.specs.Altered.{IsAltered}
-use Rattle.validator.specs.Tiles.{cums}
-use Rattle.validator.specs.Verdicts.{history_with}
+use Rattle.audit_model.specs.Altered.{IsAltered, history_with}
+use Rattle.audit_model.specs.Notary.{cums}
 use Rattle.digest_model.proofs.Layouts.{ascends, adjoin}
 use Rattle.timeline_model.specs.Scene.{Scene, held, batches_of}
 use Rattle.timeline_model.specs.Timeline.{Event, after, EachEvent}

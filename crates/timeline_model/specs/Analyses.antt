@@ -8,12 +8,11 @@ use Rattle.notary_link.specs.declared.name.Name.TheVariants.{Cum, Tile, Node}
 use Rattle.notary_link.specs.declared.notary.NotaryLimits.{NotaryLimits}
 use Rattle.notary_link.specs.Batches.{Batch}
 use Rattle.audit_model.specs.Notary.{answers, header_answer}
-use Rattle.audit_model.specs.Altered.{IsAltered}
+use Rattle.audit_model.specs.Altered.{IsAltered, history_with}
 use Rattle.audit_model.specs.Mono.{BeginsRegion}
 use Rattle.audit_model.specs.Tiled.{IsCandidate, IsCandidateAmong}
 use Rattle.audit_model.specs.Tree.{IsFound}
 use Rattle.audit_model.specs.Laws.{HasTree, IsAlteredSet, IfSomeOrNever}
-use Rattle.validator.specs.Verdicts.{history_with}
 use Rattle.timeline_model.specs.Scene.{Scene, nothing_yet, held, batches_of}
 use Rattle.timeline_model.specs.Timeline.{Event, after, IsTimeline}
 use Rattle.timeline_model.specs.Kept.{IsFiledOver, HasClash, sealed_in}

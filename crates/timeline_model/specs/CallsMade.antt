@@ -9,8 +9,7 @@ use Rattle.notary_link.specs.Notary.{Call, Entry}
 use Rattle.notary_link.specs.Runs as runs
 use Rattle.stmt_text.specs.declared.line.Line.{Line}
 use Rattle.validator.specs.Desk.{Desk}
-use Rattle.validator.specs.declared.verdict.Verdict.{Verdict}
-use Rattle.validator.specs.declared.fail.AuditFail.{AuditFail}
+use Rattle.drill_core.specs.Found.{Found}
 use Rattle.drill_core.specs.declared.answered.Answered.{Answered}
 use Rattle.drill_core.specs.declared.fail.LineFail.{LineFail}
 use Rattle.drill_core.specs.declared.fail.LineFail.TheVariants as fails
@@ -41,7 +40,7 @@ MakesOfNotary calls (Err fails.NotaryFault) old new = (new ≡ old) ⊎ runs.Mak
 MakesOfNotary calls (Err fails.NoMemory) old new = IsAnswered calls old new ⊎ runs.MakesCalls calls (Err notary_fails.NoMemory) old new
 
 -- The changing calls of a line at these clock seconds, where this was found: what `Goes` is to have besides.
-pub record MakesLineCalls (w : World) (line : Line) (now : ℕ) (found : Result Verdict AuditFail) (next : Step) (result : Result Answered LineFail) (old new : Desk) (before : List ℕ) : Type 0 where
+pub record MakesLineCalls (w : World) (line : Line) (now : ℕ) (found : Found) (next : Step) (result : Result Answered LineFail) (old new : Desk) (before : List ℕ) : Type 0 where
   pub disk : MakesOfDisk (disk_calls w next before) result old.disk new.disk
   pub notary : WhereTold old.notary.trace new.notary.trace (MakesOfNotary (notary_calls w line now found) result)
   -- the notary is called behind all calls of the disk

@@ -20,6 +20,7 @@ use Rattle.validator.specs.declared.verdict.Verdict.{Verdict}
 use Rattle.validator.specs.declared.fail.AuditFail.{AuditFail}
 use Rattle.validator.specs.Notarizing.{notarize_fault, next_batches}
 use Rattle.validator.specs.Verdicts.{mark_of}
+use Rattle.drill_core.specs.Found.{Found}
 use Rattle.drill_core.specs.World.{World}
 use Rattle.drill_core.specs.Steps.{Step, filed_for}
 
@@ -74,7 +75,7 @@ abbrev pub validate_calls : World → ℕ → Result Verdict AuditFail → List 
 validate_calls w now (Ok verdict) = noting w.id (mark_of verdict now)
 validate_calls w now (Err fail) = []
 
-unfoldable pub notary_calls : World → Line → ℕ → Result Verdict AuditFail → List Call
+unfoldable pub notary_calls : World → Line → ℕ → Found → List Call
 notary_calls w (lines.Plain stmts.Notarize) now found = notarize_calls w w.store now
-notary_calls w (lines.Plain stmts.Validate) now found = validate_calls w now found
+notary_calls w (lines.Plain stmts.Validate) now found = validate_calls w now found.verdict
 notary_calls w line now found = []

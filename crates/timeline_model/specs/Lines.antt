@@ -1,5 +1,5 @@
 -- What each line of a drill does where nothing stops it: the changing calls that it makes, what stands then, and the reply.
-use Rattle.std.specs.Prelude.{ℕ, ◌+◌, ◌==◌, nat_lt, nat_le, not, ◌&&◌, ◌||◌, if◌then◌else◌, Bool, true, false, List, [], ◌∷◌, ◌++◌, length, take, slice_index, codes, Option, Some, None, Result}
+use Rattle.std.specs.Prelude.{ℕ, ◌+◌, ◌==◌, nat_lt, nat_le, not, ◌&&◌, ◌||◌, if◌then◌else◌, Bool, true, false, List, [], ◌∷◌, ◌++◌, length, take, slice_index, codes, Option, Some, None}
 use Rattle.std.specs.Fmt.{decimal}
 use Rattle.disk_words.specs.Disk as disks
 use Rattle.disk_words.specs.Disk.{written}
@@ -16,8 +16,7 @@ use Rattle.stmt_text.specs.declared.event.Event.TheVariants as events
 use Rattle.stmt_text.specs.declared.stmt.Stmt.TheVariants as stmts
 use Rattle.stmt_text.specs.declared.line.Line.{Line}
 use Rattle.stmt_text.specs.declared.line.Line.TheVariants as lines
-use Rattle.validator.specs.declared.verdict.Verdict.{Verdict}
-use Rattle.validator.specs.declared.fail.AuditFail.{AuditFail}
+use Rattle.drill_core.specs.Found.{Found}
 use Rattle.drill_core.specs.World as worlds
 use Rattle.drill_core.specs.Steps as world_steps
 use Rattle.drill_core.specs.Steps.{filed_for}
@@ -52,7 +51,7 @@ quiet next = record { disk_calls = []; notary_calls = []; next = next }
 abbrev pub with_step : Scene → worlds.World → world_steps.Step → Scene
 with_step t w s = record t { bytes = with_items (end_of_store w.store) (items_added w.store s.world.store) t.bytes; lists = s.world.lists }
 
-abbrev pub over_world : Scene → worlds.World → Line → Result Verdict AuditFail → world_steps.Step → Act
+abbrev pub over_world : Scene → worlds.World → Line → Found → world_steps.Step → Act
 over_world t w line found s = record {
   disk_calls = disk_calls w s t.bytes;
   notary_calls = notary_calls w line t.clock found;
@@ -60,7 +59,7 @@ over_world t w line found s = record {
 }
 
 -- the step of the world that stands under the drill's id; before an `init` line there is none
-abbrev pub over_store : Scene → Option ℕ → Line → Result Verdict AuditFail → Act
+abbrev pub over_store : Scene → Option ℕ → Line → Found → Act
 over_store t None line found = quiet (refuses t (codes "NotAStore"))
 over_store t (Some id) line found = over_world t (world_of t id) line found (world_steps.step (world_of t id) line t.clock found)
 
@@ -104,7 +103,7 @@ brings t (events.Cut n) = quiet (shortened t n)
 
 -- ---- a line
 
-unfoldable pub act : Scene → Line → Result Verdict AuditFail → Act
+unfoldable pub act : Scene → Line → Found → Act
 act t (lines.Drill event) found = brings t event
 act t (lines.Plain (stmts.Now moment)) found = quiet (says (record t { clock = moment }) (codes "ok"))
 act t line found = over_store t t.id line found
