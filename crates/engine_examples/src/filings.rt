@@ -1,7 +1,5 @@
 //! What no clause says: that notarizations come to an end.
 
-ghost use Rattle.std.specs.Prelude.{◌≤◌};
-
 use disk_model::MemDisk;
 use notary_link::{MemNotary, Notary, NotaryLimits};
 use std::alloc::{AllocError, Global};
@@ -27,8 +25,7 @@ fn store_of(alloc: Global, is_created: bool) -> Result<MemDisk, AllocError> {
         k: 1,
         algs: 3,
     });
-    let mut bytes = Vec::new(alloc);
-    bytes.extend_from_slice(&head)?;
+    let mut bytes = head.to_vec(alloc)?;
     if is_created {
         bytes.extend_from_slice(&CREATE)?;
     }
@@ -36,85 +33,102 @@ fn store_of(alloc: Global, is_created: bool) -> Result<MemDisk, AllocError> {
     Ok(MemDisk::holding(alloc, bytes))
 }
 
-fn notary_of(alloc: Global, seals: u64) -> MemNotary
-    requires { seals ≤ 4294967295 }
-{
-    MemNotary::new(alloc, NotaryLimits { seals, marks: 0 })
-}
+/// When a notarization is made, what it answers, and how many batches there are and the store's last moment
+/// behind it.
+type Filing = (u64, Result<u32, AuditFail>, u32, u64);
+
+/// Whether the store has the creation, which changing call of its disk fails, and the notarizations.
+type Sitting = (bool, u64, &'static [Filing]);
+
+/// How many seals the notary holds, which of its changing calls fails, and over which stores it is filled.
+const NOTARIES: [(u32, u64, &[Sitting]); 5] = [
+    // tiles are sealed as they end
+    (
+        100,
+        0,
+        &[(
+            true,
+            0,
+            &[
+                (30, Ok(0), 1, 0),
+                (130, Ok(1), 2, 120),
+                (130, Ok(1), 2, 120),
+                (119, Err(AuditFail::ClockBack { last: 120 }), 2, 120),
+                (370, Ok(3), 4, 360),
+            ],
+        )],
+    ),
+    // a full notary has as many batches as fit
+    (
+        12,
+        0,
+        &[(
+            true,
+            0,
+            &[
+                (250, Err(AuditFail::Full), 2, 240),
+                (250, Err(AuditFail::Full), 2, 240),
+            ],
+        )],
+    ),
+    // what failed is done again
+    (
+        100,
+        2,
+        &[(
+            true,
+            0,
+            &[
+                (250, Err(AuditFail::NotaryFault), 1, 240),
+                (250, Ok(2), 3, 240),
+            ],
+        )],
+    ),
+    // another history is broken
+    (
+        100,
+        0,
+        &[
+            (true, 0, &[(130, Ok(1), 2, 120)]),
+            (false, 0, &[(130, Err(AuditFail::Broken), 2, 0)]),
+        ],
+    ),
+    // a failed frontier closes the store
+    (
+        100,
+        0,
+        &[(
+            true,
+            1,
+            &[
+                (130, Err(AuditFail::DiskFault), 0, 0),
+                (130, Err(AuditFail::Closed), 0, 0),
+            ],
+        )],
+    ),
+];
 
 #[test]
-fn tiles_are_sealed_as_they_end(rt: HostRuntime) -> Result<(), Fail> {
+fn notarizations_end_as_worked_by_hand(rt: HostRuntime) -> Result<(), Fail> {
     let alloc = rt.alloc();
-    let mut disk = store_of(alloc, true)?;
-    let mut store = Store::open_store(alloc, &mut disk, ID)?;
-    let mut notary = notary_of(alloc, 100);
-    for (now, answer, batches, last) in [
-        (30, Ok(0), 1, 0),
-        (130, Ok(1), 2, 120),
-        (130, Ok(1), 2, 120),
-        (119, Err(AuditFail::ClockBack { last: 120 }), 2, 120),
-        (370, Ok(3), 4, 360),
-    ] {
-        let sealed = notarize(alloc, &mut store, &mut disk, &mut notary, now);
-        assert_eq!(rt; sealed, answer);
-        assert_eq!(rt; notary.count(ID), Ok(batches));
-        assert_eq!(rt; store.last_moment(), last);
-    }
-    Ok(())
-}
-
-#[test]
-fn a_full_notary_has_as_many_batches_as_fit(rt: HostRuntime) -> Result<(), Fail> {
-    let alloc = rt.alloc();
-    let mut disk = store_of(alloc, true)?;
-    let mut store = Store::open_store(alloc, &mut disk, ID)?;
-    let mut notary = notary_of(alloc, 12);
-    for _again in 0..2 {
-        let full = notarize(alloc, &mut store, &mut disk, &mut notary, 250);
-        assert_eq!(rt; full, Err(AuditFail::Full));
-        assert_eq!(rt; notary.count(ID), Ok(2));
-    }
-    Ok(())
-}
-
-#[test]
-fn what_failed_is_done_again(rt: HostRuntime) -> Result<(), Fail> {
-    let alloc = rt.alloc();
-    let mut disk = store_of(alloc, true)?;
-    let mut store = Store::open_store(alloc, &mut disk, ID)?;
-    let mut notary = notary_of(alloc, 100);
-    notary.failing(Vec::new(alloc), [2].to_vec(alloc)?);
-    let failed = notarize(alloc, &mut store, &mut disk, &mut notary, 250);
-    assert_eq!(rt; failed, Err(AuditFail::NotaryFault));
-    let done = notarize(alloc, &mut store, &mut disk, &mut notary, 250);
-    assert_eq!(rt; done, Ok(2));
-    Ok(())
-}
-
-#[test]
-fn another_history_is_broken(rt: HostRuntime) -> Result<(), Fail> {
-    let alloc = rt.alloc();
-    let mut notary = notary_of(alloc, 100);
-    for (is_created, answer) in [(true, Ok(1)), (false, Err(AuditFail::Broken))] {
-        let mut disk = store_of(alloc, is_created)?;
-        let mut store = Store::open_store(alloc, &mut disk, ID)?;
-        let sealed = notarize(alloc, &mut store, &mut disk, &mut notary, 130);
-        assert_eq!(rt; sealed, answer);
-    }
-    Ok(())
-}
-
-#[test]
-fn a_failed_frontier_closes_the_store(rt: HostRuntime) -> Result<(), Fail> {
-    let alloc = rt.alloc();
-    let mut disk = store_of(alloc, true)?;
-    let mut store = Store::open_store(alloc, &mut disk, ID)?;
-    let mut notary = notary_of(alloc, 100);
-    disk.failing(Vec::new(alloc), [1].to_vec(alloc)?);
-    for answer in [Err(AuditFail::DiskFault), Err(AuditFail::Closed)] {
-        let failed = notarize(alloc, &mut store, &mut disk, &mut notary, 130);
-        assert_eq!(rt; failed, answer);
-        assert_eq!(rt; notary.count(ID), Ok(0));
+    for (seals, change, sittings) in NOTARIES {
+        let limits = NotaryLimits {
+            seals: u64::from(seals),
+            marks: 0,
+        };
+        let mut notary = MemNotary::new(alloc, limits);
+        notary.failing(Vec::new(alloc), [change].to_vec(alloc)?);
+        for (is_created, stop, filings) in sittings {
+            let mut disk = store_of(alloc, *is_created)?;
+            let mut store = Store::open_store(alloc, &mut disk, ID)?;
+            disk.failing(Vec::new(alloc), [*stop].to_vec(alloc)?);
+            for (now, answer, batches, last) in *filings {
+                let sealed = notarize(alloc, &mut store, &mut disk, &mut notary, *now);
+                assert_eq!(rt; sealed, *answer);
+                assert_eq!(rt; notary.count(ID), Ok(*batches));
+                assert_eq!(rt; store.last_moment(), *last);
+            }
+        }
     }
     Ok(())
 }

@@ -5,7 +5,7 @@
 #![tactic(auto)]
 
 #[cfg(test)]
-mod chains;
+mod digests;
 #[cfg(test)]
 mod filings;
 #[cfg(test)]
@@ -18,10 +18,6 @@ mod searches;
 mod statements;
 #[cfg(test)]
 mod stores;
-#[cfg(test)]
-mod tiles;
-#[cfg(test)]
-mod trees;
 #[cfg(test)]
 mod verdicts;
 #[cfg(test)]

@@ -1,9 +1,10 @@
 //! The seals of two stores against those of another program.
 
-ghost use Rattle.std.specs.Prelude.{◌≡◌, ◌≤◌, ◌*◌, ◌^◌, IfOk, IfSome};
+ghost use Rattle.std.specs.Prelude.{◌≤◌, ◌*◌, ◌^◌, IfOk, IfSome};
 ghost use Rattle.std.specs.List.{All};
 ghost use Rattle.step_count.specs.Blank.{IsBlankOf};
 ghost use Rattle.history_model.specs.Stored.{IsStorable};
+ghost use Rattle.tuple_bytes.specs.Limits.{max_granules};
 
 use notary_link::Seals;
 use seal_plan::Plan;
@@ -34,19 +35,22 @@ fn read(alloc: Global, spelling: &[u8]) -> Result<Option<Item>, AllocError>
     Ok(item)
 }
 
-fn insert(number: u8, moment: u16, key: u8) -> [u8; 37] {
-    let mut spelled = INSERT;
-    spelled[4] = number;
-    spelled[11..13].copy_from_slice(&moment.to_be_bytes());
-    spelled[27] = key;
-    spelled
-}
-
-fn read_all(alloc: Global, spellings: &[&[u8]]) -> Result<Items, AllocError>
+/// Items by their number, moment and key. The first one is the creation.
+fn read_all(alloc: Global, rows: &[(u8, u16, u8)]) -> Result<Items, AllocError>
     ensures { IfOk result (λ items. All IsStorable items) }
 {
     let mut items = Items::new(alloc);
-    for spelling in spellings {
+    for (number, moment, key) in rows {
+        let [high, low] = moment.to_be_bytes();
+        let mut create = CREATE;
+        create[11] = high;
+        create[12] = low;
+        let mut insert = INSERT;
+        insert[4] = *number;
+        insert[11] = high;
+        insert[12] = low;
+        insert[27] = *key;
+        let spelling: &[u8] = if *number == 1 { &create } else { &insert };
         if let Some(item) = read(alloc, spelling)? {
             items.push(item)?;
         }
@@ -54,18 +58,19 @@ fn read_all(alloc: Global, spellings: &[&[u8]]) -> Result<Items, AllocError>
     Ok(items)
 }
 
-fn plan_of<L: Ledger>(
+/// The seals of the last of so many tiles.
+fn last_batch<L: Ledger>(
     blank: Blank,
     alloc: Global,
     id: u64,
     k: u8,
     tiles: u32,
-    spellings: &[&[u8]],
-) -> Result<Plan, AllocError>
+    items: &Items,
+) -> Result<Seals, AllocError>
     requires blank { IsBlankOf L.name L.parts blank }
     requires exponent { k ≤ 10 }
-    requires within { tiles * 2 ^ k ≤ 1048576 }
-    ensures { IfOk result (λ plan. plan.tiles ≡ tiles) }
+    requires within { tiles * 2 ^ k ≤ max_granules }
+    requires storable { All IsStorable items.now }
 {
     let mut steps = Steps::<L>::new(blank);
     let header = Header {
@@ -75,99 +80,68 @@ fn plan_of<L: Ledger>(
         k,
         algs: 3,
     };
-    let items = read_all(alloc, spellings)?;
-    Plan::new(alloc, &header, &items, tiles, &mut steps)
+    Plan::new(alloc, &header, items, tiles, &mut steps)?.batch(alloc, tiles)
 }
 
-fn batch_of_worked_store<L: Ledger>(blank: Blank, alloc: Global) -> Result<Seals, AllocError>
-    requires { IsBlankOf L.name L.parts blank }
-{
-    let inserts = [
-        insert(2, 0, 0),
-        insert(3, 60, 1),
-        insert(4, 120, 2),
-        insert(5, 180, 3),
-        insert(6, 240, 4),
-        insert(7, 300, 5),
-        insert(8, 360, 6),
-        insert(9, 420, 7),
-    ];
-    let spellings: [&[u8]; 9] = [
-        &CREATE,
-        &inserts[0],
-        &inserts[1],
-        &inserts[2],
-        &inserts[3],
-        &inserts[4],
-        &inserts[5],
-        &inserts[6],
-        &inserts[7],
-    ];
-    plan_of::<L>(blank, alloc, 7, 3, 1, &spellings)?.batch(alloc, 1)
-}
+const WORKED: [(u8, u16, u8); 9] = [
+    (1, 0, 0),
+    (2, 0, 0),
+    (3, 60, 1),
+    (4, 120, 2),
+    (5, 180, 3),
+    (6, 240, 4),
+    (7, 300, 5),
+    (8, 360, 6),
+    (9, 420, 7),
+];
+
+const FALLING: [(u8, u16, u8); 4] = [(1, 130, 0), (2, 10, 1), (3, 125, 2), (4, 70, 3)];
+
+const OF_WORKED: [&str; 20] = [
+    "f87cbf8193e5ef79956ed0ccc181c1f75d54b9efd5ef2653599a6453cc09e26e",
+    "d2cb91a5a1aadb890c00a4a9af51969f6a3863e411441ad89c59ebce2c67570c",
+    "fe963e43ceb2ffa3b99393b7e5594be22081e546d7bb6e86b11d37c12e14043f",
+    "2c20e34cdafbf338cf80ed3d79c60048626403fd1ec27461ba13cb7fd4aef68a",
+    "ca6d7345715577192b779dd3573c74e480d565455bae814dd1acf452c3aa144f",
+    "3867c121da74080f67a1d2cdc7b14c6035543a159b411db2a234cbf9172843a3",
+    "32a13805d8ba98f8e59f3e071f26d5a75ca372c95170a89161358ea33717ff5b",
+    "dd87fb0b289b094de5e9a41d9460aa9a8892e11e3452a4d68aa809c127fc1544",
+    "55316abcb9b0c9aae21b9d492c068778984fd917bc99da4fb42e03f724328142",
+    "03031076daea2dc03d850abfc9a565d08af68099328959e89eb49e89a6d7e719",
+    "e1a720bb05206688ad946834b21541a47a8ecb3355d315609a097950b857cea4",
+    "cc712941d637181ca500f3a5a1bb95dfd603512eb0546c221cf6cbb66888b7fc",
+    "8dfa4c4c75260b93de2d9ced16c565a43053ff83fb656d6b324eb21cb240fbce",
+    "990f582142f21a83ce738e9451e18b6160f9a6e8702f99f380f94708683233c1",
+    "4d111686202e0a85d6acffe7eb13ee8182d4265361ac57454d81fc4bd74a120d",
+    "4ad60f5cc889759b33db0e7e51a92f4c343d563aa4d31ffaf69077e0cee75c92",
+    "635705c66e879557d1eeb867baca2a55f723eddcd56ef9a497b5fe5ac1b7c336",
+    "411382790c5bf51efd85e3e70dae028680a5aa1ea937f4dbc83f0792c025a0f8",
+    "f4b8cecf5c70c7bf7e0223404ac413b4fe5ad2eea567481dcd67b7a9bdcd904f",
+    "30b0b70fd50d62602db917260db8ce57d21f3faaa765d8b8b4ebf147d56b5d5a",
+];
+
+const OF_FALLING: [&str; 7] = [
+    "d7d0e6d6a8fcc03d3b1b50aa7dedbafafaf730b3fe2e76cc8df2040a03239067",
+    "c9af50c07c3d44f2d796fc8f732d5ee231c49b5fd3073507e7d46e85783a3101",
+    "a426aae8e78a0a0255fde60407037322aa81f6231db5eefae1fab3ed8ddb5135",
+    "d8a0116c62197e85842ecff6195daff1945332ec9fa600401b487fac890887f4",
+    "0304b224881f43a6f7e5654fc8ef24e9fe97506cce6c4ca5fd69ba5c94310a37",
+    "fec827c9116f2c18c17a2004d6c03c83671a4f499b3cc87b348afce6ab9006c7",
+    "e4f1a967809fc9d72cea55b85a8a5aff3f70c832f5eca2387439563cfad55f46",
+];
 
 #[test]
 fn a_batch_has_the_seals_of_another_program(rt: HostRuntime) -> Result<(), Fail> {
     let alloc = rt.alloc();
-    let wanted = [
-        "f87cbf8193e5ef79956ed0ccc181c1f75d54b9efd5ef2653599a6453cc09e26e",
-        "d2cb91a5a1aadb890c00a4a9af51969f6a3863e411441ad89c59ebce2c67570c",
-        "fe963e43ceb2ffa3b99393b7e5594be22081e546d7bb6e86b11d37c12e14043f",
-        "2c20e34cdafbf338cf80ed3d79c60048626403fd1ec27461ba13cb7fd4aef68a",
-        "ca6d7345715577192b779dd3573c74e480d565455bae814dd1acf452c3aa144f",
-        "3867c121da74080f67a1d2cdc7b14c6035543a159b411db2a234cbf9172843a3",
-        "32a13805d8ba98f8e59f3e071f26d5a75ca372c95170a89161358ea33717ff5b",
-        "dd87fb0b289b094de5e9a41d9460aa9a8892e11e3452a4d68aa809c127fc1544",
-        "55316abcb9b0c9aae21b9d492c068778984fd917bc99da4fb42e03f724328142",
-        "03031076daea2dc03d850abfc9a565d08af68099328959e89eb49e89a6d7e719",
-        "e1a720bb05206688ad946834b21541a47a8ecb3355d315609a097950b857cea4",
-        "cc712941d637181ca500f3a5a1bb95dfd603512eb0546c221cf6cbb66888b7fc",
-        "8dfa4c4c75260b93de2d9ced16c565a43053ff83fb656d6b324eb21cb240fbce",
-        "990f582142f21a83ce738e9451e18b6160f9a6e8702f99f380f94708683233c1",
-        "4d111686202e0a85d6acffe7eb13ee8182d4265361ac57454d81fc4bd74a120d",
-        "4ad60f5cc889759b33db0e7e51a92f4c343d563aa4d31ffaf69077e0cee75c92",
-        "635705c66e879557d1eeb867baca2a55f723eddcd56ef9a497b5fe5ac1b7c336",
-        "411382790c5bf51efd85e3e70dae028680a5aa1ea937f4dbc83f0792c025a0f8",
-        "f4b8cecf5c70c7bf7e0223404ac413b4fe5ad2eea567481dcd67b7a9bdcd904f",
-        "30b0b70fd50d62602db917260db8ce57d21f3faaa765d8b8b4ebf147d56b5d5a",
-    ];
-    let seals = batch_of_worked_store::<Brand>(Blank::new(1), alloc)?;
-    assert_eq!(rt; seals.as_slice().len(), wanted.len());
-    for (seal, value) in seals.as_slice().iter().zip(wanted) {
-        assert_eq!(rt; hex::encode(alloc, seal.digest)?.as_str(), value);
-    }
-    Ok(())
-}
-
-/// A creation at moment 130, then inserts at 10, 125 and 70.
-fn batch_of_falling_moments<L: Ledger>(blank: Blank, alloc: Global) -> Result<Seals, AllocError>
-    requires { IsBlankOf L.name L.parts blank }
-{
-    let mut create = CREATE;
-    create[12] = 130;
-    let first = insert(2, 10, 1);
-    let second = insert(3, 125, 2);
-    let third = insert(4, 70, 3);
-    let spellings: [&[u8]; 4] = [&create, &first, &second, &third];
-    plan_of::<L>(blank, alloc, 9, 1, 2, &spellings)?.batch(alloc, 2)
-}
-
-#[test]
-fn moments_may_fall(rt: HostRuntime) -> Result<(), Fail> {
-    let alloc = rt.alloc();
-    let wanted = [
-        "d7d0e6d6a8fcc03d3b1b50aa7dedbafafaf730b3fe2e76cc8df2040a03239067",
-        "c9af50c07c3d44f2d796fc8f732d5ee231c49b5fd3073507e7d46e85783a3101",
-        "a426aae8e78a0a0255fde60407037322aa81f6231db5eefae1fab3ed8ddb5135",
-        "d8a0116c62197e85842ecff6195daff1945332ec9fa600401b487fac890887f4",
-        "0304b224881f43a6f7e5654fc8ef24e9fe97506cce6c4ca5fd69ba5c94310a37",
-        "fec827c9116f2c18c17a2004d6c03c83671a4f499b3cc87b348afce6ab9006c7",
-        "e4f1a967809fc9d72cea55b85a8a5aff3f70c832f5eca2387439563cfad55f46",
-    ];
-    let seals = batch_of_falling_moments::<Brand>(Blank::new(1), alloc)?;
-    assert_eq!(rt; seals.as_slice().len(), wanted.len());
-    for (seal, value) in seals.as_slice().iter().zip(wanted) {
-        assert_eq!(rt; hex::encode(alloc, seal.digest)?.as_str(), value);
+    let items = read_all(alloc, &WORKED)?;
+    let worked = last_batch::<Brand>(Blank::new(1), alloc, 7, 3, 1, &items)?;
+    let items = read_all(alloc, &FALLING)?;
+    let falling = last_batch::<Brand>(Blank::new(1), alloc, 9, 1, 2, &items)?;
+    for (seals, wanted) in [(&worked, OF_WORKED.as_slice()), (&falling, &OF_FALLING)] {
+        assert_eq!(rt; seals.as_slice().len(), wanted.len());
+        for (seal, text) in seals.as_slice().iter().zip(wanted) {
+            assert_eq!(rt; hex::encode(alloc, seal.digest)?.as_str(), *text);
+        }
     }
     Ok(())
 }

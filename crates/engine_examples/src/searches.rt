@@ -5,7 +5,6 @@ ghost use Rattle.notary_link.specs.declared.name.Name.TheVariants.{Cum};
 
 use mono_forensics::first_bad;
 use notary_link::{AskFail, MemNotary, Name, Notary, NotaryLimits, Seal};
-use std::alloc::Global;
 use std::test::Fail;
 
 fn cum(tile: u32) -> Seal
@@ -17,92 +16,76 @@ fn cum(tile: u32) -> Seal
     }
 }
 
-fn empty(alloc: Global) -> MemNotary {
-    MemNotary::new(alloc, NotaryLimits { seals: 8, marks: 0 })
-}
+/// Whether all eight seals are filed, or the last four; the id that is asked; from which tile on the chain is changed,
+/// and over how many tiles; which question fails; and what is found.
+type Search = (bool, u64, usize, usize, u64, Result<Option<u32>, AskFail>);
 
-// Eight chain values; those that were filed are all zero.
-fn changed_from(first: usize) -> [[u8; 32]; 8] {
-    let mut links = [[0; 32]; 8];
-    for (tile, link) in links.iter_mut().enumerate() {
-        if first <= tile {
-            *link = [1; 32];
-        }
-    }
-    links
-}
+const SEARCHES: [Search; 15] = [
+    // the tile where the chain changes is found
+    (true, 3, 8, 8, 0, Ok(None)),
+    (true, 3, 7, 8, 0, Ok(Some(7))),
+    (true, 3, 5, 8, 0, Ok(Some(5))),
+    (true, 3, 5, 6, 0, Ok(Some(5))),
+    (true, 3, 5, 5, 0, Ok(None)),
+    (true, 3, 1, 8, 0, Ok(Some(1))),
+    (true, 3, 0, 8, 0, Ok(Some(0))),
+    (true, 3, 0, 1, 0, Ok(Some(0))),
+    (true, 3, 1, 1, 0, Ok(None)),
+    // a tile without a seal is named
+    (
+        false,
+        3,
+        0,
+        3,
+        0,
+        Err(AskFail::SealMissing {
+            name: Name::Cum { tile: 2 },
+        }),
+    ),
+    (
+        false,
+        3,
+        0,
+        8,
+        0,
+        Err(AskFail::SealMissing {
+            name: Name::Cum { tile: 3 },
+        }),
+    ),
+    (
+        false,
+        4,
+        0,
+        8,
+        0,
+        Err(AskFail::SealMissing {
+            name: Name::Cum { tile: 7 },
+        }),
+    ),
+    // eight tiles take four questions
+    (true, 3, 5, 8, 1, Err(AskFail::NotaryFault)),
+    (true, 3, 5, 8, 4, Err(AskFail::NotaryFault)),
+    (true, 3, 5, 8, 5, Ok(Some(5))),
+];
 
 #[test]
 fn the_tile_where_the_chain_changes_is_found(rt: HostRuntime) -> Result<(), Fail> {
-    let mut notary = empty(rt.alloc());
-    let seals = [
-        cum(0),
-        cum(1),
-        cum(2),
-        cum(3),
-        cum(4),
-        cum(5),
-        cum(6),
-        cum(7),
-    ];
-    assert_eq!(rt; notary.file(3, 0, 60, &seals), Ok(()));
-    for (first, tiles, found) in [
-        (8, 8, None),
-        (7, 8, Some(7)),
-        (5, 8, Some(5)),
-        (5, 6, Some(5)),
-        (5, 5, None),
-        (1, 8, Some(1)),
-        (0, 8, Some(0)),
-        (0, 1, Some(0)),
-        (1, 1, None),
-    ] {
-        let links = changed_from(first);
-        assert_eq!(rt; first_bad(&links[..tiles], &mut notary, 3), Ok(found));
-    }
-    Ok(())
-}
-
-#[test]
-fn a_tile_without_a_seal_is_named(rt: HostRuntime) -> Result<(), Fail> {
-    let mut notary = empty(rt.alloc());
-    let seals = [cum(4), cum(5), cum(6), cum(7)];
-    assert_eq!(rt; notary.file(3, 0, 60, &seals), Ok(()));
-    let links = changed_from(0);
-    for (id, tiles, tile) in [(3, 3, 2), (3, 8, 3), (4, 8, 7)] {
-        assert_eq!(rt;
-            first_bad(&links[..tiles], &mut notary, id),
-            Err(AskFail::SealMissing {
-                name: Name::Cum { tile }
-            })
-        );
-    }
-    Ok(())
-}
-
-#[test]
-fn eight_tiles_take_four_questions(rt: HostRuntime) -> Result<(), Fail> {
     let alloc = rt.alloc();
-    let mut notary = empty(alloc);
-    let seals = [
-        cum(0),
-        cum(1),
-        cum(2),
-        cum(3),
-        cum(4),
-        cum(5),
-        cum(6),
-        cum(7),
-    ];
-    assert_eq!(rt; notary.file(3, 0, 60, &seals), Ok(()));
-    let links = changed_from(5);
-    for (failing, found) in [
-        (1, Err(AskFail::NotaryFault)),
-        (4, Err(AskFail::NotaryFault)),
-        (5, Ok(Some(5))),
-    ] {
+    for (is_whole, id, first, tiles, failing, found) in SEARCHES {
+        let mut notary = MemNotary::new(alloc, NotaryLimits { seals: 8, marks: 0 });
+        notary.file(3, 0, 60, &[cum(4), cum(5), cum(6), cum(7)])?;
+        if is_whole {
+            notary.file(3, 1, 60, &[cum(0), cum(1), cum(2), cum(3)])?;
+        }
         notary.failing([failing].to_vec(alloc)?, Vec::new(alloc));
-        assert_eq!(rt; first_bad(&links, &mut notary, 3), found);
+        // those that were filed are all zero
+        let mut links = [[0; 32]; 8];
+        for link in links.iter_mut().skip(first) {
+            *link = [1; 32];
+        }
+        let links = links.get(..tiles).ok_or("too many tiles")?;
+        assert!(rt; !links.is_empty() && links.len() <= 8);
+        assert_eq!(rt; first_bad(links, &mut notary, id), found);
     }
     Ok(())
 }

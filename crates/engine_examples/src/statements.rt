@@ -46,13 +46,13 @@ fn replies(alloc: Global, width: u32, script: &[&[u8]]) -> Result<Vec<u8>, Alloc
     Ok(out)
 }
 
-#[test]
-fn versions_are_seen_from_their_start_to_their_stop(rt: HostRuntime) -> Result<(), Fail> {
-    let told = replies(
-        rt.alloc(),
+/// The width of a granule, the lines of a script, and what is replied.
+const SCRIPTS: [(u32, &[&[u8]], &[u8]); 2] = [
+    // versions are seen from their start to their stop
+    (
         60,
         &[
-            b"create t k int v int".as_slice(),
+            b"create t k int v int",
             b"now 10",
             b"insert t 5 1",
             b"now 20",
@@ -72,21 +72,15 @@ fn versions_are_seen_from_their_start_to_their_stop(rt: HostRuntime) -> Result<(
             b"scan t v > 1",
             b"history t 1",
         ],
-    )?;
-    let expected: &[u8] = b"ok 1\nok 2\nok 3\nok 4\nnone\nrow 5 1\nrow 5 2\nnone\n\
-version 10 20 row 5 1\nversion 20 30 row 5 2\nversions 2\nok 5\nok 6\nrow 1 1\nrow 2 2\nrows 2\n\
-row 1 1\nrow 2 2\nrows 1\nversion 40 - row 1 1\nversions 1\n";
-    assert_eq!(rt; told.as_slice(), expected);
-    Ok(())
-}
-
-#[test]
-fn a_refusal_names_its_cause_and_stores_nothing(rt: HostRuntime) -> Result<(), Fail> {
-    let told = replies(
-        rt.alloc(),
+        b"ok 1\nok 2\nok 3\nok 4\nnone\nrow 5 1\nrow 5 2\nnone\n\
+          version 10 20 row 5 1\nversion 20 30 row 5 2\nversions 2\nok 5\nok 6\nrow 1 1\nrow 2 2\nrows 2\n\
+          row 1 1\nrow 2 2\nrows 1\nversion 40 - row 1 1\nversions 1\n",
+    ),
+    // a refusal names its cause and stores nothing
+    (
         1,
         &[
-            b"create t k int v int".as_slice(),
+            b"create t k int v int",
             b"create t k int",
             b"insert u 1 1",
             b"insert t 1",
@@ -103,43 +97,27 @@ fn a_refusal_names_its_cause_and_stores_nothing(rt: HostRuntime) -> Result<(), F
             b"insert t 2 1",
             b"scan t",
         ],
-    )?;
-    let expected: &[u8] = b"ok 1\nrefused TableExists\nrefused NoTable\nrefused BadCount\n\
-refused NullKey\nrefused BadType 2\nrefused NoRow\nrefused NoColumn\nok 2\nrefused RowExists\n\
-refused ClockBack 1048575\nrefused TooLate\nrow 1 1\nrows 1\n";
-    assert_eq!(rt; told.as_slice(), expected);
-    Ok(())
-}
-
-/// An insert of a text of so many letters.
-fn insert_of(alloc: Global, key: u8, letters: usize) -> Result<Vec<u8>, AllocError> {
-    let mut line = b"insert t ".to_vec(alloc)?;
-    line.push(key)?;
-    line.extend_from_slice(b" '")?;
-    for _ in 0..letters {
-        line.push(b'a')?;
-    }
-    line.push(b'\'')?;
-    Ok(line)
-}
+        b"ok 1\nrefused TableExists\nrefused NoTable\nrefused BadCount\n\
+          refused NullKey\nrefused BadType 2\nrefused NoRow\nrefused NoColumn\nok 2\nrefused RowExists\n\
+          refused ClockBack 1048575\nrefused TooLate\nrow 1 1\nrows 1\n",
+    ),
+];
 
 #[test]
-fn a_transaction_is_no_longer_than_a_record(rt: HostRuntime) -> Result<(), Fail> {
+fn scripts_are_replied_to_as_worked_by_hand(rt: HostRuntime) -> Result<(), Fail> {
     let alloc = rt.alloc();
-    let longest = insert_of(alloc, b'1', 32_737)?;
-    let longer = insert_of(alloc, b'2', 32_738)?;
-    let told = replies(
-        alloc,
-        60,
-        &[
-            b"create t k int v text".as_slice(),
-            longest.as_slice(),
-            longer.as_slice(),
-        ],
-    )?;
-    assert_eq!(rt;
-        told.as_slice(),
-        b"ok 1\nok 2\nrefused TooLong\n".as_slice()
-    );
+    for (width, script, wanted) in SCRIPTS {
+        assert_eq!(rt; replies(alloc, width, script)?.as_slice(), wanted);
+    }
+    // a transaction is no longer than a record
+    let mut longest = b"insert t 1 '".to_vec(alloc)?;
+    longest.extend_from_slice(&vec![in alloc; b'a'; 32_737]?)?;
+    longest.push(b'\'')?;
+    let mut longer = b"insert t 2 '".to_vec(alloc)?;
+    longer.extend_from_slice(&vec![in alloc; b'a'; 32_738]?)?;
+    longer.push(b'\'')?;
+    let script = [b"create t k int v text".as_slice(), &longest, &longer];
+    let wanted = b"ok 1\nok 2\nrefused TooLong\n";
+    assert_eq!(rt; replies(alloc, 60, &script)?.as_slice(), wanted.as_slice());
     Ok(())
 }

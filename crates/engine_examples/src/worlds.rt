@@ -1,4 +1,4 @@
-//! Scripts of lines over a disk and a notary in memory, and the texts that are replied.
+//! Lines over a disk and a notary in memory, and the texts that are replied.
 
 use disk_model::MemDisk;
 use drill_core::{LineFail, World, is_world_line};
@@ -8,8 +8,106 @@ use std::test::Fail;
 use stmt_text::{Line, Stmt, parse_line};
 use tuple_bytes::{Header, encode_header};
 
-/// A store of id 7, whose tiles are of 8 granules of 60 seconds.
-fn new_disk(alloc: Global) -> Result<MemDisk, AllocError> {
+enum Step {
+    /// The disk holds a new store of id 7, whose tiles are of 8 granules of 60 seconds.
+    New,
+    /// The first `z` on the disk becomes a `y`.
+    Altered,
+    /// The next changing call of the disk fails.
+    Failing,
+    /// The disk is entered, and this is whether there is a store.
+    Enters(bool),
+    /// Whether there is a store.
+    Stands(bool),
+    /// A line, and what is replied; `now M` sets the clock to moment M.
+    Line(&'static [u8], &'static [u8]),
+}
+
+const STORIES: [&[Step]; 3] = [
+    // what was filed is held against what is stored
+    &[
+        Step::New,
+        Step::Enters(true),
+        Step::Line(b"create t k int v text", b"ok 1\n"),
+        Step::Line(b"insert t 1 'zzzz'", b"ok 2\n"),
+        Step::Line(b"insert t 1 'zzzz'", b"refused RowExists\n"),
+        Step::Line(b"validate", b"unsealed\n"),
+        Step::Line(b"notarize", b"sealed 0\n"),
+        Step::Line(b"now 500", b""),
+        Step::Line(b"notarize", b"sealed 1\n"),
+        Step::Line(b"validate", b"clean 1\n"),
+        Step::Line(b"now 479", b""),
+        Step::Line(b"notarize", b"refused ClockBack 480\n"),
+        Step::Line(b"get t 1", b"row 1 'zzzz'\n"),
+        Step::Altered,
+        Step::Enters(true),
+        Step::Line(b"now 500", b""),
+        Step::Line(b"validate", b"altered 1 from 0\n"),
+        Step::Line(b"notarize", b"refused Broken\n"),
+        Step::Line(b"validate", b"refused Full\n"),
+    ],
+    // without a store only `validate` is carried out
+    &[
+        Step::Enters(false),
+        Step::Line(b"get t 1", b"refused NotAStore\n"),
+        Step::Line(b"notarize", b"refused NotAStore\n"),
+        Step::Line(b"validate", b"unsealed\n"),
+    ],
+    // after a failure there is no store
+    &[
+        Step::New,
+        Step::Enters(true),
+        Step::Failing,
+        Step::Line(b"create t k int", b"disk fault\n"),
+        Step::Line(b"scan t", b"refused NotAStore\n"),
+        Step::Stands(false),
+    ],
+];
+
+/// What is replied to a line.
+fn replies(
+    alloc: Global,
+    world: &mut World,
+    disk: &mut MemDisk,
+    notary: &mut MemNotary,
+    text: &[u8],
+    now: &mut u64,
+) -> Result<Vec<u8>, AllocError> {
+    let Ok(line) = parse_line(alloc, text) else {
+        return Err(AllocError);
+    };
+    if let Line::Plain {
+        stmt: Stmt::Now { moment },
+    } = &line
+    {
+        *now = moment.saturating_add(1000);
+    }
+    if !is_world_line(&line) {
+        return Ok(Vec::new(alloc));
+    }
+    match world.line(alloc, disk, notary, &line, *now) {
+        Ok(answered) => answered.text.as_slice().to_vec(alloc),
+        Err(LineFail::DiskFault) => b"disk fault\n".to_vec(alloc),
+        Err(LineFail::NotaryFault) => b"notary fault\n".to_vec(alloc),
+        Err(LineFail::NoMemory) => Err(AllocError),
+    }
+}
+
+/// The same bytes, with the first `z` made a `y`.
+fn altered(alloc: Global, disk: &MemDisk) -> Result<MemDisk, AllocError> {
+    let mut bytes = disk.bytes().to_vec(alloc)?;
+    for byte in bytes.iter_mut() {
+        if *byte == b'z' {
+            *byte = b'y';
+            break;
+        }
+    }
+    Ok(MemDisk::holding(alloc, bytes))
+}
+
+#[test]
+fn worlds_reply_as_worked_by_hand(rt: HostRuntime) -> Result<(), Fail> {
+    let alloc = rt.alloc();
     let header = Header {
         id: 7,
         epoch: 1000,
@@ -17,147 +115,32 @@ fn new_disk(alloc: Global) -> Result<MemDisk, AllocError> {
         k: 3,
         algs: 3,
     };
-    let mut bytes = encode_header(&header).to_vec(alloc)?;
-    bytes.push(0)?;
-    Ok(MemDisk::holding(alloc, bytes))
-}
-
-fn new_notary(alloc: Global) -> MemNotary {
-    MemNotary::new(
-        alloc,
-        NotaryLimits {
+    let mut new = encode_header(&header).to_vec(alloc)?;
+    new.push(0)?;
+    for story in STORIES {
+        let mut disk = MemDisk::new(alloc);
+        let limits = NotaryLimits {
             seals: 1000,
             marks: 2,
-        },
-    )
-}
-
-/// The same bytes, with the first `z` made a `y`.
-fn altered(alloc: Global, disk: &MemDisk) -> Result<MemDisk, AllocError> {
-    let mut bytes = Vec::new(alloc);
-    let mut is_done = false;
-    for byte in disk.bytes() {
-        let byte = *byte;
-        let is_first = byte == b'z' && !is_done;
-        is_done |= is_first;
-        bytes.push(if is_first { b'y' } else { byte })?;
-    }
-    Ok(MemDisk::holding(alloc, bytes))
-}
-
-/// The lines that are replied to a script up to a failure; `now M` sets the clock to moment M.
-fn replies(
-    alloc: Global,
-    world: &mut World,
-    disk: &mut MemDisk,
-    notary: &mut MemNotary,
-    script: &[&[u8]],
-) -> Result<Vec<u8>, AllocError> {
-    let mut now = 1000;
-    let mut out = Vec::new(alloc);
-    for text in script {
-        let Ok(line) = parse_line(alloc, text) else {
-            return Err(AllocError);
         };
-        if let Line::Plain {
-            stmt: Stmt::Now { moment },
-        } = &line
-        {
-            now = moment.saturating_add(1000);
-        }
-        if is_world_line(&line) {
-            match world.line(alloc, disk, notary, &line, now) {
-                Ok(answered) => out.extend_from_slice(answered.text.as_slice())?,
-                Err(LineFail::DiskFault) => out.extend_from_slice(b"disk fault\n")?,
-                Err(LineFail::NotaryFault) => out.extend_from_slice(b"notary fault\n")?,
-                Err(LineFail::NoMemory) => return Err(AllocError),
+        let mut notary = MemNotary::new(alloc, limits);
+        let mut world = World::new(alloc, 7);
+        let mut now = 1000;
+        for step in story {
+            match step {
+                Step::New => disk = MemDisk::holding(alloc, new.as_slice().to_vec(alloc)?),
+                Step::Altered => disk = altered(alloc, &disk)?,
+                Step::Failing => disk.failing(Vec::new(alloc), [1].to_vec(alloc)?),
+                Step::Enters(is_there) => {
+                    assert_eq!(rt; world.enter(alloc, &mut disk).is_ok(), *is_there);
+                }
+                Step::Stands(is_there) => assert_eq!(rt; world.store().is_some(), *is_there),
+                Step::Line(text, reply) => {
+                    let told = replies(alloc, &mut world, &mut disk, &mut notary, text, &mut now)?;
+                    assert_eq!(rt; told.as_slice(), *reply);
+                }
             }
         }
     }
-    Ok(out)
-}
-
-#[test]
-fn what_was_filed_is_held_against_what_is_stored(rt: HostRuntime) -> Result<(), Fail> {
-    let alloc = rt.alloc();
-    let mut disk = new_disk(alloc)?;
-    let mut notary = new_notary(alloc);
-    let mut world = World::new(alloc, 7);
-    assert!(rt; world.enter(alloc, &mut disk).is_ok());
-    let told = replies(
-        alloc,
-        &mut world,
-        &mut disk,
-        &mut notary,
-        &[
-            b"create t k int v text".as_slice(),
-            b"insert t 1 'zzzz'",
-            b"insert t 1 'zzzz'",
-            b"validate",
-            b"notarize",
-            b"now 500",
-            b"notarize",
-            b"validate",
-            b"now 479",
-            b"notarize",
-            b"get t 1",
-        ],
-    )?;
-    let expected: &[u8] = b"ok 1\nok 2\nrefused RowExists\nunsealed\nsealed 0\nsealed 1\n\
-clean 1\nrefused ClockBack 480\nrow 1 'zzzz'\n";
-    assert_eq!(rt; told.as_slice(), expected);
-    let mut disk = altered(alloc, &disk)?;
-    assert!(rt; world.enter(alloc, &mut disk).is_ok());
-    let told = replies(
-        alloc,
-        &mut world,
-        &mut disk,
-        &mut notary,
-        &[b"now 500".as_slice(), b"validate", b"notarize", b"validate"],
-    )?;
-    let expected: &[u8] = b"altered 1 from 0\nrefused Broken\nrefused Full\n";
-    assert_eq!(rt; told.as_slice(), expected);
-    Ok(())
-}
-
-#[test]
-fn without_a_store_only_validate_is_carried_out(rt: HostRuntime) -> Result<(), Fail> {
-    let alloc = rt.alloc();
-    let mut disk = MemDisk::new(alloc);
-    let mut notary = new_notary(alloc);
-    let mut world = World::new(alloc, 7);
-    assert!(rt; world.enter(alloc, &mut disk).is_err());
-    let told = replies(
-        alloc,
-        &mut world,
-        &mut disk,
-        &mut notary,
-        &[b"get t 1".as_slice(), b"notarize", b"validate"],
-    )?;
-    let expected: &[u8] = b"refused NotAStore\nrefused NotAStore\nunsealed\n";
-    assert_eq!(rt; told.as_slice(), expected);
-    Ok(())
-}
-
-#[test]
-fn after_a_failure_there_is_no_store(rt: HostRuntime) -> Result<(), Fail> {
-    let alloc = rt.alloc();
-    let mut disk = new_disk(alloc)?;
-    let mut notary = new_notary(alloc);
-    let mut world = World::new(alloc, 7);
-    assert!(rt; world.enter(alloc, &mut disk).is_ok());
-    disk.failing(Vec::new(alloc), vec![in alloc; 1]?);
-    let told = replies(
-        alloc,
-        &mut world,
-        &mut disk,
-        &mut notary,
-        &[b"create t k int".as_slice(), b"scan t"],
-    )?;
-    assert_eq!(rt;
-        told.as_slice(),
-        b"disk fault\nrefused NotAStore\n".as_slice()
-    );
-    assert!(rt; world.store().is_none());
     Ok(())
 }

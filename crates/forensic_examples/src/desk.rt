@@ -3,8 +3,8 @@
 ghost use Rattle.tuple_bytes.specs.Spelling.{FitsHeader};
 
 use disk_model::MemDisk;
-use forensic_report::{Algorithm, Report, analyse};
-use notary_link::{MemNotary, NotaryLimits};
+use forensic_report::{Algorithm, AnalyseFail, analyse};
+use notary_link::{Mark, MemNotary, Notary, NotaryLimits, Outcome};
 use std::alloc::{AllocError, Global};
 use std::test::Fail;
 use store_engine::Store;
@@ -81,38 +81,53 @@ pub(crate) fn file(
     header: &Header,
     rows: &[(u8, u8)],
     now: u64,
-) -> Result<u32, Fail>
+) -> Result<(), Fail>
     requires fits { FitsHeader header.now }
 {
     let mut disk = store_of(alloc, header, rows)?;
     let mut store = Store::open_store(alloc, &mut disk, ID)?;
-    let tiles = notarize(alloc, &mut store, &mut disk, notary, now)?;
-    Ok(tiles)
+    notarize(alloc, &mut store, &mut disk, notary, now)?;
+    Ok(())
 }
 
-/// The report, at `now`, of a store with all chains in which these rows were filed at `at` and those
-/// stand since.
+/// Whether a report says that something is altered, and its text.
 pub(crate) fn report(
     alloc: Global,
+    disk: &mut MemDisk,
+    notary: &mut MemNotary,
     algorithm: Algorithm,
-    k: u8,
-    filed: &[(u8, u8)],
-    stored: &[(u8, u8)],
-    at: u64,
     now: u64,
-) -> Result<Report, Fail> {
-    let header = header_of(k, 3);
-    let mut notary = empty(alloc);
-    file(alloc, &mut notary, &header, filed, at)?;
-    let mut disk = store_of(alloc, &header, stored)?;
-    Ok(analyse(alloc, &mut disk, &mut notary, ID, algorithm, now)?)
+) -> Result<(bool, Vec<u8>), AnalyseFail> {
+    let report = analyse(alloc, disk, notary, ID, algorithm, now)?;
+    let text = report.text.as_slice().to_vec(alloc)?;
+    Ok((report.altered, text))
 }
 
-/// Rows in these granules, with one key for all.
-pub(crate) fn rows(alloc: Global, granules: &[u8], key: u8) -> Result<Vec<(u8, u8)>, AllocError> {
-    let mut rows = Vec::new(alloc);
-    for granule in granules {
-        rows.push((*granule, key))?;
+/// What was filed at one second, and what stands at another.
+#[derive(Clone, Copy)]
+pub(crate) struct Stood {
+    pub algorithm: Algorithm,
+    pub k: u8,
+    pub filed: &'static [(u8, u8)],
+    pub at: u64,
+    pub marks: &'static [(u64, u32, Outcome)],
+    pub stored: &'static [(u8, u8)],
+    pub now: u64,
+}
+
+/// The report of a store with all chains.
+pub(crate) fn report_of(alloc: Global, stood: &Stood) -> Result<(bool, Vec<u8>), Fail> {
+    let header = header_of(stood.k, 3);
+    let mut notary = empty(alloc);
+    file(alloc, &mut notary, &header, stood.filed, stood.at)?;
+    for (moment, tiles, outcome) in stood.marks {
+        let mark = Mark {
+            moment: *moment,
+            tiles: *tiles,
+            outcome: *outcome,
+        };
+        notary.mark(ID, mark)?;
     }
-    Ok(rows)
+    let mut disk = store_of(alloc, &header, stood.stored)?;
+    Ok(report(alloc, &mut disk, &mut notary, stood.algorithm, stood.now)?)
 }

@@ -5,15 +5,12 @@
 //!
 //! | File | Shows |
 //! |---|---|
-//! | `reports` | whole reports; that every damage to a store is told |
+//! | `reports` | reports, and how many nodes a descent asks; that every damage to a store is told |
 //! | `targets` | the candidates of a tile, by its target and by how many granules are altered |
-//! | `descents` | which granules a descent finds, and how many nodes it asks |
 //! | `spans` | when a tile was changed; how many events a diagram has |
 //! | `refusals` | what refuses an analysis |
 #![tactic(auto)]
 
-#[cfg(test)]
-mod descents;
 #[cfg(test)]
 mod desk;
 #[cfg(test)]

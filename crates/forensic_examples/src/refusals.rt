@@ -3,9 +3,9 @@
 ghost use Rattle.std.specs.Prelude.{◌≡◌};
 ghost use Rattle.notary_link.specs.Batches.{IsName};
 
-use crate::desk::{ID, empty, file, header_of, store_of};
+use crate::desk::{ID, empty, file, header_of, report, store_of};
 use cumulative_chain::header_digest;
-use forensic_report::{Algorithm, AnalyseFail, analyse};
+use forensic_report::{Algorithm, AnalyseFail};
 use notary_link::{Name, Notary, Seal};
 use std::test::Fail;
 use tile_chains::WHOLE;
@@ -17,117 +17,163 @@ fn seal(name: Name, digest: [u8; 32]) -> Seal
     Seal { name, digest }
 }
 
-#[test]
-fn chains_that_are_not_sealed_are_not_asked_for(rt: HostRuntime) -> Result<(), Fail> {
-    let alloc = rt.alloc();
-    for (algorithm, algs, refused) in [
-        (Algorithm::Mono, 0, false),
-        (Algorithm::Tiled, 1, false),
-        (Algorithm::A3d, 2, false),
-        (Algorithm::Tiled, 2, true),
-        (Algorithm::TiledExactly { kappa: 1 }, 0, true),
-        (Algorithm::A3d, 1, true),
-    ] {
-        let header = header_of(1, algs);
-        let mut notary = empty(alloc);
-        file(alloc, &mut notary, &header, &[(1, 1)], 120)?;
-        let mut disk = store_of(alloc, &header, &[(1, 1)])?;
-        let answer = analyse(alloc, &mut disk, &mut notary, ID, algorithm, 130);
-        match answer {
-            Ok(report) => {
-                assert!(rt; !refused);
-                assert!(rt; !report.altered);
-            }
-            Err(fail) => {
-                assert!(rt; refused);
-                assert_eq!(rt; fail, AnalyseFail::NotSealedSo);
-            }
-        }
-    }
-    Ok(())
+#[derive(Clone, Copy)]
+enum Filed {
+    /// The digests of the store.
+    Store,
+    /// The same, behind a root of zero bytes.
+    Root,
+    /// The header, and one node of zero bytes, of this level.
+    Node(u8),
 }
 
-#[test]
-fn a_node_of_zero_bytes_is_inconsistent(rt: HostRuntime) -> Result<(), Fail> {
-    let alloc = rt.alloc();
-    let header = header_of(1, 3);
-    let mut notary = empty(alloc);
-    let root = Name::Node { level: 1, index: 0 };
-    notary.file(
-        ID,
-        0,
-        0,
-        &[
-            seal(Name::Header, header_digest(&header)),
-            seal(root, [0; 32]),
-        ],
-    )?;
-    file(alloc, &mut notary, &header, &[(1, 1)], 120)?;
-    let mut disk = store_of(alloc, &header, &[(1, 1)])?;
-    match analyse(alloc, &mut disk, &mut notary, ID, Algorithm::A3d, 130) {
-        Ok(_report) => assert!(rt; false),
-        Err(fail) => {
-            assert_eq!(rt;
-                fail,
-                AnalyseFail::NotaryInconsistent { level: 1, index: 0 }
-            );
-        }
-    }
-    Ok(())
-}
+/// The algorithm, the store's algorithms, what was filed, the key of the row that stands since it was filed under key
+/// 1; which read of the disk fails and which question of the notary; and what is refused.
+type Refusal = (Algorithm, u8, Filed, u8, (u64, u64), Option<AnalyseFail>);
 
-// The header is filed, and one node of zero bytes.
-#[test]
-fn a_seal_that_was_never_filed_is_missing(rt: HostRuntime) -> Result<(), Fail> {
-    let alloc = rt.alloc();
-    let header = header_of(1, 3);
-    for (algorithm, filed, missing) in [
-        (Algorithm::Mono, 1, Name::Cum { tile: 0 }),
-        (
-            Algorithm::Tiled,
-            1,
-            Name::Tile {
+const REFUSALS: [Refusal; 15] = [
+    // chains that are not sealed are not asked for
+    (Algorithm::Mono, 0, Filed::Store, 1, (0, 0), None),
+    (Algorithm::Tiled, 1, Filed::Store, 1, (0, 0), None),
+    (Algorithm::A3d, 2, Filed::Store, 1, (0, 0), None),
+    (
+        Algorithm::Tiled,
+        2,
+        Filed::Store,
+        1,
+        (0, 0),
+        Some(AnalyseFail::NotSealedSo),
+    ),
+    (
+        Algorithm::TiledExactly { kappa: 1 },
+        0,
+        Filed::Store,
+        1,
+        (0, 0),
+        Some(AnalyseFail::NotSealedSo),
+    ),
+    (
+        Algorithm::A3d,
+        1,
+        Filed::Store,
+        1,
+        (0, 0),
+        Some(AnalyseFail::NotSealedSo),
+    ),
+    // a node of zero bytes is inconsistent
+    (
+        Algorithm::A3d,
+        3,
+        Filed::Root,
+        1,
+        (0, 0),
+        Some(AnalyseFail::NotaryInconsistent { level: 1, index: 0 }),
+    ),
+    // a seal that was never filed is missing
+    (
+        Algorithm::Mono,
+        3,
+        Filed::Node(1),
+        1,
+        (0, 0),
+        Some(AnalyseFail::SealMissing {
+            name: Name::Cum { tile: 0 },
+        }),
+    ),
+    (
+        Algorithm::Tiled,
+        3,
+        Filed::Node(1),
+        1,
+        (0, 0),
+        Some(AnalyseFail::SealMissing {
+            name: Name::Tile {
                 tile: 0,
                 part: WHOLE,
             },
-        ),
-        (Algorithm::A3d, 1, Name::Node { level: 0, index: 0 }),
-        (Algorithm::A3d, 0, Name::Node { level: 1, index: 0 }),
-    ] {
-        let mut notary = empty(alloc);
-        let node = Name::Node {
-            level: filed,
-            index: 0,
-        };
-        notary.file(ID, 0, 0, &[seal(Name::Header, header_digest(&header))])?;
-        notary.file(ID, 1, 120, &[seal(node, [0; 32])])?;
-        let mut disk = store_of(alloc, &header, &[(1, 1)])?;
-        match analyse(alloc, &mut disk, &mut notary, ID, algorithm, 130) {
-            Ok(_report) => assert!(rt; false),
-            Err(fail) => assert_eq!(rt; fail, AnalyseFail::SealMissing { name: missing }),
-        }
-    }
-    Ok(())
-}
+        }),
+    ),
+    (
+        Algorithm::A3d,
+        3,
+        Filed::Node(1),
+        1,
+        (0, 0),
+        Some(AnalyseFail::SealMissing {
+            name: Name::Node { level: 0, index: 0 },
+        }),
+    ),
+    (
+        Algorithm::A3d,
+        3,
+        Filed::Node(0),
+        1,
+        (0, 0),
+        Some(AnalyseFail::SealMissing {
+            name: Name::Node { level: 1, index: 0 },
+        }),
+    ),
+    // a failure of a device is told
+    (
+        Algorithm::A3d,
+        3,
+        Filed::Store,
+        2,
+        (1, 0),
+        Some(AnalyseFail::DiskFault),
+    ),
+    (
+        Algorithm::A3d,
+        3,
+        Filed::Store,
+        2,
+        (0, 1),
+        Some(AnalyseFail::NotaryFault),
+    ),
+    (
+        Algorithm::A3d,
+        3,
+        Filed::Store,
+        2,
+        (0, 2),
+        Some(AnalyseFail::NotaryFault),
+    ),
+    (
+        Algorithm::A3d,
+        3,
+        Filed::Store,
+        2,
+        (0, 5),
+        Some(AnalyseFail::NotaryFault),
+    ),
+];
 
 #[test]
-fn a_failure_of_a_device_is_told(rt: HostRuntime) -> Result<(), Fail> {
+fn an_analysis_is_refused_by_its_cause(rt: HostRuntime) -> Result<(), Fail> {
     let alloc = rt.alloc();
-    let header = header_of(1, 3);
-    for (read, asked, told) in [
-        (1, 0, AnalyseFail::DiskFault),
-        (0, 1, AnalyseFail::NotaryFault),
-        (0, 2, AnalyseFail::NotaryFault),
-        (0, 5, AnalyseFail::NotaryFault),
-    ] {
+    for (algorithm, algs, filed, key, (read, asked), refused) in REFUSALS {
+        let header = header_of(1, algs);
         let mut notary = empty(alloc);
-        file(alloc, &mut notary, &header, &[(1, 1)], 120)?;
+        let first = seal(Name::Header, header_digest(&header));
+        match filed {
+            Filed::Store => file(alloc, &mut notary, &header, &[(1, 1)], 120)?,
+            Filed::Root => {
+                let root = Name::Node { level: 1, index: 0 };
+                notary.file(ID, 0, 0, &[first, seal(root, [0; 32])])?;
+                file(alloc, &mut notary, &header, &[(1, 1)], 120)?;
+            }
+            Filed::Node(level) => {
+                let level = level.min(1);
+                notary.file(ID, 0, 0, &[first])?;
+                notary.file(ID, 1, 120, &[seal(Name::Node { level, index: 0 }, [0; 32])])?;
+            }
+        }
         notary.failing([asked].to_vec(alloc)?, Vec::new(alloc));
-        let mut disk = store_of(alloc, &header, &[(1, 2)])?;
+        let mut disk = store_of(alloc, &header, &[(1, key)])?;
         disk.failing([read].to_vec(alloc)?, Vec::new(alloc));
-        match analyse(alloc, &mut disk, &mut notary, ID, Algorithm::A3d, 130) {
-            Ok(_report) => assert!(rt; false),
-            Err(fail) => assert_eq!(rt; fail, told),
+        match report(alloc, &mut disk, &mut notary, algorithm, 130) {
+            Ok((is_altered, _)) => assert!(rt; refused.is_none() && !is_altered),
+            Err(fail) => assert_eq!(rt; Some(fail), refused),
         }
     }
     Ok(())

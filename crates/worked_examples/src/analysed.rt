@@ -3,14 +3,285 @@
 ghost use Rattle.std.specs.Prelude.{◌≡◌};
 ghost use Rattle.notary_link.specs.Batches.{IsName};
 
-use crate::desk::{altered, audit, made, notary, sealed, week};
+use crate::desk::{altered, audit, made, notary, sealed};
+use crate::story::{Step, Story, tell};
 use disk_model::MemDisk;
-use notary_link::{Name, Notary, Seal};
+use notary_link::{MemNotary, Name, Notary, Seal};
 use sha2::{Digest, Sha256};
+use std::alloc::{AllocError, Global};
 use std::test::Fail;
 
-/// The diagram of a week in which the tile 6 was changed, but for its last line.
-const WEEK: &[u8] = b"diagram\n\
+const CLEAN: [Story; 3] = [
+    (
+        "each algorithm finds a store clean",
+        &[
+            Step::Sealed("init 7 60 3 ta", 8),
+            Step::Call(
+                "analyse 7 mono",
+                &[500],
+                b"",
+                0,
+                b"report mono id 7 tiles 1 clean\n",
+            ),
+            Step::Call(
+                "analyse 7 tiled",
+                &[500],
+                b"",
+                0,
+                b"report tiled id 7 tiles 1 clean\n",
+            ),
+            Step::Call(
+                "analyse 7 tiled 1024",
+                &[500],
+                b"",
+                0,
+                b"report tiled id 7 tiles 1 clean\n",
+            ),
+            Step::Call(
+                "analyse 7 a3d",
+                &[500],
+                b"",
+                0,
+                b"report a3d id 7 tiles 1 clean\n",
+            ),
+            // an id under which nothing was filed
+            Step::Call(
+                "analyse 8 a3d",
+                &[500],
+                b"",
+                0,
+                b"report a3d id 8 tiles 0 unsealed\n",
+            ),
+        ],
+    ),
+    (
+        "an algorithm is named, and a number in its range",
+        &[
+            Step::Sealed("init 7 60 3 ta", 8),
+            Step::Call("analyse 7", &[500], b"", 2, b"fault Usage\n"),
+            Step::Call("analyse 7 mono 1", &[500], b"", 2, b"fault Usage\n"),
+            Step::Call("analyse 7 tiled 0", &[500], b"", 2, b"fault Usage\n"),
+            Step::Call("analyse 7 tiled 1025", &[500], b"", 2, b"fault Usage\n"),
+            Step::Call("analyse 7 tiled 1 1", &[500], b"", 2, b"fault Usage\n"),
+            Step::Call("analyse 7 tile", &[500], b"", 2, b"fault Usage\n"),
+            Step::Call("analyse mono", &[500], b"", 2, b"fault Usage\n"),
+        ],
+    ),
+    (
+        "chains that a store has not are not asked for",
+        &[
+            Step::Call("init 7 60 0 m", &[0], b"", 0, b"ready 7\n"),
+            Step::Call("notarize 7", &[0], b"", 0, b"sealed 0\n"),
+            Step::Call("analyse 7 tiled", &[0], b"", 18, b"fault NotSealedSo\n"),
+            Step::Call("analyse 7 tiled 1", &[0], b"", 18, b"fault NotSealedSo\n"),
+            Step::Call("analyse 7 a3d", &[0], b"", 18, b"fault NotSealedSo\n"),
+            Step::Call(
+                "analyse 7 mono",
+                &[0],
+                b"",
+                0,
+                b"report mono id 7 tiles 0 clean\n",
+            ),
+        ],
+    ),
+];
+
+/// How the report of a tile goes on that was filed at 480 and is altered at 500.
+const AT_500: &[u8] =
+    b"first change in tile 0 when 480 to 500\ndiagram\n         480 N\n         500 X\n";
+
+/// A tile of eight granules, with a row in each. The last byte of granule g's row stands at 135 + 42 * g, and the
+/// gate before granule 3's at 220.
+const OF_A_TILE: [Story; 3] = [
+    (
+        "each algorithm names the altered granules of a tile",
+        &[
+            Step::Sealed("init 7 60 3 ta", 8),
+            Step::Damaged(
+                &[(345, 1)],
+                "analyse 7 mono",
+                500,
+                &[
+                    b"report mono id 7 tiles 1 altered\n\
+                      tiles 0 to 0 granules 0 to 7 when 480 to 500\n",
+                    AT_500,
+                ],
+            ),
+            Step::Damaged(
+                &[(345, 1)],
+                "analyse 7 tiled",
+                500,
+                &[
+                    b"report tiled id 7 tiles 1 altered\n\
+                      tile 0 target 101 candidates 5 7 when 480 to 500\n",
+                    AT_500,
+                ],
+            ),
+            Step::Damaged(
+                &[(345, 1)],
+                "analyse 7 tiled 1",
+                500,
+                &[
+                    b"report tiled id 7 tiles 1 altered\n\
+                      tile 0 target 101 candidates 5 when 480 to 500\n",
+                    AT_500,
+                ],
+            ),
+            Step::Damaged(
+                &[(345, 1)],
+                "analyse 7 tiled 2",
+                500,
+                &[
+                    b"report tiled id 7 tiles 1 altered\n\
+                      tile 0 target 101 candidates 5 7 when 480 to 500\n",
+                    AT_500,
+                ],
+            ),
+            Step::Damaged(
+                &[(345, 1)],
+                "analyse 7 a3d",
+                500,
+                &[
+                    b"report a3d id 7 tiles 1 altered\n\
+                      granule 5 when 480 to 500\n\
+                      checks 7\n",
+                    AT_500,
+                ],
+            ),
+            Step::Damaged(
+                &[(261, 1), (345, 1)],
+                "analyse 7 tiled",
+                500,
+                &[
+                    b"report tiled id 7 tiles 1 altered\n\
+                      tile 0 target 001 candidates 1 3 5 7 when 480 to 500\n",
+                    AT_500,
+                ],
+            ),
+            Step::Damaged(
+                &[(261, 1), (345, 1)],
+                "analyse 7 tiled 1",
+                500,
+                &[
+                    b"report tiled id 7 tiles 1 altered\n\
+                      tile 0 target 001 candidates 1 when 480 to 500\n",
+                    AT_500,
+                ],
+            ),
+            Step::Damaged(
+                &[(429, 1)],
+                "analyse 7 tiled",
+                500,
+                &[
+                    b"report tiled id 7 tiles 1 altered\n\
+                      tile 0 target 111 candidates 7 when 480 to 500\n",
+                    AT_500,
+                ],
+            ),
+            Step::Damaged(
+                &[(135, 1)],
+                "analyse 7 tiled",
+                500,
+                &[
+                    b"report tiled id 7 tiles 1 altered\n\
+                      tile 0 target 000 candidates 0 1 2 3 4 5 6 7 when 480 to 500\n",
+                    AT_500,
+                ],
+            ),
+            // a closed gate hides the rows behind it
+            Step::Damaged(
+                &[(220, 0)],
+                "analyse 7 a3d",
+                500,
+                &[
+                    b"report a3d id 7 tiles 1 altered\n\
+                      granule 3 when 480 to 500\n\
+                      granule 4 when 480 to 500\n\
+                      granule 5 when 480 to 500\n\
+                      granule 6 when 480 to 500\n\
+                      granule 7 when 480 to 500\n\
+                      checks 13\n",
+                    AT_500,
+                ],
+            ),
+        ],
+    ),
+    (
+        "a line of a run reports what the command does",
+        &[
+            Step::Sealed("init 7 60 3 ta", 8),
+            Step::Altered(&[(345, 1)]),
+            Step::Call(
+                "run 7",
+                &[500],
+                b"analyse mono\n",
+                0,
+                b"report mono id 7 tiles 1 altered\n\
+                  tiles 0 to 0 granules 0 to 7 when 480 to 500\n\
+                  first change in tile 0 when 480 to 500\ndiagram\n         480 N\n         500 X\n",
+            ),
+            Step::Call(
+                "run 7",
+                &[500],
+                b"analyse tiled\n",
+                0,
+                b"report tiled id 7 tiles 1 altered\n\
+                  tile 0 target 101 candidates 5 7 when 480 to 500\n\
+                  first change in tile 0 when 480 to 500\ndiagram\n         480 N\n         500 X\n",
+            ),
+            Step::Call(
+                "run 7",
+                &[500],
+                b"analyse tiled 1\n",
+                0,
+                b"report tiled id 7 tiles 1 altered\n\
+                  tile 0 target 101 candidates 5 when 480 to 500\n\
+                  first change in tile 0 when 480 to 500\ndiagram\n         480 N\n         500 X\n",
+            ),
+            Step::Call(
+                "run 7",
+                &[500],
+                b"analyse a3d\n",
+                0,
+                b"report a3d id 7 tiles 1 altered\n\
+                  granule 5 when 480 to 500\n\
+                  checks 7\n\
+                  first change in tile 0 when 480 to 500\ndiagram\n         480 N\n         500 X\n",
+            ),
+        ],
+    ),
+    (
+        "a line asks for no chain that its store has not",
+        &[
+            Step::Call("init 7 60 0 m", &[0], b"", 0, b"ready 7\n"),
+            Step::Call(
+                "run 7",
+                &[0, 0, 0, 0, 0, 0],
+                b"analyse a3d\nnotarize\nanalyse a3d\nanalyse tiled 1\nanalyse mono\nanalyse\n",
+                3,
+                b"report a3d id 7 tiles 0 unsealed\nsealed 0\nrefused NotSealedSo\nrefused NotSealedSo\n\
+                  report mono id 7 tiles 0 clean\nrefused Syntax\n",
+            ),
+        ],
+    ),
+];
+
+/// How the report of a store of eight tiles goes on, up to its last line.
+const OF_EIGHT: &[u8] = b"first change in tile 5 when 480 to 500\n\
+    diagram\n\
+    \x20        480 N.......\n\
+    \x20        480 .N......\n\
+    \x20        480 ..N.....\n\
+    \x20        480 ...N....\n\
+    \x20        480 ....N...\n\
+    \x20        480 .....N..\n\
+    \x20        480 ......N.\n\
+    \x20        480 .......N\n\
+    \x20        500 vvvvvx??\n";
+
+/// How the report of a week goes on in which the tile 6 was changed, up to its last line.
+const OF_A_WEEK: &[u8] = b"first change in tile 6 when 432000 to 605000\n\
+    diagram\n\
     \x20     432000 N....................\n\
     \x20     432000 .N...................\n\
     \x20     432000 ..N..................\n\
@@ -35,201 +306,150 @@ const WEEK: &[u8] = b"diagram\n\
     \x20     604800 ....................N\n\
     \x20     605000 vvvvvvx??????????????\n";
 
-#[test]
-fn each_algorithm_finds_a_store_clean(rt: HostRuntime) -> Result<(), Fail> {
-    let alloc = rt.alloc();
-    let mut filed = notary(alloc);
-    let mut store = sealed(alloc, "init 7 60 3 ta", 8, &mut filed)?;
-    for (call, wanted) in [
-        (
-            "analyse 7 mono",
-            b"report mono id 7 tiles 1 clean\n".as_slice(),
-        ),
-        (
-            "analyse 7 tiled",
-            b"report tiled id 7 tiles 1 clean\n".as_slice(),
-        ),
-        (
-            "analyse 7 tiled 1024",
-            b"report tiled id 7 tiles 1 clean\n".as_slice(),
-        ),
-        (
-            "analyse 7 a3d",
-            b"report a3d id 7 tiles 1 clean\n".as_slice(),
-        ),
-        // an id under which nothing was filed
-        (
-            "analyse 8 a3d",
-            b"report a3d id 8 tiles 0 unsealed\n".as_slice(),
-        ),
-    ] {
-        let answered = audit(alloc, &mut store, &mut filed, call, b"", &[500])?;
-        assert_eq!(rt; answered.1.as_slice(), wanted);
-        assert_eq!(rt; answered.0, 0);
-    }
-    for call in [
-        "analyse 7",
-        "analyse 7 mono 1",
-        "analyse 7 tiled 0",
-        "analyse 7 tiled 1025",
-        "analyse 7 tiled 1 1",
-        "analyse 7 tile",
-        "analyse mono",
-    ] {
-        let answered = audit(alloc, &mut store, &mut filed, call, b"", &[500])?;
-        assert_eq!(rt; answered.1.as_slice(), b"fault Usage\n".as_slice());
-        assert_eq!(rt; answered.0, 2);
-    }
-    Ok(())
-}
+const OF_TILES: [Story; 4] = [
+    (
+        "granules may be tiles",
+        &[
+            Step::Sealed("init 7 60 0 t", 8),
+            Step::Damaged(
+                &[(345, 1), (429, 1)],
+                "validate 7",
+                500,
+                &[b"altered 8 from 5\n"],
+            ),
+            Step::Damaged(
+                &[(345, 1), (429, 1)],
+                "analyse 7 mono",
+                510,
+                &[
+                    b"report mono id 7 tiles 8 altered\n\
+                      tiles 5 to 7 granules 5 to 7 when 480 to 510\n",
+                    OF_EIGHT,
+                    b"         510 .....XXX\n",
+                ],
+            ),
+            Step::Damaged(
+                &[(345, 1), (429, 1)],
+                "analyse 7 tiled",
+                510,
+                &[
+                    b"report tiled id 7 tiles 8 altered\n\
+                      tile 5 target - candidates 5 when 480 to 510\n\
+                      tile 7 target - candidates 7 when 480 to 510\n",
+                    OF_EIGHT,
+                    b"         510 .....X.X\n",
+                ],
+            ),
+        ],
+    ),
+    (
+        "twelve granules lie under two roots",
+        &[
+            Step::Sealed("init 7 60 2 a", 12),
+            Step::Damaged(
+                &[(345, 1), (513, 1)],
+                "analyse 7 a3d",
+                800,
+                &[
+                    b"report a3d id 7 tiles 3 altered\n\
+                      granule 5 when 720 to 800\n\
+                      granule 9 when 720 to 800\n\
+                      checks 12\n\
+                      first change in tile 1 when 720 to 800\n\
+                      diagram\n\
+                      \x20        720 N..\n\
+                      \x20        720 .N.\n\
+                      \x20        720 ..N\n\
+                      \x20        800 .XX\n",
+                ],
+            ),
+        ],
+    ),
+    (
+        // an entry of granule 50, which a validation finds before the analyses
+        "a changed entry of a week is found",
+        &[
+            Step::Week,
+            Step::Damaged(
+                &[(6764, 0xe9)],
+                "validate 18",
+                605_000,
+                &[b"altered 21 from 6\n"],
+            ),
+            Step::Damaged(
+                &[(6764, 0xe9)],
+                "analyse 18 mono",
+                605_000,
+                &[
+                    b"report mono id 18 tiles 21 altered\n\
+                      tiles 6 to 20 granules 48 to 167 when 432000 to 605000\n",
+                    OF_A_WEEK,
+                    b"      605000 ......XXXXXXXXXXXXXXX\n",
+                ],
+            ),
+            Step::Damaged(
+                &[(6764, 0xe9)],
+                "analyse 18 tiled",
+                605_000,
+                &[
+                    b"report tiled id 18 tiles 21 altered\n\
+                      tile 6 target 010 candidates 50 51 54 55 when 432000 to 605000\n",
+                    OF_A_WEEK,
+                    b"      605000 ......X..............\n",
+                ],
+            ),
+            Step::Damaged(
+                &[(6764, 0xe9)],
+                "analyse 18 a3d",
+                605_000,
+                &[
+                    b"report a3d id 18 tiles 21 altered\n\
+                      granule 50 when 432000 to 605000\nchecks 17\n",
+                    OF_A_WEEK,
+                    b"      605000 ......X..............\n",
+                ],
+            ),
+        ],
+    ),
+    (
+        "under another header every sealed granule is named",
+        &[
+            Step::Sealed("init 7 60 0 ta", 3),
+            Step::Cut(0),
+            Step::Call("init 8 60 0 ta", &[0], b"", 0, b"ready 8\n"),
+            Step::Call(
+                "analyse 7 mono",
+                &[500],
+                b"",
+                1,
+                b"report mono id 7 tiles 3 header altered\nevery granule of tiles 0 to 2\n",
+            ),
+        ],
+    ),
+];
 
 #[test]
-fn granules_may_be_tiles(rt: HostRuntime) -> Result<(), Fail> {
+fn a_report_names_what_was_altered(rt: HostRuntime) -> Result<(), Fail> {
     let alloc = rt.alloc();
-    let mut filed = notary(alloc);
-    let store = sealed(alloc, "init 7 60 0 t", 8, &mut filed)?;
-    let mut other = altered(alloc, &store, &[(345, 1), (429, 1)])?;
-    for (call, second, wanted) in [
-        ("validate 7", 500, b"altered 8 from 5\n".as_slice()),
-        (
-            "analyse 7 mono",
-            510,
-            b"report mono id 7 tiles 8 altered\n\
-              tiles 5 to 7 granules 5 to 7 when 480 to 510\n\
-              first change in tile 5 when 480 to 500\n\
-              diagram\n\
-              \x20        480 N.......\n\
-              \x20        480 .N......\n\
-              \x20        480 ..N.....\n\
-              \x20        480 ...N....\n\
-              \x20        480 ....N...\n\
-              \x20        480 .....N..\n\
-              \x20        480 ......N.\n\
-              \x20        480 .......N\n\
-              \x20        500 vvvvvx??\n\
-              \x20        510 .....XXX\n"
-                .as_slice(),
-        ),
-        (
-            "analyse 7 tiled",
-            510,
-            b"report tiled id 7 tiles 8 altered\n\
-              tile 5 target - candidates 5 when 480 to 510\n\
-              tile 7 target - candidates 7 when 480 to 510\n\
-              first change in tile 5 when 480 to 500\n\
-              diagram\n\
-              \x20        480 N.......\n\
-              \x20        480 .N......\n\
-              \x20        480 ..N.....\n\
-              \x20        480 ...N....\n\
-              \x20        480 ....N...\n\
-              \x20        480 .....N..\n\
-              \x20        480 ......N.\n\
-              \x20        480 .......N\n\
-              \x20        500 vvvvvx??\n\
-              \x20        510 .....X.X\n"
-                .as_slice(),
-        ),
-    ] {
-        let answered = audit(alloc, &mut other, &mut filed, call, b"", &[second])?;
-        assert_eq!(rt; answered.1.as_slice(), wanted);
-        assert_eq!(rt; answered.0, 1);
-    }
-    Ok(())
+    tell(&rt, alloc, &CLEAN)?;
+    tell(&rt, alloc, &OF_A_TILE)?;
+    tell(&rt, alloc, &OF_TILES)
 }
 
-#[test]
-fn twelve_granules_lie_under_two_roots(rt: HostRuntime) -> Result<(), Fail> {
-    let alloc = rt.alloc();
-    let mut filed = notary(alloc);
-    let store = sealed(alloc, "init 7 60 2 a", 12, &mut filed)?;
-    let mut other = altered(alloc, &store, &[(345, 1), (513, 1)])?;
-    let answered = audit(alloc, &mut other, &mut filed, "analyse 7 a3d", b"", &[800])?;
-    assert_eq!(rt;
-        answered.1.as_slice(),
-        b"report a3d id 7 tiles 3 altered\n\
-          granule 5 when 720 to 800\n\
-          granule 9 when 720 to 800\n\
-          checks 12\n\
-          first change in tile 1 when 720 to 800\n\
-          diagram\n\
-          \x20        720 N..\n\
-          \x20        720 .N.\n\
-          \x20        720 ..N\n\
-          \x20        800 .XX\n"
-            .as_slice()
-    );
-    assert_eq!(rt; answered.0, 1);
-    Ok(())
-}
-
-/// An entry of granule 50 is changed, and a validation finds it before the analyses.
-#[test]
-fn a_changed_entry_of_a_week_is_found(rt: HostRuntime) -> Result<(), Fail> {
-    let alloc = rt.alloc();
-    let mut filed = notary(alloc);
-    let store = week(alloc, &mut filed)?;
-    let mut other = altered(alloc, &store, &[(6764, 0xe9)])?;
-    let found = audit(
-        alloc,
-        &mut other,
-        &mut filed,
-        "validate 18",
-        b"",
-        &[605_000],
-    )?;
-    assert_eq!(rt; found.1.as_slice(), b"altered 21 from 6\n".as_slice());
-    for (algorithm, named, last) in [
-        (
-            "mono",
-            "tiles 6 to 20 granules 48 to 167 when 432000 to 605000\n",
-            "......XXXXXXXXXXXXXXX",
-        ),
-        (
-            "tiled",
-            "tile 6 target 010 candidates 50 51 54 55 when 432000 to 605000\n",
-            "......X..............",
-        ),
-        (
-            "a3d",
-            "granule 50 when 432000 to 605000\nchecks 17\n",
-            "......X..............",
-        ),
-    ] {
-        let head = format!(in alloc;
-            "report {algorithm} id 18 tiles 21 altered\n{named}first change in tile 6 when 432000 to 605000\n"
-        )?;
-        let mut text = head.as_bytes().to_vec(alloc)?;
-        text.extend_from_slice(WEEK)?;
-        text.extend_from_slice(format!(in alloc; "      605000 {last}\n")?.as_bytes())?;
-        let call = format!(in alloc; "analyse 18 {algorithm}")?;
-        let answered = audit(alloc, &mut other, &mut filed, &call, b"", &[605_000])?;
-        assert_eq!(rt; answered.1.as_slice(), text.as_slice());
-        assert_eq!(rt; answered.0, 1);
-    }
-    Ok(())
-}
-
-#[test]
-fn under_another_header_every_sealed_granule_is_named(rt: HostRuntime) -> Result<(), Fail> {
-    let alloc = rt.alloc();
-    let mut filed = notary(alloc);
-    let _store = sealed(alloc, "init 7 60 0 ta", 3, &mut filed)?;
-    let mut other = made(alloc, "init 8 60 0 ta")?;
-    let answered = audit(alloc, &mut other, &mut filed, "analyse 7 mono", b"", &[500])?;
-    assert_eq!(rt;
-        answered.1.as_slice(),
-        b"report mono id 7 tiles 3 header altered\nevery granule of tiles 0 to 2\n".as_slice()
-    );
-    assert_eq!(rt; answered.0, 1);
-    Ok(())
-}
-
-/// What the report of a store says that has one granule in one tile.
-fn verdict(name: &str, text: &[u8]) -> &'static str {
+/// What the report of a store of one granule in one tile says, and how the call ends.
+fn judged(
+    alloc: Global,
+    filed: &mut MemNotary,
+    algorithm: &str,
+    bytes: &[u8],
+) -> Result<(&'static str, u8), AllocError> {
+    let mut store = MemDisk::holding(alloc, bytes.to_vec(alloc)?);
+    let call = format!(in alloc; "analyse 7 {algorithm}")?;
+    let (status, text) = audit(alloc, &mut store, filed, &call, b"", &[500])?;
+    let name = algorithm.split(' ').next().unwrap_or("");
     let front = "report  id 7 tiles 1 ".len().saturating_add(name.len());
     let rest = text.get(front..).unwrap_or(b"");
-    if rest == b"clean\n".as_slice() {
+    let verdict = if rest == b"clean\n".as_slice() {
         "clean"
     } else if rest.starts_with(b"altered\n") {
         "altered"
@@ -237,71 +457,36 @@ fn verdict(name: &str, text: &[u8]) -> &'static str {
         "header altered"
     } else {
         "another"
-    }
+    };
+    Ok((verdict, status))
 }
 
 /// The header has 64 bytes and wants a gate behind it, the last row ends at place 136, and behind
 /// its gate stands a Frontier, which no report speaks of.
 #[test]
-fn a_store_that_was_cut_is_altered(rt: HostRuntime) -> Result<(), Fail> {
+fn a_store_that_was_cut_or_has_another_header_is_altered(rt: HostRuntime) -> Result<(), Fail> {
     let alloc = rt.alloc();
     let mut filed = notary(alloc);
     let store = sealed(alloc, "init 7 60 0 ta", 1, &mut filed)?;
     assert_eq!(rt; store.bytes().len(), 151);
     for algorithm in ["mono", "tiled", "tiled 1", "a3d"] {
-        let call = format!(in alloc; "analyse 7 {algorithm}")?;
-        let name = algorithm.split(' ').next().unwrap_or("");
         for length in 0..152 {
             let front = store.bytes().get(..length).unwrap_or(store.bytes());
-            let mut other = MemDisk::holding(alloc, front.to_vec(alloc)?);
-            let answered = audit(alloc, &mut other, &mut filed, &call, b"", &[500])?;
             let wanted = match length {
                 0..=64 => ("header altered", 1),
                 65..=136 => ("altered", 1),
                 _ => ("clean", 0),
             };
-            assert_eq!(rt; (verdict(name, &answered.1), answered.0), wanted);
+            assert_eq!(rt; judged(alloc, &mut filed, algorithm, front)?, wanted);
         }
     }
-    Ok(())
-}
-
-#[test]
-fn a_header_of_which_a_byte_was_changed_is_altered(rt: HostRuntime) -> Result<(), Fail> {
-    let alloc = rt.alloc();
-    let mut filed = notary(alloc);
-    let store = sealed(alloc, "init 7 60 0 ta", 1, &mut filed)?;
     for place in 0usize..64 {
-        let byte = store.bytes().get(place).copied().unwrap_or(0);
-        for other in [byte ^ 1, byte ^ 0x80] {
-            let mut other = altered(alloc, &store, &[(place, other)])?;
-            let answered = audit(alloc, &mut other, &mut filed, "analyse 7 a3d", b"", &[500])?;
-            assert_eq!(rt;
-                (verdict("a3d", &answered.1), answered.0),
-                ("header altered", 1)
-            );
+        for turned in [1, 0x80] {
+            let byte = store.bytes().get(place).copied().unwrap_or(0);
+            let other = altered(alloc, &store, &[(place, byte ^ turned)])?;
+            let found = judged(alloc, &mut filed, "a3d", other.bytes())?;
+            assert_eq!(rt; found, ("header altered", 1), "at {place}");
         }
-    }
-    Ok(())
-}
-
-#[test]
-fn chains_that_a_store_has_not_are_not_asked_for(rt: HostRuntime) -> Result<(), Fail> {
-    let alloc = rt.alloc();
-    let mut filed = notary(alloc);
-    let mut store = made(alloc, "init 7 60 0 m")?;
-    for (call, wanted) in [
-        ("notarize 7", (0, b"sealed 0\n".as_slice())),
-        ("analyse 7 tiled", (18, b"fault NotSealedSo\n".as_slice())),
-        ("analyse 7 tiled 1", (18, b"fault NotSealedSo\n".as_slice())),
-        ("analyse 7 a3d", (18, b"fault NotSealedSo\n".as_slice())),
-        (
-            "analyse 7 mono",
-            (0, b"report mono id 7 tiles 0 clean\n".as_slice()),
-        ),
-    ] {
-        let answered = audit(alloc, &mut store, &mut filed, call, b"", &[0])?;
-        assert_eq!(rt; (answered.0, answered.1.as_slice()), wanted);
     }
     Ok(())
 }
@@ -324,33 +509,40 @@ fn a_notary_that_is_wrong_is_refused(rt: HostRuntime) -> Result<(), Fail> {
     let alloc = rt.alloc();
     let mut store = made(alloc, "init 7 60 1 a")?;
     let header = b"\x05\0\0\0\0\0\0\0\x07\0\0\0\0\0\0\0\0\0\0\0\x3c\x01\x02";
-    let left = Name::Node { level: 0, index: 0 };
-    let right = Name::Node { level: 0, index: 1 };
-    let root = Name::Node { level: 1, index: 0 };
-
-    let mut filed = notary(alloc);
-    filed.file(7, 0, 0, &[seal(Name::Header, header)])?;
     let seals = [
-        seal(left, b"\x02\0\0\0\0"),
-        seal(right, b"\x02\0\0\0\x01"),
-        seal(root, b""),
+        seal(Name::Node { level: 0, index: 0 }, b"\x02\0\0\0\0"),
+        seal(Name::Node { level: 0, index: 1 }, b"\x02\0\0\0\x01"),
+        seal(Name::Node { level: 1, index: 0 }, b""),
     ];
-    filed.file(7, 1, 120, &seals)?;
-    let answered = audit(alloc, &mut store, &mut filed, "analyse 7 a3d", b"", &[500])?;
-    assert_eq!(rt;
-        answered.1.as_slice(),
-        b"fault NotaryInconsistent node 1 0\n".as_slice()
-    );
-    assert_eq!(rt; answered.0, 19);
-
-    let mut filed = notary(alloc);
-    filed.file(7, 0, 0, &[seal(Name::Header, header)])?;
-    filed.file(7, 1, 120, &[seal(left, b"\x02\0\0\0\0")])?;
-    let answered = audit(alloc, &mut store, &mut filed, "analyse 7 a3d", b"", &[500])?;
-    assert_eq!(rt;
-        answered.1.as_slice(),
-        b"fault SealMissing node 1 0\n".as_slice()
-    );
-    assert_eq!(rt; answered.0, 11);
+    for (count, words, input, status, text) in [
+        (
+            3,
+            "analyse 7 a3d",
+            b"".as_slice(),
+            19,
+            b"fault NotaryInconsistent node 1 0\n".as_slice(),
+        ),
+        (1, "analyse 7 a3d", b"", 11, b"fault SealMissing node 1 0\n"),
+        (
+            3,
+            "run 7",
+            b"analyse a3d\n",
+            3,
+            b"refused NotaryInconsistent node 1 0\n",
+        ),
+        (
+            1,
+            "run 7",
+            b"analyse a3d\n",
+            3,
+            b"refused SealMissing node 1 0\n",
+        ),
+    ] {
+        let mut filed = notary(alloc);
+        filed.file(7, 0, 0, &[seal(Name::Header, header)])?;
+        filed.file(7, 1, 120, &seals[..count])?;
+        let answered = audit(alloc, &mut store, &mut filed, words, input, &[500])?;
+        assert_eq!(rt; (answered.0, answered.1.as_slice()), (status, text));
+    }
     Ok(())
 }

@@ -6,13 +6,44 @@ use notary_link::{MemNotary, Notary, NotaryLimits};
 use outside_io::{MemClock, MemSink, MemSource};
 use std::alloc::{AllocError, Global};
 
-/// The words of a call, which stand between spaces.
-pub fn words(alloc: Global, text: &str) -> Result<Vec<String>, AllocError> {
+pub fn owned(alloc: Global, texts: &[&str]) -> Result<Vec<String>, AllocError> {
     let mut words = Vec::new(alloc);
-    for word in text.split(' ') {
-        words.push(String::from_str(alloc, word)?)?;
+    for text in texts {
+        words.push(String::from_str(alloc, text)?)?;
     }
     Ok(words)
+}
+
+/// How a call of these words ends, and what it writes. The clock gives these seconds, the last one for ever, and these
+/// writes of the output fail.
+pub fn ended<D: Disk, N: Notary>(
+    alloc: Global,
+    words: &[&str],
+    store: &mut D,
+    notary: &mut N,
+    seconds: &[u64],
+    input: &mut MemSource,
+    failing: &[u64],
+) -> Result<(u8, Vec<u8>), AllocError> {
+    let words = owned(alloc, words)?;
+    let mut clock = MemClock::new(seconds.to_vec(alloc)?);
+    let mut out = MemSink::new(alloc, failing.to_vec(alloc)?);
+    let status = dragoon(alloc, &words, store, notary, &mut clock, input, &mut out);
+    Ok((status.code(), out.bytes().to_vec(alloc)?))
+}
+
+/// The same of words that stand between spaces, where no device fails.
+pub fn audit<D: Disk, N: Notary>(
+    alloc: Global,
+    store: &mut D,
+    notary: &mut N,
+    text: &str,
+    script: &[u8],
+    seconds: &[u64],
+) -> Result<(u8, Vec<u8>), AllocError> {
+    let words: Vec<&str> = text.split(' ').collect(alloc)?;
+    let mut input = MemSource::new(script.to_vec(alloc)?, 4096, Vec::new(alloc));
+    ended(alloc, &words, store, notary, seconds, &mut input, &[])
 }
 
 /// An empty notary that holds as much as the program's.
@@ -24,26 +55,6 @@ pub fn notary(alloc: Global) -> MemNotary {
             marks: 65_536,
         },
     )
-}
-
-/// How a call over this store and this notary ends that finds all its devices whole, and what it
-/// writes. The clock gives these seconds.
-pub fn audit<D: Disk, N: Notary>(
-    alloc: Global,
-    store: &mut D,
-    notary: &mut N,
-    text: &str,
-    script: &[u8],
-    seconds: &[u64],
-) -> Result<(u8, Vec<u8>), AllocError> {
-    let words = words(alloc, text)?;
-    let mut clock = MemClock::new(seconds.to_vec(alloc)?);
-    let mut input = MemSource::new(script.to_vec(alloc)?, 4096, Vec::new(alloc));
-    let mut out = MemSink::new(alloc, Vec::new(alloc));
-    let status = dragoon(
-        alloc, &words, store, notary, &mut clock, &mut input, &mut out,
-    );
-    Ok((status.code(), out.bytes().to_vec(alloc)?))
 }
 
 /// The same beside a notary to which nothing was filed.
@@ -64,18 +75,8 @@ pub fn made(alloc: Global, text: &str) -> Result<MemDisk, AllocError> {
     Ok(store)
 }
 
-/// A table, and a row in each of the first granules of a minute, the first one at moment 0.
-fn rows(alloc: Global, granules: u32) -> Result<Vec<u8>, AllocError> {
-    let mut script = b"create t k int v int\n".to_vec(alloc)?;
-    for granule in 0..granules {
-        let moment = u64::from(granule) * 60;
-        let lines = format!(in alloc; "now {moment}\ninsert t {granule} 0\n")?;
-        script.extend_from_slice(lines.as_bytes())?;
-    }
-    Ok(script)
-}
-
-/// A store made by these words and filled with rows, all tiles of which are sealed.
+/// A store made by these words, with a table, and a row in each of the first granules of a minute, the first
+/// one at moment 0. All its tiles are sealed.
 pub fn sealed(
     alloc: Global,
     text: &str,
@@ -83,7 +84,12 @@ pub fn sealed(
     notary: &mut MemNotary,
 ) -> Result<MemDisk, AllocError> {
     let mut store = made(alloc, text)?;
-    let mut script = rows(alloc, granules)?;
+    let mut script = b"create t k int v int\n".to_vec(alloc)?;
+    for granule in 0..granules {
+        let moment = u64::from(granule) * 60;
+        let lines = format!(in alloc; "now {moment}\ninsert t {granule} 0\n")?;
+        script.extend_from_slice(lines.as_bytes())?;
+    }
     let end = u64::from(granules) * 60;
     script.extend_from_slice(format!(in alloc; "now {end}\nnotarize\n")?.as_bytes())?;
     let _filled = audit(alloc, &mut store, notary, "run 7 scripted", &script, &[])?;

@@ -17,8 +17,8 @@ mod limits;
 #[cfg(test)]
 mod notarized;
 #[cfg(test)]
-mod runs;
-#[cfg(test)]
 mod scripts;
 #[cfg(test)]
 mod stops;
+#[cfg(test)]
+mod story;

@@ -1,93 +1,103 @@
 //! A disk or a notary that fails at each of its calls in turn, a crash after it, and the retry.
 
-use crate::desk::{audit, made, notary};
+use crate::desk::{audit, call, made, notary};
 use disk_model::MemDisk;
 use notary_book::Book;
-use notary_link::MemNotary;
 use sha2::{Digest, Sha256};
 use std::alloc::{AllocError, Global};
 use std::test::Fail;
+use store_engine::Store;
 
 const SCRIPT: &[u8] = b"create t k int\ninsert t 1\nnow 240\ninsert t 2\nnotarize\nvalidate\n";
 
 const REPLIES: &[u8] = b"ok 1\nok 2\nok\nok 3\nsealed 1\nclean 1\n";
 
-/// The text of the replies, and behind it the fault line.
-fn stopped(alloc: Global, replies: &[u8], fault: &[u8]) -> Result<Vec<u8>, AllocError> {
-    let mut text = replies.to_vec(alloc)?;
-    text.extend_from_slice(fault)?;
-    Ok(text)
-}
-
 #[test]
 fn a_disk_that_fails_keeps_what_was_acknowledged(rt: HostRuntime) -> Result<(), Fail> {
     let alloc = rt.alloc();
-    for call in 1u64..14 {
+    for failing in 1u64..14 {
         for choice in [0, 1, 200] {
             let mut store = made(alloc, "init 9 60 2 m")?;
-            store.failing(Vec::new(alloc), vec![in alloc; call]?);
-            let mut filed = notary(alloc);
-            let answered = audit(alloc, &mut store, &mut filed, "run 9 scripted", SCRIPT, &[])?;
-            let (wanted, count) = match call {
-                1..=4 => (stopped(alloc, b"", b"fault DiskFault\n")?, 0),
-                5..=8 => (stopped(alloc, b"ok 1\n", b"fault DiskFault\n")?, 1),
-                9..=12 => (
-                    stopped(alloc, b"ok 1\nok 2\nok\n", b"fault DiskFault\n")?,
-                    2,
-                ),
-                _ => (REPLIES.to_vec(alloc)?, 3),
+            store.failing(Vec::new(alloc), [failing].to_vec(alloc)?);
+            let (_, told) = call(alloc, &mut store, "run 9 scripted", SCRIPT, &[])?;
+            let (wanted, count) = match failing {
+                1..=4 => (b"fault DiskFault\n".as_slice(), 0),
+                5..=8 => (b"ok 1\nfault DiskFault\n".as_slice(), 1),
+                9..=12 => (b"ok 1\nok 2\nok\nfault DiskFault\n".as_slice(), 2),
+                _ => (REPLIES, 3),
             };
-            assert_eq!(rt; answered.1.as_slice(), wanted.as_slice());
+            assert_eq!(rt; told.as_slice(), wanted);
             store.crash(choice)?;
-            let opened = store_engine::Store::open_store(alloc, &mut store, 9);
-            let stored = opened.map_or(0, |store| store.txn_count());
+            let stored = match Store::open_store(alloc, &mut store, 9) {
+                Ok(opened) => opened.txn_count(),
+                Err(_) => 0,
+            };
             assert!(rt; stored == count || stored == count + 1);
         }
     }
     Ok(())
 }
 
-/// What a run says whose notary fails at this question or at this changing call, and what the run
-/// after it says.
-fn with_failing_notary(
-    alloc: Global,
-    question: u64,
-    change: u64,
-) -> Result<(Vec<u8>, Vec<u8>), AllocError> {
-    let mut store = made(alloc, "init 9 60 2 m")?;
-    let mut filed: MemNotary = notary(alloc);
-    filed.failing(vec![in alloc; question]?, vec![in alloc; change]?);
-    let (_, text) = audit(alloc, &mut store, &mut filed, "run 9 scripted", SCRIPT, &[])?;
-    filed.failing(Vec::new(alloc), Vec::new(alloc));
-    let retry = b"now 240\nnotarize\nvalidate\n";
-    let (_, again) = audit(alloc, &mut store, &mut filed, "run 9 scripted", retry, &[])?;
-    Ok((text, again))
-}
+const BEFORE_FILING: &[u8] = b"ok 1\nok 2\nok\nok 3\nfault NotaryFault\n";
+
+const BEFORE_VERDICT: &[u8] = b"ok 1\nok 2\nok\nok 3\nsealed 1\nfault NotaryFault\n";
+
+const RETRY: (&[u8], &[u8]) = (b"now 240\nnotarize\nvalidate\n", b"ok\nsealed 1\nclean 1\n");
+
+const AT_ONCE: (&[u8], &[u8]) = (b"notarize\nvalidate\n", b"sealed 1\nclean 1\n");
+
+/// The second at which the store is made; which question of the notary fails and which changing call; what the run
+/// says; and the run after it with what that says.
+type Asked = (
+    u64,
+    (u64, u64),
+    u8,
+    &'static [u8],
+    (&'static [u8], &'static [u8]),
+);
+
+/// The questions are the count; then the count, the header and the last link. The changing calls are the header's
+/// batch, that of the tile, and the mark.
+const ASKED: [Asked; 12] = [
+    (0, (1, 0), 6, BEFORE_FILING, RETRY),
+    (0, (2, 0), 6, BEFORE_VERDICT, RETRY),
+    (0, (3, 0), 6, BEFORE_VERDICT, RETRY),
+    (0, (4, 0), 6, BEFORE_VERDICT, RETRY),
+    (0, (5, 0), 0, REPLIES, RETRY),
+    (0, (0, 1), 6, BEFORE_FILING, RETRY),
+    (0, (0, 2), 6, BEFORE_FILING, RETRY),
+    (0, (0, 3), 6, BEFORE_VERDICT, RETRY),
+    (0, (0, 4), 0, REPLIES, RETRY),
+    (5, (1, 0), 6, BEFORE_FILING, AT_ONCE),
+    (5, (0, 1), 6, BEFORE_FILING, AT_ONCE),
+    (5, (0, 2), 6, BEFORE_FILING, AT_ONCE),
+];
 
 #[test]
 fn a_notary_that_fails_is_asked_again(rt: HostRuntime) -> Result<(), Fail> {
     let alloc = rt.alloc();
-    let before_filing = stopped(alloc, b"ok 1\nok 2\nok\nok 3\n", b"fault NotaryFault\n")?;
-    let before_verdict = stopped(
-        alloc,
-        b"ok 1\nok 2\nok\nok 3\nsealed 1\n",
-        b"fault NotaryFault\n",
-    )?;
-    // the count; then the count, the header and the last link; and the header's batch, that of the tile, and the mark
-    for (question, change, wanted) in [
-        (1, 0, before_filing.as_slice()),
-        (2, 0, before_verdict.as_slice()),
-        (3, 0, before_verdict.as_slice()),
-        (4, 0, before_verdict.as_slice()),
-        (5, 0, REPLIES),
-        (0, 1, before_filing.as_slice()),
-        (0, 2, before_filing.as_slice()),
-        (0, 3, before_verdict.as_slice()),
-        (0, 4, REPLIES),
-    ] {
-        let (text, again) = with_failing_notary(alloc, question, change)?;
-        assert_eq!(rt; text.as_slice(), wanted);
-        assert_eq!(rt; again.as_slice(), b"ok\nsealed 1\nclean 1\n".as_slice());
+    for (second, (question, change), ended, wanted, (retry, again)) in ASKED {
+        let mut store = MemDisk::new(alloc);
+        let mut filed = notary(alloc);
+        for (words, script, (asked, changed), status, text) in [
+            (
+                "init 9 60 2 m",
+                b"".as_slice(),
+                (0, 0),
+                0,
+                b"ready 9\n".as_slice(),
+            ),
+            ("run 9 scripted", SCRIPT, (question, change), ended, wanted),
+            ("run 9 scripted", retry, (0, 0), 0, again),
+        ] {
+            filed.failing([asked].to_vec(alloc)?, [changed].to_vec(alloc)?);
+            let told = audit(alloc, &mut store, &mut filed, words, script, &[second])?;
+            assert_eq!(rt;
+                (told.0, told.1.as_slice()),
+                (status, text),
+                "{question} {change}"
+            );
+        }
     }
     Ok(())
 }

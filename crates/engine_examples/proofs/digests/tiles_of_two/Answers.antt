@@ -1,7 +1,7 @@
 use Rattle.std.proofs.Common.{◌≡◌, ℕ, ◌*◌, ◌^◌, ap, ◌∙◌, arith}
 use Rattle.policy_eras.specs.Policy.{Policy}
 use Rattle.policy_eras.proofs.Even.{even}
-use Rattle.engine_examples.proofs.chains.tiles_of_two.Goals as goal
+use Rattle.engine_examples.proofs.digests.tiles_of_two.Goals as goal
 
 pub links_at_tiles-requires-clause-within : goal.links_at_tiles-requires-clause-within
 links_at_tiles-requires-clause-within g c =
