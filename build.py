@@ -81,10 +81,13 @@ class Lane:
         lines = [f"{it}: {' '.join(libraries)}\n" for it, libraries in crates.items()]
         (folder / "crates.txt").write_text("".join(lines))
 
-    def begin(self, name, below, jobs):
+    def stand_on(self, below):
         for it in below:
             if not (self.crates / it / "out" / "rlib").exists():
                 shutil.copytree(ROOT / "crates" / it / "out" / "rlib", self.crates / it / "out" / "rlib", copy_function=link)
+
+    def begin(self, name, below, jobs):
+        self.stand_on(below)
         kept = ROOT / "crates" / name / "out"
         for part in ("rlib", "incremental"):
             if (kept / part).is_dir():
@@ -131,13 +134,15 @@ def build(names, room):
     while len(done) < len(crates):
         ready = [it for it in left if below[it] <= done]
         for at, name in enumerate(ready):
-            idle = processors - sum(it.jobs for it in lanes)
-            room_left = memory - sum(PROOF + JOB * (it.jobs - 1) for it in lanes if it.name)
+            busy = [it for it in lanes if it.name]
+            room_left = memory - sum(PROOF + JOB * (it.jobs - 1) for it in busy)
             free = [it for it in lanes if it.name is None]
-            if not free or len(free) < len(lanes) and (idle < 1 or room_left < PROOF):
+            if not free or busy and room_left < PROOF:
                 break
-            # a crate that few others are ready beside gets the processors that are idle
-            jobs = max(1, min(4, idle // (len(ready) - at), 1 + int((room_left - PROOF) / JOB)))
+            # all wait for the crate with the longest way above it, so it gets a job for each processor; others share what is idle
+            is_first = all(ways[name] >= ways[it] for it in crates if it not in done)
+            jobs = processors if is_first else (processors - len(busy)) // (len(ready) - at)
+            jobs = max(1, min(4, jobs, 1 + int((room_left - PROOF) / JOB)))
             left.remove(name)
             free[0].begin(name, below[name], jobs)
         time.sleep(0.1)

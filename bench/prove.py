@@ -1,0 +1,58 @@
+"""Proves and builds a program that measures something, over libraries of the repository that ./dragoon has built.
+
+    python3 bench/prove.py FOLDER LIBRARY..
+
+FOLDER has its src/ and perhaps its proofs/, and its name is the crate's. The program is left at FOLDER/program. bench/all names
+a folder in BENCH_PROGRAMS, where each program is kept, so that it is proved once for all rounds.
+"""
+import os
+import pathlib
+import shutil
+import subprocess
+import sys
+import tempfile
+
+ROOT = pathlib.Path(__file__).resolve().parent.parent
+sys.path.insert(0, str(ROOT))
+sys.dont_write_bytecode = True
+import build
+
+
+def prove(folder, libraries):
+    """The log of rt where the program isn't proved."""
+    crates = build.crates_below(libraries)
+    # the libraries are built with the program, where it isn't current
+    if subprocess.run([ROOT / "dragoon", f"store={ROOT}/examples/worked.store", "link"], stdout=subprocess.DEVNULL).returncode:
+        return "the program is not built\n"
+    with tempfile.TemporaryDirectory(prefix="bench-") as room:
+        subprocess.run(["git", "init", "-q", room], check=True)
+        tree = build.Lane(pathlib.Path(room), {**crates, folder.name: libraries})
+        tree.stand_on(crates)
+        crate = tree.crates / folder.name
+        for part in ("src", "proofs"):
+            if (folder / part).is_dir():
+                shutil.copytree(folder / part, crate / part)
+        (crate / "stdin").write_bytes(b"")
+        done = subprocess.run(["rt", "run"], cwd=crate, stdout=subprocess.PIPE, stderr=subprocess.STDOUT, text=True, errors="replace")
+        if done.returncode:
+            return done.stdout
+        shutil.copy2(crate / "out" / folder.name, folder / "program")
+    return None
+
+
+def main(folder, libraries):
+    program, kept = folder / "program", os.environ.get("BENCH_PROGRAMS")
+    if kept and (pathlib.Path(kept) / folder.name).is_file():
+        shutil.copy2(pathlib.Path(kept) / folder.name, program)
+        return 0
+    why = prove(folder, libraries)
+    if why is not None:
+        print("\n".join(why.splitlines()[-40:]), file=sys.stderr)
+        return 1
+    if kept:
+        shutil.copy2(program, pathlib.Path(kept) / folder.name)
+    return 0
+
+
+if __name__ == "__main__":
+    sys.exit(main(pathlib.Path(sys.argv[1]), sys.argv[2:]))
