@@ -111,6 +111,7 @@ def book():
 
 
 def main(folder):
+    pathlib.Path(folder).mkdir(parents=True, exist_ok=True)
     whole = store()
     altered = whole[:CHANGED] + b"\x01" + whole[CHANGED + 1 :]
     for name, content in (("worked.store", whole), ("worked.book", book()), ("altered.store", altered)):
