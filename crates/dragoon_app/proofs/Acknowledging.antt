@@ -12,7 +12,7 @@ use Rattle.stmt_text.specs.declared.error.ParseFail.{ParseFail}
 use Rattle.stmt_text.specs.declared.error.ParseFail.TheVariants as parses
 use Rattle.stmt_text.specs.declared.line.Line.{Line}
 use Rattle.stmt_text.specs.Lines.{answer}
-use Rattle.session_core.specs.World as statements
+use Rattle.statement_core.specs.World as statements
 use Rattle.drill_core.specs.Found.{Found}
 use Rattle.drill_core.specs.World.{World, StoresWorld, StoresOf}
 use Rattle.drill_core.specs.Steps.{step}

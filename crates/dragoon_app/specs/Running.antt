@@ -12,7 +12,7 @@ use Rattle.stmt_text.specs.declared.stmt.Stmt.TheVariants as stmts
 use Rattle.stmt_text.specs.Lines.{answer, is_blank, without_return}
 use Rattle.notary_link.specs.declared.notary.NotaryLimits.{NotaryLimits}
 use Rattle.notary_link.specs.Notary.{Lists}
-use Rattle.session_core.specs.World as statements
+use Rattle.statement_core.specs.World as statements
 use Rattle.drill_core.specs.Found.{Found}
 use Rattle.drill_core.specs.World.{World}
 use Rattle.drill_core.specs.Steps.{Step, step, MayFind}

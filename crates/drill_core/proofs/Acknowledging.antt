@@ -19,15 +19,15 @@ use Rattle.stmt_text.specs.declared.stmt.Stmt.{Stmt}
 use Rattle.stmt_text.specs.declared.stmt.Stmt.TheVariants as stmts
 use Rattle.stmt_text.specs.declared.line.Line.{Line}
 use Rattle.stmt_text.specs.declared.line.Line.TheVariants as lines
-use Rattle.session_core.specs.declared.reply.Reply.{Reply}
-use Rattle.session_core.specs.declared.reply.Reply.TheVariants as replies
-use Rattle.session_core.specs.Replies.{reply_text}
-use Rattle.session_core.specs.Promises.{HasOneMore, IsPromised}
-use Rattle.session_core.specs.World as statements
-use Rattle.session_core.specs.World.{tail_of_world, tables_now}
-use Rattle.session_core.specs.Steps as statement_steps
-use Rattle.session_core.specs.Steps.{committed, commit_prepared, write_in, write_or_read}
-use Rattle.session_core.proofs.Promising.{steps_keep}
+use Rattle.statement_core.specs.declared.reply.Reply.{Reply}
+use Rattle.statement_core.specs.declared.reply.Reply.TheVariants as replies
+use Rattle.statement_core.specs.Replies.{reply_text}
+use Rattle.statement_core.specs.Promises.{HasOneMore, IsPromised}
+use Rattle.statement_core.specs.World as statements
+use Rattle.statement_core.specs.World.{tail_of_world, tables_now}
+use Rattle.statement_core.specs.Steps as statement_steps
+use Rattle.statement_core.specs.Steps.{committed, commit_prepared, write_in, write_or_read}
+use Rattle.statement_core.proofs.Promising.{steps_keep}
 use Rattle.validator.specs.declared.verdict.Verdict.{Verdict}
 use Rattle.validator.specs.declared.fail.AuditFail.{AuditFail}
 use Rattle.validator.specs.Verdicts.{mark_of}

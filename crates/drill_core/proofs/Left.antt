@@ -6,7 +6,7 @@ use Rattle.disk_model.proofs.Moments.{started, stays}
 use Rattle.history_model.specs.Stored.{stored}
 use Rattle.notary_link.specs.Notary.{Lists, Keeps}
 use Rattle.store_engine.specs.Opened.{Opened, Stores}
-use Rattle.session_core.specs.World as statements
+use Rattle.statement_core.specs.World as statements
 use Rattle.validator.specs.Desk.{content}
 use Rattle.drill_core.specs.declared.answered.Answered.{Answered}
 use Rattle.drill_core.specs.declared.fail.LineFail.{LineFail}

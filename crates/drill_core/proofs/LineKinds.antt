@@ -5,7 +5,7 @@ use Rattle.stmt_text.specs.declared.stmt.Stmt.{Stmt}
 use Rattle.stmt_text.specs.declared.stmt.Stmt.TheVariants as stmts
 use Rattle.stmt_text.specs.declared.line.Line.{Line}
 use Rattle.stmt_text.specs.declared.line.Line.TheVariants as lines
-use Rattle.session_core.specs.Steps.{IsTableLine, IsOnTables}
+use Rattle.statement_core.specs.Steps.{IsTableLine, IsOnTables}
 use Rattle.validator.specs.declared.verdict.Verdict.{Verdict}
 use Rattle.validator.specs.declared.verdict.Verdict.TheVariants as verdicts
 use Rattle.validator.specs.declared.fail.AuditFail.{AuditFail}

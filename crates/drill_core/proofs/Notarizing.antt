@@ -27,7 +27,7 @@ use Rattle.store_engine.specs.Opened.{Opened, Stores, IsOpenOn}
 use Rattle.store_engine.specs.Refusals.{Tail, tail_of}
 use Rattle.stmt_text.specs.declared.stmt.Stmt.TheVariants as stmts
 use Rattle.stmt_text.specs.declared.line.Line.TheVariants as lines
-use Rattle.session_core.specs.World as statements
+use Rattle.statement_core.specs.World as statements
 use Rattle.validator.specs.Desk.{content, desk}
 use Rattle.validator.specs.declared.fail.AuditFail.{AuditFail}
 use Rattle.validator.specs.declared.fail.AuditFail.TheVariants as fails

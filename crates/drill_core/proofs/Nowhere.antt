@@ -8,8 +8,8 @@ use Rattle.stmt_text.specs.declared.stmt.Stmt.{Stmt}
 use Rattle.stmt_text.specs.declared.stmt.Stmt.TheVariants as stmts
 use Rattle.stmt_text.specs.declared.line.Line.{Line}
 use Rattle.stmt_text.specs.declared.line.Line.TheVariants as lines
-use Rattle.session_core.specs.World as statements
-use Rattle.session_core.proofs.Untouched.{unchanged_same}
+use Rattle.statement_core.specs.World as statements
+use Rattle.statement_core.proofs.Untouched.{unchanged_same}
 use Rattle.validator.specs.Desk.{content, desk}
 use Rattle.drill_core.specs.declared.answered.Answered.{Answered}
 use Rattle.drill_core.specs.declared.fail.LineFail.{LineFail}

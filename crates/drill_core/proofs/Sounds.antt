@@ -26,11 +26,11 @@ use Rattle.store_engine.specs.Refusals.{Tail, next_txn, commit_fault, is_back}
 use Rattle.stmt_text.specs.declared.stmt.Stmt.{Stmt}
 use Rattle.stmt_text.specs.declared.line.Line.{Line}
 use Rattle.stmt_text.specs.declared.line.Line.TheVariants as lines
-use Rattle.session_core.specs.declared.reply.Reply.{Reply}
-use Rattle.session_core.specs.declared.sessions.StepFail.{StepFail}
-use Rattle.session_core.specs.World.{World, IsIn, StoresEither, tail_of_world, tables_now, with_txn}
-use Rattle.session_core.specs.Steps.{committed, commit_prepared, write_or_read, write_in, step}
-use Rattle.session_core.specs.Stepping.{StepsTo}
+use Rattle.statement_core.specs.declared.reply.Reply.{Reply}
+use Rattle.statement_core.specs.declared.sessions.StepFail.{StepFail}
+use Rattle.statement_core.specs.World.{World, IsIn, StoresEither, tail_of_world, tables_now, with_txn}
+use Rattle.statement_core.specs.Steps.{committed, commit_prepared, write_or_read, write_in, step}
+use Rattle.statement_core.specs.Stepping.{StepsTo}
 use Rattle.drill_core.specs.Parts.{StaysSound}
 
 -- ---- what a step adds

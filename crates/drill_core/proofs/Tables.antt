@@ -8,14 +8,14 @@ use Rattle.tuple_bytes.specs.declared.header.Header.{Header}
 use Rattle.notary_link.specs.Notary as notaries
 use Rattle.store_engine.specs.Opened.{Opened}
 use Rattle.stmt_text.specs.declared.line.Line.{Line}
-use Rattle.session_core.specs.declared.reply.Reply.{Reply}
-use Rattle.session_core.specs.declared.sessions.StepFail.{StepFail}
-use Rattle.session_core.specs.declared.sessions.StepFail.TheVariants as steps_as
-use Rattle.session_core.specs.Replies.{reply_text, is_refusal}
-use Rattle.session_core.specs.World as statements
-use Rattle.session_core.specs.Steps as statement_steps
-use Rattle.session_core.specs.Stepping.{StepsIn, StepsTo, MakesFor}
-use Rattle.session_core.specs.declared.reply.Reply.TheVariants as replies
+use Rattle.statement_core.specs.declared.reply.Reply.{Reply}
+use Rattle.statement_core.specs.declared.sessions.StepFail.{StepFail}
+use Rattle.statement_core.specs.declared.sessions.StepFail.TheVariants as steps_as
+use Rattle.statement_core.specs.Replies.{reply_text, is_refusal}
+use Rattle.statement_core.specs.World as statements
+use Rattle.statement_core.specs.Steps as statement_steps
+use Rattle.statement_core.specs.Stepping.{StepsIn, StepsTo, MakesFor}
+use Rattle.statement_core.specs.declared.reply.Reply.TheVariants as replies
 use Rattle.tuple_bytes.specs.declared.item.Item.{Item}
 use Rattle.tuple_bytes.specs.declared.item.Item.TheVariants as items
 use Rattle.validator.specs.Desk.{content}
@@ -29,7 +29,7 @@ use Rattle.drill_core.specs.Steps.{Step, on_tables, after_statement}
 use Rattle.drill_core.specs.Stepping.{IsReply, Goes, Steps}
 use Rattle.drill_core.proofs.Between.{kept_between}
 use Rattle.drill_core.proofs.LineKinds.{none_found, table_step, table_may}
-use Rattle.session_core.specs.Steps.{IsTableLine}
+use Rattle.statement_core.specs.Steps.{IsTableLine}
 
 -- the world of an open store
 pub record HasStore (w : World) (s : Opened) (bytes : List ℕ) : Type 0 where

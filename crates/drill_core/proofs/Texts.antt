@@ -4,10 +4,10 @@ use Rattle.std.specs.Prelude.{slice_index, if◌then◌else◌, nat_lt, codes}
 use Rattle.notary_link.specs.declared.mark.Mark.{Mark}
 use Rattle.notary_link.specs.Notary.{marks_in_all}
 use Rattle.stmt_text.specs.Printing.{row_text}
-use Rattle.session_core.specs.declared.reply.Reply.{Reply}
-use Rattle.session_core.specs.declared.reply.Reply.TheVariants as replies
-use Rattle.session_core.specs.Replies.{reply_text}
-use Rattle.session_core.specs.World as statements
+use Rattle.statement_core.specs.declared.reply.Reply.{Reply}
+use Rattle.statement_core.specs.declared.reply.Reply.TheVariants as replies
+use Rattle.statement_core.specs.Replies.{reply_text}
+use Rattle.statement_core.specs.World as statements
 use Rattle.validator.specs.declared.verdict.Verdict.{Verdict}
 use Rattle.validator.specs.declared.verdict.Verdict.TheVariants as verdicts
 use Rattle.validator.specs.declared.fail.AuditFail.{AuditFail}

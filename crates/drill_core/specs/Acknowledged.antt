@@ -5,7 +5,7 @@ use Rattle.tuple_bytes.specs.declared.item.Item.{Item}
 use Rattle.tuple_bytes.specs.declared.item.Txn.{Txn}
 use Rattle.history_model.specs.History.{txns}
 use Rattle.stmt_text.specs.declared.line.Line.{Line}
-use Rattle.session_core.specs.World as statements
+use Rattle.statement_core.specs.World as statements
 use Rattle.drill_core.specs.World.{World}
 use Rattle.drill_core.specs.Found.{Found}
 use Rattle.drill_core.specs.Steps.{step}

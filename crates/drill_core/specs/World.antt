@@ -9,7 +9,7 @@ use Rattle.tuple_bytes.specs.declared.item.Item.{Item}
 use Rattle.store_engine.specs.declared.fail.StoreFail.{StoreFail}
 use Rattle.store_engine.specs.Opened.{Opened, Stores, IsOpenOn}
 use Rattle.store_engine.specs.Refusals.{IsOfAnother, IsNoStore}
-use Rattle.session_core.specs.World as statements
+use Rattle.statement_core.specs.World as statements
 
 pub record World : Type 0 where
   -- of the store, and of what is filed for it

@@ -4,7 +4,7 @@ ghost use Rattle.std.specs.Prelude.{◌≡◌};
 ghost use Rattle.drill_core.specs.declared.fail.LineFail.TheVariants.{NoMemory};
 ghost use Rattle.drill_core.specs.Answers.{fault_of};
 
-use session_core::StepFail;
+use statement_core::StepFail;
 use std::alloc::AllocError;
 
 /// Why a line has no reply.

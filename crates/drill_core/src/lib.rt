@@ -6,7 +6,7 @@
 //!
 //! | Line | World after it | Reply |
 //! |---|---|---|
-//! | a statement on tables | as `session_core` says | as `session_core` says |
+//! | a statement on tables | as `statement_core` says | as `statement_core` says |
 //! | `notarize` | a Frontier more, where one is needed, and a batch more for each tile that has ended | `sealed N`, the number of sealed tiles |
 //! | `validate` | a mark more, where something was filed | the verdict: `clean N`, `header altered N`, `altered N from M`, `unsealed` |
 //! | `analyse` | as before | the report of `forensic_report` |

@@ -4,14 +4,14 @@ ghost use Rattle.std.specs.Prelude.{◌≡◌, false, IsErrOf, OnOk};
 ghost use Rattle.outside_words.specs.Faults.{HasCause};
 ghost use Rattle.disk_words.specs.Disk as disks;
 ghost use Rattle.stmt_text.specs.Fits.{FitsParts};
-ghost use Rattle.session_core.specs.Steps.{IsTableLine};
+ghost use Rattle.statement_core.specs.Steps.{IsTableLine};
 ghost use Rattle.drill_core.specs.declared.fail.LineFail.TheVariants.{DiskFault, NotaryFault};
 ghost use Rattle.drill_core.specs.Parts.{StepsBeside, StaysSound};
 
 use crate::answered::Answered;
 use crate::fail::LineFail;
 use disk_model::Disk;
-use session_core::{Sessions, print_reply};
+use statement_core::{Sessions, print_reply};
 use std::alloc::Global;
 use stmt_text::Line;
 use store_engine::Store;

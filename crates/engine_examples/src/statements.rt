@@ -1,7 +1,7 @@
 //! Scripts of statements over a store in memory, and the texts that are replied.
 
 use disk_model::MemDisk;
-use session_core::{Sessions, is_table_line, print_reply};
+use statement_core::{Sessions, is_table_line, print_reply};
 use std::alloc::{AllocError, Global};
 use std::test::Fail;
 use stmt_text::{Line, Stmt, parse_line};

@@ -1,54 +1,58 @@
-//! One step of a store: what a line of the statement language does to it, and what is replied.
+//! Up to sixteen sessions over one store, which behave as one after the other.
 //!
-//! A `World` is what a store holds: its header, its items, and the place of the gate behind them. `step`
-//! says of every world and line the next world and the reply; no part of it knows of versions, maps or
-//! records. A line without a session is a transaction of its own.
+//! A session that commits was told what its statements would have been told alone, over the history just
+//! before its commit. [`Sessions::step`] carries out each line as `step` of `session_model` says, and of that
+//! it is a law for every run. The program does not call it yet.
 //!
-//! | Statement | World after it | Reply, and its lines |
+//! A `Sessions` keeps of each session that is begun the number of transactions at its begin, the set of
+//! places that it has read, and the operations that it wants to store. Beside them stands an index: at
+//! each place that was touched since the first of them began, the numbers of the transactions that
+//! touched it. A commit looks up the places that its session has read, each by its logarithm, and never
+//! goes over the store. While no session is begun nothing is noted, and a line outside sessions is carried
+//! out as if there were none.
+//!
+//! A line outside sessions and one in a session use the same statements and the same commit: those of
+//! `statement_core`.
+//!
+//! | Line of a session | What is done | Reply |
 //! |---|---|---|
-//! | `create`, `insert`, `update`, `delete` | one transaction more, of the clock's moment | `ok N`, its number |
-//! | `get` | as before | `row V V ..`, or `none` |
-//! | `scan` | as before | a `row` line for each row, then `rows N` |
-//! | `history` | as before | `version START STOP row V V ..` for each version, `-` for a stop that is to come, then `versions N` |
-//! | any that is refused | as before | `refused NAME`, with the column of BadType and the last moment of ClockBack |
-//!
-//! A read without `as of` is one of the state of now, to which all transactions belong. A write is refused
-//! for the first cause of: those of the tables, ClockBack, TooLate, TooLong, StoreFull. NoSession,
-//! SessionOpen and Conflict are refusals of sessions, and never come here.
+//! | any but `begin`, with none begun | nothing | `refused NoSession` |
+//! | `begin` | it is begun | `ok`, or `refused SessionOpen` |
+//! | `create`, `insert`, `update`, `delete` | the operation is pending, where the tables with the pending operations over them take it, and then where there is room | `ok`, or the refusal |
+//! | `get`, `scan` | read over the pending operations; those of a named moment are of what is committed | as outside sessions |
+//! | `history` | is of what is committed | as outside sessions |
+//! | `commit` | a conflict ends the session; so does a transaction that is stored, or nothing to store. A refusal by the clock or a full store leaves it | `refused Conflict N`, `ok N`, `ok`, or the refusal |
+//! | `abort` | it is dropped | `ok` |
 //!
 //! What the layers above may rely on:
 //!
 //! | Sentence | Clause |
 //! |---|---|
-//! | a step does to the store and its bytes, and replies, what the definition says | `told` of `Sessions::step`, by `StepsTo` |
-//! | a crash at any moment leaves the world before the step or the world after it | `images` and `kept` of `StepsIn` |
-//! | once a step is replied to, its world is the only one that a crash leaves, where that was so before | `settled` of `StepsIn` |
-//! | a reply that stores nothing leaves the store and its disk as they were; so does a failure, unless the store is closed | `same` of `Sessions::step` |
-//! | a transaction is stored by the calls of one append, in order and none after one that failed; all else makes no call | `trace` of `StepsIn` |
-//! | after a failure the store is closed, or as it was | `kept` of `Sessions::step` |
-//! | a failure is the disk's own, or want of memory | `cause` of `Sessions::step` |
-//! | a number that is replied is that of a new last transaction; every other reply leaves the world as it was | `steps_keep_promises` |
-//! | the text of a reply | `value` of `print_reply` |
+//! | a step does to the store, its bytes and the sessions, and replies, what the definition says | `told` of `Sessions::step`, by `StepsTo` |
+//! | after a failure no session is begun; the store is closed, or as it was | `dropped`, `kept` |
+//! | no line changes another session | `others` |
+//! | a reply that stores nothing leaves the store and its disk as they were | `same` |
+//! | a failure is the disk's own, or want of memory | `cause` |
+//! | every run is serial in the order of its commits | `runs_are_serial` of `session_model` |
 //!
-//! Only tested: that memory suffices, and that the text of a scan takes a time in its length.
+//! A commit is tested first, then what it touches is noted, then it is stored: so want of memory for the
+//! index stores nothing, and no number is noted that is not stored.
+//!
+//! Only tested: that memory suffices. Not proved: how long a step takes. A scan in a session copies its
+//! table, and goes over it for each pending operation that names it.
 //!
 //! ```rust
 //! let mut sessions = Sessions::new(alloc);
 //! let reply = sessions.step(alloc, &mut store, &mut disk, &line, now)?;
-//! out.write(print_reply(alloc, &reply)?.as_slice())?;
 //! ```
 #![tactic(auto)]
 
-mod laws;
+mod committing;
 mod reading;
-mod refusing;
-mod reply;
+mod reads;
+mod scanning;
+mod session;
 mod sessions;
-mod writing;
+mod table_over;
 
-pub use laws::steps_keep_promises;
-pub use reading::read;
-pub use refusing::{answered, refused_by_store, refused_by_tables};
-pub use reply::{Refusal, Reply, print_reply};
-pub use sessions::{Sessions, StepFail, is_table_line, write_or_read};
-pub use writing::write_in;
+pub use sessions::{Sessions, is_statement_line};

@@ -15,12 +15,12 @@ use Rattle.store_engine.specs.declared.fail.StoreFail.{StoreFail}
 use Rattle.store_engine.specs.declared.fail.StoreFail.TheVariants as fails
 use Rattle.store_engine.specs.Opened.{Opened}
 use Rattle.store_engine.specs.Refusals.{next_txn, commit_fault}
-use Rattle.session_core.specs.declared.reply.Reply.{Reply}
-use Rattle.session_core.specs.declared.sessions.StepFail.{StepFail}
-use Rattle.session_core.specs.World as stores
-use Rattle.session_core.specs.Refusing.{refused_by_store}
-use Rattle.session_core.specs.Steps as statements
-use Rattle.session_core.specs.Stepping as stepping
+use Rattle.statement_core.specs.declared.reply.Reply.{Reply}
+use Rattle.statement_core.specs.declared.sessions.StepFail.{StepFail}
+use Rattle.statement_core.specs.World as stores
+use Rattle.statement_core.specs.Refusing.{refused_by_store}
+use Rattle.statement_core.specs.Steps as statements
+use Rattle.statement_core.specs.Stepping as stepping
 use Rattle.session_model.specs.declared.place.Place.{Place}
 use Rattle.session_model.specs.World.{Session, World, put_at}
 use Rattle.session_model.specs.Statements.{say}

@@ -7,8 +7,8 @@ use Rattle.history_model.specs.Answers.{prepared}
 use Rattle.history_model.specs.State.{State, after_op, after_ops}
 use Rattle.store_engine.specs.declared.fail.StoreFail.{StoreFail}
 use Rattle.stmt_text.specs.declared.stmt.Stmt.{Stmt}
-use Rattle.session_core.specs.World as stores
-use Rattle.session_core.specs.Steps.{write_in}
+use Rattle.statement_core.specs.World as stores
+use Rattle.statement_core.specs.Steps.{write_in}
 use Rattle.session_model.specs.Statements.{size_fault, pended, pend, change_or_read, say}
 use Rattle.session_model.specs.Alone.{alone_from}
 use Rattle.session_model.specs.Pending.{IsPrepared, ArePrepared, PendingFits}

@@ -13,7 +13,7 @@ use Rattle.history_model.specs.Glance.{IsOrdered}
 use Rattle.history_model.specs.History.{txn_in, txns, moment_in, last_moment}
 use Rattle.history_model.specs.State.{State, after_op, after_txns, state}
 use Rattle.history_model.proofs.Histories.{NoneAfter, none_at, state_before, state_after}
-use Rattle.session_core.specs.World as stores
+use Rattle.statement_core.specs.World as stores
 use Rattle.session_model.specs.declared.place.Place.{Place}
 use Rattle.session_model.specs.Places.{touches, touches_one, NoneTouches}
 use Rattle.session_model.specs.Later.{Rise, IsLater}

@@ -18,12 +18,12 @@ use Rattle.store_engine.specs.Refusals.{next_txn, commit_fault}
 use Rattle.stmt_text.specs.declared.stmt.Stmt.{Stmt}
 use Rattle.stmt_text.specs.declared.stmt.Stmt.TheVariants as stmts
 use Rattle.stmt_text.specs.declared.line.Line.TheVariants as lines
-use Rattle.session_core.specs.World as stores
-use Rattle.session_core.specs.Refusing.{refused_by_tables, refused_by_store}
-use Rattle.session_core.specs.Steps.{found, scanned, told, write_in, committed}
-use Rattle.session_core.specs.Promises as promises
-use Rattle.session_core.specs.Replies.{is_refusal}
-use Rattle.session_core.proofs.Promising.{steps_keep}
+use Rattle.statement_core.specs.World as stores
+use Rattle.statement_core.specs.Refusing.{refused_by_tables, refused_by_store}
+use Rattle.statement_core.specs.Steps.{found, scanned, told, write_in, committed}
+use Rattle.statement_core.specs.Promises as promises
+use Rattle.statement_core.specs.Replies.{is_refusal}
+use Rattle.statement_core.proofs.Promising.{steps_keep}
 use Rattle.session_model.specs.Statements.{tables_over, read_over, size_fault, pended, pend, change_or_read, say}
 use Rattle.session_model.specs.World.{Session, World, put_at, new_session}
 use Rattle.session_model.specs.Steps.{stored, store_pending, unless_conflict, conflict, heard, in_session, step}

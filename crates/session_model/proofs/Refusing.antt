@@ -5,9 +5,9 @@ use Rattle.stmt_text.specs.declared.stmt.Stmt.{Stmt}
 use Rattle.stmt_text.specs.declared.stmt.Stmt.TheVariants as stmts
 use Rattle.store_engine.specs.declared.fail.StoreFail.{StoreFail}
 use Rattle.store_engine.specs.Refusals.{commit_fault}
-use Rattle.session_core.specs.declared.reply.Refusal.TheVariants as refusals
-use Rattle.session_core.specs.declared.reply.Reply.{Reply}
-use Rattle.session_core.specs.World as stores
+use Rattle.statement_core.specs.declared.reply.Refusal.TheVariants as refusals
+use Rattle.statement_core.specs.declared.reply.Reply.{Reply}
+use Rattle.statement_core.specs.World as stores
 use Rattle.session_model.specs.World.{Session, World}
 use Rattle.session_model.specs.Steps.{Replied, Stopped, stored, store_pending, unless_conflict, conflict, in_session, step}
 use Rattle.session_model.specs.Promises.{IsExact, RefusalsAreExact}

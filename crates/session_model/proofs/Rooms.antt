@@ -12,8 +12,8 @@ use Rattle.stmt_text.specs.declared.stmt.Stmt.{Stmt}
 use Rattle.store_engine.specs.declared.fail.StoreFail.{StoreFail}
 use Rattle.store_engine.specs.declared.fail.StoreFail.TheVariants as fails
 use Rattle.store_engine.specs.Refusals.{where_true, is_back, is_late, is_full, next_txn, item_fault}
-use Rattle.session_core.specs.World as stores
-use Rattle.session_core.specs.Steps.{write_in}
+use Rattle.statement_core.specs.World as stores
+use Rattle.statement_core.specs.Steps.{write_in}
 use Rattle.session_model.specs.Statements.{draft, size_fault, pended, pend, change_or_read, say}
 use Rattle.session_model.specs.Pending.{PendingHasRoom, RoomIsEnough}
 use Rattle.session_model.proofs.Each.{each_session}

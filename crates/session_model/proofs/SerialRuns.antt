@@ -12,10 +12,10 @@ use Rattle.stmt_text.specs.declared.line.Line.TheVariants as lines
 use Rattle.store_engine.specs.declared.fail.StoreFail.{StoreFail}
 use Rattle.store_engine.specs.declared.fail.StoreFail.TheVariants as fails
 use Rattle.store_engine.specs.Refusals.{Tail, where_true, is_back, is_late, is_full, next_txn, commit_fault}
-use Rattle.session_core.specs.declared.reply.Reply.{Reply}
-use Rattle.session_core.specs.declared.reply.Reply.TheVariants as replies
-use Rattle.session_core.specs.World as stores
-use Rattle.session_core.specs.Refusing.{refused_by_store}
+use Rattle.statement_core.specs.declared.reply.Reply.{Reply}
+use Rattle.statement_core.specs.declared.reply.Reply.TheVariants as replies
+use Rattle.statement_core.specs.World as stores
+use Rattle.statement_core.specs.Refusing.{refused_by_store}
 use Rattle.session_model.specs.World.{Session, World, with_store, NoneBegun}
 use Rattle.session_model.specs.Steps.{Replied, Step, stored, store_pending, unless_conflict, conflict, in_session, step}
 use Rattle.session_model.specs.Alone.{Exchange, IsAlone}

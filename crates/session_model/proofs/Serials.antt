@@ -17,9 +17,9 @@ use Rattle.stmt_text.specs.declared.line.Line.{Line}
 use Rattle.stmt_text.specs.declared.line.Line.TheVariants as lines
 use Rattle.store_engine.specs.declared.fail.StoreFail.{StoreFail}
 use Rattle.store_engine.specs.Refusals.{Tail, next_txn, commit_fault, is_back}
-use Rattle.session_core.specs.declared.reply.Reply.{Reply}
-use Rattle.session_core.specs.World as stores
-use Rattle.session_core.specs.Steps as statements
+use Rattle.statement_core.specs.declared.reply.Reply.{Reply}
+use Rattle.statement_core.specs.World as stores
+use Rattle.statement_core.specs.Steps as statements
 use Rattle.session_model.specs.declared.place.Place.{Place}
 use Rattle.session_model.specs.Places.{reads_of, touches, touches_one, NoneTouches, first_touching, since}
 use Rattle.session_model.specs.Statements.{Said, say}

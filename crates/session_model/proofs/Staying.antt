@@ -21,8 +21,8 @@ use Rattle.tt_table.specs.Stands.{versions_from}
 use Rattle.asof_query.specs.Filters.{rows_of, scan_of}
 use Rattle.asof_query.specs.Told.{told as versions_told, history_told}
 use Rattle.stmt_text.specs.declared.stmt.Stmt.TheVariants as stmts
-use Rattle.session_core.specs.World as stores
-use Rattle.session_core.specs.Steps.{found, scanned, told}
+use Rattle.statement_core.specs.World as stores
+use Rattle.statement_core.specs.Steps.{found, scanned, told}
 use Rattle.session_model.specs.OneTable.{on_tables, OneTableIsEnough}
 use Rattle.session_model.specs.declared.place.Place.{Place}
 use Rattle.session_model.specs.declared.place.Place.TheVariants.{Key, Keys, Existence}

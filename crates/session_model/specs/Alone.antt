@@ -2,8 +2,8 @@
 use Rattle.std.specs.Prelude.{◌≡◌, List, [], ◌∷◌, map}
 use Rattle.tuple_bytes.specs.declared.op.Op.{Op}
 use Rattle.stmt_text.specs.declared.stmt.Stmt.{Stmt}
-use Rattle.session_core.specs.declared.reply.Reply.{Reply}
-use Rattle.session_core.specs.World as stores
+use Rattle.statement_core.specs.declared.reply.Reply.{Reply}
+use Rattle.statement_core.specs.World as stores
 use Rattle.session_model.specs.Statements.{say}
 
 -- the replies, and what is pending behind them

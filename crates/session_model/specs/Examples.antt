@@ -6,9 +6,9 @@ use Rattle.tuple_bytes.specs.declared.op.Kind.TheVariants as kinds
 use Rattle.stmt_text.specs.declared.stmt.Stmt.{Stmt}
 use Rattle.stmt_text.specs.declared.stmt.Stmt.TheVariants as stmts
 use Rattle.stmt_text.specs.declared.line.Line.TheVariants as lines
-use Rattle.session_core.specs.declared.reply.Reply.TheVariants as replies
-use Rattle.session_core.specs.declared.reply.Refusal.{Refusal}
-use Rattle.session_core.specs.declared.reply.Refusal.TheVariants as refusals
+use Rattle.statement_core.specs.declared.reply.Reply.TheVariants as replies
+use Rattle.statement_core.specs.declared.reply.Refusal.{Refusal}
+use Rattle.statement_core.specs.declared.reply.Refusal.TheVariants as refusals
 use Rattle.session_model.specs.World.{World}
 use Rattle.session_model.specs.Steps.{Answer, Replied, Stopped}
 use Rattle.session_model.specs.Runs.{Turn, Take, Reach, Open, told_in}

@@ -1,8 +1,8 @@
 -- What a line leaves of what is kept of sessions, beside what it does to the store.
 use Rattle.std.specs.Prelude.{◌≡◌, ◌⊎◌, ◌==◌, ℕ, if◌then◌else◌, List, [], None, Some}
 use Rattle.tuple_bytes.specs.declared.op.Op.{Op}
-use Rattle.session_core.specs.declared.reply.Reply.{Reply}
-use Rattle.session_core.specs.declared.reply.Reply.TheVariants as replies
+use Rattle.statement_core.specs.declared.reply.Reply.{Reply}
+use Rattle.statement_core.specs.declared.reply.Reply.TheVariants as replies
 use Rattle.session_model.specs.declared.place.Place.{Place}
 use Rattle.session_model.specs.Index.{noted_ops}
 use Rattle.session_model.specs.Standing.{Machine, Kept, kept_at, numbers_at}

@@ -4,7 +4,7 @@ use Rattle.tuple_bytes.specs.declared.op.Op.{Op}
 use Rattle.tuple_bytes.specs.declared.item.Item.{Item}
 use Rattle.history_model.specs.History.{txns, moment_in, last_moment}
 use Rattle.stmt_text.specs.declared.stmt.Stmt.{Stmt}
-use Rattle.session_core.specs.World as stores
+use Rattle.statement_core.specs.World as stores
 use Rattle.session_model.specs.Places.{reads_of, NoneTouches}
 use Rattle.session_model.specs.Statements.{say}
 

@@ -10,7 +10,7 @@ use Rattle.stmt_text.specs.declared.line.Line.{Line}
 use Rattle.store_engine.specs.declared.fail.StoreFail.TheVariants as fails
 use Rattle.store_engine.specs.declared.fail.StoreFail.{StoreFail}
 use Rattle.store_engine.specs.Refusals.{Tail, where_true, is_back, is_late, is_full, commit_fault}
-use Rattle.session_core.specs.World as stores
+use Rattle.statement_core.specs.World as stores
 use Rattle.session_model.specs.Statements.{draft, size_fault}
 use Rattle.session_model.specs.World.{Session, World}
 use Rattle.session_model.specs.Steps.{step}

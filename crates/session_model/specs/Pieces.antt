@@ -6,8 +6,8 @@ use Rattle.stmt_text.specs.declared.stmt.Stmt.TheVariants as stmts
 use Rattle.stmt_text.specs.declared.line.Line.TheVariants as lines
 use Rattle.stmt_text.specs.declared.stmt.Stmt.{Stmt}
 use Rattle.stmt_text.specs.declared.line.Line.{Line}
-use Rattle.session_core.specs.declared.reply.Reply.TheVariants as replies
-use Rattle.session_core.specs.declared.reply.Reply.{Reply}
+use Rattle.statement_core.specs.declared.reply.Reply.TheVariants as replies
+use Rattle.statement_core.specs.declared.reply.Reply.{Reply}
 use Rattle.session_model.specs.World.{Session, World, NoneBegun}
 use Rattle.session_model.specs.Steps.{Answer, Replied, Step, step, ended}
 use Rattle.session_model.specs.Alone.{alone_from, Exchange}

@@ -5,11 +5,11 @@ use Rattle.stmt_text.specs.declared.stmt.Stmt.TheVariants as stmts
 use Rattle.stmt_text.specs.declared.line.Line.TheVariants as lines
 use Rattle.stmt_text.specs.declared.stmt.Stmt.{Stmt}
 use Rattle.stmt_text.specs.declared.line.Line.{Line}
-use Rattle.session_core.specs.declared.reply.Refusal.TheVariants as refusals
-use Rattle.session_core.specs.World as stores
-use Rattle.session_core.specs.Steps as statements
-use Rattle.session_core.specs.Promises as promises
-use Rattle.session_core.specs.Replies.{is_refusal}
+use Rattle.statement_core.specs.declared.reply.Refusal.TheVariants as refusals
+use Rattle.statement_core.specs.World as stores
+use Rattle.statement_core.specs.Steps as statements
+use Rattle.statement_core.specs.Promises as promises
+use Rattle.statement_core.specs.Replies.{is_refusal}
 use Rattle.session_model.specs.Statements.{say}
 use Rattle.session_model.specs.World.{Session, World}
 use Rattle.session_model.specs.Steps.{Answer, Replied, Stopped, Step, store_pending, conflict, step}

@@ -5,8 +5,8 @@ use Rattle.stmt_text.specs.declared.stmt.Stmt.TheVariants as stmts
 use Rattle.stmt_text.specs.declared.line.Line.TheVariants as lines
 use Rattle.stmt_text.specs.declared.stmt.Stmt.{Stmt}
 use Rattle.stmt_text.specs.declared.line.Line.{Line}
-use Rattle.session_core.specs.World as stores
-use Rattle.session_core.specs.declared.reply.Reply.{Reply}
+use Rattle.statement_core.specs.World as stores
+use Rattle.statement_core.specs.declared.reply.Reply.{Reply}
 use Rattle.session_model.specs.World.{World, put_at, with_store}
 use Rattle.session_model.specs.Steps.{Answer, Replied, step}
 use Rattle.session_model.specs.Alone.{Exchange}

@@ -3,9 +3,9 @@ use Rattle.std.specs.Prelude.{List, Option, Some, None}
 use Rattle.stmt_text.specs.declared.stmt.Stmt.TheVariants as stmts
 use Rattle.stmt_text.specs.declared.line.Line.TheVariants as lines
 use Rattle.stmt_text.specs.declared.line.Line.{Line}
-use Rattle.session_core.specs.World as stores
-use Rattle.session_core.specs.declared.reply.Reply.TheVariants as replies
-use Rattle.session_core.specs.declared.reply.Reply.{Reply}
+use Rattle.statement_core.specs.World as stores
+use Rattle.statement_core.specs.declared.reply.Reply.TheVariants as replies
+use Rattle.statement_core.specs.declared.reply.Reply.{Reply}
 use Rattle.session_model.specs.World.{Session, World, NoneBegun}
 use Rattle.session_model.specs.Steps.{Answer, Replied, step}
 use Rattle.session_model.specs.Runs.{Turn, no_logs, Logs, AtEachLine}

@@ -11,12 +11,12 @@ use Rattle.history_model.specs.History.{txns}
 use Rattle.store_engine.specs.Opened.{Opened}
 use Rattle.stmt_text.specs.declared.line.Line.{Line}
 use Rattle.stmt_text.specs.declared.line.Line.TheVariants as lines
-use Rattle.session_core.specs.declared.reply.Reply.{Reply}
-use Rattle.session_core.specs.declared.reply.Reply.TheVariants as replies
-use Rattle.session_core.specs.declared.sessions.StepFail.{StepFail}
-use Rattle.session_core.specs.World as stores
-use Rattle.session_core.specs.Steps as statements
-use Rattle.session_core.specs.Stepping as stepping
+use Rattle.statement_core.specs.declared.reply.Reply.{Reply}
+use Rattle.statement_core.specs.declared.reply.Reply.TheVariants as replies
+use Rattle.statement_core.specs.declared.sessions.StepFail.{StepFail}
+use Rattle.statement_core.specs.World as stores
+use Rattle.statement_core.specs.Steps as statements
+use Rattle.statement_core.specs.Stepping as stepping
 use Rattle.session_model.specs.declared.place.Place.{Place}
 use Rattle.session_model.specs.World.{Session, World}
 use Rattle.session_model.specs.Steps.{Answer, Replied, Stopped, Step, conflict, step}

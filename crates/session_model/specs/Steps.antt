@@ -8,13 +8,13 @@ use Rattle.stmt_text.specs.declared.line.Line.{Line}
 use Rattle.stmt_text.specs.declared.line.Line.TheVariants as lines
 use Rattle.store_engine.specs.declared.fail.StoreFail.{StoreFail}
 use Rattle.store_engine.specs.Refusals.{next_txn, commit_fault}
-use Rattle.session_core.specs.declared.reply.Refusal.{Refusal}
-use Rattle.session_core.specs.declared.reply.Refusal.TheVariants as refusals
-use Rattle.session_core.specs.declared.reply.Reply.{Reply}
-use Rattle.session_core.specs.declared.reply.Reply.TheVariants as replies
-use Rattle.session_core.specs.World as stores
-use Rattle.session_core.specs.Steps as statements
-use Rattle.session_core.specs.Refusing.{refused_by_store}
+use Rattle.statement_core.specs.declared.reply.Refusal.{Refusal}
+use Rattle.statement_core.specs.declared.reply.Refusal.TheVariants as refusals
+use Rattle.statement_core.specs.declared.reply.Reply.{Reply}
+use Rattle.statement_core.specs.declared.reply.Reply.TheVariants as replies
+use Rattle.statement_core.specs.World as stores
+use Rattle.statement_core.specs.Steps as statements
+use Rattle.statement_core.specs.Refusing.{refused_by_store}
 use Rattle.session_model.specs.Places.{reads_of, first_touching, since}
 use Rattle.session_model.specs.Statements.{Said, say}
 use Rattle.session_model.specs.World.{Session, World, with_session, with_store, new_session}

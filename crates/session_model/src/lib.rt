@@ -6,7 +6,7 @@
 //! notarizations and openings of a store come between.
 //!
 //! Here are definitions, and laws about them. The only code is the order of places. What a statement means
-//! over a store stands in `session_core`, and is used for a line outside sessions and for one in a session
+//! over a store stands in `statement_core`, and is used for a line outside sessions and for one in a session
 //! alike. No command of the program has sessions yet.
 //!
 //! # Definitions

@@ -31,13 +31,13 @@ use Rattle.validator.specs.Notarizing.{notarize_fault}
 use Rattle.validator.specs.Verdicts.{mark_of}
 use Rattle.number_text.specs.Numbered.{numbered}
 use Rattle.validator.specs.Texts.{verdict_text, refusal_text}
-use Rattle.session_core.specs.declared.reply.Reply.{Reply}
-use Rattle.session_core.specs.declared.reply.Reply.TheVariants as replies
-use Rattle.session_core.specs.Replies.{reply_text}
-use Rattle.session_core.specs.Promises.{IsPromised}
-use Rattle.session_core.specs.World as statements
-use Rattle.session_core.specs.Steps as statement_steps
-use Rattle.session_core.proofs.Promising.{steps_keep, none_more}
+use Rattle.statement_core.specs.declared.reply.Reply.{Reply}
+use Rattle.statement_core.specs.declared.reply.Reply.TheVariants as replies
+use Rattle.statement_core.specs.Replies.{reply_text}
+use Rattle.statement_core.specs.Promises.{IsPromised}
+use Rattle.statement_core.specs.World as statements
+use Rattle.statement_core.specs.Steps as statement_steps
+use Rattle.statement_core.proofs.Promising.{steps_keep, none_more}
 use Rattle.drill_core.specs.Found.{Found}
 use Rattle.drill_core.specs.World as worlds
 use Rattle.drill_core.specs.Steps as world_steps

@@ -18,14 +18,14 @@ use Rattle.notary_link.specs.Notary.{Call, Entry}
 use Rattle.notary_link.specs.Runs as runs
 use Rattle.store_engine.specs.Opened.{Opened}
 use Rattle.store_engine.specs.Refusals.{Tail, tail_of}
-use Rattle.session_core.specs.declared.reply.Reply.{Reply}
-use Rattle.session_core.specs.declared.reply.Reply.TheVariants as replies
-use Rattle.session_core.specs.declared.sessions.StepFail.{StepFail}
-use Rattle.session_core.specs.declared.sessions.StepFail.TheVariants as steps
-use Rattle.session_core.specs.World as statements
-use Rattle.session_core.specs.Steps as statement_steps
-use Rattle.session_core.specs.Stepping.{StepsIn, MakesFor, Appends}
-use Rattle.session_core.specs.Promises.{KeepsPromise, IsPromised}
+use Rattle.statement_core.specs.declared.reply.Reply.{Reply}
+use Rattle.statement_core.specs.declared.reply.Reply.TheVariants as replies
+use Rattle.statement_core.specs.declared.sessions.StepFail.{StepFail}
+use Rattle.statement_core.specs.declared.sessions.StepFail.TheVariants as steps
+use Rattle.statement_core.specs.World as statements
+use Rattle.statement_core.specs.Steps as statement_steps
+use Rattle.statement_core.specs.Stepping.{StepsIn, MakesFor, Appends}
+use Rattle.statement_core.specs.Promises.{KeepsPromise, IsPromised}
 use Rattle.validator.specs.Desk.{content, desk}
 use Rattle.validator.specs.declared.fail.AuditFail.{AuditFail}
 use Rattle.validator.specs.declared.fail.AuditFail.TheVariants as audits

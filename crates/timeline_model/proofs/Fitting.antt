@@ -20,8 +20,8 @@ use Rattle.stmt_text.specs.declared.stmt.Stmt.{Stmt}
 use Rattle.stmt_text.specs.declared.line.Line.{Line}
 use Rattle.stmt_text.specs.declared.line.Line.TheVariants as lines
 use Rattle.stmt_text.specs.Fits.{FitsStmt, FitsParts}
-use Rattle.session_core.specs.World as statements
-use Rattle.session_core.specs.Steps as statement_steps
+use Rattle.statement_core.specs.World as statements
+use Rattle.statement_core.specs.Steps as statement_steps
 use Rattle.drill_core.specs.Found.{Found}
 use Rattle.timeline_model.specs.LineCalls.{items_added}
 use Rattle.timeline_model.specs.Scene.{Scene, nothing_yet, store_in, world_of}

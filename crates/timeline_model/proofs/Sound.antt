@@ -35,9 +35,9 @@ use Rattle.stmt_text.specs.declared.stmt.Stmt.{Stmt}
 use Rattle.stmt_text.specs.declared.line.Line.{Line}
 use Rattle.stmt_text.specs.declared.line.Line.TheVariants as lines
 use Rattle.stmt_text.specs.Fits.{FitsStmt}
-use Rattle.session_core.specs.World as statements
-use Rattle.session_core.specs.World.{tail_of_world}
-use Rattle.session_core.specs.Steps as statement_steps
+use Rattle.statement_core.specs.World as statements
+use Rattle.statement_core.specs.World.{tail_of_world}
+use Rattle.statement_core.specs.Steps as statement_steps
 use Rattle.drill_core.specs.Found.{Found}
 use Rattle.drill_core.specs.Laws.{HoldsFiled}
 use Rattle.drill_core.specs.World as worlds

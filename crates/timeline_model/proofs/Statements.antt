@@ -27,12 +27,12 @@ use Rattle.validator.specs.Notarizing.{notarize_fault, next_batches, sealed_afte
 use Rattle.validator.specs.Verdicts.{mark_of}
 use Rattle.number_text.specs.Numbered.{numbered}
 use Rattle.validator.specs.Texts.{verdict_text, refusal_text}
-use Rattle.session_core.specs.declared.reply.Reply.TheVariants as replies
-use Rattle.session_core.specs.World as statements
-use Rattle.session_core.specs.World.{tail_of_world, tables_now, with_txn}
-use Rattle.session_core.specs.Steps as statement_steps
-use Rattle.session_core.specs.Steps.{committed, commit_prepared, write_in, write_or_read}
-use Rattle.session_core.proofs.Preparing.{op_is}
+use Rattle.statement_core.specs.declared.reply.Reply.TheVariants as replies
+use Rattle.statement_core.specs.World as statements
+use Rattle.statement_core.specs.World.{tail_of_world, tables_now, with_txn}
+use Rattle.statement_core.specs.Steps as statement_steps
+use Rattle.statement_core.specs.Steps.{committed, commit_prepared, write_in, write_or_read}
+use Rattle.statement_core.proofs.Preparing.{op_is}
 use Rattle.drill_core.specs.Found.{Found}
 use Rattle.drill_core.specs.World as worlds
 use Rattle.drill_core.specs.Steps as world_steps

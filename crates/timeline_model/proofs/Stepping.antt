@@ -33,8 +33,8 @@ use Rattle.validator.specs.Notarizing.{notarize_fault, next_batches, sealed_afte
 use Rattle.validator.specs.Verdicts.{mark_of}
 use Rattle.number_text.specs.Numbered.{numbered}
 use Rattle.validator.specs.Texts.{verdict_text, refusal_text}
-use Rattle.session_core.specs.World as statements
-use Rattle.session_core.specs.Steps as statement_steps
+use Rattle.statement_core.specs.World as statements
+use Rattle.statement_core.specs.Steps as statement_steps
 use Rattle.drill_core.specs.Found.{Found}
 use Rattle.drill_core.specs.World as worlds
 use Rattle.drill_core.specs.Steps as world_steps

@@ -15,7 +15,7 @@ use Rattle.notary_link.specs.Notary.{Lists, Keeps}
 use Rattle.store_engine.specs.declared.fail.StoreFail.{StoreFail}
 use Rattle.store_engine.specs.declared.fail.StoreFail.TheVariants as fails
 use Rattle.store_engine.specs.Opened.{Opened}
-use Rattle.session_core.specs.World as statements
+use Rattle.statement_core.specs.World as statements
 use Rattle.drill_core.specs.World.{StoreIsIn, IsIn, IsEntered}
 use Rattle.timeline_model.specs.Scene.{Scene, store_in, world_of}
 use Rattle.timeline_model.specs.LineCalls.{with_items, appends}

@@ -1,0 +1,8 @@
+pub mod Staying
+pub mod ReadFrom
+pub mod Untouched
+pub mod Committing
+pub mod Preparing
+pub mod Promising
+pub mod Refusals
+pub mod Leaving

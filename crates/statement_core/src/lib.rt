@@ -1,0 +1,54 @@
+//! One step of a store: what a line of the statement language does to it, and what is replied.
+//!
+//! A `World` is what a store holds: its header, its items, and the place of the gate behind them. `step`
+//! says of every world and line the next world and the reply; no part of it knows of versions, maps or
+//! records. A line without a session is a transaction of its own.
+//!
+//! | Statement | World after it | Reply, and its lines |
+//! |---|---|---|
+//! | `create`, `insert`, `update`, `delete` | one transaction more, of the clock's moment | `ok N`, its number |
+//! | `get` | as before | `row V V ..`, or `none` |
+//! | `scan` | as before | a `row` line for each row, then `rows N` |
+//! | `history` | as before | `version START STOP row V V ..` for each version, `-` for a stop that is to come, then `versions N` |
+//! | any that is refused | as before | `refused NAME`, with the column of BadType and the last moment of ClockBack |
+//!
+//! A read without `as of` is one of the state of now, to which all transactions belong. A write is refused
+//! for the first cause of: those of the tables, ClockBack, TooLate, TooLong, StoreFull. NoSession,
+//! SessionOpen and Conflict are refusals of sessions, and never come here.
+//!
+//! What the layers above may rely on:
+//!
+//! | Sentence | Clause |
+//! |---|---|
+//! | a step does to the store and its bytes, and replies, what the definition says | `told` of `Sessions::step`, by `StepsTo` |
+//! | a crash at any moment leaves the world before the step or the world after it | `images` and `kept` of `StepsIn` |
+//! | once a step is replied to, its world is the only one that a crash leaves, where that was so before | `settled` of `StepsIn` |
+//! | a reply that stores nothing leaves the store and its disk as they were; so does a failure, unless the store is closed | `same` of `Sessions::step` |
+//! | a transaction is stored by the calls of one append, in order and none after one that failed; all else makes no call | `trace` of `StepsIn` |
+//! | after a failure the store is closed, or as it was | `kept` of `Sessions::step` |
+//! | a failure is the disk's own, or want of memory | `cause` of `Sessions::step` |
+//! | a number that is replied is that of a new last transaction; every other reply leaves the world as it was | `steps_keep_promises` |
+//! | the text of a reply | `value` of `print_reply` |
+//!
+//! Only tested: that memory suffices, and that the text of a scan takes a time in its length.
+//!
+//! ```rust
+//! let mut sessions = Sessions::new(alloc);
+//! let reply = sessions.step(alloc, &mut store, &mut disk, &line, now)?;
+//! out.write(print_reply(alloc, &reply)?.as_slice())?;
+//! ```
+#![tactic(auto)]
+
+mod laws;
+mod reading;
+mod refusing;
+mod reply;
+mod sessions;
+mod writing;
+
+pub use laws::steps_keep_promises;
+pub use reading::read;
+pub use refusing::{answered, refused_by_store, refused_by_tables};
+pub use reply::{Refusal, Reply, print_reply};
+pub use sessions::{Sessions, StepFail, is_table_line, write_or_read};
+pub use writing::write_in;
