@@ -92,7 +92,7 @@ const AT_500: &[u8] =
 
 /// A tile of eight granules, with a row in each. The last byte of granule g's row stands at 135 + 42 * g, and the
 /// gate before granule 3's at 220.
-const OF_A_TILE: [Story; 3] = [
+const OF_A_TILE: [Story; 2] = [
     (
         "each algorithm names the altered granules of a tile",
         &[
@@ -203,50 +203,6 @@ const OF_A_TILE: [Story; 3] = [
                       checks 13\n",
                     AT_500,
                 ],
-            ),
-        ],
-    ),
-    (
-        "a line of a run reports what the command does",
-        &[
-            Step::Sealed("init 7 60 3 ta", 8),
-            Step::Altered(&[(345, 1)]),
-            Step::Call(
-                "run 7",
-                &[500],
-                b"analyse mono\n",
-                0,
-                b"report mono id 7 tiles 1 altered\n\
-                  tiles 0 to 0 granules 0 to 7 when 480 to 500\n\
-                  first change in tile 0 when 480 to 500\ndiagram\n         480 N\n         500 X\n",
-            ),
-            Step::Call(
-                "run 7",
-                &[500],
-                b"analyse tiled\n",
-                0,
-                b"report tiled id 7 tiles 1 altered\n\
-                  tile 0 target 101 candidates 5 7 when 480 to 500\n\
-                  first change in tile 0 when 480 to 500\ndiagram\n         480 N\n         500 X\n",
-            ),
-            Step::Call(
-                "run 7",
-                &[500],
-                b"analyse tiled 1\n",
-                0,
-                b"report tiled id 7 tiles 1 altered\n\
-                  tile 0 target 101 candidates 5 when 480 to 500\n\
-                  first change in tile 0 when 480 to 500\ndiagram\n         480 N\n         500 X\n",
-            ),
-            Step::Call(
-                "run 7",
-                &[500],
-                b"analyse a3d\n",
-                0,
-                b"report a3d id 7 tiles 1 altered\n\
-                  granule 5 when 480 to 500\n\
-                  checks 7\n\
-                  first change in tile 0 when 480 to 500\ndiagram\n         480 N\n         500 X\n",
             ),
         ],
     ),

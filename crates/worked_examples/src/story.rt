@@ -4,7 +4,7 @@ use crate::desk::{altered, audit, ended, notary, sealed, week};
 use disk_model::MemDisk;
 use notary_link::{MemNotary, Name, Notary, NotaryLimits, Seal};
 use outside_io::MemSource;
-use std::alloc::Global;
+use std::alloc::{AllocError, Global};
 use std::process::Abort;
 use std::test::Fail;
 
@@ -26,7 +26,7 @@ pub enum Step {
     /// is written.
     Call(&'static str, &'static [u64], &'static [u8], u8, &'static [u8]),
     /// A call over a copy of the store that has other bytes at these places: its words, the clock's second, and
-    /// what is written, in pieces. It tells an alteration.
+    /// what is written, in pieces. It tells an alteration. An analysis is a line of a run, too, which is told the same.
     Damaged(&'static [(usize, u8)], &'static str, u64, &'static [&'static [u8]]),
     /// A seal of another tile is filed under id 7, as batch 1.
     Stranger,
@@ -36,6 +36,19 @@ pub enum Step {
 
 /// What a story shows, and its steps. At first the store is empty and the notary, too.
 pub type Story = (&'static str, &'static [Step]);
+
+/// The words of a run, and its line that asks what this command does, if it is an analysis.
+fn analysis_line(alloc: Global, words: &str) -> Result<Option<(String, String)>, AllocError> {
+    let Some(rest) = words.strip_prefix("analyse ") else {
+        return Ok(None);
+    };
+    let Some((id, algorithm)) = rest.split_once(' ') else {
+        return Ok(None);
+    };
+    let run = format!(in alloc; "run {id}")?;
+    let line = format!(in alloc; "analyse {algorithm}")?;
+    Ok(Some((run, line)))
+}
 
 fn take(
     rt: &impl Abort,
@@ -84,6 +97,14 @@ fn take(
                 (1, text.as_slice()),
                 "{story}: {words}"
             );
+            if let Some((run, line)) = analysis_line(alloc, words)? {
+                let told = audit(alloc, &mut other, filed, &run, line.as_bytes(), &[*second])?;
+                assert_eq!(rt;
+                    (told.0, told.1.as_slice()),
+                    (0, text.as_slice()),
+                    "{story}: {line} of {run}"
+                );
+            }
         }
         Step::Stranger => {
             let seal = Seal {
