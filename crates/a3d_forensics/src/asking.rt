@@ -2,8 +2,10 @@
 
 ghost use Rattle.std.specs.Prelude.{◌≡◌, ◌≤◌, ◌+◌, true, IfErr};
 ghost use Rattle.outside_words.specs.Faults.{HasCause};
+ghost use Rattle.outside_words.specs.Shown.{ShowsFaults};
 ghost use Rattle.outside_words.specs.Told.{WhereTold};
 ghost use Rattle.notary_link.specs.declared.fail.AskFail.TheVariants.{NotaryFault};
+ghost use Rattle.notary_link.specs.Fails.{ask_in_doubt};
 ghost use Rattle.notary_link.specs.Notary.{Unchanged, GoesOn};
 ghost use Rattle.digest_model.specs.Layout.{layout, first_granule, max_granules, has_tree};
 ghost use Rattle.a3d_forensics.specs.Asking.{Compares, IsNodeFail};
@@ -37,6 +39,7 @@ pub(crate) fn differs<N: Notary>(
     ensures asked { (N.state notary.new).asked ≤ (N.state notary.old).asked + 1 }
     ensures frame { GoesOn (N.state notary.old) (N.state notary.new) }
     ensures cause { HasCause NotaryFault (N.state notary.old).faults (N.state notary.new).faults result }
+    ensures counted { ShowsFaults ask_in_doubt (N.state notary.old).faults (N.state notary.new).faults result }
 {
     let name = Name::Node { level, index };
     match plan.digest(name) {

@@ -3,8 +3,10 @@
 ghost use Rattle.std.specs.Prelude.{◌≡◌, ◌≤◌, ◌<◌, ◌+◌, ◌*◌, ◌↔◌, true, false, All, length, IsErrOf, IfErr, IfOk, OnOk};
 ghost use Rattle.std.specs.List.Sorted.{IsStrictlyIncreasing};
 ghost use Rattle.outside_words.specs.Faults.{HasCause};
+ghost use Rattle.outside_words.specs.Shown.{ShowsFaults};
 ghost use Rattle.outside_words.specs.Told.{WhereTold};
 ghost use Rattle.notary_link.specs.declared.fail.AskFail.TheVariants.{NotaryFault, NotSealedSo};
+ghost use Rattle.notary_link.specs.Fails.{ask_in_doubt};
 ghost use Rattle.notary_link.specs.Notary.{Unchanged, GoesOn};
 ghost use Rattle.digest_model.specs.Layout.{layout, first_granule, max_granules, has_tree};
 ghost use Rattle.digest_model.specs.Roots.{roots_of};
@@ -43,6 +45,7 @@ pub fn altered<N: Notary>(
     ensures asked { IfOk result (λ found. (N.state notary.new).asked ≤ (N.state notary.old).asked + found.checks) }
     ensures frame { GoesOn (N.state notary.old) (N.state notary.new) }
     ensures cause { HasCause NotaryFault (N.state notary.old).faults (N.state notary.new).faults result }
+    ensures counted { ShowsFaults ask_in_doubt (N.state notary.old).faults (N.state notary.new).faults result }
 {
     if !has_tree(plan) {
         return Err(AskFail::NotSealedSo);
@@ -88,6 +91,7 @@ fn descend_root<N: Notary>(
     ensures asked { OnOk result ((N.state notary.new).asked + found.old.checks ≤ (N.state notary.old).asked + found.new.checks) }
     ensures frame { GoesOn (N.state notary.old) (N.state notary.new) }
     ensures cause { HasCause NotaryFault (N.state notary.old).faults (N.state notary.new).faults result }
+    ensures counted { ShowsFaults ask_in_doubt (N.state notary.old).faults (N.state notary.new).faults result }
 {
     let nodes = granules >> level;
     if nodes % 2 == 0 {

@@ -17,7 +17,7 @@
 //! | a tile that is named is one of those that were given, also where the notary tells nothing | `within` |
 //! | at most two questions more are asked than the number of tiles has binary digits | `asked` |
 //! | nothing has changed, and the notary's promises go on | `same`, `frame` |
-//! | a fault comes only where the notary counted one in this call | `cause` |
+//! | a fault comes only where the notary counted one in this call; behind Ok and a seal that is missing it counted none | `cause`, `counted` |
 //!
 //! What the notary answers is `link_answers` of `specs/Finds`. Where these answers are the same below a tile
 //! and differ from it on, that tile is the one that is named, and no other: `step_is_region` of

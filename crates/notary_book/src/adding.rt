@@ -1,7 +1,7 @@
 //! Adding to the file of a book.
 
 ghost use Rattle.std.specs.Prelude.{◌≡◌, ◌+◌, false, length, IfOk, IfErr, IfSome};
-ghost use Rattle.outside_words.specs.Faults.{HasCause};
+ghost use Rattle.outside_words.specs.Faults.{HasCause, HidesNoFault};
 ghost use Rattle.outside_words.specs.Told.{WhereTold};
 ghost use Rattle.disk_words.specs.declared.DiskFail.TheVariants.{Failed};
 ghost use Rattle.disk_words.specs.Disk.{GoesOn};
@@ -34,6 +34,7 @@ pub(crate) fn add_payload<D: Disk>(
         IfOk result (λ now. now.end ≡ next_gate journal + 5 + length payload.now)) }
     ensures frame { GoesOn (D.state disk.old) (D.state disk.new) }
     ensures cause { HasCause DiskFault (D.state disk.old).faults (D.state disk.new).faults result }
+    ensures counted { HidesNoFault (D.state disk.old).faults (D.state disk.new).faults result }
 {
     let mut journal = started(alloc, disk, journal)?;
     journal.append(alloc, disk, payload)?;
@@ -54,6 +55,7 @@ fn started<D: Disk>(
     ensures gate { IfSome (D.state disk.old).reads (λ bytes. IfOk result (λ now. now.end ≡ next_gate journal)) }
     ensures frame { GoesOn (D.state disk.old) (D.state disk.new) }
     ensures cause { HasCause DiskFault (D.state disk.old).faults (D.state disk.new).faults result }
+    ensures counted { HidesNoFault (D.state disk.old).faults (D.state disk.new).faults result }
 {
     match journal {
         Some(journal) => Ok(journal),
@@ -71,6 +73,7 @@ fn make<D: Disk>(alloc: Global, disk: &mut D) -> Result<Journal<BookShape>, Jour
     ensures gate { IfSome (D.state disk.old).reads (λ bytes. IfOk result (λ now. now.end ≡ 64)) }
     ensures frame { GoesOn (D.state disk.old) (D.state disk.new) }
     ensures cause { HasCause DiskFault (D.state disk.old).faults (D.state disk.new).faults result }
+    ensures counted { HidesNoFault (D.state disk.old).faults (D.state disk.new).faults result }
 {
     clear(disk)?;
     create::<D, BookShape>(disk, &book_head())?;
@@ -85,6 +88,7 @@ fn clear<D: Disk>(disk: &mut D) -> Result<(), DiskFail>
         (Clears result (D.state disk.old) (D.state disk.new)) }
     ensures frame { GoesOn (D.state disk.old) (D.state disk.new) }
     ensures cause { HasCause Failed (D.state disk.old).faults (D.state disk.new).faults result }
+    ensures counted { HidesNoFault (D.state disk.old).faults (D.state disk.new).faults result }
 {
     disk.cut(0)?;
     disk.sync()

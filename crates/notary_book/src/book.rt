@@ -30,12 +30,13 @@ pub struct Book<D: Disk> {
 impl<D: Disk> Book<D> {
     ghost use Rattle.std.specs.Prelude.{◌≡◌, ◌≤◌, ◌+◌, ◌∷◌, [], false, length, None, Some, IsSome, IfSome, IfOk, OnOk};
     ghost use Rattle.outside_words.specs.Faults.{HasCause};
+    ghost use Rattle.outside_words.specs.Shown.{ShowsFaults};
     ghost use Rattle.outside_words.specs.Told.{WhereTold};
     ghost use Rattle.disk_words.specs.Disk.{GoesOn as DiskGoesOn};
     ghost use Rattle.byte_grammar.specs.Gated.{FitsRecord};
     ghost use Rattle.notary_link.specs.declared.fail.NotaryFail.TheVariants.{Failed};
     ghost use Rattle.notary_link.specs.Batches.{IsBatch};
-    ghost use Rattle.notary_link.specs.Notary.{file, note, batch_of, IsAsked, IsNotOutOfTurn, Answers, GoesOn};
+    ghost use Rattle.notary_link.specs.Notary.{file, note, batch_of, IsAsked, IsNotOutOfTurn, Answers, GoesOn, in_doubt};
     ghost use Rattle.notary_book.specs.Adding.{Adds};
     ghost use Rattle.notary_book.specs.Anew.{Looks, OnRefusal, CountsReading, Alters};
     ghost use Rattle.notary_book.specs.Books.{book_shape};
@@ -76,6 +77,8 @@ impl<D: Disk> Book<D> {
         ensures told { WhereTold (D.state self.old.disk).reads (D.state self.new.disk).reads
             (LeavesNone (D.state self.old.disk) (D.state self.new.disk)) }
         ensures cause { HasCause Failed ((D.state self.old.disk).faults + self.old.unreadable)
+            ((D.state self.new.disk).faults + self.new.unreadable) result }
+        ensures counted { ShowsFaults in_doubt ((D.state self.old.disk).faults + self.old.unreadable)
             ((D.state self.new.disk).faults + self.new.unreadable) result }
     {
         if self.kept.is_some() {
@@ -119,6 +122,8 @@ impl<D: Disk> Book<D> {
         ensures asked { self.new.asked ≡ self.old.asked }
         ensures cause { HasCause Failed ((D.state self.old.disk).faults + self.old.unreadable)
             ((D.state self.new.disk).faults + self.new.unreadable) result }
+        ensures counted { ShowsFaults in_doubt ((D.state self.old.disk).faults + self.old.unreadable)
+            ((D.state self.new.disk).faults + self.new.unreadable) result }
     {
         match add_payload(self.alloc, &mut self.disk, journal, payload) {
             Ok(journal) => Ok(journal),
@@ -153,6 +158,8 @@ impl<D: Disk> Book<D> {
             (book_state (D.state self.old.disk) self.old.asked self.old.unreadable)
             (book_state (D.state self.new.disk) self.new.asked self.new.unreadable) }
         ensures cause { HasCause Failed ((D.state self.old.disk).faults + self.old.unreadable)
+            ((D.state self.new.disk).faults + self.new.unreadable) result }
+        ensures counted { ShowsFaults in_doubt ((D.state self.old.disk).faults + self.old.unreadable)
             ((D.state self.new.disk).faults + self.new.unreadable) result }
         ensures durable { OnOk result (IsSettled (D.state self.new.disk)) }
         ensures images { WhereTold (D.state self.old.disk).reads (D.state self.new.disk).reads
@@ -196,6 +203,8 @@ impl<D: Disk> Book<D> {
             (book_state (D.state self.new.disk) self.new.asked self.new.unreadable) }
         ensures cause { HasCause Failed ((D.state self.old.disk).faults + self.old.unreadable)
             ((D.state self.new.disk).faults + self.new.unreadable) result }
+        ensures counted { ShowsFaults in_doubt ((D.state self.old.disk).faults + self.old.unreadable)
+            ((D.state self.new.disk).faults + self.new.unreadable) result }
         ensures durable { OnOk result (IsSettled (D.state self.new.disk)) }
         ensures images { WhereTold (D.state self.old.disk).reads (D.state self.new.disk).reads
             (LeavesOf (note id mark) (D.state self.old.disk) (D.state self.new.disk)) }
@@ -223,9 +232,10 @@ impl<D: Disk> Notary for Book<D> {
     ghost use Rattle.std.proofs.Common.{lit≤};
     ghost use Rattle.std.specs.Prelude.{◌≡◌, ◌≤◌, ◌+◌, OnOk, IsSome};
     ghost use Rattle.outside_words.specs.Faults.{HasCause};
+    ghost use Rattle.outside_words.specs.Shown.{ShowsFaults};
     ghost use Rattle.notary_link.specs.declared.fail.NotaryFail.TheVariants.{Failed};
     ghost use Rattle.notary_link.specs.Batches.{IsBatch};
-    ghost use Rattle.notary_link.specs.Notary.{file, note, batch_of, GivesCount, GivesAnswer, GivesMoment, GivesMark, IsAsked, IsNotOutOfTurn, Unchanged, Answers, GoesOn};
+    ghost use Rattle.notary_link.specs.Notary.{file, note, batch_of, GivesCount, GivesAnswer, GivesMoment, GivesMark, IsAsked, IsNotOutOfTurn, Unchanged, Answers, GoesOn, in_doubt};
     ghost use Rattle.outside_words.specs.Told.{WhereTold};
     ghost use Rattle.notary_book.specs.Anew.{Looks, OnRefusal, Alters};
     ghost use Rattle.notary_book.specs.Kept.{IsSettled};
@@ -251,6 +261,8 @@ impl<D: Disk> Notary for Book<D> {
             (book_state (D.state self.new.disk) self.new.asked self.new.unreadable) }
         ensures cause { HasCause Failed ((D.state self.old.disk).faults + self.old.unreadable)
             ((D.state self.new.disk).faults + self.new.unreadable) result }
+        ensures counted { ShowsFaults in_doubt ((D.state self.old.disk).faults + self.old.unreadable)
+            ((D.state self.new.disk).faults + self.new.unreadable) result }
 
         ensures unread { IsSome self.old.kept → self.new.disk ≡ self.old.disk }
         ensures looks { Looks result (D.state self.old.disk) (D.state self.new.disk)
@@ -272,6 +284,8 @@ impl<D: Disk> Notary for Book<D> {
             (book_state (D.state self.old.disk) self.old.asked self.old.unreadable)
             (book_state (D.state self.new.disk) self.new.asked self.new.unreadable) }
         ensures cause { HasCause Failed ((D.state self.old.disk).faults + self.old.unreadable)
+            ((D.state self.new.disk).faults + self.new.unreadable) result }
+        ensures counted { ShowsFaults in_doubt ((D.state self.old.disk).faults + self.old.unreadable)
             ((D.state self.new.disk).faults + self.new.unreadable) result }
 
         ensures durable { OnOk result (IsSettled (D.state self.new.disk)) }
@@ -299,6 +313,8 @@ impl<D: Disk> Notary for Book<D> {
             (book_state (D.state self.old.disk) self.old.asked self.old.unreadable)
             (book_state (D.state self.new.disk) self.new.asked self.new.unreadable) }
         ensures cause { HasCause Failed ((D.state self.old.disk).faults + self.old.unreadable)
+            ((D.state self.new.disk).faults + self.new.unreadable) result }
+        ensures counted { ShowsFaults in_doubt ((D.state self.old.disk).faults + self.old.unreadable)
             ((D.state self.new.disk).faults + self.new.unreadable) result }
 
         ensures unread { IsSome self.old.kept → self.new.disk ≡ self.old.disk }
@@ -328,6 +344,8 @@ impl<D: Disk> Notary for Book<D> {
             (book_state (D.state self.new.disk) self.new.asked self.new.unreadable) }
         ensures cause { HasCause Failed ((D.state self.old.disk).faults + self.old.unreadable)
             ((D.state self.new.disk).faults + self.new.unreadable) result }
+        ensures counted { ShowsFaults in_doubt ((D.state self.old.disk).faults + self.old.unreadable)
+            ((D.state self.new.disk).faults + self.new.unreadable) result }
 
         ensures unread { IsSome self.old.kept → self.new.disk ≡ self.old.disk }
         ensures looks { Looks result (D.state self.old.disk) (D.state self.new.disk)
@@ -349,6 +367,8 @@ impl<D: Disk> Notary for Book<D> {
             (book_state (D.state self.old.disk) self.old.asked self.old.unreadable)
             (book_state (D.state self.new.disk) self.new.asked self.new.unreadable) }
         ensures cause { HasCause Failed ((D.state self.old.disk).faults + self.old.unreadable)
+            ((D.state self.new.disk).faults + self.new.unreadable) result }
+        ensures counted { ShowsFaults in_doubt ((D.state self.old.disk).faults + self.old.unreadable)
             ((D.state self.new.disk).faults + self.new.unreadable) result }
 
         ensures durable { OnOk result (IsSettled (D.state self.new.disk)) }
@@ -376,6 +396,8 @@ impl<D: Disk> Notary for Book<D> {
             (book_state (D.state self.old.disk) self.old.asked self.old.unreadable)
             (book_state (D.state self.new.disk) self.new.asked self.new.unreadable) }
         ensures cause { HasCause Failed ((D.state self.old.disk).faults + self.old.unreadable)
+            ((D.state self.new.disk).faults + self.new.unreadable) result }
+        ensures counted { ShowsFaults in_doubt ((D.state self.old.disk).faults + self.old.unreadable)
             ((D.state self.new.disk).faults + self.new.unreadable) result }
 
         ensures unread { IsSome self.old.kept → self.new.disk ≡ self.old.disk }

@@ -1,7 +1,7 @@
 //! Reading a book.
 
 ghost use Rattle.std.specs.Prelude.{◌≡◌, IfSome, IfOk, OnOk, IfErr};
-ghost use Rattle.outside_words.specs.Faults.{HasCause};
+ghost use Rattle.outside_words.specs.Faults.{HasCause, HidesNoFault};
 ghost use Rattle.outside_words.specs.Told.{WhereTold};
 ghost use Rattle.disk_words.specs.declared.DiskFail.TheVariants.{Failed};
 ghost use Rattle.disk_words.specs.Disk.{Unchanged, GoesOn};
@@ -29,6 +29,7 @@ pub(crate) fn open_book<D: Disk>(alloc: Global, disk: &mut D) -> Result<Option<K
         (Syncs result (D.state disk.old) (D.state disk.new)) }
     ensures frame { GoesOn (D.state disk.old) (D.state disk.new) }
     ensures cause { HasCause Failed (D.state disk.old).faults (D.state disk.new).faults result }
+    ensures counted { HidesNoFault (D.state disk.old).faults (D.state disk.new).faults result }
 {
     disk.sync()?;
     read_book(alloc, disk)
@@ -41,6 +42,7 @@ fn read_book<D: Disk>(alloc: Global, disk: &mut D) -> Result<Option<Kept>, DiskF
     ensures same { Unchanged (D.state disk.old) (D.state disk.new) }
     ensures frame { GoesOn (D.state disk.old) (D.state disk.new) }
     ensures cause { HasCause Failed (D.state disk.old).faults (D.state disk.new).faults result }
+    ensures counted { HidesNoFault (D.state disk.old).faults (D.state disk.new).faults result }
 {
     match open_journal::<D, BookShape>(alloc, disk) {
         Ok(opened) => match read_pages(alloc, opened.payloads.as_slice())? {

@@ -1,6 +1,6 @@
 //! A notary in memory. It keeps a record of its changing calls, and what it needs to answer at once.
 
-ghost use Rattle.std.specs.Prelude.{◌≡◌, ◌≤◌, ◌+◌, ◌-◌, ◌^◌, ◌↔◌, [], min, true, ℕ, length, Contains, IsTrue};
+ghost use Rattle.std.specs.Prelude.{◌≡◌, ◌≤◌, ◌+◌, ◌-◌, ◌^◌, ◌↔◌, [], min, true, false, ℕ, length, Contains, IsTrue};
 ghost use Rattle.outside_words.specs.Faults.{Rose};
 ghost use Rattle.outside_words.specs.Quiet.{none_listed};
 ghost use Rattle.notary_link.specs.Calls.{trace_of, lists_of};
@@ -104,10 +104,11 @@ impl Notary for MemNotary {
     ghost use Rattle.std.proofs.Common.{subst};
     ghost use Rattle.std.specs.Prelude.{IsErrOf, OnErr};
     ghost use Rattle.outside_words.specs.Faults.{HasCause};
+    ghost use Rattle.outside_words.specs.Shown.{ShowsFaults};
     ghost use Rattle.outside_words.specs.Listed.{counted, FailsAsListed};
     ghost use Rattle.notary_link.specs.declared.fail.NotaryFail.TheVariants.{Failed, NoMemory};
     ghost use Rattle.notary_link.specs.Batches.{IsBatch};
-    ghost use Rattle.notary_link.specs.Notary.{file, note, batch_of, GivesCount, GivesAnswer, GivesMoment, GivesMark, IsAsked, IsNotOutOfTurn, HasNoEffect, Unchanged, Answers, GoesOn};
+    ghost use Rattle.notary_link.specs.Notary.{file, note, batch_of, GivesCount, GivesAnswer, GivesMoment, GivesMark, IsAsked, IsNotOutOfTurn, HasNoEffect, Unchanged, Answers, GoesOn, in_doubt};
     ghost use Rattle.notary_link.specs.Memory.{state_of, listed_asks_of};
 
     ghost state = { state_of };
@@ -123,6 +124,7 @@ impl Notary for MemNotary {
         ensures asked { (state_of self.new).asked ≡ (state_of self.old).asked }
         ensures frame { GoesOn (state_of self.old) (state_of self.new) }
         ensures cause { HasCause Failed (state_of self.old).faults (state_of self.new).faults result }
+        ensures counted { ShowsFaults in_doubt (state_of self.old).faults (state_of self.new).faults result }
 
         ensures listed { FailsAsListed Failed (listed_asks_of self.old) result }
         ensures no_memory { ¬ IsErrOf result NoMemory }
@@ -140,6 +142,7 @@ impl Notary for MemNotary {
             (state_of self.old) (state_of self.new) }
         ensures frame { GoesOn (state_of self.old) (state_of self.new) }
         ensures cause { HasCause Failed (state_of self.old).faults (state_of self.new).faults result }
+        ensures counted { ShowsFaults in_doubt (state_of self.old).faults (state_of self.new).faults result }
 
         ensures kept { OnErr result (HasNoEffect (state_of self.old) (state_of self.new)) }
         ensures others { listed_asks_of self.new ≡ listed_asks_of self.old }
@@ -174,6 +177,7 @@ impl Notary for MemNotary {
         ensures asked { (state_of self.new).asked ≤ (state_of self.old).asked + 1 }
         ensures frame { GoesOn (state_of self.old) (state_of self.new) }
         ensures cause { HasCause Failed (state_of self.old).faults (state_of self.new).faults result }
+        ensures counted { ShowsFaults in_doubt (state_of self.old).faults (state_of self.new).faults result }
 
         ensures listed { FailsAsListed Failed (listed_asks_of self.old) result }
         ensures no_memory { ¬ IsErrOf result NoMemory }
@@ -197,6 +201,7 @@ impl Notary for MemNotary {
         ensures asked { (state_of self.new).asked ≡ (state_of self.old).asked }
         ensures frame { GoesOn (state_of self.old) (state_of self.new) }
         ensures cause { HasCause Failed (state_of self.old).faults (state_of self.new).faults result }
+        ensures counted { ShowsFaults in_doubt (state_of self.old).faults (state_of self.new).faults result }
 
         ensures listed { FailsAsListed Failed (listed_asks_of self.old) result }
         ensures no_memory { ¬ IsErrOf result NoMemory }
@@ -213,6 +218,7 @@ impl Notary for MemNotary {
         ensures only { IsNotOutOfTurn result }
         ensures frame { GoesOn (state_of self.old) (state_of self.new) }
         ensures cause { HasCause Failed (state_of self.old).faults (state_of self.new).faults result }
+        ensures counted { ShowsFaults in_doubt (state_of self.old).faults (state_of self.new).faults result }
 
         ensures kept { OnErr result (HasNoEffect (state_of self.old) (state_of self.new)) }
         ensures others { listed_asks_of self.new ≡ listed_asks_of self.old }
@@ -238,6 +244,7 @@ impl Notary for MemNotary {
         ensures asked { (state_of self.new).asked ≡ (state_of self.old).asked }
         ensures frame { GoesOn (state_of self.old) (state_of self.new) }
         ensures cause { HasCause Failed (state_of self.old).faults (state_of self.new).faults result }
+        ensures counted { ShowsFaults in_doubt (state_of self.old).faults (state_of self.new).faults result }
 
         ensures listed { FailsAsListed Failed (listed_asks_of self.old) result }
         ensures no_memory { ¬ IsErrOf result NoMemory }
@@ -253,10 +260,11 @@ impl Notary for MemNotary {
 impl MemNotary {
     ghost use Rattle.std.specs.Prelude.{◌⊎◌, false, Err, OnErr};
     ghost use Rattle.outside_words.specs.Faults.{HasCause};
+    ghost use Rattle.outside_words.specs.Shown.{ShowsFaults};
     ghost use Rattle.outside_words.specs.Listed.{listed_from};
     ghost use Rattle.notary_link.specs.declared.fail.NotaryFail.TheVariants.{Failed, NoMemory};
     ghost use Rattle.notary_link.specs.Calls.{call_of};
-    ghost use Rattle.notary_link.specs.Notary.{IsRefusal, HasNoEffect, Answers, GoesOn};
+    ghost use Rattle.notary_link.specs.Notary.{IsRefusal, HasNoEffect, Answers, GoesOn, in_doubt};
     ghost use Rattle.notary_link.specs.Memory.{state_of, turn_of, listed_asks_of};
 
     // Answers a call that is listed to fail.
@@ -267,6 +275,7 @@ impl MemNotary {
         ensures only { (result ≡ Err Failed) ⊎ (result ≡ Err NoMemory) }
         ensures frame { GoesOn (state_of self.old) (state_of self.new) }
         ensures cause { HasCause Failed (state_of self.old).faults (state_of self.new).faults result }
+        ensures counted { ShowsFaults in_doubt (state_of self.old).faults (state_of self.new).faults result }
         ensures kept { OnErr result (HasNoEffect (state_of self.old) (state_of self.new)) }
         ensures others { listed_asks_of self.new ≡ listed_asks_of self.old }
     {
@@ -285,6 +294,7 @@ impl MemNotary {
         ensures only { (result ≡ Err fail) ⊎ (result ≡ Err NoMemory) }
         ensures frame { GoesOn (state_of self.old) (state_of self.new) }
         ensures cause { HasCause Failed (state_of self.old).faults (state_of self.new).faults result }
+        ensures counted { ShowsFaults in_doubt (state_of self.old).faults (state_of self.new).faults result }
         ensures kept { OnErr result (HasNoEffect (state_of self.old) (state_of self.new)) }
         ensures others { listed_asks_of self.new ≡ listed_asks_of self.old }
     {
@@ -300,6 +310,7 @@ fn is_listed(asks: &mut u64, failing: &[u64], faults: &mut u64) -> bool
     ensures value { IsTrue result ↔ Contains failing.now asks.new }
     ensures later { faults.old ≤ faults.new }
     ensures rose { IsTrue result → Rose faults.old faults.new }
+    ensures spared { result ≡ false → faults.new ≡ faults.old }
     ensures quiet { none_listed failing.now ≡ true → faults.new ≡ faults.old }
 {
     *asks = asks.saturating_add(1);

@@ -2,8 +2,10 @@
 
 ghost use Rattle.std.specs.Prelude.{◌≡◌, ◌≤◌, ◌<◌, ◌+◌, ◌^◌, ◌↔◌, true, false, IsErrOf, IfErr, IfOk, IfSome};
 ghost use Rattle.outside_words.specs.Faults.{HasCause};
+ghost use Rattle.outside_words.specs.Shown.{ShowsFaults};
 ghost use Rattle.outside_words.specs.Told.{WhereTold};
 ghost use Rattle.notary_link.specs.declared.fail.AskFail.TheVariants.{NotaryFault, NotSealedSo};
+ghost use Rattle.notary_link.specs.Fails.{ask_in_doubt};
 ghost use Rattle.notary_link.specs.Notary.{Unchanged, GoesOn};
 ghost use Rattle.digest_model.specs.Layout.{layout, exponent, has_tile_chains};
 ghost use Rattle.ask_words.specs.Asked.{IsTold};
@@ -35,6 +37,7 @@ pub fn target<N: Notary>(
         ≤ (N.state notary.old).asked + target_questions (exponent (layout plan.now.history) tile) told) }
     ensures frame { GoesOn (N.state notary.old) (N.state notary.new) }
     ensures cause { HasCause NotaryFault (N.state notary.old).faults (N.state notary.new).faults result }
+    ensures counted { ShowsFaults ask_in_doubt (N.state notary.old).faults (N.state notary.new).faults result }
 {
     if !has_tile_chains(plan, tile) {
         return Err(AskFail::NotSealedSo);
@@ -83,6 +86,7 @@ fn part_is_same<N: Notary>(
     ensures asked { (N.state notary.new).asked ≤ (N.state notary.old).asked + 1 }
     ensures frame { GoesOn (N.state notary.old) (N.state notary.new) }
     ensures cause { HasCause NotaryFault (N.state notary.old).faults (N.state notary.new).faults result }
+    ensures counted { ShowsFaults ask_in_doubt (N.state notary.old).faults (N.state notary.new).faults result }
 {
     let name = Name::Tile { tile, part };
     match plan.digest(name) {

@@ -48,7 +48,7 @@
 //! | after a fault the reader stands where it stood | `err` |
 //! | a store is read as what its bytes mean, and, also over a disk that tells nothing, its header and items have spellings that its records can hold | `value`, `fits` of `read_stored` |
 //! | the disk is only read, and a fault has its cause | `same`, `frame`, `cause` |
-//! | after Ok the disk counted no fault: no call that failed was tried again | `counted` of every call |
+//! | after Ok the disk counted no fault: no call that failed was tried again; `open_journal` says the same where it finds no file | `counted` of every call |
 //!
 //! `create` makes a file, and a `Journal` adds to it. Neither writes over an open gate: it is closed,
 //! what stands behind it is written, and it is opened, with a sync behind each write.

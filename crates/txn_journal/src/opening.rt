@@ -2,10 +2,12 @@
 
 ghost use Rattle.std.specs.Prelude.{◌≡◌, ◌<◌, ◌++◌, ◌∷◌, [], Some, false, length, max, IsTrue, IfSome, IfOk, IfErr, OnOk, OnErr, MatchResult};
 ghost use Rattle.outside_words.specs.Faults.{HasCause, HidesNoFault};
+ghost use Rattle.outside_words.specs.Shown.{ShowsFaults};
 ghost use Rattle.disk_words.specs.Disk.{Unchanged, GoesOn};
 ghost use Rattle.std.specs.List.{All};
 ghost use Rattle.byte_grammar.specs.Gated.{FitsRecord};
 ghost use Rattle.txn_journal.specs.declared.fail.JournalFail.TheVariants.{DiskFault};
+ghost use Rattle.txn_journal.specs.Fail.{in_doubt};
 ghost use Rattle.txn_journal.specs.Reading.{head_of, IsSeenIn, Begins};
 ghost use Rattle.txn_journal.specs.Held.{StandsIn};
 ghost use Rattle.txn_journal.specs.Opening.{held_of, IsOfOpening, IsOfDisk, IsNoFile};
@@ -40,7 +42,7 @@ pub fn open_journal<D: Disk, S: Shape>(
     ensures same { Unchanged (D.state disk.old) (D.state disk.new) }
     ensures frame { GoesOn (D.state disk.old) (D.state disk.new) }
     ensures cause { HasCause DiskFault (D.state disk.old).faults (D.state disk.new).faults result }
-    ensures counted { HidesNoFault (D.state disk.old).faults (D.state disk.new).faults result }
+    ensures counted { ShowsFaults in_doubt (D.state disk.old).faults (D.state disk.new).faults result }
 {
     match Records::<S>::open(alloc, disk)? {
         Some(records) => open_behind_head(alloc, disk, records),

@@ -43,6 +43,7 @@ loop-level-init g c =
       same = unchanged_same _;
       few = omega arith;
       frame = goes_on_same _;
+      counted = refl;
     }
 
 pub loop-level-preserved : goal.loop-level-preserved
@@ -70,6 +71,7 @@ loop-level-preserved g c =
       same = both.same;
       few = omega (arith, on.few, root.asked);
       frame = both.frame;
+      counted = root.counted ∙ on.counted;
     }
 
 pub returns-in_err-descend_root-clause-value : goal.returns-in_err-descend_root-clause-value
@@ -101,3 +103,8 @@ returns-clause-value g c =
     told_map _ _ _ _ on.told (λ (before after : Lists) down.
     of_tree (before.batches c.args.id) c.args.plan.now.history c.args.plan.now.tiles granules (Ok c.loop-level.found) on.tree c.granules_of-granules.ensures.value
     (ends granules (nodes_of (before.batches c.args.id) c.args.plan.now.history) c.loop-level.level c.loop-level.found low down))
+
+pub returns-in_err-descend_root-clause-counted : goal.returns-in_err-descend_root-clause-counted
+returns-in_err-descend_root-clause-counted g c =
+    let p = err_from_is_err_and c.from_residual.result c.from_residual.ensures.1 in
+    rw (p.1, p.2) (λ none. c.in_err-descend_root.ensures.counted none ∙ c.loop-level.invariant.counted)

@@ -1,4 +1,4 @@
-use Rattle.std.proofs.Common.{rules, arith, ◌≡◌, ◌+◌, ◌-◌, ◌/◌, length, true, false, Ok}
+use Rattle.std.proofs.Common.{rules, arith, ◌≡◌, ◌+◌, ◌-◌, ◌/◌, ◌∙◌, length, true, false, Ok, Err}
 use Rattle.outside_words.proofs.Told.{told_map}
 use Rattle.notary_link.proofs.Frame.{goes_on_then}
 use Rattle.notary_link.proofs.Unchanged.{unchanged_then}
@@ -18,6 +18,7 @@ loop-low-init g c =
       same = asked.same;
       few = questions_at_first (length c.args.links.now) _ _ _ (omega (arith, c.requires.few)) (omega arith) (omega (arith, c.in_ok-differs.ensures.asked));
       frame = asked.frame;
+      counted = asked.counted;
     }
 
 -- the middle one differs
@@ -40,6 +41,7 @@ loop-low-preserved-then-branch g c =
       same = unchanged_then _ _ _ on.frame asked.frame on.same asked.same;
       few = one_less (high - low) _ (S c.loop-low.notary).asked _ _ (omega (arith, c.loop-low-test.true)) (omega (arith, c.loop-low-test.true)) asked.asked on.few;
       frame = goes_on_then _ _ _ on.frame asked.frame;
+      counted = asked.counted ∙ on.counted;
     }
 
 -- the middle one is the same
@@ -62,6 +64,7 @@ loop-low-preserved g c =
       same = unchanged_then _ _ _ on.frame asked.frame on.same asked.same;
       few = one_less (high - low) _ (S c.loop-low.notary).asked _ _ (omega (arith, c.loop-low-test.true)) (omega (arith, c.loop-low-test.true)) asked.asked on.few;
       frame = goes_on_then _ _ _ on.frame asked.frame;
+      counted = asked.counted ∙ on.counted;
     }
 
 pub returns-in_err-differs-2-clause-same : goal.returns-in_err-differs-2-clause-same
@@ -69,3 +72,8 @@ returns-in_err-differs-2-clause-same g c = unchanged_then _ _ _ c.loop-low.invar
 
 pub returns-in_err-differs-2-clause-frame : goal.returns-in_err-differs-2-clause-frame
 returns-in_err-differs-2-clause-frame g c = goes_on_then _ _ _ c.loop-low.invariant.frame c.in_err-differs-2.ensures.frame
+
+pub returns-in_err-differs-2-clause-counted : goal.returns-in_err-differs-2-clause-counted
+returns-in_err-differs-2-clause-counted g c =
+    let same : c.from_residual-in_err-differs-2.result ≡ Err c.in_err-differs-2.field-0.0 = search rules in
+    rw same (λ none. c.in_err-differs-2.ensures.counted none ∙ c.loop-low.invariant.counted)

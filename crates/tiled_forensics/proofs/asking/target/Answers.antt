@@ -80,6 +80,7 @@ loop-bit-init g c =
       same = asked.same;
       few = omega (arith, asked.asked);
       frame = asked.frame;
+      counted = asked.counted;
     }
 
 pub returns-in_err-same-clause-value : goal.returns-in_err-same-clause-value
@@ -131,6 +132,7 @@ loop-bit-preserved g c =
       same = both.same;
       few = omega (arith, on.few, asked.asked);
       frame = both.frame;
+      counted = asked.counted ∙ on.counted;
     }
 
 pub returns-clause-value : goal.returns-clause-value
@@ -149,3 +151,8 @@ returns-in_err-same-clause-same g c = unchanged_then _ _ _ c.loop-bit.invariant.
 
 pub returns-in_err-same-clause-frame : goal.returns-in_err-same-clause-frame
 returns-in_err-same-clause-frame g c = goes_on_then _ _ _ c.loop-bit.invariant.frame c.in_err-same.ensures.frame
+
+pub returns-in_err-same-clause-counted : goal.returns-in_err-same-clause-counted
+returns-in_err-same-clause-counted g c =
+    let p = err_from_is_err_and c.from_residual-in_err-same.result c.from_residual-in_err-same.ensures.1 in
+    rw (p.1, p.2) (λ none. c.in_err-same.ensures.counted none ∙ c.loop-bit.invariant.counted)
