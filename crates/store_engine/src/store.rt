@@ -3,6 +3,7 @@
 ghost use Rattle.std.specs.Prelude.{◌≡◌, ◌+◌, ◌<◌, ◌≤◌, ℕ, List, [], None, true, false, length, IfOk, IsOk, IfErr, IfSome, IsSome, MatchOption, MatchResult, if◌then◌else◌};
 ghost use Rattle.std.specs.List.{All};
 ghost use Rattle.outside_words.specs.Faults.{HasCause, HidesNoFault};
+ghost use Rattle.outside_words.specs.Shown.{ShowsFaults};
 ghost use Rattle.outside_words.specs.Told.{WhereTold};
 ghost use Rattle.disk_words.specs.Disk.{Unchanged, GoesOn};
 ghost use Rattle.tuple_bytes.specs.declared.item.Item.TheVariants as items;
@@ -14,6 +15,7 @@ ghost use Rattle.history_model.specs.History.{MayFollow};
 ghost use Rattle.txn_journal.specs.Append.{append_calls};
 ghost use Rattle.store_engine.specs.declared.fail.StoreFail.TheVariants.{Closed, DiskFault, StoreFull};
 ghost use Rattle.store_engine.specs.Opened.{IsOpenOn};
+ghost use Rattle.store_engine.specs.Fail.{closes};
 ghost use Rattle.store_engine.specs.Refusals.{tail_of, next_txn, commit_fault, frontier_fault, item_fault, is_back, is_full, where_true, IsNextMoment, IsRefusedBy, IsOfOpening, IsNoStore};
 ghost use Rattle.store_engine.specs.Commits.{with_txn, with_item, frontier_at, StandsAfter, Adds};
 
@@ -107,7 +109,7 @@ impl Store {
             self.old self.new (D.state disk.old) (D.state disk.new)) }
         ensures frame { GoesOn (D.state disk.old) (D.state disk.new) }
         ensures cause { HasCause DiskFault (D.state disk.old).faults (D.state disk.new).faults result }
-        ensures counted { HidesNoFault (D.state disk.old).faults (D.state disk.new).faults result }
+        ensures counted { ShowsFaults closes (D.state disk.old).faults (D.state disk.new).faults result }
     {
         let Some(moment) = self.moment_at(now) else {
             let last = self.contents.last;
@@ -217,7 +219,7 @@ impl Store {
             (D.state disk.old) (D.state disk.new)) }
         ensures frame { GoesOn (D.state disk.old) (D.state disk.new) }
         ensures cause { HasCause DiskFault (D.state disk.old).faults (D.state disk.new).faults result }
-        ensures counted { HidesNoFault (D.state disk.old).faults (D.state disk.new).faults result }
+        ensures counted { ShowsFaults closes (D.state disk.old).faults (D.state disk.new).faults result }
     {
         if moment <= self.contents.last {
             return Ok(());
@@ -256,7 +258,7 @@ impl Store {
             (Adds item.now result self.old self.new (D.state disk.old) (D.state disk.new)) }
         ensures frame { GoesOn (D.state disk.old) (D.state disk.new) }
         ensures cause { HasCause DiskFault (D.state disk.old).faults (D.state disk.new).faults result }
-        ensures counted { HidesNoFault (D.state disk.old).faults (D.state disk.new).faults result }
+        ensures counted { ShowsFaults closes (D.state disk.old).faults (D.state disk.new).faults result }
     {
         match encode_item(alloc, item) {
             Ok(payload) => self.store_payload(alloc, disk, item, payload.as_slice()),
@@ -288,7 +290,7 @@ impl Store {
             (Adds item.now result self.old self.new (D.state disk.old) (D.state disk.new)) }
         ensures frame { GoesOn (D.state disk.old) (D.state disk.new) }
         ensures cause { HasCause DiskFault (D.state disk.old).faults (D.state disk.new).faults result }
-        ensures counted { HidesNoFault (D.state disk.old).faults (D.state disk.new).faults result }
+        ensures counted { ShowsFaults closes (D.state disk.old).faults (D.state disk.new).faults result }
     {
         if self.is_closed {
             return Err(StoreFail::Closed);
