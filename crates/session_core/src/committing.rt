@@ -2,7 +2,7 @@
 
 ghost use Rattle.std.specs.Prelude.{◌≡◌, ◌<◌, ◌∷◌, [], false, length, IfOk, OnOk, OnErr};
 ghost use Rattle.std.specs.List.{All};
-ghost use Rattle.outside_words.specs.Faults.{HasCause};
+ghost use Rattle.outside_words.specs.Faults.{HasCause, HidesNoFault};
 ghost use Rattle.outside_words.specs.Told.{WhereTold};
 ghost use Rattle.disk_words.specs.Disk.{GoesOn};
 ghost use Rattle.tuple_bytes.specs.Writing.{IsCountedOp};
@@ -46,6 +46,7 @@ pub(crate) fn commit_noted<D: Disk>(
     ensures noted { IfOk result (λ reply. NotesFor ops.now reply touched.old touched.new) }
     ensures frame { GoesOn (D.state disk.old) (D.state disk.new) }
     ensures cause { HasCause DiskFault (D.state disk.old).faults (D.state disk.new).faults result }
+    ensures counted { HidesNoFault (D.state disk.old).faults (D.state disk.new).faults result }
 {
     match store.commit_refusal(alloc, ops, now)? {
         Some(fail) => Ok(refused_by_store(fail)),
@@ -76,6 +77,7 @@ fn write_noted<D: Disk>(
     ensures noted { IfOk result (λ reply. NotesStored (λ w. write w change now) now store.old reply touched.old touched.new) }
     ensures frame { GoesOn (D.state disk.old) (D.state disk.new) }
     ensures cause { HasCause DiskFault (D.state disk.old).faults (D.state disk.new).faults result }
+    ensures counted { HidesNoFault (D.state disk.old).faults (D.state disk.new).faults result }
 {
     let pending = Ops::new(alloc);
     let op = match store.tables().prepare(&pending, change) {
@@ -117,6 +119,7 @@ pub(crate) fn write_or_read_noted<D: Disk>(
     ensures noted { IfOk result (λ reply. NotesStored (λ w. write_or_read w (write_in stmt.now) stmt.now now) now store.old reply touched.old touched.new) }
     ensures frame { GoesOn (D.state disk.old) (D.state disk.new) }
     ensures cause { HasCause DiskFault (D.state disk.old).faults (D.state disk.new).faults result }
+    ensures counted { HidesNoFault (D.state disk.old).faults (D.state disk.new).faults result }
 {
     match write_in(alloc, stmt)? {
         Some(change) => write_noted(alloc, touched, store, disk, change, now),

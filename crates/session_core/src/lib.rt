@@ -32,7 +32,7 @@
 //! | after a failure no session is begun; the store is closed, or as it was | `dropped`, `kept` |
 //! | no line changes another session | `others` |
 //! | a reply that stores nothing leaves the store and its disk as they were | `same` |
-//! | a failure is the disk's own, or want of memory | `cause` |
+//! | a failure is the disk's own, or want of memory; behind a reply, a refusal too, the disk counted no fault | `cause`, `counted` |
 //! | every run is serial in the order of its commits | `runs_are_serial` of `session_model` |
 //!
 //! A commit is tested first, then what it touches is noted, then it is stored: so want of memory for the

@@ -1,7 +1,7 @@
 //! Sixteen sessions over one store.
 
 ghost use Rattle.std.specs.Prelude.{◌≡◌, ◌↔◌, ◌<◌, ◌≤◌, None, IsTrue, false, length, IfOk, IfSome, IsSome, OnOk, OnErr};
-ghost use Rattle.outside_words.specs.Faults.{HasCause};
+ghost use Rattle.outside_words.specs.Faults.{HasCause, HidesNoFault};
 ghost use Rattle.outside_words.specs.Told.{WhereTold};
 ghost use Rattle.disk_words.specs.Disk.{GoesOn};
 ghost use Rattle.tt_table.specs.Versions.{AreTables};
@@ -241,6 +241,7 @@ impl Sessions {
         ensures along { IfSome (kept_at self.old session) (λ k. IfOk result (λ reply. GoesAlong session k.pending reply self.old self.new)) }
         ensures frame { GoesOn (D.state disk.old) (D.state disk.new) }
         ensures cause { HasCause DiskFault (D.state disk.old).faults (D.state disk.new).faults result }
+        ensures counted { HidesNoFault (D.state disk.old).faults (D.state disk.new).faults result }
     {
         match store_kept(
             alloc,
@@ -280,6 +281,7 @@ impl Sessions {
             (StepsTo (InSession session stmt.now) now result self.old (kept_after result self.new) store.old store.new (D.state disk.old) (D.state disk.new)) }
         ensures frame { GoesOn (D.state disk.old) (D.state disk.new) }
         ensures cause { HasCause DiskFault (D.state disk.old).faults (D.state disk.new).faults result }
+        ensures counted { HidesNoFault (D.state disk.old).faults (D.state disk.new).faults result }
     {
         match self.answer(alloc, store, session, stmt) {
             Ok(Some(reply)) => Ok(reply),
@@ -308,6 +310,7 @@ impl Sessions {
             (StepsTo (Plain stmt.now) now result self.old (kept_after result self.new) store.old store.new (D.state disk.old) (D.state disk.new)) }
         ensures frame { GoesOn (D.state disk.old) (D.state disk.new) }
         ensures cause { HasCause DiskFault (D.state disk.old).faults (D.state disk.new).faults result }
+        ensures counted { HidesNoFault (D.state disk.old).faults (D.state disk.new).faults result }
     {
         if self.open.is_empty() {
             write_or_read(alloc, store, disk, stmt, now)
@@ -337,6 +340,7 @@ impl Sessions {
             (StepsTo line.now now result self.old (kept_after result self.new) store.old store.new (D.state disk.old) (D.state disk.new)) }
         ensures frame { GoesOn (D.state disk.old) (D.state disk.new) }
         ensures cause { HasCause DiskFault (D.state disk.old).faults (D.state disk.new).faults result }
+        ensures counted { HidesNoFault (D.state disk.old).faults (D.state disk.new).faults result }
     {
         match line {
             Line::Plain { stmt } => self.plain(alloc, store, disk, stmt, now),
@@ -370,6 +374,7 @@ impl Sessions {
             (StepsTo line.now now result self.old self.new store.old store.new (D.state disk.old) (D.state disk.new)) }
         ensures frame { GoesOn (D.state disk.old) (D.state disk.new) }
         ensures cause { HasCause DiskFault (D.state disk.old).faults (D.state disk.new).faults result }
+        ensures counted { HidesNoFault (D.state disk.old).faults (D.state disk.new).faults result }
     {
         match self.try_step(alloc, store, disk, line, now) {
             Ok(reply) => Ok(reply),
@@ -412,6 +417,7 @@ fn store_kept<D: Disk>(
     ensures noted { IfSome (kept_in sessions.now.entries session) (λ k. IfOk result (λ reply. NotesFor k.pending reply touched.old touched.new)) }
     ensures frame { GoesOn (D.state disk.old) (D.state disk.new) }
     ensures cause { HasCause DiskFault (D.state disk.old).faults (D.state disk.new).faults result }
+    ensures counted { HidesNoFault (D.state disk.old).faults (D.state disk.new).faults result }
 {
     match sessions.get(&session) {
         Some(open) => commit_noted(alloc, touched, store, disk, open.pending(), now),

@@ -26,7 +26,7 @@
 //! | a reply that stores nothing leaves the store and its disk as they were; so does a failure, unless the store is closed | `same` of `Sessions::step` |
 //! | a transaction is stored by the calls of one append, in order and none after one that failed; all else makes no call | `trace` of `StepsIn` |
 //! | after a failure the store is closed, or as it was | `kept` of `Sessions::step` |
-//! | a failure is the disk's own, or want of memory | `cause` of `Sessions::step` |
+//! | a failure is the disk's own, or want of memory; behind a reply, a refusal too, the disk counted no fault | `cause`, `counted` of `Sessions::step` |
 //! | a number that is replied is that of a new last transaction; every other reply leaves the world as it was | `steps_keep_promises` |
 //! | the text of a reply | `value` of `print_reply` |
 //!

@@ -1,7 +1,7 @@
 //! Statements, one after another.
 
 ghost use Rattle.std.specs.Prelude.{◌≡◌, ◌↔◌, false, IsTrue, OnOk, OnErr};
-ghost use Rattle.outside_words.specs.Faults.{HasCause};
+ghost use Rattle.outside_words.specs.Faults.{HasCause, HidesNoFault};
 ghost use Rattle.outside_words.specs.Told.{WhereTold};
 ghost use Rattle.disk_words.specs.Disk.{GoesOn};
 ghost use Rattle.stmt_text.specs.Fits.{FitsParts, FitsStmt};
@@ -64,6 +64,7 @@ impl Sessions {
             (StepsTo line.now now result store.old store.new (D.state disk.old) (D.state disk.new)) }
         ensures frame { GoesOn (D.state disk.old) (D.state disk.new) }
         ensures cause { HasCause DiskFault (D.state disk.old).faults (D.state disk.new).faults result }
+        ensures counted { HidesNoFault (D.state disk.old).faults (D.state disk.new).faults result }
     {
         match line {
             Line::Plain { stmt } => write_or_read(alloc, store, disk, stmt, now),
@@ -120,6 +121,7 @@ pub fn write_or_read<D: Disk>(
         (DoesAs (λ w. write_or_read w (write_in stmt.now) stmt.now now) result store.old store.new (D.state disk.old) (D.state disk.new)) }
     ensures frame { GoesOn (D.state disk.old) (D.state disk.new) }
     ensures cause { HasCause DiskFault (D.state disk.old).faults (D.state disk.new).faults result }
+    ensures counted { HidesNoFault (D.state disk.old).faults (D.state disk.new).faults result }
 {
     match write_in(alloc, stmt)? {
         Some(change) => write(alloc, store, disk, change, now),
