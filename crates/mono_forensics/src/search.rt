@@ -7,6 +7,7 @@ ghost use Rattle.outside_words.specs.Told.{WhereTold};
 ghost use Rattle.notary_link.specs.declared.fail.AskFail.TheVariants.{NotaryFault};
 ghost use Rattle.notary_link.specs.Fails.{ask_in_doubt};
 ghost use Rattle.notary_link.specs.Notary.{Unchanged, GoesOn};
+ghost use Rattle.digest_model.specs.Layout.{max_granules};
 ghost use Rattle.audit_model.specs.Tree.{digit_count};
 ghost use Rattle.mono_forensics.specs.Finds.{link_answers, Finds, Compares, IsFindFail};
 
@@ -22,7 +23,7 @@ pub fn first_bad<N: Notary>(
     id: u64,
 ) -> Result<Option<u32>, AskFail>
     requires some { 1 ≤ length links.now }
-    requires few { length links.now ≤ 1048576 }
+    requires few { length links.now ≤ max_granules }
     ensures value { WhereTold (N.state notary.old).lists (N.state notary.new).lists
         (λ before after. Finds (link_answers before id links.now) (length links.now) result) }
     ensures within { IfOk result (λ found. IfSome found (λ tile. tile < length links.now)) }
