@@ -12,8 +12,9 @@ ghost use Rattle.notary_link.specs.Notary as notaries;
 ghost use Rattle.tuple_bytes.specs.declared.item.Item.{Item};
 ghost use Rattle.tuple_bytes.specs.Items.{item_of};
 ghost use Rattle.tuple_bytes.specs.HeaderBytes.{header_of};
+ghost use Rattle.history_model.specs.Stored.{max_file};
 ghost use Rattle.step_count.specs.Blank.{IsBlankOf};
-ghost use Rattle.txn_journal.specs.Reading.{IsSeenIn};
+ghost use Rattle.txn_journal.specs.Reading.{IsSeenIn, IsAtFirst};
 ghost use Rattle.outside_io.specs.Source as sources;
 ghost use Rattle.dragoon_app.specs.Devices.{desk, devices, StaysSound, HasCauses, AllGoOn};
 ghost use Rattle.dragoon_app.specs.Outcome.{Said, WriteCause};
@@ -70,7 +71,7 @@ fn link_records<D: Disk, L: Ledger>(
     header: &Header,
     steps: &mut Steps<L>,
 ) -> Result<Linked, DiskFail>
-    requires begins { records.place ≡ 64 }
+    requires begins { IsAtFirst max_file records }
     ensures value { IfSome (D.state disk.old).reads (λ bytes. IsSeenIn bytes records
         → IfOk result (λ l. l ≡ linked_from (linked_at_seed header.now) (items_behind bytes))) }
     ensures same { disks.Unchanged (D.state disk.old) (D.state disk.new) }
@@ -91,17 +92,18 @@ fn link_records<D: Disk, L: Ledger>(
 /// is no header.
 fn link_opened<D: Disk, L: Ledger>(
     disk: &mut D,
+    head: &[u8; 64],
     records: Records<StoreShape>,
     steps: &mut Steps<L>,
 ) -> Result<Option<Linked>, DiskFail>
-    requires begins { records.place ≡ 64 }
+    requires begins { IsAtFirst max_file records }
     ensures value { IfSome (D.state disk.old).reads (λ bytes. IsSeenIn bytes records
-        → IfOk result (IsLinkUnder (header_of records.head) (items_behind bytes))) }
+        → IfOk result (IsLinkUnder (header_of head.now) (items_behind bytes))) }
     ensures same { disks.Unchanged (D.state disk.old) (D.state disk.new) }
     ensures frame { disks.GoesOn (D.state disk.old) (D.state disk.new) }
     ensures cause { HasCause Failed (D.state disk.old).faults (D.state disk.new).faults result }
 {
-    match decode_header(records.head()) {
+    match decode_header(head) {
         Some(header) => {
             let linked = link_records(disk, records, &header, steps)?;
             Ok(Some(linked))
@@ -121,9 +123,10 @@ fn link_store<D: Disk, L: Ledger>(
     ensures frame { disks.GoesOn (D.state disk.old) (D.state disk.new) }
     ensures cause { HasCause Failed (D.state disk.old).faults (D.state disk.new).faults result }
 {
-    match Records::<StoreShape>::open(alloc, disk)? {
-        Some(records) => {
-            let found = link_opened(disk, records, steps)?;
+    let mut records = Records::<StoreShape>::at_first(alloc)?;
+    match records.read_head(disk)? {
+        Some(head) => {
+            let found = link_opened(disk, &head, records, steps)?;
             Ok(found)
         }
         None => Ok(None),

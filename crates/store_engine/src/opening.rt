@@ -6,7 +6,7 @@ ghost use Rattle.disk_words.specs.Disk.{Unchanged, GoesOn};
 ghost use Rattle.tuple_bytes.specs.Spelling.{FitsHeader};
 ghost use Rattle.history_model.specs.Stored.{stored, front_header, max_file};
 ghost use Rattle.txn_journal.specs.declared.fail.JournalFail.TheVariants.{DiskFault};
-ghost use Rattle.txn_journal.specs.Reading.{IsSeenIn};
+ghost use Rattle.txn_journal.specs.Reading.{IsSeenIn, IsAtFirst};
 ghost use Rattle.txn_journal.specs.Opening.{IsOfDisk, IsOfOpening, IsNoFile};
 ghost use Rattle.store_engine.specs.Refusals.{IsNoStore};
 ghost use Rattle.store_engine.specs.Fail.{fail_of_journal};
@@ -48,10 +48,11 @@ pub(crate) fn open_file<D: Disk>(
     ensures cause { HasCause DiskFault (D.state disk.old).faults (D.state disk.new).faults result }
     ensures counted { HidesNoFault (D.state disk.old).faults (D.state disk.new).faults result }
 {
-    let Some(records) = Records::<StoreShape>::open(alloc, disk)? else {
+    let mut records = Records::<StoreShape>::at_first(alloc)?;
+    let Some(head) = records.read_head(disk)? else {
         return Err(JournalFail::NotAStore);
     };
-    let Some(header) = decode_header(records.head()) else {
+    let Some(header) = decode_header(&head) else {
         return Err(JournalFail::NotAStore);
     };
     if header.id != id {
@@ -67,7 +68,7 @@ fn replay<D: Disk>(
     disk: &mut D,
     records: Records<StoreShape>,
 ) -> Result<Replayed, JournalFail>
-    requires begins { records.place ≡ 64 }
+    requires begins { IsAtFirst max_file records }
     ensures value { IfSome (D.state disk.old).reads (λ bytes. IsSeenIn bytes records
         → MatchResult result (λ o. Replays o.contents o.journal bytes) (IsNoFile is_header bytes)) }
     ensures none_other { IfErr result IsOfOpening }
@@ -88,7 +89,7 @@ fn read_in_file_order<D: Disk>(
     disk: &mut D,
     mut records: Records<StoreShape>,
 ) -> Result<Option<Replayed>, JournalFail>
-    requires begins { records.place ≡ 64 }
+    requires begins { IsAtFirst max_file records }
     ensures value { IfSome (D.state disk.old).reads (λ bytes. IsSeenIn bytes records
         → IfOk result (λ found. IfSome found (λ o. Replays o.contents o.journal bytes))) }
     ensures none_other { IfErr result IsOfDisk }

@@ -7,15 +7,19 @@ use Rattle.std.proofs.lemmas.List.Elements.{filter_map-append}
 use Rattle.disk_words.specs.Disk.{State, Unchanged, GoesOn}
 use Rattle.disk_words.proofs.Frame.{goes_on_same, goes_on_then}
 use Rattle.disk_words.proofs.Steady.{unchanged_then}
-use Rattle.byte_grammar.specs.Gated.{Shape, open_gate}
+use Rattle.byte_grammar.specs.Gated.{Shape, open_gate, with_first}
 use Rattle.txn_journal.specs.declared.fail.JournalFail.{JournalFail}
 use Rattle.txn_journal.specs.declared.fail.JournalFail.TheVariants as fails
-use Rattle.txn_journal.specs.Reading.{Reading, head_of, left, IsSeenIn, Opens, ReadsNext, ahead}
+use Rattle.txn_journal.specs.Reading.{Reading, head_of, left, limited, IsSeenIn, ReadsNext, ahead}
 use Rattle.txn_journal.specs.Held.{Standing, StandsIn, held_under}
 use Rattle.txn_journal.specs.Opening.{held_of, IsOfDisk, IsNoFile}
 
 unchanged_same : (s : State) → Unchanged s s
 unchanged_same s = record { reads = refl; trace = refl; images = λ c. ((λ i. i), λ i. i); since = λ t c. ((λ i. i), λ i. i) }
+
+-- where the limit is the shape's, it is the shape
+pub whole : (shape : Shape) (limit : ℕ) → limit ≡ shape.max_file → (P : Shape → Type 0) → P (limited shape limit) → P shape
+whole shape limit is P p = subst (λ (k : ℕ). P (limited shape k)) is p
 
 module _ {X : Type 0} (read : List ℕ → Option X) (shape : Shape) where
   -- what these were read as, and what those from the place on are, is all
@@ -26,14 +30,14 @@ module _ {X : Type 0} (read : List ℕ → Option X) (shape : Shape) where
 
   pub record IsGathering (first now : State) (opened r : Reading) (gathered : List X) : Type 0 where
     pub told : IfSome first.reads (λ bytes. IsSeenIn bytes opened → Completes opened r gathered bytes)
-    pub head : r.head ≡ opened.head
+    pub limit : r.limit ≡ shape.max_file
     pub same : Unchanged first now
     pub frame : GoesOn first now
     pub counted : now.faults ≡ first.faults
 
   -- before the first record
-  pub starts : (first : State) (opened : Reading) → IsGathering first first opened opened []
-  starts first opened = record { told = by first.reads; head = refl; same = unchanged_same first; frame = goes_on_same first; counted = refl }
+  pub starts : (first : State) (opened : Reading) → opened.limit ≡ shape.max_file → IsGathering first first opened opened []
+  starts first opened limit = record { told = by first.reads; limit = limit; same = unchanged_same first; frame = goes_on_same first; counted = refl }
     where
       by : (told : Option (List ℕ)) → IfSome told (λ bytes. IsSeenIn bytes opened → Completes opened opened [] bytes)
       by None = tt
@@ -41,11 +45,11 @@ module _ {X : Type 0} (read : List ℕ → Option X) (shape : Shape) where
 
   -- the next record was read
   pub one_more : (first old new : State) (opened r s : Reading) (gathered more : List X) → IsGathering first old opened r gathered
-      → IfSome old.reads (λ bytes. IsSeenIn bytes r → ReadsNext shape bytes r true s) → IfSome old.reads (λ bytes. IsSeenIn bytes r → IsSeenIn bytes s) → s.head ≡ r.head → Unchanged old new → GoesOn old new → new.faults ≡ old.faults
+      → IfSome old.reads (λ bytes. IsSeenIn bytes r → ReadsNext shape bytes r true s) → IfSome old.reads (λ bytes. IsSeenIn bytes r → IsSeenIn bytes s) → s.limit ≡ r.limit → Unchanged old new → GoesOn old new → new.faults ≡ old.faults
       → more ≡ gathered ++ filter_map read (s.payload ∷ []) → IsGathering first new opened s more
-  one_more first old new opened r s gathered more so_far reads seen head same frame none is = record {
+  one_more first old new opened r s gathered more so_far reads seen limit same frame none is = record {
     told = by first.reads so_far.told (subst (λ (o : Option (List ℕ)). IfSome o (λ bytes. IsSeenIn bytes r → ReadsNext shape bytes r true s)) so_far.same.reads reads) (subst (λ (o : Option (List ℕ)). IfSome o (λ bytes. IsSeenIn bytes r → IsSeenIn bytes s)) so_far.same.reads seen);
-    head = head ∙ so_far.head;
+    limit = limit ∙ so_far.limit;
     same = unchanged_then first old new so_far.same same;
     frame = goes_on_then first old new so_far.frame frame;
     counted = none ∙ so_far.counted;
@@ -58,7 +62,7 @@ module _ {X : Type 0} (read : List ℕ → Option X) (shape : Shape) where
       by (Some bytes) t n seen = λ o.
           let so = t o in
           let rest : List (List ℕ) × ℕ = left shape s.place bytes in
-          let next = n so.seen in
+          let next = whole shape r.limit so_far.limit (λ (to : Shape). left to r.place bytes ≡ with_first s.payload (left to s.place bytes)) (n so.seen) in
           record {
             seen = seen so.seen;
             all = so.all ∙ ap (λ (l : List (List ℕ) × ℕ). gathered ++ filter_map read l.0) next
@@ -75,9 +79,9 @@ module _ {X : Type 0} (read : List ℕ → Option X) (shape : Shape) where
     pub gate : slice_index (ahead s) 0 ≡ slice_index bytes s.place
 
   pub all_gathered : (first old : State) (opened r s : Reading) (gathered : List X) → IsGathering first old opened r gathered → opened.place ≡ 64
-      → IfSome old.reads (λ bytes. IsSeenIn bytes r → ReadsNext shape bytes r false s) → s.place ≡ r.place
+      → IfSome old.reads (λ bytes. IsSeenIn bytes r → ReadsNext shape bytes r false s) → s.place ≡ r.place → s.limit ≡ r.limit
       → IfSome first.reads (λ bytes. IsSeenIn bytes opened → IsAll s gathered bytes)
-  all_gathered first old opened r s gathered so_far begins reads place =
+  all_gathered first old opened r s gathered so_far begins reads place limit =
       by first.reads so_far.told (subst (λ (o : Option (List ℕ)). IfSome o (λ bytes. IsSeenIn bytes r → ReadsNext shape bytes r false s)) so_far.same.reads reads)
     where
       by : (told : Option (List ℕ)) → IfSome told (λ bytes. IsSeenIn bytes opened → Completes opened r gathered bytes)
@@ -87,7 +91,7 @@ module _ {X : Type 0} (read : List ℕ → Option X) (shape : Shape) where
       by (Some bytes) t n = λ o.
           let so = t o in
           let stop = n so.seen in
-          let none : left shape r.place bytes ≡ ([], s.place) = ap (λ (p : ℕ). left shape p bytes) (sym place) ∙ stop.none in
+          let none : left shape r.place bytes ≡ ([], s.place) = ap (λ (p : ℕ). left shape p bytes) (sym place) ∙ whole shape s.limit (limit ∙ so_far.limit) (λ (to : Shape). left to s.place bytes ≡ ([], s.place)) stop.none in
           record {
             all = ap (λ (p : ℕ). filter_map read (left shape p bytes).0) (sym begins) ∙ so.all ∙ ap (λ (l : List (List ℕ) × ℕ). gathered ++ filter_map read l.0) none ∙ append-nil gathered;
             end = ap (λ (p : ℕ). (left shape p bytes).1) (sym begins) ∙ so.end ∙ ap (λ (l : List (List ℕ) × ℕ). l.1) none;
@@ -101,16 +105,16 @@ filter_map-Some [] = refl
 filter_map-Some (p ∷ payloads) = ap (λ (l : List (List ℕ)). p ∷ l) (filter_map-Some payloads)
 
 -- a journal stands behind them
-pub stands : (is_head : List ℕ → Bool) (shape : Shape) (told : Option (List ℕ)) (opened s : Reading) (payloads : List (List ℕ)) (at : Standing) → s.head ≡ opened.head → at.end ≡ s.place → at.gate_is_open ≡ (slice_index (ahead s) 0 == open_gate)
+pub stands : (is_head : List ℕ → Bool) (shape : Shape) (told : Option (List ℕ)) (opened s : Reading) (head : List ℕ) (payloads : List (List ℕ)) (at : Standing) → at.end ≡ s.place → at.gate_is_open ≡ (slice_index (ahead s) 0 == open_gate)
     → IfSome told (λ bytes. IsSeenIn bytes opened → IsAll (λ (p : List ℕ). Some p) shape s payloads bytes)
-    → IfSome told (λ bytes. IsSeenIn bytes opened → head_of is_head bytes ≡ Some opened.head → StandsIn is_head shape at (held_of s.head payloads at) bytes)
-stands is_head shape None opened s payloads at head end gate all = tt
-stands is_head shape (Some bytes) opened s payloads at head end gate all = λ o is.
+    → IfSome told (λ bytes. IsSeenIn bytes opened → head_of is_head bytes ≡ Some head → StandsIn is_head shape at (held_of head payloads at) bytes)
+stands is_head shape None opened s head payloads at end gate all = tt
+stands is_head shape (Some bytes) opened s head payloads at end gate all = λ o is.
     let a = all o in
     let L : List (List ℕ) × ℕ = left shape 64 bytes in
     let found : L ≡ (payloads, at.end) = ap (λ (ps : List (List ℕ)). (ps, L.1)) (sym (filter_map-Some L.0) ∙ a.all) ∙ ap (λ (p : ℕ). (payloads, p)) (a.end ∙ sym end) in
     record {
-      holds = ap (λ (h : Option (List ℕ)). held_under h L) (is ∙ ap (λ (h : List ℕ). Some h) (sym head)) ∙ ap (held_under (Some s.head)) found;
+      holds = ap (λ (h : Option (List ℕ)). held_under h L) is ∙ ap (held_under (Some head)) found;
       end = refl;
       gate = gate ∙ ap (λ (g : ℕ). g == open_gate) (a.gate ∙ ap (slice_index bytes) (sym end));
     }
@@ -124,14 +128,14 @@ not_refused is_head bytes fails.StoreFull of_disk = absurd of_disk
 not_refused is_head bytes fails.Closed of_disk = absurd of_disk
 
 -- what was gathered behind a head that was found
-pub behind_found : {T : Type 0} (is_head : List ℕ → Bool) (P : T → List ℕ → Type 0) (first mid : Option (List ℕ)) (o : Option Reading) (r : Reading) (result : Result T JournalFail) → mid ≡ first → o ≡ Some r
-    → IfSome first (λ bytes. Opens is_head bytes o) → IfSome mid (λ bytes. IsSeenIn bytes r → head_of is_head bytes ≡ Some r.head → IfOk result (λ t. P t bytes)) → IfErr result IsOfDisk
+pub behind_found : {T : Type 0} (is_head : List ℕ → Bool) (P : T → List ℕ → Type 0) (first mid : Option (List ℕ)) (found : Option (List ℕ)) (head : List ℕ) (r : Reading) (result : Result T JournalFail) → mid ≡ first → found ≡ Some head
+    → IfSome first (λ bytes. found ≡ head_of is_head bytes) → IfSome first (λ bytes. IsSeenIn bytes r) → IfSome mid (λ bytes. IsSeenIn bytes r → head_of is_head bytes ≡ Some head → IfOk result (λ t. P t bytes)) → IfErr result IsOfDisk
     → IfSome first (λ bytes. MatchResult result (λ t. P t bytes) (IsNoFile is_head bytes))
-behind_found {T} is_head P first mid o r result same is opens gathered of_disk =
-    by first result (subst (λ (q : Option Reading). IfSome first (λ bytes. Opens is_head bytes q)) is opens) (subst (λ (m : Option (List ℕ)). IfSome m (λ bytes. IsSeenIn bytes r → head_of is_head bytes ≡ Some r.head → IfOk result (λ t. P t bytes))) same gathered) of_disk
+behind_found {T} is_head P first mid found head r result same is heads seen gathered of_disk =
+    by first result heads seen (subst (λ (m : Option (List ℕ)). IfSome m (λ bytes. IsSeenIn bytes r → head_of is_head bytes ≡ Some head → IfOk result (λ t. P t bytes))) same gathered) of_disk
   where
-    by : (first : Option (List ℕ)) (result : Result T JournalFail) → IfSome first (λ bytes. Opens is_head bytes (Some r)) → IfSome first (λ bytes. IsSeenIn bytes r → head_of is_head bytes ≡ Some r.head → IfOk result (λ t. P t bytes)) → IfErr result IsOfDisk
+    by : (first : Option (List ℕ)) (result : Result T JournalFail) → IfSome first (λ bytes. found ≡ head_of is_head bytes) → IfSome first (λ bytes. IsSeenIn bytes r) → IfSome first (λ bytes. IsSeenIn bytes r → head_of is_head bytes ≡ Some head → IfOk result (λ t. P t bytes)) → IfErr result IsOfDisk
         → IfSome first (λ bytes. MatchResult result (λ t. P t bytes) (IsNoFile is_head bytes))
-    by None result opens gathered of_disk = tt
-    by (Some bytes) (Ok t) opens gathered of_disk = gathered opens.1 opens.0
-    by (Some bytes) (Err e) opens gathered of_disk = not_refused is_head bytes e of_disk
+    by None result heads seen gathered of_disk = tt
+    by (Some bytes) (Ok t) heads seen gathered of_disk = gathered seen (sym heads ∙ is)
+    by (Some bytes) (Err e) heads seen gathered of_disk = not_refused is_head bytes e of_disk

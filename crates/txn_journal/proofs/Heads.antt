@@ -1,8 +1,9 @@
 -- A head is seen in any window with room for it and the gate behind it.
-use Rattle.std.proofs.Common.{◌≡◌, ℕ, ◌-◌, ◌<◌, Bool, ltb, List, [], min, length, take, drop, Some, None, refl, sym, ap, ◌∙◌, arith, inl, inr}
+use Rattle.std.proofs.Common.{◌≡◌, ℕ, ◌-◌, ◌<◌, Bool, ltb, List, min, length, take, drop, Option, Some, None, refl, sym, ap, ◌∙◌, arith, inl, inr}
+use Rattle.std.specs.Prelude.{IfSome}
 use Rattle.std.proofs.lemmas.Bool.{cases_lt, lt-ltb, le-ltb}
 use Rattle.std.proofs.lemmas.List.{length-take, take-take, take_min}
-use Rattle.txn_journal.specs.Reading.{head_of, Opens}
+use Rattle.txn_journal.specs.Reading.{Reading, head_of, IsSeenIn}
 
 head_of-take : (is_head : List ℕ → Bool) (room : ℕ) (bytes : List ℕ) → 64 < room → head_of is_head (take room bytes) ≡ head_of is_head bytes
 head_of-take is_head room bytes lt =
@@ -19,16 +20,15 @@ head_seen is_head begin room bytes seen from lt is at =
     let none : 0 - begin ≡ 0 = omega arith in
     ap (head_of is_head) (at ∙ ap (λ (k : ℕ). drop k seen) none ∙ is) ∙ head_of-take is_head room bytes lt
 
-seen_whole : (room : ℕ) (bytes seen : List ℕ) → seen ≡ take room bytes → seen ≡ take (length seen) bytes
-seen_whole room bytes seen is =
-    let n : length seen ≡ min room (length bytes) = ap length is ∙ length-take room bytes in
-    is ∙ sym (take_min room bytes) ∙ ap (λ (k : ℕ). take k bytes) (sym n)
+-- what is read at the front of the file is its head
+pub told_head : (is_head : List ℕ → Bool) (begin room : ℕ) (told : Option (List ℕ)) (seen from : List ℕ) (head : Option (List ℕ)) → 64 < room → IfSome told (λ bytes. seen ≡ take room bytes) → from ≡ drop (0 - begin) seen → head ≡ head_of is_head from
+    → IfSome told (λ bytes. head ≡ head_of is_head bytes)
+told_head is_head begin room None seen from head lt is at e = tt
+told_head is_head begin room (Some bytes) seen from head lt is at e = e ∙ head_seen is_head begin room bytes seen from lt is at
 
--- a reader that sees the front of the file opens it, or finds that it has no head
-pub opens_none : (is_head : List ℕ → Bool) (begin room : ℕ) (bytes seen from : List ℕ) → 64 < room → seen ≡ take room bytes → from ≡ drop (0 - begin) seen → None ≡ head_of is_head from → Opens is_head bytes None
-opens_none is_head begin room bytes seen from lt is at none = sym (head_seen is_head begin room bytes seen from lt is at) ∙ sym none
-
-pub opens_some : (is_head : List ℕ → Bool) (begin room : ℕ) (bytes seen from head : List ℕ) → begin ≡ 0 → 64 < room → seen ≡ take room bytes → from ≡ drop (0 - begin) seen → Some head ≡ head_of is_head from
-    → Opens is_head bytes (Some (record { head = head; place = 64; payload = []; begin = begin; seen = seen }))
-opens_some is_head begin room bytes seen from head zero_is lt is at some =
-    (sym (head_seen is_head begin room bytes seen from lt is at) ∙ sym some, record { within = omega arith; seen = rw zero_is (seen_whole room bytes seen is) })
+-- and what was seen of it stands in it
+pub told_front : (told : Option (List ℕ)) (room : ℕ) (r : Reading) → r.begin ≡ 0 → IfSome told (λ bytes. r.seen ≡ take room bytes) → IfSome told (λ bytes. IsSeenIn bytes r)
+told_front None room r begin is = tt
+told_front (Some bytes) room r begin is =
+    let n : length r.seen ≡ min room (length bytes) = ap length is ∙ length-take room bytes in
+    record { within = omega (arith, begin); seen = rw begin (is ∙ sym (take_min room bytes) ∙ ap (λ (k : ℕ). take k bytes) (sym n)) }

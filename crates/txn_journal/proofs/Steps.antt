@@ -7,10 +7,10 @@ use Rattle.txn_journal.proofs.Frames.{record_from}
 use Rattle.byte_grammar.proofs.GatedLaws.{records_step, records_stop}
 use Rattle.txn_journal.proofs.Fronts.{found_in_front, front_decides, drop-take-sub}
 use Rattle.txn_journal.specs.Front.{IsAtFront}
-use Rattle.txn_journal.specs.Reading.{Reading, left, ahead, IsSeenIn, IsFilled, StepsOver, StopsAt, ReadsNext, Advances}
+use Rattle.txn_journal.specs.Reading.{Reading, limited, ahead, IsSeenIn, IsFilled, StepsOver, StopsAt, ReadsNext, Advances}
 
-abbrev pub reading : List ℕ → ℕ → List ℕ → ℕ → List ℕ → Reading
-reading head place payload begin seen = record { head = head; place = place; payload = payload; begin = begin; seen = seen }
+abbrev pub reading : ℕ → ℕ → List ℕ → ℕ → List ℕ → Reading
+reading place limit payload begin seen = record { place = place; limit = limit; payload = payload; begin = begin; seen = seen }
 
 -- the payload that was found is lent from the window
 lent : (r : Reading) (found : List ℕ) → r.begin ≤ r.place → found ≡ take (length found) (drop 5 (ahead r)) → take (length found) (drop (r.place + 5 - r.begin) r.seen) ≡ found
@@ -19,16 +19,16 @@ lent r found le is =
     ap (λ (k : ℕ). take (length found) (drop k r.seen)) n ∙ ap (take (length found)) (sym (drop-drop 5 (r.place - r.begin) r.seen)) ∙ sym is
 
 abbrev stepped_to : Reading → List ℕ → Reading
-stepped_to r found = reading r.head (r.place + 5 + length found) (take (length found) (drop (r.place + 5 - r.begin) r.seen)) r.begin r.seen
+stepped_to r found = reading (r.place + 5 + length found) r.limit (take (length found) (drop (r.place + 5 - r.begin) r.seen)) r.begin r.seen
 
-pub stepped : (shape : Shape) (r : Reading) (found : List ℕ) → r.begin ≤ r.place → payload_at shape r.place (ahead r) ≡ Some found → IsAtFront shape r.place (ahead r) found
+pub stepped : (shape : Shape) (r : Reading) (found : List ℕ) → r.begin ≤ r.place → payload_at (limited shape r.limit) r.place (ahead r) ≡ Some found → IsAtFront (limited shape r.limit) r.place (ahead r) found
     → StepsOver shape r true (stepped_to r found)
 stepped shape r found le is at =
     rw (lent r found le at.payload_is) (is, refl)
 
-pub moved : (shape : Shape) (r : Reading) (found : List ℕ) → r.begin ≤ r.place → IsAtFront shape r.place (ahead r) found → Advances shape r (stepped_to r found)
+pub moved : (shape : Shape) (r : Reading) (found : List ℕ) → r.begin ≤ r.place → IsAtFront (limited shape r.limit) r.place (ahead r) found → Advances shape r (stepped_to r found)
 moved shape r found le at =
-    rw (lent r found le at.payload_is) (record { fits = at.fits; place = refl; within = at.within })
+    rw (lent r found le at.payload_is) (record { fits = record { accepted = at.fits.accepted; short = at.fits.short }; place = refl; within = at.within })
 
 -- what is seen from the place on is a front of what stands there
 ahead_is : (bytes : List ℕ) (r : Reading) → IsSeenIn bytes r → ahead r ≡ take (length r.seen - (r.place - r.begin)) (drop r.place bytes)
@@ -41,24 +41,26 @@ ahead_is bytes r s =
 pub next_read : (shape : Shape) (bytes : List ℕ) (old new : Reading) → IsSeenIn bytes old → StepsOver shape old true new → ReadsNext shape bytes old true new
 next_read shape bytes old new s over =
     let rest : List ℕ = drop old.place bytes in
-    let found : payload_at shape old.place rest ≡ Some new.payload = found_in_front shape old.place _ rest new.payload (ap (payload_at shape old.place) (sym (ahead_is bytes old s)) ∙ over.0) in
-    let r = record_from shape old.place rest new.payload found in
+    let to : Shape = limited shape old.limit in
+    let found : payload_at to old.place rest ≡ Some new.payload = found_in_front to old.place _ rest new.payload (ap (payload_at to old.place) (sym (ahead_is bytes old s)) ∙ over.0) in
+    let r = record_from to old.place rest new.payload found in
     let n : named_length rest ≡ length new.payload = sym (ap length r.payload_is ∙ length-take (named_length rest) (drop 5 rest) ∙ omega (arith, length-drop 5 rest, r.framed.room)) in
     let place : old.place + 5 + named_length rest ≡ new.place = ap (λ (k : ℕ). old.place + 5 + k) n ∙ sym (ap (λ (r : Reading). r.place) over.1) in
     let there : drop (5 + named_length rest) rest ≡ drop new.place bytes = drop-drop (5 + named_length rest) old.place bytes ∙ ap (λ (k : ℕ). drop k bytes) (omega (arith, place)) in
-    records_step shape old.place rest new.payload found r.framed ∙ ap (with_first new.payload) (ap (λ (k : ℕ). records shape k 0 (drop (5 + named_length rest) rest)) place ∙ ap (records shape new.place 0) there)
+    records_step to old.place rest new.payload found r.framed ∙ ap (with_first new.payload) (ap (λ (k : ℕ). records to k 0 (drop (5 + named_length rest) rest)) place ∙ ap (records to new.place 0) there)
 
 -- where none was, in a window that is filled, there is none
 pub stops : (shape : Shape) (bytes : List ℕ) (old new : Reading) → IsFilled shape bytes old → StepsOver shape old false new → StopsAt shape bytes new
 stops shape bytes old new f over = rw over.1 (at_old shape bytes old f over.0)
   where
-    at_old : (shape : Shape) (bytes : List ℕ) (r : Reading) → IsFilled shape bytes r → payload_at shape r.place (ahead r) ≡ None → StopsAt shape bytes r
+    at_old : (shape : Shape) (bytes : List ℕ) (r : Reading) → IsFilled shape bytes r → payload_at (limited shape r.limit) r.place (ahead r) ≡ None → StopsAt shape bytes r
     at_old shape bytes r f none =
         let rest : List ℕ = drop r.place bytes in
+        let to : Shape = limited shape r.limit in
         let here : ahead r ≡ take f.room rest = let zero_is : r.place - r.begin ≡ 0 = omega (arith, f.begin) in ap (λ (k : ℕ). drop k r.seen) zero_is ∙ f.seen in
-        let no_record : payload_at shape r.place rest ≡ None = front_decides shape r.place f.room rest f.long (ap (payload_at shape r.place) (sym here) ∙ none) in
+        let no_record : payload_at to r.place rest ≡ None = front_decides to r.place f.room rest f.long (ap (payload_at to r.place) (sym here) ∙ none) in
         let first : get_or (ahead r) 0 0 ≡ get_or bytes r.place 0 = ap (λ (l : List ℕ). get_or l 0 0) here ∙ get_or-take f.room rest 0 0 (omega (arith, f.long)) ∙ get_or-drop r.place bytes 0 0 ∙ ap (λ (k : ℕ). get_or bytes k 0) (omega arith) in
-        record { none = records_stop shape r.place rest no_record; gate = first }
+        record { none = records_stop to r.place rest no_record; gate = first }
 
 -- ---- where the bytes are told
 
@@ -66,11 +68,11 @@ pub told_next : (told : Option (List ℕ)) (shape : Shape) (old new : Reading) �
 told_next None shape old new over = tt
 told_next (Some bytes) shape old new over = λ s. next_read shape bytes old new s over
 
-filled_read : (shape : Shape) (bytes : List ℕ) (old filled new : Reading) (found : Bool) → filled.place ≡ old.place → IsFilled shape bytes filled → IsSeenIn bytes filled → StepsOver shape filled found new → ReadsNext shape bytes old found new
-filled_read shape bytes old filled new true place f s over = ap (λ (k : ℕ). left shape k bytes) (sym place) ∙ next_read shape bytes filled new s over
-filled_read shape bytes old filled new false place f s over = stops shape bytes filled new f over
+filled_read : (shape : Shape) (bytes : List ℕ) (old filled new : Reading) (found : Bool) → filled.place ≡ old.place → filled.limit ≡ old.limit → IsFilled shape bytes filled → IsSeenIn bytes filled → StepsOver shape filled found new → ReadsNext shape bytes old found new
+filled_read shape bytes old filled new true place limit f s over = rw (← place, ← limit) (next_read shape bytes filled new s over)
+filled_read shape bytes old filled new false place limit f s over = stops shape bytes filled new f over
 
-pub told_filled : (told : Option (List ℕ)) (shape : Shape) (old filled new : Reading) (found : Bool) → filled.place ≡ old.place → IfSome told (λ bytes. IsFilled shape bytes filled) → IfSome told (λ bytes. IsSeenIn bytes filled)
+pub told_filled : (told : Option (List ℕ)) (shape : Shape) (old filled new : Reading) (found : Bool) → filled.place ≡ old.place → filled.limit ≡ old.limit → IfSome told (λ bytes. IsFilled shape bytes filled) → IfSome told (λ bytes. IsSeenIn bytes filled)
     → StepsOver shape filled found new → IfSome told (λ bytes. IsSeenIn bytes old → ReadsNext shape bytes old found new)
-told_filled None shape old filled new found place f s over = tt
-told_filled (Some bytes) shape old filled new found place f s over = λ seen. filled_read shape bytes old filled new found place f s over
+told_filled None shape old filled new found place limit f s over = tt
+told_filled (Some bytes) shape old filled new found place limit f s over = λ seen. filled_read shape bytes old filled new found place limit f s over

@@ -1,5 +1,5 @@
 -- A file of gated records, as it is read record by record.
-use Rattle.std.specs.Prelude.{◌≡◌, ◌<◌, ◌≤◌, ℕ, ◌+◌, ◌-◌, ◌&&◌, nat_lt, Bool, true, false, IsTrue, List, [], length, take, drop, slice_index, Option, Some, None, if◌then◌else◌}
+use Rattle.std.specs.Prelude.{◌≡◌, ◌<◌, ◌≤◌, ℕ, ◌+◌, ◌-◌, ◌&&◌, nat_lt, Bool, true, false, List, [], length, take, drop, slice_index, Option, Some, None, if◌then◌else◌}
 use Rattle.byte_grammar.specs.Gated.{Shape, FitsRecord, payload_at, records, with_first}
 use Rattle.history_model.specs.Stored.{header_length}
 
@@ -11,11 +11,16 @@ head_of is_head bytes = if nat_lt header_length (length bytes) && is_head (take 
 abbrev pub left : Shape → ℕ → List ℕ → List (List ℕ) × ℕ
 left shape place bytes = records shape place 0 (drop place bytes)
 
+-- the shape, where this is the place that no gate reaches
+abbrev pub limited : Shape → ℕ → Shape
+limited shape limit = record shape { max_file = limit }
+
 -- where a reader stands
 pub record Reading : Type 0 where
-  pub head : List ℕ
   -- of the gate of the next record
   pub place : ℕ
+  -- the place that no gate reaches
+  pub limit : ℕ
   -- of the record that was read last
   pub payload : List ℕ
   -- what is seen of the file, and the place where that begins
@@ -42,36 +47,39 @@ pub record IsFilled (shape : Shape) (bytes : List ℕ) (r : Reading) : Type 0 wh
   pub long : shape.max_payload + 6 ≤ room
   pub seen : r.seen ≡ take room (drop r.place bytes)
 
--- the reader of a file with a head stands behind it
-abbrev pub Opens : (List ℕ → Bool) → List ℕ → Option Reading → Type 0
-Opens is_head bytes None = head_of is_head bytes ≡ None
-Opens is_head bytes (Some r) = (head_of is_head bytes ≡ Some r.head) × IsSeenIn bytes r
+-- a reader stands at this gate, before anything is read
+pub record StandsAt (gate whole : ℕ) (r : Reading) : Type 0 where
+  pub place : r.place ≡ gate
+  pub limit : r.limit ≡ whole
+  pub begin : r.begin ≤ gate
+  pub seen : r.seen ≡ []
 
 -- the record at the place, as far as it is seen, was gone over, or there is none
 abbrev pub StepsOver : Shape → Reading → Bool → Reading → Type 0
-StepsOver shape old true new = (payload_at shape old.place (ahead old) ≡ Some new.payload) × (new ≡ behind old new.payload)
-StepsOver shape old false new = (payload_at shape old.place (ahead old) ≡ None) × (new ≡ old)
+StepsOver shape old true new = (payload_at (limited shape old.limit) old.place (ahead old) ≡ Some new.payload) × (new ≡ behind old new.payload)
+StepsOver shape old false new = (payload_at (limited shape old.limit) old.place (ahead old) ≡ None) × (new ≡ old)
 
--- it stands at the first record, behind a head
-pub record Begins (is_head : List ℕ → Bool) (r : Reading) : Type 0 where
-  pub head : IsTrue (is_head r.head)
+-- it stands at the first record of a file, and goes on to this limit
+pub record IsAtFirst (whole : ℕ) (r : Reading) : Type 0 where
   pub place : r.place ≡ header_length
+  pub limit : r.limit ≡ whole
 
 -- the gate at the place ends the records, and it is seen where there is one
 pub record StopsAt (shape : Shape) (bytes : List ℕ) (r : Reading) : Type 0 where
-  pub none : left shape r.place bytes ≡ ([], r.place)
+  pub none : left (limited shape r.limit) r.place bytes ≡ ([], r.place)
   pub gate : slice_index (ahead r) 0 ≡ slice_index bytes r.place
 
 -- the next record was read, or there is none
 abbrev pub ReadsNext : Shape → List ℕ → Reading → Bool → Reading → Type 0
-ReadsNext shape bytes old true new = left shape old.place bytes ≡ with_first new.payload (left shape new.place bytes)
+ReadsNext shape bytes old true new =
+    left (limited shape old.limit) old.place bytes ≡ with_first new.payload (left (limited shape old.limit) new.place bytes)
 ReadsNext shape bytes old false new = StopsAt shape bytes new
 
--- the place has gone on behind a record of the shape
+-- the place has gone on behind a record of the shape, below the limit
 pub record Advances (shape : Shape) (old new : Reading) : Type 0 where
   pub fits : FitsRecord shape new.payload
   pub place : new.place ≡ old.place + 5 + length new.payload
-  pub within : new.place < shape.max_file
+  pub within : new.place < old.limit
 
 -- the place goes on exactly where a record was read
 abbrev pub Moves : Shape → Reading → Bool → Reading → Type 0

@@ -38,11 +38,13 @@
 //! `records` of `byte_grammar` gives them, by its definition and by that law.
 //!
 //! `Records` reads a file through a window that has room for two of the longest records, so a long run
-//! of records takes one call of the disk a window, and a payload is lent and not copied.
+//! of records takes one call of the disk a window, and a payload is lent and not copied. It stands at
+//! any gate of a file, and no gate that it reads reaches its limit. `at_first` stands at the first
+//! record, with the limit of the shape, and `read_head` reads the head that stands in front of it.
 //!
 //! | The layer above may rely on | Clause |
 //! |---|---|
-//! | a file is opened exactly where its bytes have a head of the shape | `value` of `open` |
+//! | a head is read exactly where the bytes of the file have one of the shape | `value` of `read_head` |
 //! | the payloads read, one by one, are those of the walk, and reading ends where the walk does | `value` of `advance` |
 //! | the place goes on by a record within the limits, also over a disk that tells nothing | `moves` |
 //! | after a fault the reader stands where it stood | `err` |
@@ -74,7 +76,8 @@
 //! failure of the disk, and after nothing else, it is closed until the file is opened anew.
 //!
 //! ```rust
-//! if let Some(mut records) = Records::<StoreShape>::open(alloc, disk)? {
+//! let mut records = Records::<StoreShape>::at_first(alloc)?;
+//! if let Some(head) = records.read_head(disk)? {
 //!     while records.advance(disk)? {
 //!         count(records.payload());
 //!     }

@@ -8,7 +8,7 @@ ghost use Rattle.std.specs.List.{All};
 ghost use Rattle.byte_grammar.specs.Gated.{FitsRecord};
 ghost use Rattle.txn_journal.specs.declared.fail.JournalFail.TheVariants.{DiskFault};
 ghost use Rattle.txn_journal.specs.Fail.{in_doubt};
-ghost use Rattle.txn_journal.specs.Reading.{head_of, IsSeenIn, Begins};
+ghost use Rattle.txn_journal.specs.Reading.{head_of, IsSeenIn, IsAtFirst};
 ghost use Rattle.txn_journal.specs.Held.{StandsIn};
 ghost use Rattle.txn_journal.specs.Opening.{held_of, IsOfOpening, IsOfDisk, IsNoFile};
 
@@ -44,8 +44,9 @@ pub fn open_journal<D: Disk, S: Shape>(
     ensures cause { HasCause DiskFault (D.state disk.old).faults (D.state disk.new).faults result }
     ensures counted { ShowsFaults in_doubt (D.state disk.old).faults (D.state disk.new).faults result }
 {
-    match Records::<S>::open(alloc, disk)? {
-        Some(records) => open_behind_head(alloc, disk, records),
+    let mut records = Records::<S>::at_first(alloc)?;
+    match records.read_head(disk)? {
+        Some(head) => open_behind_head(alloc, disk, head, records),
         None => Err(JournalFail::NotAStore),
     }
 }
@@ -54,14 +55,15 @@ pub fn open_journal<D: Disk, S: Shape>(
 fn open_behind_head<D: Disk, S: Shape>(
     alloc: Global,
     disk: &mut D,
+    head: [u8; 64],
     mut records: Records<S>,
 ) -> Result<Opened<S>, JournalFail>
-    requires begins { Begins S.is_head records }
+    requires begins { IsAtFirst S.shape.max_file records }
     ensures value { IfSome (D.state disk.old).reads (λ bytes.
-        IsSeenIn bytes records → head_of S.is_head bytes ≡ Some records.head → IfOk result
+        IsSeenIn bytes records → head_of S.is_head bytes ≡ Some head → IfOk result
         (λ o. StandsIn S.is_head S.shape o.journal (held_of o.head o.payloads o.journal) bytes)) }
     ensures fresh { IfOk result (λ o. o.journal.is_closed ≡ false) }
-    ensures head { IfOk result (λ o. o.head ≡ records.head) }
+    ensures head { IfOk result (λ o. o.head ≡ head) }
     ensures fit { IfOk result (λ o. All (FitsRecord S.shape) o.payloads) }
     ensures few { IfOk result (λ o. length o.payloads < o.journal.end) }
     ensures within { IfOk result (λ o. o.journal.end < max 65 S.shape.max_file) }
@@ -77,7 +79,7 @@ fn open_behind_head<D: Disk, S: Shape>(
     }
     Ok(Opened {
         journal: records.journal(),
-        head: *records.head(),
+        head,
         payloads,
     })
 }

@@ -1,27 +1,28 @@
 //! Reading a gated file record by record.
 
-ghost use Rattle.std.specs.Prelude.{◌≡◌, ◌==◌, ◌≤◌, ◌-◌, ◌+◌, Bool, Some, false, IfOk, IfSome, OnOk, OnErr, List, ℕ, ◌<◌, take, slice_index};
+ghost use Rattle.std.specs.Prelude.{◌≡◌, ◌==◌, ◌≤◌, ◌-◌, ◌+◌, Bool, Some, false, IfOk, IfSome, IsTrue, OnOk, OnErr, List, ℕ, ◌<◌, take, slice_index};
 ghost use Rattle.outside_words.specs.Faults.{HasCause, HidesNoFault};
 ghost use Rattle.disk_words.specs.declared.DiskFail.TheVariants.{Failed};
 ghost use Rattle.disk_words.specs.Disk.{Unchanged, GoesOn};
 ghost use Rattle.byte_grammar.specs.Gated.{open_gate};
 ghost use Rattle.txn_journal.specs.Window.{seen_by, room_of};
-ghost use Rattle.txn_journal.specs.Reading.{ReadsNext, Moves, IsSeenIn, IsFilled, StepsOver, Opens, Begins, ahead, head_of};
+ghost use Rattle.txn_journal.specs.Reading.{ReadsNext, Moves, IsSeenIn, IsFilled, StepsOver, StandsAt, IsAtFirst, ahead, head_of};
 
 use crate::gate::OPEN;
 use crate::payload::payload_of;
 use crate::window::Window;
 use crate::{Journal, Shape};
 use disk_model::{Disk, DiskFail};
-use std::alloc::Global;
+use std::alloc::{AllocError, Global};
 use std::marker::{Model, PhantomData};
 
 /// A reader of the records of a file, which stands at one of their gates.
 #[derive(Drop)]
 pub struct Records<S: Shape> {
-    head: [u8; 64],
     window: Window,
     place: u64,
+    // no gate reaches it
+    limit: u64,
     // of the payload that was read last, in the window
     from: usize,
     size: usize,
@@ -29,7 +30,7 @@ pub struct Records<S: Shape> {
 }
 
 impl<S: Shape> Model for Records<S> {
-    ghost use Rattle.std.specs.Prelude.{◌≤◌, ◌+◌, take, drop};
+    ghost use Rattle.std.specs.Prelude.{◌≤◌, ◌<◌, ◌+◌, take, drop};
     ghost use Rattle.byte_grammar.specs.Gated.{open_gate};
     ghost use Rattle.txn_journal.specs.Reading.{Reading};
     ghost use Rattle.txn_journal.specs.Window.{seen_by, room_of};
@@ -37,60 +38,60 @@ impl<S: Shape> Model for Records<S> {
     ghost Value = { Reading };
 
     ghost view = { λ r. record {
-      head = r.head;
       place = r.place;
+      limit = r.limit;
       payload = take r.size (drop r.from (seen_by r.window));
       begin = r.window.begin;
       seen = seen_by r.window;
     } };
 
     ghost invariant = { λ r. (r.window.begin ≤ r.place) × (r.from + r.size ≤ r.window.filled)
-        × (S.shape.max_payload + 6 ≤ room_of r.window) };
+        × (S.shape.max_payload + 6 ≤ room_of r.window) × (64 < room_of r.window) };
 }
 
 impl<S: Shape> Records<S> {
-    /// Opens a file, and stands at its first record. Nothing comes back where it has no head of the
-    /// shape.
-    pub fn open<D: Disk>(alloc: Global, disk: &mut D) -> Result<Option<Records<S>>, DiskFail>
-        ensures value { IfSome (D.state disk.old).reads (λ bytes.
-            IfOk result (Opens S.is_head bytes)) }
-        ensures begins { IfOk result (λ opened. IfSome opened (Begins S.is_head)) }
-        ensures same { Unchanged (D.state disk.old) (D.state disk.new) }
-        ensures frame { GoesOn (D.state disk.old) (D.state disk.new) }
-        ensures cause { HasCause Failed (D.state disk.old).faults (D.state disk.new).faults result }
-        ensures counted { HidesNoFault (D.state disk.old).faults (D.state disk.new).faults result }
+    /// Stands at a gate of a file, before anything is read. No gate reaches the limit.
+    pub fn standing(alloc: Global, place: u64, limit: u64) -> Result<Records<S>, AllocError>
+        ensures value { IfOk result (StandsAt place limit) }
     {
         let room = (2 * (S::PAYLOAD as usize + 6)).max(65);
-        let mut window = Window::new(alloc, room)?;
-        window.refill(disk, 0)?;
-        Ok(Records::behind_head(window))
-    }
-
-    /// Stands behind the head that is seen at the front.
-    fn behind_head(window: Window) -> Option<Records<S>>
-        requires begin { window.begin ≡ 0 }
-        requires room { S.shape.max_payload + 6 ≤ room_of window }
-        requires head { 64 < room_of window }
-        ensures value { (bytes : List ℕ) → seen_by window ≡ take (room_of window) bytes
-            → Opens S.is_head bytes result }
-        ensures begins { IfSome result (Begins S.is_head) }
-    {
-        let head = head_of::<S>(window.seen_from(0))?;
-        Some(Records {
-            head,
+        let window = Window::new(alloc, room)?;
+        Ok(Records {
             window,
-            place: 64,
+            place,
+            limit,
             from: 0,
             size: 0,
             shape: PhantomData,
         })
     }
 
-    /// The first 64 bytes of the file.
-    pub fn head(&self) -> &[u8; 64]
-        ensures value { result.now ≡ self.now.head }
+    /// Stands at the first record of a file, before anything is read.
+    pub fn at_first(alloc: Global) -> Result<Records<S>, AllocError>
+        ensures value { IfOk result (IsAtFirst S.shape.max_file) }
     {
-        &self.head
+        Records::standing(alloc, 64, S::WHOLE)
+    }
+
+    /// Reads the head of the file, and with it what stands behind it. Nothing comes back where there is
+    /// no head of the shape. The reader stays where it stands.
+    pub fn read_head<D: Disk>(&mut self, disk: &mut D) -> Result<Option<[u8; 64]>, DiskFail>
+        ensures value { IfSome (D.state disk.old).reads (λ bytes.
+            IfOk result (λ head. head ≡ head_of S.is_head bytes)) }
+        ensures good { IfOk result (λ head. IfSome head (λ h. IsTrue (S.is_head h))) }
+        ensures seen { IfSome (D.state disk.old).reads (λ bytes. IsSeenIn bytes self.new) }
+        ensures place { self.new.place ≡ self.old.place }
+        ensures limit { self.new.limit ≡ self.old.limit }
+        ensures same { Unchanged (D.state disk.old) (D.state disk.new) }
+        ensures frame { GoesOn (D.state disk.old) (D.state disk.new) }
+        ensures cause { HasCause Failed (D.state disk.old).faults (D.state disk.new).faults result }
+        ensures counted { HidesNoFault (D.state disk.old).faults (D.state disk.new).faults result }
+    {
+        self.from = 0;
+        self.size = 0;
+        self.window.refill(disk, 0)?;
+        let head = head_of::<S>(self.window.seen_from(0));
+        Ok(head)
     }
 
     /// The payload of the record that was read last: nothing before the first and after a refusal.
@@ -130,7 +131,7 @@ impl<S: Shape> Records<S> {
             IsSeenIn bytes self.old → IsSeenIn bytes self.new) }
         ensures moves { IfOk result (λ found. Moves S.shape self.old found self.new) }
         ensures err { OnErr result (self.new.place ≡ self.old.place) }
-        ensures head { self.new.head ≡ self.old.head }
+        ensures limit { self.new.limit ≡ self.old.limit }
         ensures same { Unchanged (D.state disk.old) (D.state disk.new) }
         ensures frame { GoesOn (D.state disk.old) (D.state disk.new) }
         ensures cause { HasCause Failed (D.state disk.old).faults (D.state disk.new).faults result }
@@ -151,7 +152,7 @@ impl<S: Shape> Records<S> {
     {
         let place = self.place;
         let ahead = self.window.seen_from(place);
-        match payload_of::<S>(place, ahead) {
+        match payload_of::<S>(place, self.limit, ahead) {
             Some(payload) => {
                 let size = payload.len();
                 self.from = (place + 5 - self.window.begin) as usize;
@@ -169,7 +170,7 @@ impl<S: Shape> Records<S> {
             OnOk result (IsFilled S.shape bytes self.new)) }
         ensures seen { IfSome (D.state disk.old).reads (λ bytes. IsSeenIn bytes self.new) }
         ensures place { self.new.place ≡ self.old.place }
-        ensures head { self.new.head ≡ self.old.head }
+        ensures limit { self.new.limit ≡ self.old.limit }
         ensures same { Unchanged (D.state disk.old) (D.state disk.new) }
         ensures frame { GoesOn (D.state disk.old) (D.state disk.new) }
         ensures cause { HasCause Failed (D.state disk.old).faults (D.state disk.new).faults result }
@@ -185,6 +186,7 @@ impl<S: Shape> Records<S> {
 /// The head that stands at the front, with a gate behind it.
 fn head_of<S: Shape>(bytes: &[u8]) -> Option<[u8; 64]>
     ensures value { result ≡ head_of S.is_head bytes.now }
+    ensures good { IfSome result (λ h. IsTrue (S.is_head h)) }
 {
     let (head, rest) = bytes.split_first_chunk::<64>()?;
     if rest.is_empty() || !S::head(head) {

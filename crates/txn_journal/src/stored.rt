@@ -8,10 +8,10 @@ ghost use Rattle.byte_grammar.specs.Gated.{FitsRecord};
 ghost use Rattle.tuple_bytes.specs.Items.{item_of};
 ghost use Rattle.tuple_bytes.specs.Spelling.{FitsHeader};
 ghost use Rattle.history_model.specs.History.{history};
-ghost use Rattle.history_model.specs.Stored.{store_shape, stored, stored_under, IsStorable};
+ghost use Rattle.history_model.specs.Stored.{store_shape, stored, stored_under, max_file, IsStorable};
 ghost use Rattle.history_model.specs.StoredHistory.{IsHistory};
 ghost use Rattle.txn_journal.specs.declared.fail.JournalFail.TheVariants.{DiskFault};
-ghost use Rattle.txn_journal.specs.Reading.{left, IsSeenIn};
+ghost use Rattle.txn_journal.specs.Reading.{left, IsSeenIn, IsAtFirst};
 ghost use Rattle.txn_journal.specs.Opening.{IsOfDisk};
 
 use crate::{JournalFail, Records, StoreShape};
@@ -30,8 +30,9 @@ pub fn read_stored<D: Disk>(alloc: Global, disk: &mut D) -> Result<Stored, Journ
     ensures cause { HasCause DiskFault (D.state disk.old).faults (D.state disk.new).faults result }
     ensures counted { HidesNoFault (D.state disk.old).faults (D.state disk.new).faults result }
 {
-    if let Some(records) = Records::<StoreShape>::open(alloc, disk)? {
-        if let Some(header) = decode_header(records.head()) {
+    let mut records = Records::<StoreShape>::at_first(alloc)?;
+    if let Some(head) = records.read_head(disk)? {
+        if let Some(header) = decode_header(&head) {
             return read_items(alloc, disk, records, header);
         }
     }
@@ -56,7 +57,7 @@ fn read_items<D: Disk>(
     mut records: Records<StoreShape>,
     header: Header,
 ) -> Result<Stored, JournalFail>
-    requires begins { records.place ≡ 64 }
+    requires begins { IsAtFirst max_file records }
     requires fits { FitsHeader header }
     ensures value { IfSome (D.state disk.old).reads (λ bytes. IsSeenIn bytes records
         → IfOk result (λ s. s ≡ stored_under (Some header) (left store_shape 64 bytes))) }

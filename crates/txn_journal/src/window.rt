@@ -23,6 +23,8 @@ impl Window {
     /// Nothing is seen yet.
     pub fn new(alloc: Global, room: usize) -> Result<Window, AllocError>
         ensures room { IfOk result (λ w. room_of w ≡ room) }
+        ensures begin { IfOk result (λ w. w.begin ≡ 0) }
+        ensures seen { IfOk result (λ w. seen_by w ≡ []) }
     {
         let buffer = vec![in alloc; 0; room]?;
         Ok(Window {

@@ -13,10 +13,10 @@ use Rattle.store_engine.proofs.opening.read_in_file_order.Goals as goal
 pub records-init : goal.records-init
 records-init g c = record {
   payloads = [];
-  gathering = starts (λ (p : List ℕ). Some p) store_shape (g.D.Disk.state c.args.disk.now) c.args.records;
+  gathering = starts (λ (p : List ℕ). Some p) store_shape (g.D.Disk.state c.args.disk.now) c.args.records c.requires.begins.limit;
   read = record { tells = c.new-contents.ensures.tells; in_time = omega (arith, c.new-contents.ensures.value) };
-  few = omega (arith, c.requires.begins);
-  within = omega (arith, c.requires.begins);
+  few = omega (arith, c.requires.begins.place);
+  within = omega (arith, c.requires.begins.place);
 }
 
 pub read_next-requires : goal.read_next-requires
@@ -36,10 +36,10 @@ records-preserved g c =
     let payload = c.advance.new.self.payload in
     record {
       payloads = before.payloads ++ payload ∷ [];
-      gathering = one_more (λ (p : List ℕ). Some p) store_shape (S c.args.disk.now) (S c.records.disk) (S c.advance.new.disk) c.args.records c.records.records c.advance.new.self before.payloads (before.payloads ++ payload ∷ []) before.gathering reads c.advance.ensures.seen c.advance.ensures.head c.advance.ensures.same c.advance.ensures.frame c.in_ok-advance.ensures.counted refl;
+      gathering = one_more (λ (p : List ℕ). Some p) store_shape (S c.args.disk.now) (S c.records.disk) (S c.advance.new.disk) c.args.records c.records.records c.advance.new.self before.payloads (before.payloads ++ payload ∷ []) before.gathering reads c.advance.ensures.seen c.advance.ensures.limit c.advance.ensures.same c.advance.ensures.frame c.in_ok-advance.ensures.counted refl;
       read = subst (λ (p : List ℕ). IsRead (before.payloads ++ p ∷ []) c.read_next.new.contents) c.payload.ensures.value (c.in_ok-follows.ensures.value follows before.payloads before.read);
       few = omega (arith, length-append before.payloads (payload ∷ []), moves.place, before.few);
-      within = omega (arith, moves.within);
+      within = omega (arith, moves.within, before.gathering.limit);
     }
 
 pub returns-clause-value : goal.returns-clause-value
@@ -50,7 +50,7 @@ returns-clause-value g c =
     let done : c.in_ok-advance.field-0 ≡ false = c.if-branch.false in
     let reads = rw done at c.in_ok-advance.ensures.value in
     let place = rw done at c.in_ok-advance.ensures.moves in
-    let all = all_gathered (λ (p : List ℕ). Some p) store_shape (S c.args.disk.now) (S c.records.disk) c.args.records c.records.records s before.payloads before.gathering c.requires.begins reads place in
+    let all = all_gathered (λ (p : List ℕ). Some p) store_shape (S c.args.disk.now) (S c.records.disk) c.args.records c.records.records s before.payloads before.gathering c.requires.begins.place reads place c.advance.ensures.limit in
     let end : c.journal.result.end ≡ s.place = ap (λ (at : Standing). at.end) c.journal.ensures.value in
     let gate : c.journal.result.gate_is_open ≡ (slice_index (ahead s) 0 == open_gate) = ap (λ (at : Standing). at.gate_is_open) c.journal.ensures.value in
     replays (S c.args.disk.now).reads c.args.records s before.payloads c.records.contents c.journal.result before.read end gate all

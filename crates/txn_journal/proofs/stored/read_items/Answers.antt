@@ -8,7 +8,7 @@ use Rattle.txn_journal.proofs.stored.read_items.Goals as goal
 
 pub records-init : goal.records-init
 records-init g c = rw c.new-items.ensures.value (record {
-  gathering = starts item_of store_shape (g.D.Disk.state c.args.disk.now) c.args.records;
+  gathering = starts item_of store_shape (g.D.Disk.state c.args.disk.now) c.args.records c.requires.begins.limit;
   storable = All-nil IsStorable;
 })
 
@@ -25,6 +25,6 @@ records-preserved g c =
     let reads = rw found at c.in_ok-advance.ensures.value in
     let kept : c.read_item.new.items ≡ c.records.items ++ filter_map item_of (c.advance.new.self.payload ∷ []) = c.in_ok-read_item.ensures.ok ∙ ap (λ (p : List ℕ). c.records.items ++ filter_map item_of (p ∷ [])) c.payload.ensures.value in
     record {
-      gathering = one_more item_of store_shape (S c.args.disk.now) (S c.records.disk) (S c.advance.new.disk) c.args.records c.records.records c.advance.new.self c.records.items c.read_item.new.items c.records.invariant.gathering reads c.advance.ensures.seen c.advance.ensures.head c.advance.ensures.same c.advance.ensures.frame c.in_ok-advance.ensures.counted kept;
+      gathering = one_more item_of store_shape (S c.args.disk.now) (S c.records.disk) (S c.advance.new.disk) c.args.records c.records.records c.advance.new.self c.records.items c.read_item.new.items c.records.invariant.gathering reads c.advance.ensures.seen c.advance.ensures.limit c.advance.ensures.same c.advance.ensures.frame c.in_ok-advance.ensures.counted kept;
       storable = c.in_ok-read_item.ensures.storable c.records.invariant.storable;
     }

@@ -1,5 +1,6 @@
-use Rattle.std.proofs.Common.{◌∙◌}
+use Rattle.std.proofs.Common.{ap, ◌∙◌}
 use Rattle.disk_words.proofs.Frame.{goes_on_same}
+use Rattle.txn_journal.specs.Reading.{Reading}
 use Rattle.txn_journal.proofs.Steps.{told_next, told_filled}
 use Rattle.txn_journal.proofs.records.Records.advance.Goals as goal
 
@@ -11,4 +12,4 @@ returns-then-step-clause-frame g c = goes_on_same _
 
 pub returns-clause-value : goal.returns-clause-value
 returns-clause-value g c =
-    told_filled (g.D.Disk.state c.args.disk.now).reads g.S.Shape.shape c.args.self.now c.refill.new.self c.step-found.new.self c.step-found.result (c.refill.ensures.place ∙ c.if-step.ensures.moves) c.in_ok-refill.ensures.filled c.refill.ensures.seen c.step-found.ensures.steps
+    told_filled (g.D.Disk.state c.args.disk.now).reads g.S.Shape.shape c.args.self.now c.refill.new.self c.step-found.new.self c.step-found.result (c.refill.ensures.place ∙ c.if-step.ensures.moves) (c.refill.ensures.limit ∙ ap (λ (r : Reading). r.limit) c.if-step.ensures.steps.1) c.in_ok-refill.ensures.filled c.refill.ensures.seen c.step-found.ensures.steps
