@@ -4,15 +4,15 @@ use Rattle.std.specs.List.{flat_map}
 use Rattle.tuple_bytes.specs.declared.item.Item.{Item}
 use Rattle.tuple_bytes.specs.declared.header.Header.{Header}
 use Rattle.history_model.specs.History.{history, txns}
-use Rattle.digest_model.specs.Layout.{first_granule}
+use Rattle.digest_model.specs.Layout.{layout, first_granule}
 use Rattle.policy_eras.specs.Policy.{Policy, policy_of, layout_by}
-use Rattle.cumulative_chain.specs.Tiles.{Granule, layout_of, spelled_below}
+use Rattle.cumulative_chain.specs.Tiles.{Granule, spelled_below}
 use Rattle.seal_plan.specs.Grouped.{numbered}
 use Rattle.seal_plan.proofs.Cums.{below_is, all_spelled, canon_few}
 
 -- the granules as the contract sees them
 pub seen : (header : Header) (xs items : List Item) (tiles end : ℕ) (eras : Policy) (gs : List Granule) → end ≡ first_granule (layout_by eras) tiles → eras ≡ policy_of (history header items) → xs ≡ items
-    → gs ≡ numbered (history header xs) end → gs ≡ numbered (history header items) (first_granule (layout_of header) tiles)
+    → gs ≡ numbered (history header xs) end → gs ≡ numbered (history header items) (first_granule (layout (history header items)) tiles)
 seen header xs items tiles end eras gs ends policy same is =
     is ∙ ap (λ (x : List Item). numbered (history header x) end) same ∙ ap (numbered (history header items)) (ends ∙ ap (λ (p : Policy). first_granule (layout_by p) tiles) policy)
 

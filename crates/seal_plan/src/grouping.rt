@@ -6,9 +6,8 @@ ghost use Rattle.tuple_bytes.specs.Spelling.{spell_item};
 ghost use Rattle.history_model.specs.Stored.{IsStorable};
 ghost use Rattle.history_model.specs.History.{history};
 ghost use Rattle.history_model.specs.StoredHistory.{IsHistory};
-ghost use Rattle.digest_model.specs.Layout.{first_granule, max_granules};
+ghost use Rattle.digest_model.specs.Layout.{layout, first_granule, max_granules};
 ghost use Rattle.policy_eras.specs.Policy.{policy_of};
-ghost use Rattle.cumulative_chain.specs.Tiles.{layout_of};
 ghost use Rattle.seal_plan.specs.Grouped.{no_row, row_at, spelled_in, numbered};
 
 use policy_eras::Eras;
@@ -107,8 +106,8 @@ pub(crate) fn group_tiles(
 ) -> Result<Granules, AllocError>
     requires history { IsHistory (history header.now items.now) }
     requires eras { eras.now ≡ policy_of (history header.now items.now) }
-    requires within { first_granule (layout_of header.now) tiles ≤ max_granules }
-    ensures value { IfOk result (λ grouped. grouped ≡ numbered (history header.now items.now) (first_granule (layout_of header.now) tiles)) }
+    requires within { first_granule (layout (history header.now items.now)) tiles ≤ max_granules }
+    ensures value { IfOk result (λ grouped. grouped ≡ numbered (history header.now items.now) (first_granule (layout (history header.now items.now)) tiles)) }
 {
     let granules = group(alloc, header, items.as_slice(), eras.first(tiles) as u32)?;
     Ok(granules)

@@ -4,9 +4,8 @@ ghost use Rattle.std.specs.Prelude.{◌≡◌, ◌≤◌, ◌+◌, IfOk, length,
 ghost use Rattle.std.specs.List.{range_with_len};
 ghost use Rattle.history_model.specs.History.{history, txns};
 ghost use Rattle.history_model.specs.StoredHistory.{IsHistory};
-ghost use Rattle.digest_model.specs.Layout.{first_granule, max_granules};
+ghost use Rattle.digest_model.specs.Layout.{layout, first_granule, max_granules};
 ghost use Rattle.digest_model.specs.Digests.{cum};
-ghost use Rattle.cumulative_chain.specs.Tiles.{layout_of};
 ghost use Rattle.policy_eras.specs.Policy.{policy_of};
 
 use crate::grouping::group_tiles;
@@ -29,7 +28,7 @@ pub fn links_of<L: Ledger>(
 ) -> Result<Vec<[u8; 32]>, AllocError>
     requires history { IsHistory (history header.now items.now) }
     requires eras { eras.now ≡ policy_of (history header.now items.now) }
-    requires within { first_granule (layout_of header.now) tiles ≤ max_granules }
+    requires within { first_granule (layout (history header.now items.now)) tiles ≤ max_granules }
     ensures value { IfOk result (λ links. links.items ≡ map (cum (history header.now items.now)) (range_with_len 0 tiles)) }
     ensures steps { steps.new ≤ steps.old + length (txns items.now) }
 {

@@ -7,7 +7,6 @@ ghost use Rattle.history_model.specs.StoredHistory.{IsHistory};
 ghost use Rattle.digest_model.specs.Layout.{layout, first_granule, max_granules};
 ghost use Rattle.digest_model.specs.Digests.{cum};
 ghost use Rattle.audit_model.specs.Names.{planned, digest};
-ghost use Rattle.cumulative_chain.specs.Tiles.{layout_of};
 ghost use Rattle.tuple_bytes.specs.Spelling.{FitsHeader};
 ghost use Rattle.policy_eras.specs.Policy.{policy_of, layout_by};
 ghost use Rattle.seal_plan.specs.Plan.{planned_of};
@@ -64,9 +63,9 @@ fn hash_txns<L: Ledger>(
 ) -> Result<(Vec<[u8; 32]>, Digests), AllocError>
     requires history { IsHistory (history header.now items.now) }
     requires eras { eras.now ≡ policy_of (history header.now items.now) }
-    requires within { first_granule (layout_of header.now) tiles ≤ max_granules }
+    requires within { first_granule (layout (history header.now items.now)) tiles ≤ max_granules }
     ensures links { IfOk result (λ r. r.0.items ≡ map (cum (history header.now items.now)) (range_with_len 0 tiles)) }
-    ensures leaves { IfOk result (λ r. header.now.algs ≢ 0 → r.1 ≡ leaves_of (history header.now items.now) (first_granule (layout_of header.now) tiles)) }
+    ensures leaves { IfOk result (λ r. header.now.algs ≢ 0 → r.1 ≡ leaves_of (history header.now items.now) (first_granule (layout (history header.now items.now)) tiles)) }
     ensures short { IfOk result (λ r. length r.1 ≤ max_granules) }
     ensures steps { steps.new ≤ steps.old + 2 * length (txns items.now) }
 {

@@ -4,9 +4,9 @@ use Rattle.std.specs.List.Sorted.{IsStrictlyIncreasing}
 use Rattle.std.proofs.lemmas.List.FromFn.{length-map-range_with_len}
 use Rattle.history_model.specs.History.{history}
 use Rattle.digest_model.specs.Digests.{granule_over}
-use Rattle.digest_model.specs.Layout.{first_granule}
+use Rattle.digest_model.specs.Layout.{layout, first_granule}
 use Rattle.policy_eras.specs.Policy.{Policy, policy_of, layout_by}
-use Rattle.cumulative_chain.specs.Tiles.{Granule, layout_of, numbers_of, link_at, spelled_below}
+use Rattle.cumulative_chain.specs.Tiles.{Granule, numbers_of, link_at, spelled_below}
 use Rattle.digest_model.specs.Plain.{IsShort}
 use Rattle.seal_plan.specs.Grouped.{numbered, spelled_rows}
 use Rattle.seal_plan.proofs.Cums.{numbers_ascend, cums_are, leaves_are, all_short}
@@ -19,26 +19,26 @@ links_at_tiles-requires-clause-within g c = (let is = ap (λ (p : Policy). first
 pub links_at_tiles-requires-clause-ascend : goal.links_at_tiles-requires-clause-ascend
 links_at_tiles-requires-clause-ascend g c =
     let is = c.in_ok-granules.ensures.value in
-    subst (λ (x : List Granule). IsStrictlyIncreasing (numbers_of x)) (sym is) (numbers_ascend (history c.args.header.now c.args.items.now) (first_granule (layout_of c.args.header.now) c.args.tiles))
+    subst (λ (x : List Granule). IsStrictlyIncreasing (numbers_of x)) (sym is) (numbers_ascend (history c.args.header.now c.args.items.now) (first_granule (layout (history c.args.header.now c.args.items.now)) c.args.tiles))
 
 pub returns-in_err-links-clause-steps : goal.returns-in_err-links-clause-steps
 returns-in_err-links-clause-steps g c =
     let is = c.in_ok-granules.ensures.value in
-    let few = few_below c.args.header.now c.args.items.now (first_granule (layout_of c.args.header.now) c.args.tiles) c.in_ok-granules.granules is in
+    let few = few_below c.args.header.now c.args.items.now (first_granule (layout (history c.args.header.now c.args.items.now)) c.args.tiles) c.in_ok-granules.granules is in
     let ends = ap (λ (p : Policy). length (spelled_below c.in_ok-granules.granules (first_granule (layout_by p) c.args.tiles))) c.requires.eras in
     omega (arith, few, ends, c.links_at_tiles.ensures.few)
 
 pub leaves-requires : goal.leaves-requires
 leaves-requires g c =
     let is = c.in_ok-granules.ensures.value in
-    subst (λ (x : List Granule). All (λ (y : Granule). All IsShort y.1) x) (sym is) (all_short (history c.args.header.now c.args.items.now) (first_granule (layout_of c.args.header.now) c.args.tiles) c.requires.history)
+    subst (λ (x : List Granule). All (λ (y : Granule). All IsShort y.1) x) (sym is) (all_short (history c.args.header.now c.args.items.now) (first_granule (layout (history c.args.header.now c.args.items.now)) c.args.tiles) c.requires.history)
 
 pub returns-in_err-digests-clause-steps : goal.returns-in_err-digests-clause-steps
 returns-in_err-digests-clause-steps g c =
     let is = c.in_ok-granules.ensures.value in
-    let few = few_below c.args.header.now c.args.items.now (first_granule (layout_of c.args.header.now) c.args.tiles) c.in_ok-granules.granules is in
+    let few = few_below c.args.header.now c.args.items.now (first_granule (layout (history c.args.header.now c.args.items.now)) c.args.tiles) c.in_ok-granules.granules is in
     let ends = ap (λ (p : Policy). length (spelled_below c.in_ok-granules.granules (first_granule (layout_by p) c.args.tiles))) c.requires.eras in
-    let all = few_all c.args.header.now c.args.items.now (first_granule (layout_of c.args.header.now) c.args.tiles) c.in_ok-granules.granules is in
+    let all = few_all c.args.header.now c.args.items.now (first_granule (layout (history c.args.header.now c.args.items.now)) c.args.tiles) c.in_ok-granules.granules is in
     omega (arith, few, ends, all, c.links_at_tiles.ensures.few, c.leaves.ensures.steps)
 
 pub returns-clause-links : goal.returns-clause-links
@@ -46,7 +46,7 @@ returns-clause-links g c =
     let is = c.in_ok-granules.ensures.value in
     c.in_ok-links.ensures.value
     ∙ ap (λ (p : Policy). map (link_at c.args.header.now (layout_by p) c.in_ok-granules.granules) (range_with_len 0 c.args.tiles)) c.requires.eras
-    ∙ ap (λ (x : List Granule). map (link_at c.args.header.now (layout_of c.args.header.now) x) (range_with_len 0 c.args.tiles)) is
+    ∙ ap (λ (x : List Granule). map (link_at c.args.header.now (layout (history c.args.header.now c.args.items.now)) x) (range_with_len 0 c.args.tiles)) is
     ∙ cums_are (history c.args.header.now c.args.items.now) c.args.tiles
 
 pub returns-clause-leaves : goal.returns-clause-leaves
@@ -54,19 +54,19 @@ returns-clause-leaves g c = λ some.
     (let is = c.in_ok-granules.ensures.value in
     c.in_ok-digests.ensures.value some
     ∙ ap (map (λ (x : Granule). granule_over x.0 x.1)) is
-    ∙ leaves_are (history c.args.header.now c.args.items.now) (first_granule (layout_of c.args.header.now) c.args.tiles))
+    ∙ leaves_are (history c.args.header.now c.args.items.now) (first_granule (layout (history c.args.header.now c.args.items.now)) c.args.tiles))
 
 pub returns-clause-short : goal.returns-clause-short
 returns-clause-short g c =
     let is = c.in_ok-granules.ensures.value in
     let h = history c.args.header.now c.args.items.now in
-    let long = ap length is ∙ length-map-range_with_len {X = Granule} (λ (n : ℕ). (n, spelled_rows h n)) 0 (first_granule (layout_of c.args.header.now) c.args.tiles) in
+    let long = ap length is ∙ length-map-range_with_len {X = Granule} (λ (n : ℕ). (n, spelled_rows h n)) 0 (first_granule (layout (history c.args.header.now c.args.items.now)) c.args.tiles) in
     omega (arith, long, c.in_ok-digests.ensures.short, c.requires.within)
 
 pub returns-clause-steps : goal.returns-clause-steps
 returns-clause-steps g c =
     let is = c.in_ok-granules.ensures.value in
-    let few = few_below c.args.header.now c.args.items.now (first_granule (layout_of c.args.header.now) c.args.tiles) c.in_ok-granules.granules is in
+    let few = few_below c.args.header.now c.args.items.now (first_granule (layout (history c.args.header.now c.args.items.now)) c.args.tiles) c.in_ok-granules.granules is in
     let ends = ap (λ (p : Policy). length (spelled_below c.in_ok-granules.granules (first_granule (layout_by p) c.args.tiles))) c.requires.eras in
-    let all = few_all c.args.header.now c.args.items.now (first_granule (layout_of c.args.header.now) c.args.tiles) c.in_ok-granules.granules is in
+    let all = few_all c.args.header.now c.args.items.now (first_granule (layout (history c.args.header.now c.args.items.now)) c.args.tiles) c.in_ok-granules.granules is in
     omega (arith, few, ends, all, c.links_at_tiles.ensures.few, c.leaves.ensures.steps)
