@@ -58,6 +58,11 @@ IsFoundBy Tiled batches n s found = found ≡ analysis_by Targets (layout s) n (
 IsFoundBy (TiledExactly kappa) batches n s found = found ≡ analysis_by Targets (layout s) n (targets_told batches s n)
 IsFoundBy A3d batches n s found = found ≡ analysis_by (λ (f : A3dFound). Leaves f.granules f.checks) (layout s) n (tree_told batches s n)
 
+-- how often each transaction is hashed at most: for its link, and where more than the chain is asked for, for its granule
+abbrev pub hashes_by : Algorithm → ℕ
+hashes_by Mono = 1
+hashes_by algorithm = 2
+
 -- ---- before the algorithm is run
 
 -- the tiles have the chains that it asks for; all have the same

@@ -28,7 +28,6 @@ use disk_model::Disk;
 use history_model::Stored;
 use notary_link::{Answer, Name, Notary};
 use policy_eras::Eras;
-use seal_plan::Plan;
 use std::alloc::Global;
 use std::marker::Brand;
 use step_count::{Blank, Ledger, Steps};
@@ -185,7 +184,7 @@ fn find_tiles<N: Notary>(
         let name = Name::Cum { tile: past };
         return Err(AnalyseFail::SealMissing { name });
     }
-    find_planned::<N, Brand>(
+    find_examined::<N, Brand>(
         alloc,
         header,
         items,
@@ -196,8 +195,8 @@ fn find_tiles<N: Notary>(
     )
 }
 
-/// The same by the algorithm, over the digests of all tiles.
-fn find_planned<N: Notary, L: Ledger>(
+/// The same by the algorithm.
+fn find_examined<N: Notary, L: Ledger>(
     alloc: Global,
     header: &Header,
     items: &Items,
@@ -219,8 +218,7 @@ fn find_planned<N: Notary, L: Ledger>(
     ensures cause { HasCause NotaryFault (N.state notary.old).faults (N.state notary.new).faults result }
 {
     let mut steps = Steps::<L>::new(blank);
-    let plan = Plan::new(alloc, header, items, tiles, &mut steps)?;
-    let findings = search(alloc, &plan, notary, header.id, algorithm)?;
+    let findings = search(alloc, header, items, notary, algorithm, tiles, &mut steps)?;
     let examined = Examined {
         header: *header,
         tiles,

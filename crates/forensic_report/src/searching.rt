@@ -1,14 +1,17 @@
-//! What each algorithm finds among the tiles of a plan.
+//! What each algorithm finds among the tiles of a history.
 
-ghost use Rattle.std.specs.Prelude.{◌≡◌, ◌≤◌, ◌+◌, ℕ, IfErr, IfOk};
+ghost use Rattle.std.specs.Prelude.{◌≡◌, ◌≤◌, ◌+◌, ◌*◌, ℕ, IfErr, IfOk, length};
 ghost use Rattle.outside_words.specs.Faults.{HasCause};
 ghost use Rattle.outside_words.specs.Told.{WhereTold};
 ghost use Rattle.notary_link.specs.Notary.{Unchanged, GoesOn};
+ghost use Rattle.history_model.specs.History.{history, txns};
+ghost use Rattle.history_model.specs.StoredHistory.{IsHistory};
 ghost use Rattle.digest_model.specs.Layout.{layout, first_granule, max_granules};
+ghost use Rattle.cumulative_chain.specs.Tiles.{layout_of};
 ghost use Rattle.forensic_report.specs.declared.algorithm.Algorithm.TheVariants.{Mono, Tiled, A3d};
 ghost use Rattle.forensic_report.specs.declared.fail.AnalyseFail.TheVariants.{NotaryFault};
 ghost use Rattle.forensic_report.specs.Analysis.{asked_by, FitsFindings};
-ghost use Rattle.forensic_report.specs.Finding.{IsFoundBy};
+ghost use Rattle.forensic_report.specs.Finding.{IsFoundBy, hashes_by};
 ghost use Rattle.forensic_report.specs.Values.{findings_of, found_with, OrGivesUp, IsOfFinding};
 
 use crate::algorithm::Algorithm;
@@ -18,60 +21,104 @@ use crate::found::Findings;
 use a3d_forensics::altered;
 use mono_forensics::first_bad;
 use notary_link::Notary;
-use seal_plan::Plan;
+use policy_eras::Eras;
+use seal_plan::{Plan, links_of};
 use std::alloc::Global;
+use step_count::{Ledger, Steps};
 use tiled_forensics::target;
+use tuple_bytes::{Header, Items};
 
 /// Searches by this algorithm.
-pub(crate) fn search<N: Notary>(
+pub(crate) fn search<N: Notary, L: Ledger>(
     alloc: Global,
-    plan: &Plan,
+    header: &Header,
+    items: &Items,
     notary: &mut N,
-    id: u64,
     algorithm: Algorithm,
+    tiles: u32,
+    steps: &mut Steps<L>,
 ) -> Result<Findings, AnalyseFail>
-    requires within { first_granule (layout plan.now.history) plan.now.tiles ≤ max_granules }
+    requires history { IsHistory (history header.now items.now) }
+    requires within { first_granule (layout_of header.now) tiles ≤ max_granules }
     ensures value { WhereTold (N.state notary.old).lists (N.state notary.new).lists (λ before after.
-        OrGivesUp (IsFoundBy algorithm (before.batches id) plan.now.tiles plan.now.history)
-        (found_with (layout plan.now.history) plan.now.tiles result)) }
-    ensures fits { IfOk result (λ found. FitsFindings (layout plan.now.history) plan.now.tiles (findings_of found)) }
+        OrGivesUp (IsFoundBy algorithm (before.batches header.now.id) tiles (history header.now items.now))
+        (found_with (layout_of header.now) tiles result)) }
+    ensures fits { IfOk result (λ found. FitsFindings (layout_of header.now) tiles (findings_of found)) }
     ensures none_other { IfErr result (IsOfFinding algorithm) }
     ensures same { Unchanged (N.state notary.old) (N.state notary.new) }
-    ensures asked { IfOk result (λ found. (N.state notary.new).asked ≤ (N.state notary.old).asked + asked_by (layout plan.now.history) plan.now.tiles (findings_of found)) }
+    ensures asked { IfOk result (λ found. (N.state notary.new).asked ≤ (N.state notary.old).asked + asked_by (layout_of header.now) tiles (findings_of found)) }
+    ensures steps { steps.new ≤ steps.old + hashes_by algorithm * length (txns items.now) }
     ensures frame { GoesOn (N.state notary.old) (N.state notary.new) }
     ensures cause { HasCause NotaryFault (N.state notary.old).faults (N.state notary.new).faults result }
 {
     match algorithm {
-        Algorithm::Mono => find_region(plan, notary, id),
+        Algorithm::Mono => find_region(alloc, header, items, notary, tiles, steps),
         Algorithm::Tiled | Algorithm::TiledExactly { .. } => {
-            find_targets(alloc, plan, notary, id)
+            find_targets(alloc, header, items, notary, tiles, steps)
         }
-        Algorithm::A3d => find_leaves(alloc, plan, notary, id),
+        Algorithm::A3d => find_leaves(alloc, header, items, notary, tiles, steps),
     }
 }
 
-/// The region, by the chain over all tiles.
-fn find_region<N: Notary>(plan: &Plan, notary: &mut N, id: u64) -> Result<Findings, AnalyseFail>
-    requires within { first_granule (layout plan.now.history) plan.now.tiles ≤ max_granules }
+/// The region, by the chain over all tiles alone: no granule, part or node is hashed.
+fn find_region<N: Notary, L: Ledger>(
+    alloc: Global,
+    header: &Header,
+    items: &Items,
+    notary: &mut N,
+    tiles: u32,
+    steps: &mut Steps<L>,
+) -> Result<Findings, AnalyseFail>
+    requires history { IsHistory (history header.now items.now) }
+    requires within { first_granule (layout_of header.now) tiles ≤ max_granules }
     ensures value { WhereTold (N.state notary.old).lists (N.state notary.new).lists (λ before after.
-        OrGivesUp (IsFoundBy Mono (before.batches id) plan.now.tiles plan.now.history)
-        (found_with (layout plan.now.history) plan.now.tiles result)) }
-    ensures fits { IfOk result (λ found. FitsFindings (layout plan.now.history) plan.now.tiles (findings_of found)) }
+        OrGivesUp (IsFoundBy Mono (before.batches header.now.id) tiles (history header.now items.now))
+        (found_with (layout_of header.now) tiles result)) }
+    ensures fits { IfOk result (λ found. FitsFindings (layout_of header.now) tiles (findings_of found)) }
     ensures none_other { IfErr result (IsOfFinding Mono) }
     ensures same { Unchanged (N.state notary.old) (N.state notary.new) }
-    ensures asked { IfOk result (λ found. (N.state notary.new).asked ≤ (N.state notary.old).asked + asked_by (layout plan.now.history) plan.now.tiles (findings_of found)) }
+    ensures asked { IfOk result (λ found. (N.state notary.new).asked ≤ (N.state notary.old).asked + asked_by (layout_of header.now) tiles (findings_of found)) }
+    ensures steps { steps.new ≤ steps.old + hashes_by Mono * length (txns items.now) }
     ensures frame { GoesOn (N.state notary.old) (N.state notary.new) }
     ensures cause { HasCause NotaryFault (N.state notary.old).faults (N.state notary.new).faults result }
 {
-    if plan.tiles() == 0 {
+    if tiles == 0 {
         return Ok(Findings::Region { first: None });
     }
-    let first = first_bad(plan.links(), notary, id)?;
+    let eras = Eras::of(header, items);
+    let links = links_of(alloc, header, &eras, items, tiles, steps)?;
+    let first = first_bad(&links, notary, header.id)?;
     Ok(Findings::Region { first })
 }
 
+/// The tiles that fail, and their targets, by a plan.
+fn find_targets<N: Notary, L: Ledger>(
+    alloc: Global,
+    header: &Header,
+    items: &Items,
+    notary: &mut N,
+    tiles: u32,
+    steps: &mut Steps<L>,
+) -> Result<Findings, AnalyseFail>
+    requires history { IsHistory (history header.now items.now) }
+    requires within { first_granule (layout_of header.now) tiles ≤ max_granules }
+    ensures value { WhereTold (N.state notary.old).lists (N.state notary.new).lists (λ before after.
+        OrGivesUp (IsFoundBy Tiled (before.batches header.now.id) tiles (history header.now items.now))
+        (found_with (layout_of header.now) tiles result)) }
+    ensures fits { IfOk result (λ found. FitsFindings (layout_of header.now) tiles (findings_of found)) }
+    ensures none_other { IfErr result (IsOfFinding Tiled) }
+    ensures same { Unchanged (N.state notary.old) (N.state notary.new) }
+    ensures asked { IfOk result (λ found. (N.state notary.new).asked ≤ (N.state notary.old).asked + asked_by (layout_of header.now) tiles (findings_of found)) }
+    ensures steps { steps.new ≤ steps.old + hashes_by Tiled * length (txns items.now) }
+    ensures frame { GoesOn (N.state notary.old) (N.state notary.new) }
+    ensures cause { HasCause NotaryFault (N.state notary.old).faults (N.state notary.new).faults result }
+{
+    let plan = Plan::new(alloc, header, items, tiles, steps)?;
+    failing_tiles(alloc, &plan, notary, header.id)
+}
+
 /// The tiles that fail, one after another, and their targets.
-fn find_targets<N: Notary>(
+fn failing_tiles<N: Notary>(
     alloc: Global,
     plan: &Plan,
     notary: &mut N,
@@ -95,8 +142,34 @@ fn find_targets<N: Notary>(
     Ok(Findings::Targets { targets })
 }
 
-/// The altered granules, by the trees.
-fn find_leaves<N: Notary>(
+/// The altered granules, by the trees of a plan.
+fn find_leaves<N: Notary, L: Ledger>(
+    alloc: Global,
+    header: &Header,
+    items: &Items,
+    notary: &mut N,
+    tiles: u32,
+    steps: &mut Steps<L>,
+) -> Result<Findings, AnalyseFail>
+    requires history { IsHistory (history header.now items.now) }
+    requires within { first_granule (layout_of header.now) tiles ≤ max_granules }
+    ensures value { WhereTold (N.state notary.old).lists (N.state notary.new).lists (λ before after.
+        OrGivesUp (IsFoundBy A3d (before.batches header.now.id) tiles (history header.now items.now))
+        (found_with (layout_of header.now) tiles result)) }
+    ensures fits { IfOk result (λ found. FitsFindings (layout_of header.now) tiles (findings_of found)) }
+    ensures none_other { IfErr result (IsOfFinding A3d) }
+    ensures same { Unchanged (N.state notary.old) (N.state notary.new) }
+    ensures asked { IfOk result (λ found. (N.state notary.new).asked ≤ (N.state notary.old).asked + asked_by (layout_of header.now) tiles (findings_of found)) }
+    ensures steps { steps.new ≤ steps.old + hashes_by A3d * length (txns items.now) }
+    ensures frame { GoesOn (N.state notary.old) (N.state notary.new) }
+    ensures cause { HasCause NotaryFault (N.state notary.old).faults (N.state notary.new).faults result }
+{
+    let plan = Plan::new(alloc, header, items, tiles, steps)?;
+    altered_leaves(alloc, &plan, notary, header.id)
+}
+
+/// The granules of the leaves that differ.
+fn altered_leaves<N: Notary>(
     alloc: Global,
     plan: &Plan,
     notary: &mut N,
