@@ -7,7 +7,7 @@ ghost use Rattle.history_model.specs.Stored.{IsStorable};
 ghost use Rattle.tuple_bytes.specs.Limits.{max_granules};
 
 use notary_link::Seals;
-use seal_plan::Plan;
+use seal_plan::{Plan, Spelled};
 use std::alloc::{AllocError, Global};
 use std::marker::Brand;
 use std::test::Fail;
@@ -80,7 +80,8 @@ fn last_batch<L: Ledger>(
         k,
         algs: 3,
     };
-    Plan::new(alloc, &header, items, tiles, &mut steps)?.batch(alloc, tiles)
+    let spelled = Spelled::of(alloc, items)?;
+    Plan::new(alloc, &header, &spelled, tiles, &mut steps)?.batch(alloc, tiles)
 }
 
 const WORKED: [(u8, u16, u8); 9] = [

@@ -11,6 +11,7 @@ ghost use Rattle.history_model.specs.Stored.{stored};
 ghost use Rattle.history_model.specs.StoredHistory.{IsHistory};
 ghost use Rattle.digest_model.specs.Layout.{layout, first_granule, max_granules};
 ghost use Rattle.cumulative_chain.specs.Tiles.{layout_of};
+ghost use Rattle.validator.specs.Reading.{as_stored};
 ghost use Rattle.audit_model.specs.Altered.{history_in, history_with};
 ghost use Rattle.forensic_report.specs.declared.fail.AnalyseFail.TheVariants.{DiskFault, NotaryFault};
 ghost use Rattle.forensic_report.specs.Analysis.{questions};
@@ -25,14 +26,13 @@ use crate::places::{have_tile_chains, have_tree};
 use crate::searching::search;
 use cumulative_chain::header_digest;
 use disk_model::Disk;
-use history_model::Stored;
 use notary_link::{Answer, Name, Notary};
-use policy_eras::Eras;
+use seal_plan::Spelled;
 use std::alloc::Global;
 use std::marker::Brand;
 use step_count::{Blank, Ledger, Steps};
-use tuple_bytes::{Header, Items, MAX_GRANULES};
-use txn_journal::read_stored;
+use tuple_bytes::Header;
+use validator::{SpelledStore, read_spelled};
 
 /// What the notary's answers show of what is stored under the id. Where nothing was filed, nothing is read.
 pub(crate) fn find<D: Disk, N: Notary>(
@@ -83,14 +83,14 @@ fn find_stored<D: Disk, N: Notary>(
     ensures frame { GoesOn (N.state notary.old) (N.state notary.new) }
     ensures cause { HasCause NotaryFault (N.state notary.old).faults (N.state notary.new).faults result }
 {
-    let stored = read_stored(alloc, disk)?;
+    let stored = read_spelled(alloc, disk)?;
     find_in(alloc, &stored, notary, id, algorithm, tiles)
 }
 
 /// The same in what is stored. Another header, or none, is altered without a question.
 fn find_in<N: Notary>(
     alloc: Global,
-    stored: &Stored,
+    stored: &SpelledStore,
     notary: &mut N,
     id: u64,
     algorithm: Algorithm,
@@ -98,7 +98,7 @@ fn find_in<N: Notary>(
 ) -> Result<Analysis, AnalyseFail>
     requires fits { IfSome stored.now.header (λ header. IsHistory (history header stored.now.items)) }
     ensures value { WhereTold (N.state notary.old).lists (N.state notary.new).lists (λ before after.
-        OrGivesUp (IsFoundOf algorithm (before.batches id) tiles (history_with id stored.now)) (found_as result)) }
+        OrGivesUp (IsFoundOf algorithm (before.batches id) tiles (history_with id (as_stored stored.now))) (found_as result)) }
     ensures fits { IfOk result FitsAnalysis }
     ensures none_other { IfErr result (IsOfFinding algorithm) }
     ensures same { Unchanged (N.state notary.old) (N.state notary.new) }
@@ -122,7 +122,7 @@ fn find_in<N: Notary>(
 fn find_under<N: Notary>(
     alloc: Global,
     header: &Header,
-    items: &Items,
+    items: &Spelled,
     notary: &mut N,
     algorithm: Algorithm,
     tiles: u32,
@@ -160,7 +160,7 @@ fn has_chains(algorithm: Algorithm, header: &Header) -> bool
 fn find_tiles<N: Notary>(
     alloc: Global,
     header: &Header,
-    items: &Items,
+    items: &Spelled,
     notary: &mut N,
     algorithm: Algorithm,
     tiles: u32,
@@ -178,7 +178,7 @@ fn find_tiles<N: Notary>(
     if !has_chains(algorithm, header) {
         return Err(AnalyseFail::NotSealedSo);
     }
-    let eras = Eras::of(header, items);
+    let eras = items.eras(alloc, header);
     let past = eras.first_past();
     if tiles > past {
         let name = Name::Cum { tile: past };
@@ -199,7 +199,7 @@ fn find_tiles<N: Notary>(
 fn find_examined<N: Notary, L: Ledger>(
     alloc: Global,
     header: &Header,
-    items: &Items,
+    items: &Spelled,
     notary: &mut N,
     algorithm: Algorithm,
     tiles: u32,

@@ -21,18 +21,17 @@ use crate::found::Findings;
 use a3d_forensics::altered;
 use mono_forensics::first_bad;
 use notary_link::Notary;
-use policy_eras::Eras;
-use seal_plan::{Plan, links_of};
+use seal_plan::{Plan, Spelled, links_of};
 use std::alloc::Global;
 use step_count::{Ledger, Steps};
 use tiled_forensics::target;
-use tuple_bytes::{Header, Items};
+use tuple_bytes::Header;
 
 /// Searches by this algorithm.
 pub(crate) fn search<N: Notary, L: Ledger>(
     alloc: Global,
     header: &Header,
-    items: &Items,
+    items: &Spelled,
     notary: &mut N,
     algorithm: Algorithm,
     tiles: u32,
@@ -64,7 +63,7 @@ pub(crate) fn search<N: Notary, L: Ledger>(
 fn find_region<N: Notary, L: Ledger>(
     alloc: Global,
     header: &Header,
-    items: &Items,
+    items: &Spelled,
     notary: &mut N,
     tiles: u32,
     steps: &mut Steps<L>,
@@ -85,7 +84,7 @@ fn find_region<N: Notary, L: Ledger>(
     if tiles == 0 {
         return Ok(Findings::Region { first: None });
     }
-    let eras = Eras::of(header, items);
+    let eras = items.eras(alloc, header);
     let links = links_of(alloc, header, &eras, items, tiles, steps)?;
     let first = first_bad(&links, notary, header.id)?;
     Ok(Findings::Region { first })
@@ -95,7 +94,7 @@ fn find_region<N: Notary, L: Ledger>(
 fn find_targets<N: Notary, L: Ledger>(
     alloc: Global,
     header: &Header,
-    items: &Items,
+    items: &Spelled,
     notary: &mut N,
     tiles: u32,
     steps: &mut Steps<L>,
@@ -146,7 +145,7 @@ fn failing_tiles<N: Notary>(
 fn find_leaves<N: Notary, L: Ledger>(
     alloc: Global,
     header: &Header,
-    items: &Items,
+    items: &Spelled,
     notary: &mut N,
     tiles: u32,
     steps: &mut Steps<L>,

@@ -8,3 +8,5 @@ pub mod Levels
 pub mod Parts
 pub mod Chosen
 pub mod Sealing
+pub mod Moments
+pub mod Spellings

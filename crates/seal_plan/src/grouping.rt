@@ -2,28 +2,19 @@
 
 ghost use Rattle.std.specs.Prelude.{◌≡◌, ◌<◌, ◌≤◌, ◌^◌, ℕ, ◌++◌, [], IfOk, OnOk, length, map, slice_index_or};
 ghost use Rattle.std.specs.List.{All, range_with_len};
-ghost use Rattle.tuple_bytes.specs.Spelling.{spell_item};
-ghost use Rattle.history_model.specs.Stored.{IsStorable};
+ghost use Rattle.tuple_bytes.specs.declared.item.Item.{Item};
+ghost use Rattle.tuple_bytes.specs.Spelling.{Spells};
 ghost use Rattle.history_model.specs.History.{history};
 ghost use Rattle.history_model.specs.StoredHistory.{IsHistory};
 ghost use Rattle.digest_model.specs.Layout.{layout, first_granule, max_granules};
 ghost use Rattle.policy_eras.specs.Policy.{policy_of};
 ghost use Rattle.seal_plan.specs.Grouped.{no_row, row_at, spelled_in, numbered};
 
+use crate::spelled::{Spelled, moment_of};
 use policy_eras::Eras;
 use std::alloc::{AllocError, Global};
 use std::mem;
-use tuple_bytes::{Blob, Granules, Header, Item, Items, Payloads, encode_item, granule};
-
-fn spell(alloc: Global, item: &Item) -> Result<Blob, AllocError>
-    requires { IsStorable item.now }
-    ensures { IfOk result (λ b. b ≡ spell_item item.now) }
-{
-    match encode_item(alloc, item) {
-        Ok(spelled) => Ok(spelled),
-        Err(_) => Err(AllocError),
-    }
-}
+use tuple_bytes::{Blob, Granules, Header, Payloads, granule};
 
 /// Granules without transactions.
 fn empty_rows(alloc: Global, granules: u32) -> Result<Vec<Payloads>, AllocError>
@@ -37,23 +28,22 @@ fn empty_rows(alloc: Global, granules: u32) -> Result<Vec<Payloads>, AllocError>
 }
 
 /// Adds a transaction to its granule, where that is one of them.
-fn add_item(
+fn add_spelling(
     alloc: Global,
     header: &Header,
     rows: &mut Vec<Payloads>,
-    item: &Item,
+    spelling: &Blob,
 ) -> Result<(), AllocError>
     requires width { 0 < header.now.width }
-    requires storable { IsStorable item.now }
-    ensures value { OnOk result ((g : ℕ) → g < length rows.old.items → slice_index_or rows.new.items g [] ≡ slice_index_or rows.old.items g [] ++ spelled_in header.now g item.now) }
+    ensures value { (item : Item) → Spells item spelling.now → OnOk result ((g : ℕ) → g < length rows.old.items → slice_index_or rows.new.items g [] ≡ slice_index_or rows.old.items g [] ++ spelled_in header.now g item) }
     ensures same { OnOk result (length rows.new.items ≡ length rows.old.items) }
 {
-    if let Item::Txn(txn) = item {
-        let number = granule(txn.moment, header.width);
+    if let Some(moment) = moment_of(spelling.as_slice()) {
+        let number = granule(moment, header.width);
         if number < rows.len() as u64 {
-            let spelled = spell(alloc, item)?;
+            let copied = spelling.copy(alloc)?;
             let row = &mut rows[number as usize];
-            row.push(spelled)?;
+            row.push(copied)?;
         }
     }
     Ok(())
@@ -77,31 +67,30 @@ fn number_rows(
     Ok(numbered)
 }
 
-/// The transactions of the first granules, each spelled once.
+/// The transactions of the first granules.
 fn group(
     alloc: Global,
     header: &Header,
-    items: &[Item],
+    items: &Spelled,
     granules: u32,
 ) -> Result<Granules, AllocError>
     requires width { 0 < header.now.width }
-    requires storable { All IsStorable items.now }
     ensures value { IfOk result (λ grouped. grouped ≡ numbered (history header.now items.now) granules) }
 {
     let mut rows = empty_rows(alloc, granules)?;
-    for item in items {
-        add_item(alloc, header, &mut rows, item)?;
+    for spelling in items.as_slice() {
+        add_spelling(alloc, header, &mut rows, spelling)?;
     }
     let grouped = number_rows(alloc, rows, granules)?;
     Ok(grouped)
 }
 
-/// The transactions of the granules of the first tiles, each spelled once.
+/// The transactions of the granules of the first tiles.
 pub(crate) fn group_tiles(
     alloc: Global,
     header: &Header,
     eras: &Eras,
-    items: &Items,
+    items: &Spelled,
     tiles: u32,
 ) -> Result<Granules, AllocError>
     requires history { IsHistory (history header.now items.now) }
@@ -109,6 +98,6 @@ pub(crate) fn group_tiles(
     requires within { first_granule (layout (history header.now items.now)) tiles ≤ max_granules }
     ensures value { IfOk result (λ grouped. grouped ≡ numbered (history header.now items.now) (first_granule (layout (history header.now items.now)) tiles)) }
 {
-    let granules = group(alloc, header, items.as_slice(), eras.first(tiles) as u32)?;
+    let granules = group(alloc, header, items, eras.first(tiles) as u32)?;
     Ok(granules)
 }

@@ -1,6 +1,6 @@
 //! All digests of the sealed tiles of a history, and the batches that a notary is given.
 //!
-//! A plan is made once from a header, the items of a file and a number of tiles. It holds the digest of
+//! A plan is made once from a header, the spelled items of a file and a number of tiles. It holds the digest of
 //! each planned name: the header's, the chain's value at each tile's end, where the header has tile
 //! chains each tile's whole and bit chains, and where it has the tree each node. The moments of the
 //! items may fall: a granule has its transactions in file order, and the granules go one after another.
@@ -19,12 +19,14 @@
 //! | the batches are the planned seals in their order, and each may be filed | `batch`: `value`, `fileable` |
 //! | each transaction is hashed at most twice, once for its link and once for its granule | `new`: `steps` |
 //! | the chain alone is had for one hash a transaction | `links_of`: `value`, `steps` |
+//! | items that are kept as their spellings are, in contracts, the items that these spell | `Spelled`: `ok` of `push`, `value` of `of` |
 //! | `digest` and the readers take no memory | they answer no want of it |
 //!
 //! Each digest is computed once; an empty granule costs one hash, since its number is hashed. Only
 //! tested: that a call with memory at hand doesn't answer want of memory.
 //!
 //! ```rust
+//! let items = Spelled::of(alloc, &items)?;
 //! let plan = Plan::new(alloc, &header, &items, tiles, &mut steps)?;
 //! let seals = plan.batch(alloc, 1)?;
 //! ```
@@ -36,7 +38,9 @@ mod grouping;
 mod links;
 mod lookup;
 mod plan;
+mod spelled;
 mod trees;
 
 pub use links::links_of;
 pub use plan::Plan;
+pub use spelled::Spelled;

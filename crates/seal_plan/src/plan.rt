@@ -18,6 +18,7 @@ use crate::chains::{leaves, part_digests};
 use crate::digests::Digests;
 use crate::grouping::group_tiles;
 use crate::lookup::{digest_at, node_in, part_in};
+use crate::spelled::Spelled;
 use crate::trees::levels_over;
 use cumulative_chain::{header_digest, links_at_tiles};
 use notary_link::Name;
@@ -26,7 +27,7 @@ use std::alloc::{AllocError, Global};
 use std::marker::Model;
 use std::snapshot::Snapshot;
 use step_count::{Ledger, Steps};
-use tuple_bytes::{Header, Items};
+use tuple_bytes::Header;
 
 /// The digests of all planned names.
 #[derive(Drop)]
@@ -34,7 +35,7 @@ pub struct Plan {
     header: Header,
     eras: Eras,
     tiles: u32,
-    items: Snapshot<Items>,
+    items: Snapshot<Spelled>,
     header_digest: [u8; 32],
     links: Vec<[u8; 32]>,
     parts: Digests,
@@ -52,12 +53,12 @@ impl Model for Plan {
     ghost invariant = { λ p. Keeps (history p.header p.items.value) p.tiles p.eras p.header_digest p.links.items p.parts p.levels.items };
 }
 
-/// The chain's values and the granules' digests, over each transaction spelled once.
+/// The chain's values and the granules' digests, over the spelling of each transaction.
 fn hash_txns<L: Ledger>(
     alloc: Global,
     header: &Header,
     eras: &Eras,
-    items: &Items,
+    items: &Spelled,
     tiles: u32,
     steps: &mut Steps<L>,
 ) -> Result<(Vec<[u8; 32]>, Digests), AllocError>
@@ -110,7 +111,7 @@ impl Plan {
     pub fn new<L: Ledger>(
         alloc: Global,
         header: &Header,
-        items: &Items,
+        items: &Spelled,
         tiles: u32,
         steps: &mut Steps<L>,
     ) -> Result<Plan, AllocError>
@@ -119,7 +120,7 @@ impl Plan {
         ensures value { IfOk result (λ plan. plan ≡ planned_of (history header.now items.now) tiles) }
         ensures steps { steps.new ≤ steps.old + 2 * length (txns items.now) }
     {
-        let eras = Eras::of(header, items);
+        let eras = items.eras(alloc, header);
         let (links, digests) = hash_txns(alloc, header, &eras, items, tiles, steps)?;
         let parts = planned_parts(alloc, &eras, tiles, &digests)?;
         let levels = planned_levels(alloc, &eras, digests)?;

@@ -12,25 +12,25 @@ ghost use Rattle.digest_model.specs.Layout.{max_granules};
 ghost use Rattle.validator.specs.declared.fail.AuditFail.TheVariants.{NotaryFault};
 ghost use Rattle.audit_model.specs.Notary.{cums};
 ghost use Rattle.audit_model.specs.Altered.{history_with};
+ghost use Rattle.validator.specs.Reading.{as_stored};
 ghost use Rattle.validator.specs.Verdicts.{IsVerdict, IsFoundUnder, IsFoundBy, OrGivesUp, IsOfFinding, questions};
 
 use crate::fail::AuditFail;
+use crate::reading::SpelledStore;
 use crate::verdict::Verdict;
 use cumulative_chain::header_digest;
-use history_model::Stored;
 use mono_forensics::first_bad;
 use notary_link::{Answer, Name, Notary};
-use policy_eras::Eras;
-use seal_plan::links_of;
+use seal_plan::{Spelled, links_of};
 use std::alloc::Global;
 use step_count::{Ledger, Steps};
-use tuple_bytes::{Header, Items};
+use tuple_bytes::Header;
 
 /// The verdict over so many sealed tiles. Another header, or none, is altered without a question. Each
 /// transaction is hashed at most once.
 pub(crate) fn find<N: Notary, L: Ledger>(
     alloc: Global,
-    stored: &Stored,
+    stored: &SpelledStore,
     notary: &mut N,
     id: u64,
     tiles: u32,
@@ -38,7 +38,7 @@ pub(crate) fn find<N: Notary, L: Ledger>(
 ) -> Result<Verdict, AuditFail>
     requires fits { IfSome stored.now.header (λ header. IsHistory (history header stored.now.items)) }
     ensures value { WhereTold (N.state notary.old).lists (N.state notary.new).lists (λ before after.
-        OrGivesUp (IsVerdict (before.batches id) tiles (history_with id stored.now)) result) }
+        OrGivesUp (IsVerdict (before.batches id) tiles (history_with id (as_stored stored.now))) result) }
     ensures none_other { IfErr result IsOfFinding }
     ensures same { Unchanged (N.state notary.old) (N.state notary.new) }
     ensures asked { IfOk result (λ verdict. (N.state notary.new).asked ≤ (N.state notary.old).asked + questions verdict) }
@@ -62,7 +62,7 @@ pub(crate) fn find<N: Notary, L: Ledger>(
 fn find_under<N: Notary, L: Ledger>(
     alloc: Global,
     header: &Header,
-    items: &Items,
+    items: &Spelled,
     notary: &mut N,
     tiles: u32,
     steps: &mut Steps<L>,
@@ -89,7 +89,7 @@ fn find_under<N: Notary, L: Ledger>(
 fn find_tiles<N: Notary, L: Ledger>(
     alloc: Global,
     header: &Header,
-    items: &Items,
+    items: &Spelled,
     notary: &mut N,
     tiles: u32,
     steps: &mut Steps<L>,
@@ -104,7 +104,7 @@ fn find_tiles<N: Notary, L: Ledger>(
     ensures frame { GoesOn (N.state notary.old) (N.state notary.new) }
     ensures cause { HasCause NotaryFault (N.state notary.old).faults (N.state notary.new).faults result }
 {
-    let eras = Eras::of(header, items);
+    let eras = items.eras(alloc, header);
     let past = eras.first_past();
     if tiles > past {
         let name = Name::Cum { tile: past };

@@ -24,15 +24,16 @@ ghost use Rattle.validator.specs.Notarizing.{fault_by, filed_fault, IsRefusedBy}
 ghost use Rattle.validator.specs.Steps.{IsReadAs, IsOfReading, IsOfCounting, IsOfAsking, IsOfHolding, header_fault, sealed_fault, IsPast, plan_for, IsPlanFor, Holds};
 
 use crate::fail::AuditFail;
+use crate::reading::read_spelled;
 use cumulative_chain::header_digest;
 use disk_model::Disk;
 use notary_link::{Answer, Name, Notary, NotaryFail};
 use policy_eras::Eras;
-use seal_plan::{Plan, links_of};
+use seal_plan::{Plan, Spelled, links_of};
 use std::alloc::Global;
 use step_count::{Blank, Ledger, Steps};
-use tuple_bytes::{Header, Items, MAX_GRANULES};
-use txn_journal::{JournalFail, read_stored};
+use tuple_bytes::{Header, MAX_GRANULES};
+use txn_journal::JournalFail;
 
 /// A notary's refusal, as it is told here.
 pub(crate) fn refusal(fail: NotaryFail) -> AuditFail
@@ -54,7 +55,7 @@ fn is_same(ours: &Header, other: &Header) -> bool
 }
 
 /// The items that are stored behind this header, read anew.
-fn read_anew<D: Disk>(alloc: Global, disk: &mut D, header: &Header) -> Result<Items, AuditFail>
+fn read_anew<D: Disk>(alloc: Global, disk: &mut D, header: &Header) -> Result<Spelled, AuditFail>
     ensures value { IfSome (D.state disk.old).reads (λ bytes.
         (stored bytes).header ≡ Some header.now → IsReadAs (stored bytes).items result) }
     ensures history { IfOk result (λ items. IsHistory (history header.now items)) }
@@ -63,7 +64,7 @@ fn read_anew<D: Disk>(alloc: Global, disk: &mut D, header: &Header) -> Result<It
     ensures frame { disks.GoesOn (D.state disk.old) (D.state disk.new) }
     ensures cause { HasCause DiskFault (D.state disk.old).faults (D.state disk.new).faults result }
 {
-    let stored = match read_stored(alloc, disk) {
+    let stored = match read_spelled(alloc, disk) {
         Ok(stored) => stored,
         Err(JournalFail::DiskFault) => return Err(AuditFail::DiskFault),
         Err(_) => return Err(AuditFail::NoMemory),
@@ -118,7 +119,7 @@ fn hold_header<N: Notary>(notary: &mut N, header: &Header, count: u32) -> Result
 fn link_tiles<L: Ledger>(
     alloc: Global,
     header: &Header,
-    items: &Items,
+    items: &Spelled,
     eras: &Eras,
     tiles: u32,
     steps: &mut Steps<L>,
@@ -171,7 +172,7 @@ fn hold_filed<N: Notary, L: Ledger>(
     alloc: Global,
     notary: &mut N,
     header: &Header,
-    items: &Items,
+    items: &Spelled,
     count: u32,
     granule: u32,
     steps: &mut Steps<L>,
@@ -191,7 +192,7 @@ fn hold_filed<N: Notary, L: Ledger>(
     ensures cause { HasCause NotaryFault (N.state notary.old).faults (N.state notary.new).faults result }
 {
     hold_header(notary, header, count)?;
-    let eras = Eras::of(header, items);
+    let eras = items.eras(alloc, header);
     let ended = eras.tiles(granule);
     if ended < count {
         let links = link_tiles(alloc, header, items, &eras, count - 1, steps)?;

@@ -40,6 +40,13 @@
 //! | only a fault of the disk and want of memory close the store | `open` |
 //! | after these the store is as it was, has reached the end of the last tile, or is closed | `told`: `stands` |
 //!
+//! [`read_spelled`] reads all that a store holds, once, and keeps each item as its payload in the file.
+//!
+//! | The layer above may rely on | Clause of `read_spelled` |
+//! |---|---|
+//! | what is read is what the bytes store, and, also over a disk that tells nothing, a history that a file can hold | `value`, `fits` |
+//! | the disk is only read; a fault has its cause, and behind Ok it counted none | `same`, `frame`, `cause`, `counted` |
+//!
 //! | A law | Says |
 //! |---|---|
 //! | [`sound_is_clean`] | of what a sound store's images hold only a clean verdict is found |
@@ -65,6 +72,7 @@ mod laws;
 mod marking;
 mod notarizing;
 mod printing;
+mod reading;
 mod validating;
 mod verdict;
 
@@ -72,5 +80,6 @@ pub use fail::AuditFail;
 pub use laws::{broken_is_altered, missing_is_clash, sound_is_clean, sound_is_not_refused};
 pub use notarizing::notarize;
 pub use printing::{put_refusal, put_verdict};
+pub use reading::{SpelledStore, read_spelled};
 pub use validating::validate;
 pub use verdict::Verdict;

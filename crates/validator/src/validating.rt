@@ -10,20 +10,20 @@ ghost use Rattle.history_model.specs.History.{history, txns};
 ghost use Rattle.history_model.specs.Stored.{stored};
 ghost use Rattle.history_model.specs.StoredHistory.{IsHistory};
 ghost use Rattle.validator.specs.declared.fail.AuditFail.TheVariants.{DiskFault, NotaryFault};
+ghost use Rattle.validator.specs.Reading.{as_stored};
 ghost use Rattle.validator.specs.Verdicts.{Validates, MakesMark, KeepsBatches, IsOfValidation, IsOfJudging, questions};
 ghost use Rattle.validator.specs.Desk.{KeepsSound, desk};
 
 use crate::fail::AuditFail;
 use crate::finding::find;
 use crate::marking::add_mark;
+use crate::reading::{SpelledStore, read_spelled};
 use crate::verdict::Verdict;
 use disk_model::Disk;
-use history_model::Stored;
 use notary_link::Notary;
 use std::alloc::Global;
 use std::marker::Brand;
 use step_count::{Blank, Ledger, Steps};
-use txn_journal::read_stored;
 
 /// Hashes what is stored under the id, and asks the notary whether it is what was filed. The verdict
 /// is added to the notary's marks, except where nothing was filed yet.
@@ -83,7 +83,7 @@ fn validate_sealed<D: Disk, N: Notary, L: Ledger>(
     ensures disk_cause { HasCause DiskFault (D.state disk.old).faults (D.state disk.new).faults result }
     ensures notary_cause { HasCause NotaryFault (N.state notary.old).faults (N.state notary.new).faults result }
 {
-    let stored = read_stored(alloc, disk)?;
+    let stored = read_spelled(alloc, disk)?;
     let mut steps = Steps::<L>::new(blank);
     judge(alloc, &stored, notary, id, tiles, now, &mut steps)
 }
@@ -91,7 +91,7 @@ fn validate_sealed<D: Disk, N: Notary, L: Ledger>(
 /// Finds the verdict and adds its mark. Each transaction is hashed at most once.
 fn judge<N: Notary, L: Ledger>(
     alloc: Global,
-    stored: &Stored,
+    stored: &SpelledStore,
     notary: &mut N,
     id: u64,
     tiles: u32,
@@ -100,7 +100,7 @@ fn judge<N: Notary, L: Ledger>(
 ) -> Result<Verdict, AuditFail>
     requires fits { IfSome stored.now.header (λ header. IsHistory (history header stored.now.items)) }
     ensures told { WhereTold (N.state notary.old).lists (N.state notary.new).lists (λ lists later. length (lists.batches id) ≡ tiles + 1
-        → Validates id now (N.state notary.old).limits stored.now result
+        → Validates id now (N.state notary.old).limits (as_stored stored.now) result
         (N.state notary.old).trace (N.state notary.new).trace lists later) }
     ensures none_other { IfErr result IsOfJudging }
     ensures batches { WhereTold (N.state notary.old).lists (N.state notary.new).lists KeepsBatches }

@@ -25,7 +25,7 @@ pub returns-clause-value : goal.returns-clause-value
 returns-clause-value g c =
     let s = history c.args.header.now c.args.items.now in
     let has : has_chains c.args.algorithm (layout s) ≡ true = search rules in
-    let few : c.args.tiles ≤ first_past (layout s) = omega (arith, past_is c.of-eras.result s c.first_past-past.result c.of-eras.ensures.value c.first_past-past.ensures.value) in
+    let few : c.args.tiles ≤ first_past (layout s) = omega (arith, past_is c.eras-eras.result s c.first_past-past.result c.eras-eras.ensures.value c.first_past-past.ensures.value) in
     told_map _ _ _ _ c.find_examined.ensures.value (λ (before after : Lists) is. found_with_chains c.args.algorithm (before.batches c.args.header.now.id) c.args.tiles s has few (found_as c.find_examined.result) is)
 
 pub returns-then-tiles-past-clause-value : goal.returns-then-tiles-past-clause-value
@@ -34,9 +34,9 @@ returns-then-tiles-past-clause-value g c =
     let lists = (g.N.Notary.state c.args.notary.now).lists in
     let has : has_chains c.args.algorithm (layout s) ≡ true = search rules in
     told_same lists lists (λ (before after : Lists). OrGivesUp (IsFoundWith (has_chains c.args.algorithm (layout s)) c.args.algorithm (before.batches c.args.header.now.id) c.args.tiles s) (Err (fails.SealMissing (names.Cum c.first_past-past.result)))) refl
-    (λ before. found_past c.args.algorithm (before.batches c.args.header.now.id) c.args.tiles c.first_past-past.result s has (past_is c.of-eras.result s c.first_past-past.result c.of-eras.ensures.value c.first_past-past.ensures.value) c.if-tiles-past.true)
+    (λ before. found_past c.args.algorithm (before.batches c.args.header.now.id) c.args.tiles c.first_past-past.result s has (past_is c.eras-eras.result s c.first_past-past.result c.eras-eras.ensures.value c.first_past-past.ensures.value) c.if-tiles-past.true)
 
 pub find_examined-requires-clause-within : goal.find_examined-requires-clause-within
 find_examined-requires-clause-within g c =
     let s = history c.args.header.now c.args.items.now in
-    few_granules s c.args.tiles (omega (arith, past_is c.of-eras.result s c.first_past-past.result c.of-eras.ensures.value c.first_past-past.ensures.value))
+    few_granules s c.args.tiles (omega (arith, past_is c.eras-eras.result s c.first_past-past.result c.eras-eras.ensures.value c.first_past-past.ensures.value))

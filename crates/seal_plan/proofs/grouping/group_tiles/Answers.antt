@@ -1,4 +1,4 @@
-use Rattle.std.proofs.Common.{◌≤◌, ap, ◌∙◌, arith}
+use Rattle.std.proofs.Common.{◌≤◌, refl, ap, ◌∙◌, arith}
 use Rattle.digest_model.specs.Layout.{first_granule}
 use Rattle.policy_eras.specs.Policy.{Policy, layout_by}
 use Rattle.seal_plan.proofs.Seen.{seen}
@@ -11,5 +11,5 @@ overflow_cast-first c =
 
 pub returns : goal.returns
 returns c = record {
-  value = seen c.args.header.now c.as_slice.result.now c.args.items.now c.args.tiles c.first.result c.args.eras.now c.in_ok-granules.granules c.first.ensures.value c.requires.eras c.as_slice.ensures.value c.in_ok-granules.ensures.value;
+  value = seen c.args.header.now c.args.items.now c.args.items.now c.args.tiles c.first.result c.args.eras.now c.in_ok-granules.granules c.first.ensures.value c.requires.eras refl c.in_ok-granules.ensures.value;
 }

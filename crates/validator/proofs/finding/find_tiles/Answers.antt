@@ -26,7 +26,7 @@ returns-then-tiles-past-clause-value g c =
     let lists = (g.N.Notary.state c.args.notary.now).lists in
     let h = history c.args.header.now c.args.items.now in
     let many : c.first_past-past.result < c.args.tiles = omega (arith, c.if-tiles-past.true) in
-    told_same lists lists (λ before after. OrGivesUp (IsFoundUnder (before.batches c.args.header.now.id) c.args.tiles h) (Err (fails.SealMissing (names.Cum c.first_past-past.result)))) refl (λ b. found_past (b.batches c.args.header.now.id) c.args.tiles h c.first_past-past.result (c.first_past-past.ensures.value ∙ ap (λ (p : Policy). first_past (layout_by p)) c.of-eras.ensures.value) many)
+    told_same lists lists (λ before after. OrGivesUp (IsFoundUnder (before.batches c.args.header.now.id) c.args.tiles h) (Err (fails.SealMissing (names.Cum c.first_past-past.result)))) refl (λ b. found_past (b.batches c.args.header.now.id) c.args.tiles h c.first_past-past.result (c.first_past-past.ensures.value ∙ ap (λ (p : Policy). first_past (layout_by p)) c.eras-eras.ensures.value) many)
 
 pub returns-then-tiles-past-clause-frame : goal.returns-then-tiles-past-clause-frame
 returns-then-tiles-past-clause-frame g c = goes_on_same (g.N.Notary.state c.args.notary.now)
@@ -36,7 +36,7 @@ returns-then-tiles-eq0-clause-frame g c = goes_on_same (g.N.Notary.state c.args.
 
 pub links_of-requires-clause-within : goal.links_of-requires-clause-within
 links_of-requires-clause-within g c =
-    within (history c.args.header.now c.args.items.now) c.of-eras.result c.args.tiles c.first_past-past.result c.first_past-past.ensures.value c.of-eras.ensures.value (omega (arith, c.if-tiles-past.false))
+    within (history c.args.header.now c.args.items.now) c.eras-eras.result c.args.tiles c.first_past-past.result c.first_past-past.ensures.value c.eras-eras.ensures.value (omega (arith, c.if-tiles-past.false))
 
 pub search-requires-clause-some : goal.search-requires-clause-some
 search-requires-clause-some g c =
@@ -47,14 +47,14 @@ pub search-requires-clause-few : goal.search-requires-clause-few
 search-requires-clause-few g c =
     let h = history c.args.header.now c.args.items.now in
     let many = as_many h c.args.tiles c.in_ok-links.links.items c.in_ok-links.ensures.value in
-    let few = within h c.of-eras.result c.args.tiles c.first_past-past.result c.first_past-past.ensures.value c.of-eras.ensures.value (omega (arith, c.if-tiles-past.false)) in
+    let few = within h c.eras-eras.result c.args.tiles c.first_past-past.result c.first_past-past.ensures.value c.eras-eras.ensures.value (omega (arith, c.if-tiles-past.false)) in
     omega (arith, many, tiles_few (layout h) c.args.tiles few)
 
 pub returns-then-tiles-eq0-clause-value : goal.returns-then-tiles-eq0-clause-value
 returns-then-tiles-eq0-clause-value g c =
     let lists = (g.N.Notary.state c.args.notary.now).lists in
     let h = history c.args.header.now c.args.items.now in
-    let few = within h c.of-eras.result c.args.tiles c.first_past-past.result c.first_past-past.ensures.value c.of-eras.ensures.value (omega (arith, c.if-tiles-past.false)) in
+    let few = within h c.eras-eras.result c.args.tiles c.first_past-past.result c.first_past-past.ensures.value c.eras-eras.ensures.value (omega (arith, c.if-tiles-past.false)) in
     told_same lists lists (λ before after. OrGivesUp (IsFoundUnder (before.batches c.args.header.now.id) c.args.tiles h) (Ok (verdicts.Clean c.args.tiles))) refl
     (λ b. found_within (b.batches c.args.header.now.id) c.args.tiles h (Ok (verdicts.Clean c.args.tiles)) few (none_sealed (cums (b.batches c.args.header.now.id) h) c.args.tiles c.if-tiles-eq0.true))
 
@@ -64,7 +64,7 @@ returns-in_err-links-clause-frame g c = goes_on_same (g.N.Notary.state c.args.no
 pub returns-in_ok-links-clause-value : goal.returns-in_ok-links-clause-value
 returns-in_ok-links-clause-value g c =
     let h = history c.args.header.now c.args.items.now in
-    let few = within h c.of-eras.result c.args.tiles c.first_past-past.result c.first_past-past.ensures.value c.of-eras.ensures.value (omega (arith, c.if-tiles-past.false)) in
+    let few = within h c.eras-eras.result c.args.tiles c.first_past-past.result c.first_past-past.ensures.value c.eras-eras.ensures.value (omega (arith, c.if-tiles-past.false)) in
     let id = c.args.header.now.id in
     let before_of = (g.N.Notary.state c.args.notary.now).lists in
     let after_of = (g.N.Notary.state c.search.new.notary).lists in

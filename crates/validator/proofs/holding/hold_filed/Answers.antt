@@ -41,7 +41,7 @@ pub returns-in_err-links-clause-told : goal.returns-in_err-links-clause-told
 returns-in_err-links-clause-told g c =
     let S = g.N.Notary.state in
     let same : c.from_residual-in_err-links.result ≡ Err c.in_err-links.field-0.0 = search rules in
-    let e = ended_is c.args.header.now c.args.items.now c.args.granule c.of-eras.result c.tiles-ended.result c.tiles-ended.ensures.value c.of-eras.ensures.value in
+    let e = ended_is c.args.header.now c.args.items.now c.args.granule c.eras-eras.result c.tiles-ended.result c.tiles-ended.ensures.value c.eras-eras.ensures.value in
     told_by_links c.args.header.now c.args.items.now c.args.count (ended_of c.args.header.now c.args.items.now c.args.granule) (S c.args.notary.now).lists (S c.hold_header.new.notary).lists (c.args.count - 1) c.in_err-links.field-0.0 c.from_residual-in_err-links.result same (omega (arith, e, c.if-ended-count.true)) (tiles_in (layout (history c.args.header.now c.args.items.now)) c.args.granule (omega (arith, c.requires.within))) c.in_err-links.ensures.past c.in_ok-hold_header.ensures.told
 
 pub hold_chain-requires : goal.hold_chain-requires
@@ -65,12 +65,12 @@ returns-then-ended-count-clause-told g c =
 
 pub new-requires-clause-within : goal.new-requires-clause-within
 new-requires-clause-within g c =
-    let e = ended_is c.args.header.now c.args.items.now c.args.granule c.of-eras.result c.tiles-ended.result c.tiles-ended.ensures.value c.of-eras.ensures.value in
+    let e = ended_is c.args.header.now c.args.items.now c.args.granule c.eras-eras.result c.tiles-ended.result c.tiles-ended.ensures.value c.eras-eras.ensures.value in
     few c.args.header.now c.args.items.now c.args.granule c.tiles-ended.result e c.requires.within
 
 pub returns-in_err-plan-clause-few : goal.returns-in_err-plan-clause-few
 returns-in_err-plan-clause-few g c = λ less.
-    (let e = ended_is c.args.header.now c.args.items.now c.args.granule c.of-eras.result c.tiles-ended.result c.tiles-ended.ensures.value c.of-eras.ensures.value in
+    (let e = ended_is c.args.header.now c.args.items.now c.args.granule c.eras-eras.result c.tiles-ended.result c.tiles-ended.ensures.value c.eras-eras.ensures.value in
     absurd (omega (arith, e, less, c.if-ended-count.false)))
 
 pub hold_chain-requires-2 : goal.hold_chain-requires-2
@@ -82,28 +82,28 @@ pub returns-in_err-hold_chain-2-clause-told : goal.returns-in_err-hold_chain-2-c
 returns-in_err-hold_chain-2-clause-told g c =
     let S = g.N.Notary.state in
     let same : c.from_residual-in_err-hold_chain-2.result ≡ Err c.in_err-hold_chain-2.field-0.0 = search rules in
-    let e = ended_is c.args.header.now c.args.items.now c.args.granule c.of-eras.result c.tiles-ended.result c.tiles-ended.ensures.value c.of-eras.ensures.value in
+    let e = ended_is c.args.header.now c.args.items.now c.args.granule c.eras-eras.result c.tiles-ended.result c.tiles-ended.ensures.value c.eras-eras.ensures.value in
     told_by_chain c.args.header.now c.args.items.now c.args.count (ended_of c.args.header.now c.args.items.now c.args.granule) (S c.args.notary.now).lists (S c.hold_header.new.notary).lists (S c.hold_chain-2.new.notary).lists c.tiles-ended.result c.links.result.now (Err c.in_err-hold_chain-2.field-0.0) c.from_residual-in_err-hold_chain-2.result
     (alike_of c.from_residual-in_err-hold_chain-2.result c.in_err-hold_chain-2.field-0.0 same) (omega (arith, c.if-ended-count.false)) (few c.args.header.now c.args.items.now c.args.granule c.tiles-ended.result e c.requires.within)
     (linked_by c.args.header.now c.args.items.now c.in_ok-plan.plan c.links.result.now c.tiles-ended.result c.links.ensures.value c.in_ok-plan.ensures.value) c.in_err-hold_chain-2.ensures.frame.told.untold c.in_ok-hold_header.ensures.same.lists c.in_ok-hold_header.ensures.told c.in_err-hold_chain-2.ensures.told
 
 pub returns-in_err-hold_chain-2-clause-few : goal.returns-in_err-hold_chain-2-clause-few
 returns-in_err-hold_chain-2-clause-few g c = λ less.
-    (let e = ended_is c.args.header.now c.args.items.now c.args.granule c.of-eras.result c.tiles-ended.result c.tiles-ended.ensures.value c.of-eras.ensures.value in
+    (let e = ended_is c.args.header.now c.args.items.now c.args.granule c.eras-eras.result c.tiles-ended.result c.tiles-ended.ensures.value c.eras-eras.ensures.value in
     absurd (omega (arith, e, less, c.if-ended-count.false)))
 
 pub returns-clause-told : goal.returns-clause-told
 returns-clause-told g c =
     let S = g.N.Notary.state in
     let done : Result (Unit {0}) AuditFail = Ok tt in
-    let e = ended_is c.args.header.now c.args.items.now c.args.granule c.of-eras.result c.tiles-ended.result c.tiles-ended.ensures.value c.of-eras.ensures.value in
+    let e = ended_is c.args.header.now c.args.items.now c.args.granule c.eras-eras.result c.tiles-ended.result c.tiles-ended.ensures.value c.eras-eras.ensures.value in
     told_by_chain c.args.header.now c.args.items.now c.args.count (ended_of c.args.header.now c.args.items.now c.args.granule) (S c.args.notary.now).lists (S c.hold_header.new.notary).lists (S c.hold_chain-2.new.notary).lists c.tiles-ended.result c.links.result.now done done
     (λ f refused. refused) (omega (arith, c.if-ended-count.false)) (few c.args.header.now c.args.items.now c.args.granule c.tiles-ended.result e c.requires.within)
     (linked_by c.args.header.now c.args.items.now c.in_ok-plan.plan c.links.result.now c.tiles-ended.result c.links.ensures.value c.in_ok-plan.ensures.value) c.in_ok-hold_chain-2.ensures.frame.told.untold c.in_ok-hold_header.ensures.same.lists c.in_ok-hold_header.ensures.told c.in_ok-hold_chain-2.ensures.told
 
 pub returns-clause-few : goal.returns-clause-few
 returns-clause-few g c = λ less.
-    (let e = ended_is c.args.header.now c.args.items.now c.args.granule c.of-eras.result c.tiles-ended.result c.tiles-ended.ensures.value c.of-eras.ensures.value in
+    (let e = ended_is c.args.header.now c.args.items.now c.args.granule c.eras-eras.result c.tiles-ended.result c.tiles-ended.ensures.value c.eras-eras.ensures.value in
     absurd (omega (arith, e, less, c.if-ended-count.false)))
 
 pub returns-in_err-hold_chain-clause-same : goal.returns-in_err-hold_chain-clause-same

@@ -9,24 +9,24 @@ use Rattle.seal_plan.specs.Plan.{Keeps}
 use Rattle.seal_plan.proofs.plan.Plan.new.Goals as goal
 
 pub planned_parts-requires-clause-within : goal.planned_parts-requires-clause-within
-planned_parts-requires-clause-within g c = (let is = ap (λ (p : Policy). first_granule (layout_by p) c.args.tiles) c.of-eras.ensures.value in omega (arith, is, c.requires.within))
+planned_parts-requires-clause-within g c = (let is = ap (λ (p : Policy). first_granule (layout_by p) c.args.tiles) c.eras-eras.ensures.value in omega (arith, is, c.requires.within))
 
 pub planned_parts-requires-clause-granules : goal.planned_parts-requires-clause-granules
 planned_parts-requires-clause-granules g c = λ some.
-    ap length (c.in_ok-links.ensures.leaves (λ none. some (ap (λ (p : Policy). p.algs) c.of-eras.ensures.value ∙ none)))
+    ap length (c.in_ok-links.ensures.leaves (λ none. some (ap (λ (p : Policy). p.algs) c.eras-eras.ensures.value ∙ none)))
     ∙ length-map-range_with_len (granule_digest (history c.args.header.now c.args.items.now)) 0 (first_granule (layout (history c.args.header.now c.args.items.now)) c.args.tiles)
-    ∙ ap (λ (p : Policy). first_granule (layout_by p) c.args.tiles) (sym c.of-eras.ensures.value)
+    ∙ ap (λ (p : Policy). first_granule (layout_by p) c.args.tiles) (sym c.eras-eras.ensures.value)
 
 pub invariant_of-result : goal.invariant_of-result
 invariant_of-result g c =
     let h = history c.args.header.now c.args.items.now in
-    subst (λ (x : List Item). Keeps (history c.args.header.now x) c.args.tiles c.of-eras.result c.header_digest.result c.in_ok-links.links.items c.in_ok-parts.parts c.in_ok-levels.levels.items) (sym c.of.ensures)
+    subst (λ (x : List Item). Keeps (history c.args.header.now x) c.args.tiles c.eras-eras.result c.header_digest.result c.in_ok-links.links.items c.in_ok-parts.parts c.in_ok-levels.levels.items) (sym c.of.ensures)
     (record {
       fits = c.requires.history.header;
       within = c.requires.within;
-      policy = c.of-eras.ensures.value;
+      policy = c.eras-eras.ensures.value;
       header = c.header_digest.ensures.value;
       cums = c.in_ok-links.ensures.links;
-      chains = c.in_ok-parts.ensures.value h c.of-eras.ensures.value (λ some. c.in_ok-links.ensures.leaves (λ none. some (ap (λ (p : Policy). p.algs) c.of-eras.ensures.value ∙ none)));
-      nodes = c.in_ok-levels.ensures.value h c.args.tiles c.of-eras.ensures.value (λ some. c.in_ok-links.ensures.leaves (λ none. some (ap (λ (p : Policy). p.algs) c.of-eras.ensures.value ∙ none)));
+      chains = c.in_ok-parts.ensures.value h c.eras-eras.ensures.value (λ some. c.in_ok-links.ensures.leaves (λ none. some (ap (λ (p : Policy). p.algs) c.eras-eras.ensures.value ∙ none)));
+      nodes = c.in_ok-levels.ensures.value h c.args.tiles c.eras-eras.ensures.value (λ some. c.in_ok-links.ensures.leaves (λ none. some (ap (λ (p : Policy). p.algs) c.eras-eras.ensures.value ∙ none)));
     })
