@@ -24,7 +24,7 @@ pub feedless_all : (bytes : List ℕ) → Nowhere (Passes (is_byte feed) bytes) 
 feedless_all bytes none = subst IsFeedless (take_all (length bytes) bytes (omega arith)) (feedless_before bytes (length bytes) none)
 
 -- bytes, cut at a feed
-cut_at : (bytes : List ℕ) (k : ℕ) → k < length bytes → Passes (is_byte feed) bytes k → bytes ≡ take k bytes ++ feed ∷ drop (k + 1) bytes
+pub cut_at : (bytes : List ℕ) (k : ℕ) → k < length bytes → Passes (is_byte feed) bytes k → bytes ≡ take k bytes ++ feed ∷ drop (k + 1) bytes
 cut_at bytes k l is = rw (add-one) (split_at bytes k 0 l ∙ ap (λ (b : ℕ). take k bytes ++ b ∷ drop (suc k) bytes) (eqb-true (slice_index bytes k) feed is))
 
 -- a range without its first n

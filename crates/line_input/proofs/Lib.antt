@@ -3,3 +3,4 @@ pub mod Splits
 mod Cuts
 mod Going
 pub mod Giving
+mod FirstLine

@@ -33,6 +33,10 @@
 //! length is kept whole in memory. Each byte is looked at once and moved once. Only tested: that
 //! calls succeed where there is memory.
 //!
+//! Where all bytes are at hand, as those of a generated script, [`first_line`] cuts them at their first
+//! feed: its `value` says that the lines are this one and those of the bytes behind it. It takes no
+//! memory and has no failure.
+//!
 //! ```text
 //! let mut reader = LineReader::new(alloc);
 //! while reader.read_line(&mut source)? {
@@ -42,6 +46,7 @@
 #![tactic(auto)]
 
 mod fail;
+mod first;
 mod gathering;
 mod laws;
 mod limits;
@@ -49,6 +54,7 @@ mod piece;
 mod reader;
 
 pub use fail::InputFail;
+pub use first::first_line;
 pub use laws::lines_are_the_only_ones;
 pub use limits::{INPUT_LIMIT, PIECE_LIMIT};
 pub use reader::LineReader;
