@@ -19,6 +19,7 @@ pub mod Written
 pub mod Nothing
 pub mod Worlds
 pub mod SoundRuns
+pub mod Serial
 pub mod Acknowledging
 pub mod Wherever
 pub mod Standing

@@ -107,7 +107,7 @@ module _ (line : Line) (now : ℕ) (runner last : Runner) (old new : State) (fil
           images = s.goes.images;
           between = s.goes.between;
           ordered = s.goes.ordered;
-          sound = λ id only was. p.1 id (stands_of r.world.id r.world.store runner.world.store before at.stands.store) only was;
+          sound = λ id only was. p.1 id (stands_of r.world.id r.world.store r.world.sessions runner.world before at.stands.store) only was;
         };
       }))
 
@@ -125,7 +125,7 @@ module _ (line : Line) (now : ℕ) (runner last : Runner) (old new : State) (fil
           images = s.goes.images;
           between = s.goes.between;
           ordered = s.goes.ordered;
-          sound = λ id only was. p.1 id (stands_of r.world.id r.world.store runner.world.store before at.stands.store) only was;
+          sound = λ id only was. p.1 id (stands_of r.world.id r.world.store r.world.sessions runner.world before at.stands.store) only was;
         };
       }))
 
@@ -192,7 +192,7 @@ steps_by line now result runner last old new filed later clock ahead is gives to
           (subst (λ (n : ℕ). Goes r (stepped r (step r.world line n s.found)) result last old new (content before lists) (content after later_lists)) (sym seconds) s.goes);
     })
 
--- a line of the world, outside sessions
+-- a line of the world
 pub world_line : (line : Line) → kind_of line ≡ kinds.InWorld → IsWorldLine line
 world_line lines.Blank e = absurd cc
 world_line (lines.Plain (stmts.Create table columns)) e = tt
@@ -209,7 +209,7 @@ world_line (lines.Plain stmts.Notarize) e = tt
 world_line (lines.Plain stmts.Validate) e = tt
 world_line (lines.Plain (stmts.Analyse algorithm)) e = tt
 world_line (lines.Plain (stmts.Now moment)) e = absurd cc
-world_line (lines.InSession n stmt) e = absurd cc
+world_line (lines.InSession n stmt) e = tt
 world_line (lines.Drill event) e = absurd cc
 
 -- ---- as bytes

@@ -17,12 +17,13 @@ use Rattle.dragoon_app.specs.Running.{Running, Timed, carry, carried, MayFindBy,
 use Rattle.dragoon_app.specs.Ran.{StoresFront}
 use Rattle.dragoon_app.specs.Devices.{content}
 use Rattle.dragoon_app.specs.Carrying.{IsAt, StaysSound, Goes}
-use Rattle.dragoon_app.proofs.Worlds.{stores_of, all_between}
+use Rattle.drill_core.proofs.Left.{stores_world}
+use Rattle.dragoon_app.proofs.Worlds.{all_between}
 
 -- ---- one line
 
 pub stores_in : (r : Running) (runner : Runner) (bytes : List ℕ) (limits : NotaryLimits) (lists : Lists) → IsAt r runner bytes limits lists → StoresWorld r.world bytes
-stores_in r runner bytes limits lists at = stores_of r.world.id r.world.store runner.world.store bytes at.stands.store
+stores_in r runner bytes limits lists at = stores_world r.world runner.world bytes lists at.stands
 
 -- since this turn there was no other moment than now
 abbrev pub IsStill : State → Type 0

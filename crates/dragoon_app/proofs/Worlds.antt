@@ -2,8 +2,6 @@
 use Rattle.std.proofs.Common.{◌≡◌, ◌∙◌, ℕ, Bool, true, false, List, length, Option, Some, None, Result, Ok, Err, refl, sym, ap, subst, arith}
 use Rattle.std.specs.Prelude.{if◌then◌else◌, IfSome, nat_lt, ◌==◌}
 use Rattle.std.proofs.lemmas.List.{take_all}
-use Rattle.tuple_bytes.specs.declared.header.Header.{Header}
-use Rattle.tuple_bytes.specs.declared.item.Item.{Item}
 use Rattle.notary_link.specs.declared.mark.Mark.{Mark}
 use Rattle.notary_link.specs.Batches.{Batch}
 use Rattle.notary_link.specs.Filing.{fitting, room_in}
@@ -11,7 +9,6 @@ use Rattle.notary_link.specs.Notary.{Lists, Keeps, marks_in_all}
 use Rattle.stmt_text.specs.declared.stmt.Stmt.TheVariants as stmts
 use Rattle.stmt_text.specs.declared.line.Line.{Line}
 use Rattle.stmt_text.specs.declared.line.Line.TheVariants as lines
-use Rattle.store_engine.specs.Opened.{Opened, Stores, IsOpenOn}
 use Rattle.statement_core.specs.World as statements
 use Rattle.validator.specs.declared.verdict.Verdict.{Verdict}
 use Rattle.validator.specs.declared.fail.AuditFail.{AuditFail}
@@ -20,7 +17,11 @@ use Rattle.validator.specs.Verdicts.{mark_of}
 use Rattle.validator.specs.Texts.{verdict_text}
 use Rattle.history_model.specs.History.{history}
 use Rattle.drill_core.specs.Found.{Found}
-use Rattle.drill_core.specs.World.{World, StoreIsIn, StoresOf, IsBetween, AreBetween}
+use Rattle.session_model.specs.World as sessions
+use Rattle.session_model.specs.World.{Session}
+use Rattle.session_model.specs.Standing as standing
+use Rattle.drill_core.specs.declared.open_store.OpenStore.{OpenStore}
+use Rattle.drill_core.specs.World.{World, Held, StandsFor, StoreIsIn, IsBetween, AreBetween}
 use Rattle.drill_core.specs.Steps.{Step, step, on_tables, notarized, unless, sealed, all_filed, filed_for, validated, algorithm_of, marked}
 use Rattle.drill_core.proofs.Analysing.{analysed_stays}
 
@@ -76,17 +77,14 @@ step_limits w (lines.Drill event) now found = tables_limits w w.store (lines.Dri
 
 -- ---- what stands for a world
 
-pub stores_of : (id : ℕ) (store : Option statements.World) (held : Option Opened) (bytes : List ℕ) → StoreIsIn id store held bytes → StoresOf id store bytes
-stores_of id (Some w) (Some s) bytes is = subst (λ (h : Header). Stores h w.items bytes) is.0.header is.0.open_on.stores
-stores_of id None None bytes is = is
-stores_of id (Some w) None bytes is = absurd is
-stores_of id None (Some s) bytes is = absurd is
-
-pub stands_of : (id : ℕ) (store : Option statements.World) (held : Option Opened) (bytes : List ℕ) → StoreIsIn id store held bytes → IfSome held (λ s. (items : List Item) × IsOpenOn s items bytes)
-stands_of id (Some w) (Some s) bytes is = (w.items, is.0.open_on)
-stands_of id None None bytes is = tt
-stands_of id (Some w) None bytes is = absurd is
-stands_of id None (Some s) bytes is = absurd is
+pub stands_of : (id : ℕ) (store : Option statements.World) (begun : ℕ → Option Session) (held : Held) (bytes : List ℕ) → StoreIsIn id store begun held.opened bytes → StandsFor held bytes
+stands_of id store begun held bytes is = by store held.opened is
+  where
+    by : (store : Option statements.World) (o : Option OpenStore) → StoreIsIn id store begun o bytes → IfSome o (λ o. (w : sessions.World) × standing.IsIn w o.sessions o.store bytes)
+    by (Some w) (Some o) is = (record { store = w; sessions = begun }, is.0)
+    by None None is = tt
+    by (Some w) None is = absurd is
+    by None (Some o) is = absurd is
 
 -- ---- between a world's lists and the same
 

@@ -8,6 +8,7 @@ pub mod Linked
 pub mod Running
 pub mod Ran
 pub mod Laws
+pub mod Serial
 pub mod Acknowledged
 pub mod Audited
 pub mod Analysed

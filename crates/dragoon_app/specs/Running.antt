@@ -14,7 +14,7 @@ use Rattle.notary_link.specs.declared.notary.NotaryLimits.{NotaryLimits}
 use Rattle.notary_link.specs.Notary.{Lists}
 use Rattle.statement_core.specs.World as statements
 use Rattle.drill_core.specs.Found.{Found}
-use Rattle.drill_core.specs.World.{World}
+use Rattle.drill_core.specs.World.{World, no_sessions}
 use Rattle.drill_core.specs.Steps.{Step, step, MayFind}
 use Rattle.dragoon_app.specs.declared.line_kind.LineKind.{LineKind}
 use Rattle.dragoon_app.specs.declared.line_kind.LineKind.TheVariants as kinds
@@ -36,10 +36,10 @@ pub record Running : Type 0 where
 abbrev pub world_of : Header → List ℕ → statements.World
 world_of header bytes = record { header = header; items = (stored bytes).items; end = (stored bytes).end }
 
--- before the first line, over a store and what a notary holds: a scripted run begins at the last moment
+-- before the first line, over a store without sessions and what a notary holds: a scripted run begins at the last moment
 abbrev pub start : statements.World → Lists → NotaryLimits → Running
 start store lists limits = record {
-  world = record { id = store.header.id; store = Some store; lists = lists; limits = limits };
+  world = record { id = store.header.id; store = Some store; sessions = no_sessions; lists = lists; limits = limits };
   epoch = store.header.epoch;
   moment = last_moment store.items;
   text = [];
@@ -96,14 +96,14 @@ stmt_kind stmts.Validate = kinds.InWorld
 stmt_kind (stmts.Analyse algorithm) = kinds.InWorld
 stmt_kind (stmts.Now moment) = kinds.SetsMoment moment
 
--- what a line asks for; sessions are not built yet, and drills are no lines of a run
+-- what a line asks for; drills are no lines of a run
 abbrev pub kind_of : Line → LineKind
 kind_of lines.Blank = kinds.Blank
 kind_of (lines.Plain stmt) = stmt_kind stmt
-kind_of (lines.InSession n stmt) = kinds.Unbuilt
+kind_of (lines.InSession n stmt) = kinds.InWorld
 kind_of (lines.Drill event) = kinds.Unbuilt
 
--- a blank line is nothing, and what no layer carries out yet is no line
+-- a blank line is nothing, and what no run carries out is no line
 abbrev pub said_by : LineKind → Bool → ℕ → Found → Running → Line → Running
 said_by kinds.Blank scripted now found r line = r
 said_by kinds.InWorld scripted now found r line = stepped r (step r.world line now found)

@@ -2,6 +2,7 @@
 
 ghost use Rattle.dragoon_app.specs.Acknowledged.{AcknowledgedIsStored, RunsOnlyAppend};
 ghost use Rattle.dragoon_app.specs.Laws.{SoundBytesBeginSound, SoundRunsAreUnaltered};
+ghost use Rattle.dragoon_app.specs.Serial.{RunsAreSerial};
 
 use drill_core::sound_worlds_stay_sound;
 use history_model::stored_is_history;
@@ -23,6 +24,12 @@ pub fn sound_runs_are_unaltered()
 /// A transaction of which `ok N` was replied is stored when the lines were carried out, as the N-th.
 pub fn acknowledged_is_stored()
     ensures { AcknowledgedIsStored }
+{}
+
+/// Every run is serial: a session that commits was told what its statements are told alone, one after
+/// the other, over the history just before its commit, and what they want to store is stored.
+pub fn runs_are_serial()
+    ensures { RunsAreSerial }
 {}
 
 /// No line of a run takes an item away, or changes one.

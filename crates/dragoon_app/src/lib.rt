@@ -94,7 +94,8 @@ mod top;
 mod validate;
 
 pub use laws::{
-    acknowledged_is_stored, runs_only_append, sound_bytes_begin_sound, sound_runs_are_unaltered,
+    acknowledged_is_stored, runs_are_serial, runs_only_append, sound_bytes_begin_sound,
+    sound_runs_are_unaltered,
 };
 pub use leading_words::leading;
 pub use status::Status;

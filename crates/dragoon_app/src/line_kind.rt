@@ -9,10 +9,10 @@ use stmt_text::{Line, Stmt};
 #[derive(Clone, Copy, Debug, PartialEq, Eq)]
 pub enum LineKind {
     Blank,
-    /// A line of the world: a statement on tables, `notarize`, `validate` or `analyse`, outside sessions.
+    /// A line of the world: a statement on tables, `notarize`, `validate` or `analyse`, or a line of a session.
     InWorld,
     SetsMoment { moment: u64 },
-    /// What no layer carries out yet.
+    /// What no run carries out: a line of drills.
     Unbuilt,
 }
 
@@ -44,7 +44,7 @@ pub fn kind_of(line: &Line) -> LineKind
     match line {
         Line::Blank => LineKind::Blank,
         Line::Plain { stmt } => stmt_kind(stmt),
-        Line::InSession { .. } => LineKind::Unbuilt,
+        Line::InSession { .. } => LineKind::InWorld,
         Line::Drill { .. } => LineKind::Unbuilt,
     }
 }

@@ -54,7 +54,7 @@ impl Runner {
         ensures frame { disks.GoesOn (D.state disk.old) (D.state disk.new) }
         ensures cause { HasCause stores.DiskFault (D.state disk.old).faults (D.state disk.new).faults result }
     {
-        let mut world = World::new(alloc, id);
+        let mut world = World::new(id);
         world.enter(alloc, disk)?;
         let store = world.store().unwrap();
         let epoch = store.header().epoch;

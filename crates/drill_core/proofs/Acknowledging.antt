@@ -1,21 +1,15 @@
 -- What a reply acknowledges is stored, and only items more are stored.
-use Rattle.std.proofs.Common.{◌≡◌, ◌∙◌, ℕ, ◌+◌, Bool, true, false, List, [], ◌∷◌, ◌++◌, length, Option, Some, None, Result, Ok, Err, refl, sym, ap, subst}
+use Rattle.std.proofs.Common.{◌≡◌, ◌∙◌, inl, inr, ℕ, ◌+◌, Bool, true, false, List, [], ◌∷◌, ◌++◌, length, Option, Some, None, Result, Ok, Err, refl, sym, ap, subst}
 use Rattle.std.specs.Prelude.{if◌then◌else◌, nat_lt, codes, ◌==◌}
 use Rattle.std.specs.Fmt.{decimal}
 use Rattle.std.proofs.lemmas.List.{append-nil, append_cancel_left, append_cancel_right}
-use Rattle.tuple_bytes.specs.declared.op.Op.{Op}
 use Rattle.tuple_bytes.specs.declared.item.Item.TheVariants as items
 use Rattle.tuple_bytes.specs.declared.item.Txn.{Txn}
-use Rattle.history_model.specs.declared.change.TableFail.{TableFail}
-use Rattle.history_model.specs.declared.change.Write.{Write}
-use Rattle.history_model.specs.Answers.{prepared}
 use Rattle.history_model.specs.History.{txns}
 use Rattle.notary_link.specs.declared.mark.Mark.{Mark}
 use Rattle.notary_link.specs.Filing.{fitting, room_in}
 use Rattle.notary_link.specs.Notary.{marks_in_all}
-use Rattle.store_engine.specs.declared.fail.StoreFail.{StoreFail}
-use Rattle.store_engine.specs.Refusals.{next_txn, commit_fault}
-use Rattle.stmt_text.specs.declared.stmt.Stmt.{Stmt}
+use Rattle.stmt_text.specs.declared.stmt.LineAlgorithm.{LineAlgorithm}
 use Rattle.stmt_text.specs.declared.stmt.Stmt.TheVariants as stmts
 use Rattle.stmt_text.specs.declared.line.Line.{Line}
 use Rattle.stmt_text.specs.declared.line.Line.TheVariants as lines
@@ -24,25 +18,28 @@ use Rattle.statement_core.specs.declared.reply.Reply.TheVariants as replies
 use Rattle.statement_core.specs.Replies.{reply_text}
 use Rattle.statement_core.specs.Promises.{HasOneMore, IsPromised}
 use Rattle.statement_core.specs.World as statements
-use Rattle.statement_core.specs.World.{tail_of_world, tables_now}
-use Rattle.statement_core.specs.Steps as statement_steps
-use Rattle.statement_core.specs.Steps.{committed, commit_prepared, write_in, write_or_read}
-use Rattle.statement_core.proofs.Promising.{steps_keep}
+use Rattle.session_model.specs.World as sessions
+use Rattle.session_model.specs.Steps as session_steps
+use Rattle.session_model.specs.Steps.{Answer, Replied, Stopped}
+use Rattle.session_model.specs.Standing.{reply_of}
+use Rattle.session_model.specs.Promises as session_promises
+use Rattle.session_model.proofs.Promising.{steps_keep_promises}
 use Rattle.validator.specs.declared.verdict.Verdict.{Verdict}
 use Rattle.validator.specs.declared.fail.AuditFail.{AuditFail}
 use Rattle.validator.specs.Verdicts.{mark_of}
 use Rattle.validator.specs.Texts.{verdict_text}
-use Rattle.forensic_report.specs.declared.algorithm.Algorithm.{Algorithm}
 use Rattle.drill_core.specs.World.{World}
 use Rattle.drill_core.specs.Found.{Found}
 use Rattle.drill_core.specs.Steps.{Step, step, on_tables, intent_in, notarized, unless, sealed, validated, analysed, algorithm_of, marked, reached}
 use Rattle.drill_core.specs.Acknowledged.{HasTxn, IsStored, Extends, OnlyAppends, StepsAcknowledge, StepsOnlyAppend, ok_text}
 use Rattle.drill_core.proofs.Texts.{SaysOk, says_ok, reply_ok, refusal_no, notarized_no, validated_no, analysed_no}
+use Rattle.drill_core.proofs.Adding.{Adds, step_adds}
 use Rattle.drill_core.proofs.Analysing.{analysed_stays}
 
 -- a line is a notarization, a validation or an analysis, or goes to the tables
-pub by_line : (P : Step → Type 0) (w : World) (line : Line) (now : ℕ) (found : Found)
-    → ((line : Line) → P (on_tables w w.store line now)) → P (notarized w w.store now) → P (validated w now found.verdict) → ((algorithm : Algorithm) → P (analysed w algorithm now found.analysis)) → P (step w line now found)
+pub by_line : (P : Line → Step → Type 0) (w : World) (line : Line) (now : ℕ) (found : Found)
+    → ((line : Line) → P line (on_tables w w.store line now)) → P (lines.Plain stmts.Notarize) (notarized w w.store now) → P (lines.Plain stmts.Validate) (validated w now found.verdict)
+    → ((algorithm : LineAlgorithm) → P (lines.Plain (stmts.Analyse algorithm)) (analysed w (algorithm_of algorithm) now found.analysis)) → P line (step w line now found)
 unfolding step
 by_line P w lines.Blank now found tables notarizes validates analyses = tables lines.Blank
 by_line P w (lines.Plain (stmts.Create table columns)) now found tables notarizes validates analyses = tables (lines.Plain (stmts.Create table columns))
@@ -57,7 +54,7 @@ by_line P w (lines.Plain stmts.Commit) now found tables notarizes validates anal
 by_line P w (lines.Plain stmts.Abort) now found tables notarizes validates analyses = tables (lines.Plain stmts.Abort)
 by_line P w (lines.Plain stmts.Notarize) now found tables notarizes validates analyses = notarizes
 by_line P w (lines.Plain stmts.Validate) now found tables notarizes validates analyses = validates
-by_line P w (lines.Plain (stmts.Analyse algorithm)) now found tables notarizes validates analyses = analyses (algorithm_of algorithm)
+by_line P w (lines.Plain (stmts.Analyse algorithm)) now found tables notarizes validates analyses = analyses algorithm
 by_line P w (lines.Plain (stmts.Now moment)) now found tables notarizes validates analyses = tables (lines.Plain (stmts.Now moment))
 by_line P w (lines.InSession session stmt) now found tables notarizes validates analyses = tables (lines.InSession session stmt)
 by_line P w (lines.Drill event) now found tables notarizes validates analyses = tables (lines.Drill event)
@@ -71,24 +68,9 @@ pub appends_none : (o : Option statements.World) → OnlyAppends o o
 appends_none None = tt
 appends_none (Some w) = extends_same w
 
-committed_extends : (fault : Option StoreFail) (w : statements.World) (t : Txn) → Extends w (committed fault w t).world
-committed_extends None w t = record { header = refl; more = items.Txn t ∷ []; items = refl }
-committed_extends (Some fail) w t = extends_same w
-
-prepared_extends : (r : Result Op TableFail) (w : statements.World) (now : ℕ) → Extends w (commit_prepared w r now).world
-prepared_extends (Ok op) w now = committed_extends (commit_fault (tail_of_world w) false (op ∷ []) now) w (next_txn (tail_of_world w) (op ∷ []) now)
-prepared_extends (Err fail) w now = extends_same w
-
-stmt_extends : (change : Option Write) (stmt : Stmt) (w : statements.World) (now : ℕ) → Extends w (write_or_read w change stmt now).world
-stmt_extends (Some change) stmt w now = prepared_extends (prepared (tables_now w) change) w now
-stmt_extends None stmt w now = extends_same w
-
-statement_extends : (w : statements.World) (line : Line) (now : ℕ) → Extends w (statement_steps.step w line now).world
-unfolding statement_steps.step
-statement_extends w (lines.Plain stmt) now = stmt_extends (write_in stmt) stmt w now
-statement_extends w lines.Blank now = extends_same w
-statement_extends w (lines.InSession session stmt) now = extends_same w
-statement_extends w (lines.Drill event) now = extends_same w
+added_extends : (w new : statements.World) → Adds w new → Extends w new
+added_extends w new (inl same) = subst (Extends w) (sym same) (extends_same w)
+added_extends w new (inr more) = subst (Extends w) (sym more.is) (record { header = refl; more = items.Txn more.txn ∷ []; items = refl })
 
 reached_extends : (need : Option ℕ) (w : statements.World) → Extends w (reached need w)
 reached_extends None w = extends_same w
@@ -107,7 +89,10 @@ module _ (w : World) where
 
   tables_append : (o : Option statements.World) → o ≡ w.store → (line : Line) (now : ℕ) → Appends (on_tables w o line now)
   tables_append None is line now = appends_none w.store
-  tables_append (Some store) is line now = some_stored store (statement_steps.step store line now).world is (statement_extends store line now)
+  tables_append (Some store) is line now =
+      let before : sessions.World = record { store = store; sessions = w.sessions } in
+      let new = (session_steps.step before line now).world.store in
+      some_stored store new is (added_extends store new (step_adds before line now))
 
   either_appends : (b : Bool) (s t : Step) → Appends s → Appends t → Appends (if b then s else t)
   either_appends true s t one other = one
@@ -133,8 +118,8 @@ module _ (w : World) where
   validated_appends now (Err fail) = appends_none w.store
 
 pub steps_append : StepsOnlyAppend
-steps_append w line now found = by_line (Appends w) w line now found (λ line. tables_append w w.store refl line now) (notarized_appends w w.store refl now) (validated_appends w now found.verdict)
-    (λ algorithm. none_stored w (analysed w algorithm now found.analysis) (ap (λ (x : World). x.store) (analysed_stays w algorithm now found.analysis)))
+steps_append w line now found = by_line (λ line s. Appends w s) w line now found (λ line. tables_append w w.store refl line now) (notarized_appends w w.store refl now) (validated_appends w now found.verdict)
+    (λ algorithm. none_stored w (analysed w (algorithm_of algorithm) now found.analysis) (ap (λ (x : World). x.store) (analysed_stays w (algorithm_of algorithm) now found.analysis)))
 
 -- ---- what is acknowledged is stored
 
@@ -156,11 +141,16 @@ one_more w new number digits m is = record {
   place = m.numbered ∙ m.next;
 }
 
-statement_acknowledges : (w : statements.World) (line : Line) (now : ℕ) (digits : List ℕ) → reply_text (statement_steps.step w line now).reply ≡ ok_text digits → HasTxn digits (statement_steps.step w line now).world.items
+-- an answer of that number was a reply
+pub promised : (w new : statements.World) (answer : Answer) (number : ℕ) → session_promises.IsPromised w answer new → reply_of answer ≡ replies.Committed number → HasOneMore w new number
+promised w new (Replied reply) number is same = subst (λ (r : Reply). IsPromised w r new) same is
+promised w new (Stopped refusal) number is same = absurd cc
+
+statement_acknowledges : (w : sessions.World) (line : Line) (now : ℕ) (digits : List ℕ) → reply_text (reply_of (session_steps.step w line now).answer) ≡ ok_text digits → HasTxn digits (session_steps.step w line now).world.store.items
 statement_acknowledges w line now digits text =
-    let s = statement_steps.step w line now in
-    let ok = reply_ok s.reply (subst SaysOk (sym text) (says_ok digits)) in
-    one_more w s.world ok.0 digits (subst (λ (r : Reply). IsPromised w r s.world) ok.1 (steps_keep w line now)) (the_digits ok.0 digits (sym (ap reply_text ok.1) ∙ text))
+    let s = session_steps.step w line now in
+    let ok = reply_ok (reply_of s.answer) (subst SaysOk (sym text) (says_ok digits)) in
+    one_more w.store s.world.store ok.0 digits (promised w.store s.world.store s.answer ok.0 (steps_keep_promises w line now).store ok.1) (the_digits ok.0 digits (sym (ap reply_text ok.1) ∙ text))
 
 module _ (w : World) (digits : List ℕ) where
   says_else : (s : Step) → (SaysOk s.text → ⊥) → Acknowledges digits s
@@ -168,9 +158,9 @@ module _ (w : World) (digits : List ℕ) where
 
   tables_acknowledge : (o : Option statements.World) (line : Line) (now : ℕ) → Acknowledges digits (on_tables w o line now)
   tables_acknowledge None line now = says_else (on_tables w None line now) (refusal_no w (codes "NotAStore"))
-  tables_acknowledge (Some store) line now = statement_acknowledges store line now digits
+  tables_acknowledge (Some store) line now = statement_acknowledges (record { store = store; sessions = w.sessions }) line now digits
 
 pub steps_acknowledge : StepsAcknowledge
-steps_acknowledge w line now found digits = by_line (Acknowledges digits) w line now found (λ line. tables_acknowledge w digits w.store line now)
+steps_acknowledge w line now found digits = by_line (λ line s. Acknowledges digits s) w line now found (λ line. tables_acknowledge w digits w.store line now)
     (says_else w digits (notarized w w.store now) (notarized_no w w.store now)) (says_else w digits (validated w now found.verdict) (validated_no w now found.verdict))
-    (λ algorithm. says_else w digits (analysed w algorithm now found.analysis) (analysed_no w algorithm now found.analysis))
+    (λ algorithm. says_else w digits (analysed w (algorithm_of algorithm) now found.analysis) (analysed_no w (algorithm_of algorithm) now found.analysis))

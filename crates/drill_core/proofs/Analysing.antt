@@ -51,9 +51,9 @@ unchanged_sound old new filed later same unchanged =
     told_same old.reads new.reads _ same.reads (λ before. told_map filed.lists later.lists Keeps _ unchanged.lists (λ lists later_lists keeps id stands only sound. left_sound old new lists later_lists id same keeps sound))
 
 -- wherever the store stands
-pub sound_anyhow : (Stands : List ℕ → Type 0) (old new : State) (filed later : notaries.State) → KeepsSound (λ before. ⊤) (desk old filed) (desk new later) → KeepsSound Stands (desk old filed) (desk new later)
-sound_anyhow Stands old new filed later keeps =
-    told_map old.reads new.reads _ _ keeps (λ before after h. told_map filed.lists later.lists _ _ h (λ lists later_lists k id stands only sound. k id tt only sound))
+pub sound_where : (Other Stands : List ℕ → Type 0) → ((bytes : List ℕ) → Stands bytes → Other bytes) → (old new : State) (filed later : notaries.State) → KeepsSound Other (desk old filed) (desk new later) → KeepsSound Stands (desk old filed) (desk new later)
+sound_where Other Stands other old new filed later keeps =
+    told_map old.reads new.reads _ _ keeps (λ before after h. told_map filed.lists later.lists _ _ h (λ lists later_lists k id stands only sound. k id (other before stands) only sound))
 
 -- ---- what a report shows
 
@@ -89,7 +89,7 @@ module _ (algorithm : LineAlgorithm) (now : ℕ) (old new : State) (same : Uncha
   module _ (w : World) (held : Held) (bytes : List ℕ) (lists later : Lists) (i : IsIn w held bytes lists) (keeps : Keeps lists later) where
     found_in : (f : Result Analysis AnalyseFail) → IsAnalysis (algorithm_of algorithm) w.id (lists.batches w.id) (stored bytes) f → IsAnalysisIn (algorithm_of algorithm) (filed_for w) (history_of w.store) f
     found_in f is = subst (λ (b : List Batch). IsAnalysisIn (algorithm_of algorithm) b (history_of w.store) f) (i.lists.batches w.id)
-        (subst (λ (h : Option History). IsAnalysisIn (algorithm_of algorithm) (lists.batches w.id) h f) (history_is w.id w.store held.store bytes i.store) is)
+        (subst (λ (h : Option History). IsAnalysisIn (algorithm_of algorithm) (lists.batches w.id) h f) (history_is w.id w.store w.sessions held.opened bytes i.store) is)
 
     -- this was found, and is told
     tells : (result : Result Answered LineFail) (f : Result Analysis AnalyseFail) → IsAnalysisIn (algorithm_of algorithm) (filed_for w) (history_of w.store) f → IfOk result (IsReply (analysed w (algorithm_of algorithm) now f))

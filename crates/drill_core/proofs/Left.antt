@@ -5,8 +5,10 @@ use Rattle.disk_model.specs.Moments.{EveryImage}
 use Rattle.disk_model.proofs.Moments.{started, stays}
 use Rattle.history_model.specs.Stored.{stored}
 use Rattle.notary_link.specs.Notary.{Lists, Keeps}
-use Rattle.store_engine.specs.Opened.{Opened, Stores}
+use Rattle.store_engine.specs.Opened.{Stores}
 use Rattle.statement_core.specs.World as statements
+use Rattle.session_model.specs.World.{Session}
+use Rattle.drill_core.specs.declared.open_store.OpenStore.{OpenStore}
 use Rattle.validator.specs.Desk.{content}
 use Rattle.drill_core.specs.declared.answered.Answered.{Answered}
 use Rattle.drill_core.specs.declared.fail.LineFail.{LineFail}
@@ -14,14 +16,14 @@ use Rattle.drill_core.specs.World.{World, Held, IsIn, StoreIsIn, StoresOf, Store
 use Rattle.drill_core.specs.Steps.{Step}
 use Rattle.drill_core.specs.Stepping.{IsReply, Goes}
 
-stores_of : (id : ℕ) (o : Option statements.World) (s : Option Opened) (bytes : List ℕ) → StoreIsIn id o s bytes → StoresOf id o bytes
-stores_of id (Some w) (Some s) bytes i = subst (λ h. Stores h w.items bytes) i.0.header i.0.open_on.stores
-stores_of id None None bytes i = i
-stores_of id (Some w) None bytes i = absurd i
-stores_of id None (Some s) bytes i = absurd i
+pub stores_of : (id : ℕ) (o : Option statements.World) (begun : ℕ → Option Session) (s : Option OpenStore) (bytes : List ℕ) → StoreIsIn id o begun s bytes → StoresOf id o bytes
+stores_of id (Some w) begun (Some s) bytes i = subst (λ h. Stores h w.items bytes) i.0.store.header i.0.store.open_on.stores
+stores_of id None begun None bytes i = i.0
+stores_of id (Some w) begun None bytes i = absurd i
+stores_of id None begun (Some s) bytes i = absurd i
 
 pub stores_world : (w : World) (held : Held) (bytes : List ℕ) (lists : Lists) → IsIn w held bytes lists → StoresWorld w bytes
-stores_world w held bytes lists i = stores_of w.id w.store held.store bytes i.store
+stores_world w held bytes lists i = stores_of w.id w.store w.sessions held.opened bytes i.store
 
 module _ (w : World) (held : Held) (old new : State) (bytes : List ℕ) (lists : Lists) (i : IsIn w held bytes lists)
     (same : Unchanged old new) (only_now : (c : List ℕ) → old.was_image (turn old) c → old.is_image c) where
@@ -35,14 +37,16 @@ module _ (w : World) (held : Held) (old new : State) (bytes : List ℕ) (lists :
       (subst (λ (n : ℕ). StoresOf n w.store bytes) (sym id_stays) (stores_world w held bytes lists i))
 
   -- the lists may have changed
-  pub left : (next : Step) (result : Result Answered LineFail) (later : Lists) → next.world.id ≡ w.id → next.world.store ≡ w.store
+  pub left : (next : Step) (result : Result Answered LineFail) (later : Lists) → next.world.id ≡ w.id → next.world.store ≡ w.store → next.world.sessions ≡ w.sessions
       → IfOk result (IsReply next) → OnOk result (Keeps next.world.lists later) → AreBetween w.lists next.world.lists later
       → Goes w next result held old new bytes (content bytes later)
-  left next (Ok answered) later id_stays store reply keeps between = record {
+  left next (Ok answered) later id_stays store begun reply keeps between = record {
     reply = reply;
     stands = record {
       id = i.id ∙ sym id_stays;
-      store = subst (λ (o : Option statements.World). StoreIsIn next.world.id o held.store bytes) (sym store) (subst (λ (n : ℕ). StoreIsIn n w.store held.store bytes) (sym id_stays) i.store);
+      store = subst (λ (f : ℕ → Option Session). StoreIsIn next.world.id next.world.store f held.opened bytes) (sym begun)
+          (subst (λ (o : Option statements.World). StoreIsIn next.world.id o w.sessions held.opened bytes) (sym store)
+          (subst (λ (n : ℕ). StoreIsIn n w.store w.sessions held.opened bytes) (sym id_stays) i.store));
       lists = keeps;
     };
     settled = λ only c now. only c ((same.images c).0 now);
@@ -52,7 +56,7 @@ module _ (w : World) (held : Held) (old new : State) (bytes : List ℕ) (lists :
     ordered = λ id more only. (λ c now. only c ((same.images c).0 now), still_stores next id_stays store);
     same = λ stays. same.trace;
   }
-  left next (Err fail) later id_stays store reply keeps between = record {
+  left next (Err fail) later id_stays store begun reply keeps between = record {
     reply = tt;
     stands = tt;
     settled = λ only. tt;

@@ -2,7 +2,9 @@ pub mod Between
 pub mod Left
 pub mod Replies
 pub mod LineKinds
+pub mod Sessions
 pub mod Tables
+pub mod Adding
 pub mod Sounds
 pub mod Validating
 pub mod Analysing

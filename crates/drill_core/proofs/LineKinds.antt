@@ -5,7 +5,8 @@ use Rattle.stmt_text.specs.declared.stmt.Stmt.{Stmt}
 use Rattle.stmt_text.specs.declared.stmt.Stmt.TheVariants as stmts
 use Rattle.stmt_text.specs.declared.line.Line.{Line}
 use Rattle.stmt_text.specs.declared.line.Line.TheVariants as lines
-use Rattle.statement_core.specs.Steps.{IsTableLine, IsOnTables}
+use Rattle.statement_core.specs.Steps.{IsOnTables}
+use Rattle.session_model.specs.Standing.{IsStatementLine}
 use Rattle.validator.specs.declared.verdict.Verdict.{Verdict}
 use Rattle.validator.specs.declared.verdict.Verdict.TheVariants as verdicts
 use Rattle.validator.specs.declared.fail.AuditFail.{AuditFail}
@@ -44,10 +45,11 @@ module _ (w : World) (now : ℕ) where
   stmt_step (stmts.Analyse algorithm) on = absurd on
   stmt_step (stmts.Now moment) on = absurd on
 
-  pub table_step : (line : Line) → IsTableLine line → step w line now none_found ≡ on_tables w w.store line now
+  pub table_step : (line : Line) → IsStatementLine line → step w line now none_found ≡ on_tables w w.store line now
+  unfolding step
   table_step (lines.Plain stmt) on = stmt_step stmt on
   table_step lines.Blank on = absurd on
-  table_step (lines.InSession session stmt) on = absurd on
+  table_step (lines.InSession session stmt) on = refl
   table_step (lines.Drill event) on = absurd on
 
   stmt_may : (stmt : Stmt) → IsOnTables stmt → MayFind w (lines.Plain stmt) none_found
@@ -66,10 +68,10 @@ module _ (w : World) (now : ℕ) where
   stmt_may (stmts.Analyse algorithm) on = absurd on
   stmt_may (stmts.Now moment) on = absurd on
 
-  pub table_may : (line : Line) → IsTableLine line → MayFind w line none_found
+  pub table_may : (line : Line) → IsStatementLine line → MayFind w line none_found
   table_may (lines.Plain stmt) on = stmt_may stmt on
   table_may lines.Blank on = absurd on
-  table_may (lines.InSession session stmt) on = absurd on
+  table_may (lines.InSession session stmt) on = tt
   table_may (lines.Drill event) on = absurd on
 
   pub notarize_step : step w (lines.Plain stmts.Notarize) now none_found ≡ notarized w w.store now

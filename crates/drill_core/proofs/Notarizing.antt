@@ -14,7 +14,7 @@ use Rattle.tuple_bytes.specs.declared.header.Header.{Header}
 use Rattle.tuple_bytes.specs.declared.item.Item.{Item}
 use Rattle.tuple_bytes.specs.declared.item.Item.TheVariants as items
 use Rattle.tuple_bytes.specs.Spelling.{spell_frontier}
-use Rattle.history_model.specs.History.{history}
+use Rattle.history_model.specs.History.{history, txns}
 use Rattle.digest_model.specs.Layout.{layout}
 use Rattle.notary_link.specs.declared.notary.NotaryLimits.{NotaryLimits}
 use Rattle.notary_link.specs.Batches.{Batch}
@@ -25,9 +25,12 @@ use Rattle.notary_link.proofs.Fitting.{fitting_few}
 use Rattle.notary_link.proofs.InAll.{kept_seals}
 use Rattle.store_engine.specs.Opened.{Opened, Stores, IsOpenOn}
 use Rattle.store_engine.specs.Refusals.{Tail, tail_of}
+use Rattle.store_engine.proofs.Telling.{txns_no_more}
 use Rattle.stmt_text.specs.declared.stmt.Stmt.TheVariants as stmts
 use Rattle.stmt_text.specs.declared.line.Line.TheVariants as lines
 use Rattle.statement_core.specs.World as statements
+use Rattle.session_model.specs.Standing as sessions
+use Rattle.session_model.specs.Standing.{Machine}
 use Rattle.validator.specs.Desk.{content, desk}
 use Rattle.validator.specs.declared.fail.AuditFail.{AuditFail}
 use Rattle.validator.specs.declared.fail.AuditFail.TheVariants as fails
@@ -48,6 +51,7 @@ use Rattle.drill_core.specs.Stepping.{IsReply, Goes, Steps, StepsFor}
 use Rattle.drill_core.proofs.Between.{kept_between, keeps_then, filed_keeps, filed_between}
 use Rattle.drill_core.proofs.LineKinds.{none_found, notarize_step}
 use Rattle.drill_core.proofs.Left.{left}
+use Rattle.drill_core.proofs.Sessions.{stands_still}
 use Rattle.drill_core.proofs.Tables.{HasStore, has_store, never_longer, items_stay}
 use Rattle.drill_core.proofs.Validating.{replies_as, given}
 
@@ -91,12 +95,12 @@ few_filed id limits batches r lists later files = by r files
 
 module _ (now : ℕ) (s later_s : Opened) (old new : State) (before after : List ℕ) (lists later : Lists) (limits : NotaryLimits)
     (is_open : s.at.is_closed ≡ false) (header : later_s.header ≡ s.header) (only_now : (c : List ℕ) → old.was_image (turn old) c → old.is_image c)
-    (reads : Unchanged old new → after ≡ before) (w : World) (i : IsIn w (alone s) before lists) (within : w.limits ≡ limits) (has : HasStore w s before) where
+    (reads : Unchanged old new → after ≡ before) (w : World) (kept_sessions : Machine) (i : IsIn w (alone kept_sessions s) before lists) (within : w.limits ≡ limits) (has : HasStore w kept_sessions s before) where
   abbrev ws : statements.World
   ws = has.world
 
   abbrev To : Step → Result Answered LineFail → Type 0
-  To next result = Goes w next result (alone later_s) old new before (content after later)
+  To next result = Goes w next result (alone kept_sessions later_s) old new before (content after later)
 
   -- ---- the same, of the world
 
@@ -159,21 +163,21 @@ module _ (now : ℕ) (s later_s : Opened) (old new : State) (before after : List
     abbrev next : Step
     next = refuses w (refusal_text fail)
 
-    stay : (result : Result Answered LineFail) → IfOk result (λ answered. answered ≡ refusal (refusal_text fail)) → Goes w next result (alone s) old new before (content after later)
-    stay result reply = subst (λ (a : List ℕ). Goes w next result (alone s) old new before (content a later)) (sym (reads same))
-        (left w (alone s) old new before lists i same only_now next result later refl refl
+    stay : (result : Result Answered LineFail) → IfOk result (λ answered. answered ≡ refusal (refusal_text fail)) → Goes w next result (alone kept_sessions s) old new before (content after later)
+    stay result reply = subst (λ (a : List ℕ). Goes w next result (alone kept_sessions s) old new before (content a later)) (sym (reads same))
+        (left w (alone kept_sessions s) old new before lists i same only_now next result later refl refl refl
         (replies_as next (refusal (refusal_text fail)) result refl refl reply)
         (given result (keeps_then w.lists lists later i.lists keeps))
         (kept_between w.lists later (keeps_then w.lists lists later i.lists keeps)))
 
     faulty : (result : Result Answered LineFail) → OnOk result ⊥ → To next result
     faulty (Ok answered) never = absurd never
-    faulty (Err other) never = wherever w next other (alone s) (alone later_s) old new before after later (stay (Err other) tt)
+    faulty (Err other) never = wherever w next other (alone kept_sessions s) (alone kept_sessions later_s) old new before after later (stay (Err other) tt)
 
     told : (told_fail : AuditFail) → fault ≡ Some told_fail → later_s ≡ s → (result : Result Answered LineFail) → IfOk result (λ answered. answered ≡ refusal (refusal_text told_fail)) → To next result
     told told_fail told_is stands result reply =
         let same_fail : told_fail ≡ fail = cc in
-        subst (λ (x : Opened). Goes w next result (alone x) old new before (content after later)) (sym stands)
+        subst (λ (x : Opened). Goes w next result (alone kept_sessions x) old new before (content after later)) (sym stands)
         (stay result (subst (λ (f : AuditFail). IfOk result (λ answered. answered ≡ refusal (refusal_text f))) same_fail reply))
 
     pub refused : (r : Result ℕ AuditFail) (result : Result Answered LineFail) → Answers sealed_text r result → IsRefusedBy fault r → (reached_too shut : Type 0) → reaching.StandsAfter r reached_too (reaching.IsLeft s later_s old new) shut → To next result
@@ -206,14 +210,17 @@ module _ (now : ℕ) (s later_s : Opened) (old new : State) (before after : List
   either_of (Some moment) c (inl stores) = inl (of_ws c stores)
   either_of (Some moment) c (inr stores) = inr (subst (λ (h : Header). Stores h (reached (Some moment) ws).items c) has.stands.header stores)
 
-  stands_in : (o : Option ℕ) → IsReached o s later_s ws.items old new before after → statements.IsIn (reached o ws) later_s after × ((reached o ws).header.id ≡ w.id)
-  stands_in None r = (record { header = header ∙ has.stands.header; end = ap (λ (x : Opened). x.at.end) r.store_is ∙ has.stands.end; open_on = r.open_on }, has.own)
+  stands_with : (o : Option ℕ) → txns (reached o ws).items ≡ txns ws.items → statements.IsIn (reached o ws) later_s after → sessions.IsIn (record { store = reached o ws; sessions = w.sessions }) kept_sessions later_s after
+  stands_with o same stands = stands_still ws (reached o ws) w.sessions kept_sessions s later_s before after same stands has.with_sessions
+
+  stands_in : (o : Option ℕ) → IsReached o s later_s ws.items old new before after → sessions.IsIn (record { store = reached o ws; sessions = w.sessions }) kept_sessions later_s after × ((reached o ws).header.id ≡ w.id)
+  stands_in None r = (stands_with None refl (record { header = header ∙ has.stands.header; end = ap (λ (x : Opened). x.at.end) r.store_is ∙ has.stands.end; open_on = r.open_on }), has.own)
   stands_in (Some moment) r = (
-    record {
+    stands_with (Some moment) (txns_no_more ws.items moment) (record {
       header = header ∙ has.stands.header;
       end = ap (λ (x : Opened). x.at.end) r.store_is ∙ ap (λ (e : ℕ). e + 5 + length (spell_frontier moment)) has.stands.end;
       open_on = r.open_on;
-    },
+    }),
     has.own,
   )
 
@@ -345,7 +352,7 @@ module _ (now : ℕ) (s later_s : Opened) (old new : State) (before after : List
         (λ more. subst (λ (o : Option ℕ). IsReached o s later_s ws.items old new before after) need_is (n.ordered more))
         is r result answer by_world value_world files_world (subst (λ (o : Option ℕ). reaching.MakesFor (reaching.frontier_calls s o) r old new) need_is n.trace) (reaching.IsLeft s later_s old new) (later_s.at.is_closed ≡ true) stands_world
 
-    pub notarizes : Steps (lines.Plain stmts.Notarize) now w result (alone later_s) old new before (content after later)
+    pub notarizes : Steps (lines.Plain stmts.Notarize) now w result (alone kept_sessions later_s) old new before (content after later)
     notarizes = record {
       found = none_found;
       may = tt;
@@ -361,19 +368,19 @@ pub notarization : (now : ℕ) (s later_s : Opened) (old new : State) (filed lat
     → ((c : List ℕ) → old.was_image (turn old) c → old.is_image c) → (r : Result ℕ AuditFail) (result : Result Answered LineFail) → Answers sealed_text r result
     → WhereTold old.reads new.reads (λ before after. WhereTold filed.lists later.lists (λ lists later_lists.
     (items : List Item) → IsOpenOn s items before → Notarizes now items r s later_s (desk old filed) (desk new later) (content before lists) (content after later_lists)))
-    → StepsFor (lines.Plain stmts.Notarize) now result (alone s) (alone later_s) (desk old filed) (desk new later)
-notarization now s later_s old new filed later is_open header only_now r result answer told =
+    → (kept_sessions : Machine) → StepsFor (lines.Plain stmts.Notarize) now result (alone kept_sessions s) (alone kept_sessions later_s) (desk old filed) (desk new later)
+notarization now s later_s old new filed later is_open header only_now r result answer told kept_sessions =
     told_known old.reads new.reads
     (λ before after. WhereTold filed.lists later.lists (λ lists later_lists. (items : List Item) → IsOpenOn s items before → Notarizes now items r s later_s (desk old filed) (desk new later) (content before lists) (content after later_lists)))
-    (λ before after. WhereTold filed.lists later.lists (λ lists later_lists. (w : World) → IsIn w (alone s) before lists → w.limits ≡ filed.limits → Steps (lines.Plain stmts.Notarize) now w result (alone later_s) old new before (content after later_lists)))
+    (λ before after. WhereTold filed.lists later.lists (λ lists later_lists. (w : World) → IsIn w (alone kept_sessions s) before lists → w.limits ≡ filed.limits → Steps (lines.Plain stmts.Notarize) now w result (alone kept_sessions later_s) old new before (content after later_lists)))
     told
     (λ before after was is at. told_map filed.lists later.lists
     (λ lists later_lists. (items : List Item) → IsOpenOn s items before → Notarizes now items r s later_s (desk old filed) (desk new later) (content before lists) (content after later_lists))
-    (λ lists later_lists. (w : World) → IsIn w (alone s) before lists → w.limits ≡ filed.limits → Steps (lines.Plain stmts.Notarize) now w result (alone later_s) old new before (content after later_lists))
+    (λ lists later_lists. (w : World) → IsIn w (alone kept_sessions s) before lists → w.limits ≡ filed.limits → Steps (lines.Plain stmts.Notarize) now w result (alone kept_sessions later_s) old new before (content after later_lists))
     at
     (λ lists later_lists does w i within.
-    let has = has_store w s before lists i in
-    notarizes now s later_s old new before after lists later_lists filed.limits is_open header only_now (λ same. same_bytes before after (sym is ∙ same.reads ∙ was)) w i within has
+    let has = has_store w kept_sessions s before lists i in
+    notarizes now s later_s old new before after lists later_lists filed.limits is_open header only_now (λ same. same_bytes before after (sym is ∙ same.reads ∙ was)) w kept_sessions i within has
     filed later refl r result answer (does has.world.items has.stands.open_on)))
   where
     same_bytes : (b a : List ℕ) → Some a ≡ Some b → a ≡ b

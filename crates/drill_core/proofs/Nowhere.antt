@@ -27,7 +27,7 @@ use Rattle.drill_core.proofs.Validating.{replies_as, given}
 has_none : (w : World) (id : ℕ) (bytes : List ℕ) (lists : notaries.Lists) → IsIn w (no_store id) bytes lists → w.store ≡ None
 has_none w id bytes lists i = by w.store refl i.store
   where
-    by : (o : Option statements.World) → w.store ≡ o → StoreIsIn w.id o None bytes → w.store ≡ None
+    by : (o : Option statements.World) → w.store ≡ o → StoreIsIn w.id o w.sessions None bytes → w.store ≡ None
     by None is none = is
     by (Some ws) is none = absurd none
 
@@ -51,7 +51,7 @@ module _ (w : World) (now : ℕ) (none : w.store ≡ None) where
   refuses (lines.Plain (stmts.Analyse algorithm)) needs = absurd needs
   refuses (lines.Plain (stmts.Now moment)) needs = absurd needs
   refuses lines.Blank needs = absurd needs
-  refuses (lines.InSession session stmt) needs = absurd needs
+  refuses (lines.InSession session stmt) needs = (tt, table_step w now (lines.InSession session stmt) tt ∙ ap (λ (o : Option statements.World). on_tables w o (lines.InSession session stmt) now) none)
   refuses (lines.Drill event) needs = absurd needs
 
 pub nowhere : (line : Line) → NeedsStore line → (id now : ℕ) (old : State) → ((c : List ℕ) → old.was_image (turn old) c → old.is_image c) → (filed : notaries.State) (result : Result Answered LineFail)
@@ -65,7 +65,7 @@ nowhere line needs id now old only_now filed result reply =
       found = none_found;
       may = r.0;
       goes = subst (λ (x : Step). Goes w x result (no_store id) old old bytes (content bytes lists)) (sym r.1)
-          (left w (no_store id) old old bytes lists i (unchanged_same old) only_now (has_no_store w) result lists refl refl
+          (left w (no_store id) old old bytes lists i (unchanged_same old) only_now (has_no_store w) result lists refl refl refl
           (replies_as (has_no_store w) (refusal (codes "NotAStore")) result refl refl reply)
           (given result i.lists)
           (kept_between w.lists lists i.lists));

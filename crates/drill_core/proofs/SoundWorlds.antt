@@ -20,7 +20,8 @@ use Rattle.stmt_text.specs.declared.stmt.Stmt.TheVariants as stmts
 use Rattle.stmt_text.specs.declared.line.Line.{Line}
 use Rattle.stmt_text.specs.declared.line.Line.TheVariants as lines
 use Rattle.statement_core.specs.World as statements
-use Rattle.statement_core.specs.Steps as statement_steps
+use Rattle.session_model.specs.World as sessions
+use Rattle.session_model.specs.Steps as session_steps
 use Rattle.validator.specs.declared.verdict.Verdict.{Verdict}
 use Rattle.validator.specs.declared.fail.AuditFail.{AuditFail}
 use Rattle.validator.specs.declared.fail.AuditFail.TheVariants as fails
@@ -41,7 +42,7 @@ use Rattle.drill_core.specs.World.{World, with_store, with_lists, with_mark}
 use Rattle.drill_core.specs.Found.{Found}
 use Rattle.drill_core.specs.Steps.{step, says, refuses, filed, filed_for, reached, sealed, unless, notarized, marked, validated, analysed, algorithm_of, on_tables, history_of, MayFind}
 use Rattle.drill_core.specs.Laws.{HoldsFiled, IsSoundWorld, HasFitHeader, IsSoundVerdict, TellsNoAlteration, SoundWorldsStaySound}
-use Rattle.drill_core.proofs.Sounds.{Adds, step_adds}
+use Rattle.drill_core.proofs.Adding.{Adds, step_adds}
 use Rattle.drill_core.proofs.Analysing.{analysed_stays}
 
 abbrev IsSoundAndFit : World → Type 0
@@ -71,7 +72,9 @@ module _ (w : World) (fits : HasFitHeader w) (sound : IsSoundWorld w) where
     where
       by : (o : Option statements.World) → w.store ≡ o → IsSoundAndFit (on_tables w o line now).world
       by None is = (sound, fits)
-      by (Some ws) is = with_added ws is (statement_steps.step ws line now).world (step_adds ws now line)
+      by (Some ws) is =
+          let before : sessions.World = record { store = ws; sessions = w.sessions } in
+          with_added ws is (session_steps.step before line now).world.store (step_adds before line now)
 
   -- ---- a notarization
 

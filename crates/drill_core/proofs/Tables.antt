@@ -1,4 +1,4 @@
--- A statement on tables does to the world what it does to the store's.
+-- A statement on tables and a line of a session do to the world what they do to the store and its sessions.
 use Rattle.std.proofs.Common.{◌≡◌, ◌⊎◌, ℕ, Bool, List, ◌++◌, ◌∷◌, [], length, length-append, Option, Some, None, Result, Ok, Err, IfOk, inl, inr, refl, sym, ap, subst, ◌∙◌, arith}
 use Rattle.outside_words.specs.Told.{WhereTold}
 use Rattle.outside_words.proofs.Told.{told_map, told_same}
@@ -9,12 +9,16 @@ use Rattle.notary_link.specs.Notary as notaries
 use Rattle.store_engine.specs.Opened.{Opened}
 use Rattle.stmt_text.specs.declared.line.Line.{Line}
 use Rattle.statement_core.specs.declared.reply.Reply.{Reply}
-use Rattle.statement_core.specs.declared.sessions.StepFail.{StepFail}
-use Rattle.statement_core.specs.declared.sessions.StepFail.TheVariants as steps_as
+use Rattle.statement_core.specs.declared.statements.StepFail.{StepFail}
+use Rattle.statement_core.specs.declared.statements.StepFail.TheVariants as steps_as
 use Rattle.statement_core.specs.Replies.{reply_text, is_refusal}
 use Rattle.statement_core.specs.World as statements
 use Rattle.statement_core.specs.Steps as statement_steps
-use Rattle.statement_core.specs.Stepping.{StepsIn, StepsTo, MakesFor}
+use Rattle.statement_core.specs.Stepping.{MakesFor}
+use Rattle.session_model.specs.World as sessions
+use Rattle.session_model.specs.Steps as session_steps
+use Rattle.session_model.specs.Standing.{Machine, IsStatementLine, StepsIn, StepsTo, of_store}
+use Rattle.session_model.specs.Standing as standing
 use Rattle.statement_core.specs.declared.reply.Reply.TheVariants as replies
 use Rattle.tuple_bytes.specs.declared.item.Item.{Item}
 use Rattle.tuple_bytes.specs.declared.item.Item.TheVariants as items
@@ -29,20 +33,20 @@ use Rattle.drill_core.specs.Steps.{Step, on_tables, after_statement}
 use Rattle.drill_core.specs.Stepping.{IsReply, Goes, Steps}
 use Rattle.drill_core.proofs.Between.{kept_between}
 use Rattle.drill_core.proofs.LineKinds.{none_found, table_step, table_may}
-use Rattle.statement_core.specs.Steps.{IsTableLine}
 
--- the world of an open store
-pub record HasStore (w : World) (s : Opened) (bytes : List ℕ) : Type 0 where
+-- the world of an open store, with its sessions
+pub record HasStore (w : World) (kept : Machine) (s : Opened) (bytes : List ℕ) : Type 0 where
   pub world : statements.World
   pub is : w.store ≡ Some world
+  pub with_sessions : standing.IsIn (record { store = world; sessions = w.sessions }) kept s bytes
   pub stands : statements.IsIn world s bytes
   pub own : world.header.id ≡ w.id
 
-pub has_store : (w : World) (s : Opened) (bytes : List ℕ) (lists : notaries.Lists) → IsIn w (alone s) bytes lists → HasStore w s bytes
-has_store w s bytes lists i = by w.store refl i.store
+pub has_store : (w : World) (kept : Machine) (s : Opened) (bytes : List ℕ) (lists : notaries.Lists) → IsIn w (alone kept s) bytes lists → HasStore w kept s bytes
+has_store w kept s bytes lists i = by w.store refl i.store
   where
-    by : (o : Option statements.World) → w.store ≡ o → StoreIsIn w.id o (Some s) bytes → HasStore w s bytes
-    by (Some world) is stands = record { world = world; is = is; stands = stands.0; own = stands.1 }
+    by : (o : Option statements.World) → w.store ≡ o → StoreIsIn w.id o w.sessions (Some (record { store = s; sessions = kept })) bytes → HasStore w kept s bytes
+    by (Some world) is stands = record { world = world; is = is; with_sessions = stands.0; stands = stands.0.store; own = stands.1 }
     by None is stands = absurd stands
 
 -- the answer to what was replied
@@ -86,19 +90,22 @@ unmoved w next (replies.Scanned rows) s old new makes stays = makes
 unmoved w next (replies.Told versions) s old new makes stays = makes
 unmoved w next (replies.Refused refusal) s old new makes stays = makes
 
-module _ (s later : Opened) (header : later.header ≡ s.header) (old new : disks.State) where
-  module _ (w : World) (lists : notaries.Lists) (b a : List ℕ) (i : IsIn w (alone s) b lists) (has : HasStore w s b) where
-    either : (next : statement_steps.Step) (c : List ℕ) → statements.StoresEither has.world next.world c → StoresEither w (after_statement w next).world c
+module _ (kept later_kept : Machine) (s later : Opened) (header : later.header ≡ s.header) (old new : disks.State) where
+  module _ (w : World) (lists : notaries.Lists) (b a : List ℕ) (i : IsIn w (alone kept s) b lists) (has : HasStore w kept s b) where
+    abbrev own : sessions.World
+    own = record { store = has.world; sessions = w.sessions }
+
+    either : (next : session_steps.Step) (c : List ℕ) → statements.StoresEither has.world next.world.store c → StoresEither w (after_statement w next).world c
     either next c (inl stores) = inl (subst (λ (o : Option statements.World). StoresOf w.id o c) (sym has.is) stores)
     either next c (inr stores) = inr stores
 
-    goes : (next : statement_steps.Step) (r : Result Reply StepFail) (result : Result Answered LineFail) → StepsIn has.world next r s later old new b a → Answers r result
-        → Goes w (after_statement w next) result (alone later) old new b (content a lists)
+    goes : (next : session_steps.Step) (r : Result Reply StepFail) (result : Result Answered LineFail) → StepsIn own next r kept later_kept s later old new b a → Answers r result
+        → Goes w (after_statement w next) result (alone later_kept later) old new b (content a lists)
     goes next (Ok reply) (Ok answered) steps is = record {
       reply = record { text = ap (λ (x : Answered). x.text) is ∙ ap (λ (x : Reply). (replied x).text) steps.reply; refused = ap (λ (x : Answered). x.refused) is ∙ ap (λ (x : Reply). (replied x).refused) steps.reply };
       stands = record {
         id = ap (λ (h : Header). h.id) header ∙ i.id;
-        store = (steps.stands, ap (λ (h : Header). h.id) (sym steps.stands.header ∙ header) ∙ i.id);
+        store = (steps.stands, ap (λ (h : Header). h.id) (sym steps.stands.store.header ∙ header) ∙ i.id);
         lists = i.lists;
       };
       settled = steps.settled;
@@ -106,7 +113,7 @@ module _ (s later : Opened) (header : later.header ≡ s.header) (old new : disk
       kept = λ only. either next a (steps.kept only);
       between = kept_between w.lists lists i.lists;
       ordered = λ id more. absurd (more (i.lists.batches id));
-      same = λ stays. unmoved has.world next reply s old new steps.trace (stays ∙ has.is);
+      same = λ stays. unmoved has.world (of_store next) reply s old new steps.trace (stays ∙ has.is);
     }
     goes next r (Err fail) steps is = record {
       reply = tt;
@@ -120,21 +127,21 @@ module _ (s later : Opened) (header : later.header ≡ s.header) (old new : disk
     }
     goes next (Err fail) (Ok answered) steps is = absurd is
 
-  module _ (line : Line) (now : ℕ) (on : IsTableLine line) (r : Result Reply StepFail) (result : Result Answered LineFail) (answers : Answers r result) where
-    steps : (w : World) (lists : notaries.Lists) (b a : List ℕ) → IsIn w (alone s) b lists → StepsTo line now r s later old new b a → Steps line now w result (alone later) old new b (content a lists)
+  module _ (line : Line) (now : ℕ) (on : IsStatementLine line) (r : Result Reply StepFail) (result : Result Answered LineFail) (answers : Answers r result) where
+    steps : (w : World) (lists : notaries.Lists) (b a : List ℕ) → IsIn w (alone kept s) b lists → StepsTo line now r kept later_kept s later old new b a → Steps line now w result (alone later_kept later) old new b (content a lists)
     steps w lists b a i does =
-        let has = has_store w s b lists i in
-        let next = statement_steps.step has.world line now in
+        let has = has_store w kept s b lists i in
+        let next = session_steps.step (record { store = has.world; sessions = w.sessions }) line now in
         record {
           found = none_found;
           may = table_may w now line on;
-          goes = subst (λ (x : Step). Goes w x result (alone later) old new b (content a lists)) (sym (table_step w now line on ∙ ap (λ (o : Option statements.World). on_tables w o line now) has.is))
-              (goes w lists b a i has next r result (does has.world has.stands) answers);
+          goes = subst (λ (x : Step). Goes w x result (alone later_kept later) old new b (content a lists)) (sym (table_step w now line on ∙ ap (λ (o : Option statements.World). on_tables w o line now) has.is))
+              (goes w lists b a i has next r result (does (record { store = has.world; sessions = w.sessions }) has.with_sessions) answers);
         }
 
-    pub beside : WhereTold old.reads new.reads (StepsTo line now r s later old new) → StepsBeside line now result s later old new
-    beside told filed = told_map old.reads new.reads (StepsTo line now r s later old new)
-        (λ before after. WhereTold filed.lists filed.lists (λ lists later_lists. (w : World) → IsIn w (alone s) before lists → w.limits ≡ filed.limits → Steps line now w result (alone later) old new before (content after later_lists)))
+    pub beside : WhereTold old.reads new.reads (StepsTo line now r kept later_kept s later old new) → StepsBeside line now result (alone kept s) (alone later_kept later) old new
+    beside told filed = told_map old.reads new.reads (StepsTo line now r kept later_kept s later old new)
+        (λ before after. WhereTold filed.lists filed.lists (λ lists later_lists. (w : World) → IsIn w (alone kept s) before lists → w.limits ≡ filed.limits → Steps line now w result (alone later_kept later) old new before (content after later_lists)))
         told
-        (λ b a does. told_same filed.lists filed.lists (λ lists later_lists. (w : World) → IsIn w (alone s) b lists → w.limits ≡ filed.limits → Steps line now w result (alone later) old new b (content a later_lists)) refl
+        (λ b a does. told_same filed.lists filed.lists (λ lists later_lists. (w : World) → IsIn w (alone kept s) b lists → w.limits ≡ filed.limits → Steps line now w result (alone later_kept later) old new b (content a later_lists)) refl
         (λ lists w i limits. steps w lists b a i does))

@@ -17,7 +17,8 @@ use Rattle.notary_link.specs.Batches.{Batch}
 use Rattle.notary_link.specs.Notary as notaries
 use Rattle.notary_link.specs.Notary.{Lists, Keeps, Notes, marks_in_all}
 use Rattle.notary_link.proofs.InAll.{kept_marks}
-use Rattle.store_engine.specs.Opened.{Opened}
+use Rattle.session_model.specs.World.{Session}
+use Rattle.drill_core.specs.declared.open_store.OpenStore.{OpenStore}
 use Rattle.store_engine.specs.Refusals.{IsOfAnother}
 use Rattle.stmt_text.specs.declared.stmt.Stmt.TheVariants as stmts
 use Rattle.stmt_text.specs.declared.line.Line.TheVariants as lines
@@ -63,13 +64,14 @@ module _ (id : ℕ) where
   none_of None s other = refl
   none_of (Some header) s other = ap (λ (b : Bool). if b then Some (history header s.items) else None) (ne_eqb header.id id other)
 
-  pub history_is : (o : Option statements.World) (s : Option Opened) (bytes : List ℕ) → StoreIsIn id o s bytes → history_with id (stored bytes) ≡ history_of o
-  history_is (Some ws) (Some s) bytes i =
-      of_header s.header ws.items bytes i.0.open_on.stores.header_is i.0.open_on.stores.items_are (ap (λ (h : Header). h.id) i.0.header ∙ i.1)
-      ∙ ap (λ (h : Header). Some (history h ws.items)) i.0.header
-  history_is None None bytes i = none_of (stored bytes).header (stored bytes) i
-  history_is (Some ws) None bytes i = absurd i
-  history_is None (Some s) bytes i = absurd i
+  pub history_is : (o : Option statements.World) (begun : ℕ → Option Session) (s : Option OpenStore) (bytes : List ℕ) → StoreIsIn id o begun s bytes → history_with id (stored bytes) ≡ history_of o
+  history_is (Some ws) begun (Some o) bytes i =
+      let s = i.0.store in
+      of_header o.store.header ws.items bytes s.open_on.stores.header_is s.open_on.stores.items_are (ap (λ (h : Header). h.id) s.header ∙ i.1)
+      ∙ ap (λ (h : Header). Some (history h ws.items)) s.header
+  history_is None begun None bytes i = none_of (stored bytes).header (stored bytes) i.0
+  history_is (Some ws) begun None bytes i = absurd i
+  history_is None begun (Some o) bytes i = absurd i
 
 -- ---- the world
 
@@ -80,37 +82,37 @@ module _ (now : ℕ) (w : World) (held : Held) (old new : State) (bytes : List �
 
   found_in : (f : Result Verdict AuditFail) → IsFound w.id (lists.batches w.id) (stored bytes) f → IsFoundIn (filed_for w) (history_of w.store) f
   found_in f is = subst (λ (b : List Batch). IsFoundIn b (history_of w.store) f) (i.lists.batches w.id)
-      (subst (λ (h : Option History). IsFoundIn (lists.batches w.id) h f) (history_is w.id w.store held.store bytes i.store) is)
+      (subst (λ (h : Option History). IsFoundIn (lists.batches w.id) h f) (history_is w.id w.store w.sessions held.opened bytes i.store) is)
 
   -- the lists stand as they stood
   pub keep : (next : Step) (result : Result Answered LineFail) → next.world ≡ w → Keeps lists later → IfOk result (IsReply next) → To next result
   keep next result stays keeps reply =
       let all = keeps_then w.lists lists later i.lists keeps in
-      left w held old new bytes lists i same only_now next result later (ap (λ (x : World). x.id) stays) (ap (λ (x : World). x.store) stays) reply
+      left w held old new bytes lists i same only_now next result later (ap (λ (x : World). x.id) stays) (ap (λ (x : World). x.store) stays) (ap (λ (x : World). x.sessions) stays) reply
       (given result (subst (λ (x : World). Keeps x.lists later) (sym stays) all))
       (subst (λ (x : World). AreBetween w.lists x.lists later) (sym stays) (kept_between w.lists later all))
 
   module _ (mark : Mark) (text : List ℕ) where
     abbrev after_mark : Bool → Step
-    after_mark b = if b then says (record { id = w.id; store = w.store; lists = with_mark w.id mark w.lists; limits = w.limits }) text else refuses w (refusal_text fails.Full)
+    after_mark b = if b then says (record { id = w.id; store = w.store; sessions = w.sessions; lists = with_mark w.id mark w.lists; limits = w.limits }) text else refuses w (refusal_text fails.Full)
 
     has_room : Bool
     has_room = nat_lt (marks_in_all w.lists) w.limits.marks
 
     one_marked : (result : Result Answered LineFail) → IfOk result (λ answered. answered ≡ said text) → Notes w.id mark lists later → (b : Bool) → (b ≡ false → ⊥) → To (after_mark b) result
-    one_marked result reply notes true room = left w held old new bytes lists i same only_now (after_mark true) result later refl refl
+    one_marked result reply notes true room = left w held old new bytes lists i same only_now (after_mark true) result later refl refl refl
         (replies_as (after_mark true) (said text) result refl refl reply)
         (given result (noted_keeps w.id w.lists lists later i.lists mark notes))
         (noted_between w.id w.lists lists later i.lists mark notes)
     one_marked result reply notes false room = absurd (room refl)
 
     not_marked : (result : Result Answered LineFail) → IfOk result (λ answered. answered ≡ refusal (refusal_text fails.Full)) → Keeps lists later → (b : Bool) → (b ≡ true → OnOk result ⊥) → To (after_mark b) result
-    not_marked result reply keeps false room = left w held old new bytes lists i same only_now (after_mark false) result later refl refl
+    not_marked result reply keeps false room = left w held old new bytes lists i same only_now (after_mark false) result later refl refl refl
         (replies_as (after_mark false) (refusal (refusal_text fails.Full)) result refl refl reply)
         (given result (keeps_then w.lists lists later i.lists keeps))
         (kept_between w.lists later (keeps_then w.lists lists later i.lists keeps))
     not_marked (Ok answered) reply keeps true room = absurd (room refl)
-    not_marked (Err fail) reply keeps true room = left w held old new bytes lists i same only_now (after_mark true) (Err fail) later refl refl tt tt
+    not_marked (Err fail) reply keeps true room = left w held old new bytes lists i same only_now (after_mark true) (Err fail) later refl refl refl tt tt
         (unmarked_yet w.id w.lists lists later i.lists mark keeps)
 
   module _ (limits : NotaryLimits) (within : w.limits ≡ limits) where

@@ -1,8 +1,8 @@
 -- What is answered, as a text and whether it is a refusal.
 use Rattle.std.specs.Prelude.{◌≡◌, true, false, List, ℕ, ◌++◌, ◌∷◌, [], codes, Result, Ok, Err}
 use Rattle.statement_core.specs.declared.reply.Reply.{Reply}
-use Rattle.statement_core.specs.declared.sessions.StepFail.{StepFail}
-use Rattle.statement_core.specs.declared.sessions.StepFail.TheVariants as steps
+use Rattle.statement_core.specs.declared.statements.StepFail.{StepFail}
+use Rattle.statement_core.specs.declared.statements.StepFail.TheVariants as steps
 use Rattle.statement_core.specs.Replies.{reply_text, is_refusal}
 use Rattle.validator.specs.declared.fail.AuditFail.{AuditFail}
 use Rattle.validator.specs.declared.fail.AuditFail.TheVariants as audits

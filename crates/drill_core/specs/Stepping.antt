@@ -3,12 +3,12 @@ use Rattle.std.specs.Prelude.{◌≡◌, ℕ, List, None, option_map, Result, Ok
 use Rattle.disk_words.specs.Disk as disks
 use Rattle.disk_model.specs.Moments.{EveryImage}
 use Rattle.tuple_bytes.specs.declared.header.Header.{Header}
-use Rattle.store_engine.specs.Opened.{Opened}
 use Rattle.stmt_text.specs.declared.line.Line.{Line}
 use Rattle.validator.specs.Desk.{Desk, Content, WhereBothTell}
 use Rattle.validator.specs.Filing.{HasFiledMore}
 use Rattle.drill_core.specs.declared.answered.Answered.{Answered}
 use Rattle.drill_core.specs.declared.fail.LineFail.{LineFail}
+use Rattle.drill_core.specs.declared.open_store.OpenStore.{OpenStore}
 use Rattle.drill_core.specs.World.{World, Held, IsIn, StoresWorld, StoresEither, AreBetween}
 use Rattle.drill_core.specs.Found.{Found}
 use Rattle.drill_core.specs.Steps.{Step, step, MayFind}
@@ -45,10 +45,10 @@ StepsFor line now result held later old new = WhereBothTell old new (λ before a
 
 -- ---- whatever is told
 
-abbrev pub header_of : Opened → Header
-header_of s = s.header
+abbrev pub header_of : OpenStore → Header
+header_of o = o.store.header
 
--- after a failure there is no store, and else one of the same header, where there was one
+-- after a failure there is no store and no session, and else a store of the same header, where there was one
 abbrev pub KeepsStore : Result Answered LineFail → Held → Held → Type 0
-KeepsStore (Ok answered) held later = option_map header_of later.store ≡ option_map header_of held.store
-KeepsStore (Err fail) held later = later.store ≡ None
+KeepsStore (Ok answered) held later = option_map header_of later.opened ≡ option_map header_of held.opened
+KeepsStore (Err fail) held later = later.opened ≡ None

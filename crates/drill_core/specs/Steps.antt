@@ -13,6 +13,8 @@ use Rattle.stmt_text.specs.declared.line.Line.{Line}
 use Rattle.stmt_text.specs.declared.line.Line.TheVariants as lines
 use Rattle.statement_core.specs.World as statements
 use Rattle.statement_core.specs.Steps as statement_steps
+use Rattle.session_model.specs.Standing.{reply_of}
+use Rattle.session_model.specs.Steps as session_steps
 use Rattle.statement_core.specs.Replies as replies
 use Rattle.validator.specs.declared.verdict.Verdict.{Verdict}
 use Rattle.validator.specs.declared.fail.AuditFail.{AuditFail}
@@ -29,7 +31,7 @@ use Rattle.forensic_report.specs.Finding.{IsAnalysisIn}
 use Rattle.forensic_report.specs.Texts.{report_text, kept_of}
 use Rattle.forensic_report.specs.Fails as reports
 use Rattle.drill_core.specs.Found.{Found}
-use Rattle.drill_core.specs.World.{World, why_none, with_store, with_lists, with_batches, with_mark}
+use Rattle.drill_core.specs.World.{World, why_none, with_store, with_sessions, with_lists, with_batches, with_mark}
 
 -- the world after a line, the text of the reply, and whether it is a refusal
 pub record Step : Type 0 where
@@ -49,14 +51,18 @@ refuses w name = record { world = w; text = codes "refused " ++ name ++ 10 ∷ [
 abbrev pub has_no_store : World → Step
 has_no_store w = refuses w (why_none w)
 
--- ---- a statement on tables
+-- ---- a statement on tables, or a line of a session
 
-abbrev pub after_statement : World → statement_steps.Step → Step
-after_statement w s = record { world = with_store w s.world; text = replies.reply_text s.reply; is_refused = replies.is_refusal s.reply }
+abbrev pub after_statement : World → session_steps.Step → Step
+after_statement w s = record {
+  world = with_sessions (with_store w s.world.store) s.world.sessions;
+  text = replies.reply_text (reply_of s.answer);
+  is_refused = replies.is_refusal (reply_of s.answer);
+}
 
 abbrev pub on_tables : World → Option statements.World → Line → ℕ → Step
 on_tables w None line now = has_no_store w
-on_tables w (Some store) line now = after_statement w (statement_steps.step store line now)
+on_tables w (Some store) line now = after_statement w (session_steps.step (record { store = store; sessions = w.sessions }) line now)
 
 -- ---- a notarization
 
@@ -158,9 +164,9 @@ IsWorldStmt stmts.Validate = Unit {0}
 IsWorldStmt (stmts.Analyse algorithm) = Unit {0}
 IsWorldStmt stmt = statement_steps.IsOnTables stmt
 
--- the lines that a world takes: statements on tables, `notarize`, `validate` and `analyse`
+-- the lines that a world takes: statements on tables, `notarize`, `validate` and `analyse`, and all lines of sessions
 abbrev pub IsWorldLine : Line → Type 0
 IsWorldLine (lines.Plain stmt) = IsWorldStmt stmt
 IsWorldLine lines.Blank = ⊥
-IsWorldLine (lines.InSession session stmt) = ⊥
+IsWorldLine (lines.InSession session stmt) = Unit {0}
 IsWorldLine (lines.Drill event) = ⊥

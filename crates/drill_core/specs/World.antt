@@ -1,28 +1,41 @@
--- The world that lines run in: a stored history, and what a notary holds.
+-- The world that lines run in: a stored history with its sessions, and what a notary holds.
 use Rattle.std.specs.Prelude.{◌≡◌, ◌⊎◌, ℕ, ◌==◌, ◌≤◌, if◌then◌else◌, List, ◌++◌, ◌∷◌, [], length, take, codes, Option, Some, None, IfSome, Result, Ok, Err}
 use Rattle.history_model.specs.Stored.{stored}
 use Rattle.notary_link.specs.declared.mark.Mark.{Mark}
 use Rattle.notary_link.specs.declared.notary.NotaryLimits.{NotaryLimits}
 use Rattle.notary_link.specs.Batches.{Batch}
 use Rattle.notary_link.specs.Notary.{Lists, Keeps}
-use Rattle.tuple_bytes.specs.declared.item.Item.{Item}
 use Rattle.store_engine.specs.declared.fail.StoreFail.{StoreFail}
-use Rattle.store_engine.specs.Opened.{Opened, Stores, IsOpenOn}
+use Rattle.store_engine.specs.Opened.{Stores, IsOpenOn}
 use Rattle.store_engine.specs.Refusals.{IsOfAnother, IsNoStore}
 use Rattle.statement_core.specs.World as statements
+use Rattle.session_model.specs.World as session_worlds
+use Rattle.session_model.specs.World.{Session}
+use Rattle.session_model.specs.Standing as sessions
+use Rattle.drill_core.specs.declared.open_store.OpenStore.{OpenStore}
 
 pub record World : Type 0 where
   -- of the store, and of what is filed for it
   pub id : ℕ
   -- what is stored, where the file has a header with this id
   pub store : Option statements.World
+  -- those that are begun, by their numbers; without a store there are none
+  pub sessions : ℕ → Option Session
   -- what the notary holds under each id
   pub lists : Lists
   pub limits : NotaryLimits
 
+-- no session is begun
+abbrev pub no_sessions : ℕ → Option Session
+no_sessions n = None
+
 -- with another history
 abbrev pub with_store : World → statements.World → World
 with_store w store = record w { store = Some store }
+
+-- with other sessions
+abbrev pub with_sessions : World → (ℕ → Option Session) → World
+with_sessions w begun = record w { sessions = begun }
 
 -- with other lists
 abbrev pub with_lists : World → Lists → World
@@ -46,32 +59,33 @@ why_none w = codes "NotAStore"
 
 -- ---- what stands for a world
 
--- the world as a machine keeps it: its id, and a store where one is open
+-- the world as a machine keeps it: its id, and where a store is open that store with what is kept of its sessions
 pub record Held : Type 0 where
   pub id : ℕ
-  pub store : Option Opened
+  pub opened : Option OpenStore
 
--- an open store of this id stands for what is stored; or there is no store, and the bytes have no header with the id
-abbrev pub StoreIsIn : ℕ → Option statements.World → Option Opened → List ℕ → Type 0
-StoreIsIn id (Some w) (Some s) bytes = statements.IsIn w s bytes × (w.header.id ≡ id)
-StoreIsIn id None None bytes = IsOfAnother id (stored bytes).header
-StoreIsIn id (Some w) None bytes = ⊥
-StoreIsIn id None (Some s) bytes = ⊥
+-- An open store of this id and its sessions stand for what is stored and for the sessions over it. Or there is no store and no
+-- session, and the bytes have no header with the id.
+abbrev pub StoreIsIn : ℕ → Option statements.World → (ℕ → Option Session) → Option OpenStore → List ℕ → Type 0
+StoreIsIn id (Some w) begun (Some o) bytes = sessions.IsIn (record { store = w; sessions = begun }) o.sessions o.store bytes × (w.header.id ≡ id)
+StoreIsIn id None begun None bytes = IsOfAnother id (stored bytes).header × ((n : ℕ) → begun n ≡ None)
+StoreIsIn id (Some w) begun None bytes = ⊥
+StoreIsIn id None begun (Some o) bytes = ⊥
 
--- there is no store, or it stands for these bytes
+-- there is no store, or it stands over these bytes with its sessions, whatever they are
 abbrev pub StandsFor : Held → List ℕ → Type 0
-StandsFor held bytes = IfSome held.store (λ s. (items : List Item) × IsOpenOn s items bytes)
+StandsFor held bytes = IfSome held.opened (λ o. (w : session_worlds.World) × sessions.IsIn w o.sessions o.store bytes)
 
 -- the store of an id was opened over these bytes, or refused
-abbrev pub IsEntered : ℕ → List ℕ → Result (Unit {0}) StoreFail → Option Opened → Type 0
-IsEntered id bytes (Ok _) (Some s) = IsOpenOn s (stored bytes).items bytes × (s.header.id ≡ id)
+abbrev pub IsEntered : ℕ → List ℕ → Result (Unit {0}) StoreFail → Option OpenStore → Type 0
+IsEntered id bytes (Ok _) (Some o) = IsOpenOn o.store (stored bytes).items bytes × (o.store.header.id ≡ id)
 IsEntered id bytes (Ok _) None = ⊥
-IsEntered id bytes (Err fail) store = IsNoStore id (stored bytes).header fail
+IsEntered id bytes (Err fail) opened = IsNoStore id (stored bytes).header fail
 
 -- a machine over these bytes, beside a notary with these lists, stands for this world
 pub record IsIn (w : World) (held : Held) (bytes : List ℕ) (filed : Lists) : Type 0 where
   pub id : held.id ≡ w.id
-  pub store : StoreIsIn w.id w.store held.store bytes
+  pub store : StoreIsIn w.id w.store w.sessions held.opened bytes
   pub lists : Keeps w.lists filed
 
 -- ---- bytes and lists on the way from a world to another

@@ -1,16 +1,18 @@
 //! Notarizations and validations.
 
-ghost use Rattle.std.specs.Prelude.{◌≡◌, ⊤, false, OnOk, IsErrOf};
+ghost use Rattle.std.specs.Prelude.{◌≡◌, ⊤, false, List, OnOk, IsErrOf};
 ghost use Rattle.outside_words.specs.Faults.{HasCause};
 ghost use Rattle.disk_words.specs.Disk as disks;
 ghost use Rattle.notary_link.specs.Notary as notaries;
+ghost use Rattle.tuple_bytes.specs.declared.item.Item.{Item};
+ghost use Rattle.store_engine.specs.Opened.{IsOpenOn};
 ghost use Rattle.stmt_text.specs.declared.line.Line.TheVariants as lines;
 ghost use Rattle.stmt_text.specs.declared.stmt.Stmt.TheVariants as stmts;
+ghost use Rattle.session_model.specs.Standing.{Machine};
 ghost use Rattle.validator.specs.declared.fail.AuditFail.TheVariants as audits;
 ghost use Rattle.validator.specs.Desk.{KeepsSound, desk};
 ghost use Rattle.drill_core.specs.declared.fail.LineFail.TheVariants.{DiskFault, NotaryFault};
 ghost use Rattle.drill_core.specs.Answers.{IsAnswerTo};
-ghost use Rattle.drill_core.specs.World.{StandsFor};
 ghost use Rattle.drill_core.specs.Stepping.{StepsFor};
 ghost use Rattle.drill_core.specs.Parts.{alone, StepsWithout};
 ghost use Rattle.drill_core.specs.Unheld.{GoesByBytes};
@@ -48,9 +50,9 @@ pub(crate) fn answer_notarization<D: Disk, N: Notary>(
     requires open { store.old.at.is_closed ≡ false }
     ensures open { OnOk result (store.new.at.is_closed ≡ false) }
     ensures header { store.new.header ≡ store.old.header }
-    ensures told { StepsFor (lines.Plain stmts.Notarize) now result (alone store.old) (alone store.new)
+    ensures told { (kept : Machine) → StepsFor (lines.Plain stmts.Notarize) now result (alone kept store.old) (alone kept store.new)
         (desk (D.state disk.old) (N.state notary.old)) (desk (D.state disk.new) (N.state notary.new)) }
-    ensures sound { KeepsSound (StandsFor (alone store.old))
+    ensures sound { KeepsSound (λ before. (items : List Item) × IsOpenOn store.old items before)
         (desk (D.state disk.old) (N.state notary.old)) (desk (D.state disk.new) (N.state notary.new)) }
     ensures disk_frame { disks.GoesOn (D.state disk.old) (D.state disk.new) }
     ensures notary_frame { notaries.GoesOn (N.state notary.old) (N.state notary.new) }

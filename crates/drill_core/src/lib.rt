@@ -52,6 +52,7 @@ mod audits;
 mod fail;
 mod laws;
 mod lines;
+mod open_store;
 mod statements;
 mod world;
 

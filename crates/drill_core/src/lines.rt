@@ -7,7 +7,7 @@ ghost use Rattle.notary_link.specs.Notary as notaries;
 ghost use Rattle.stmt_text.specs.Fits.{FitsParts};
 ghost use Rattle.stmt_text.specs.declared.line.Line.TheVariants as lines;
 ghost use Rattle.stmt_text.specs.declared.stmt.Stmt.TheVariants as stmts;
-ghost use Rattle.statement_core.specs.Steps.{IsTableLine};
+ghost use Rattle.session_model.specs.Standing.{IsStatementLine};
 ghost use Rattle.validator.specs.Desk.{KeepsSound, desk};
 ghost use Rattle.drill_core.specs.declared.fail.LineFail.TheVariants.{DiskFault, NotaryFault, NoMemory};
 ghost use Rattle.drill_core.specs.Answers.{refusal};
@@ -24,7 +24,7 @@ use crate::fail::LineFail;
 use crate::statements::answer_statement;
 use disk_model::Disk;
 use notary_link::Notary;
-use statement_core::{Sessions, is_table_line};
+use session_core::{Sessions, is_statement_line};
 use std::alloc::Global;
 use stmt_text::{Line, Stmt};
 use store_engine::Store;
@@ -47,10 +47,10 @@ pub(crate) fn answer_with_store<D: Disk, N: Notary>(
     ensures bytes { line.now ≡ lines.Plain stmts.Validate → GoesByBytes store.old.header.id now result (D.state disk.old) (D.state disk.new) (N.state notary.old) (N.state notary.new) }
     ensures report { AnalysesBy line.now store.old.header.id now result
         (desk (D.state disk.old) (N.state notary.old)) (desk (D.state disk.new) (N.state notary.new)) }
-    ensures unasked { IsTableLine line.now → N.state notary.new ≡ N.state notary.old }
-    ensures told { StepsFor line.now now result (alone store.old) (alone store.new)
+    ensures unasked { IsStatementLine line.now → N.state notary.new ≡ N.state notary.old }
+    ensures told { StepsFor line.now now result (alone sessions.old store.old) (alone sessions.new store.new)
         (desk (D.state disk.old) (N.state notary.old)) (desk (D.state disk.new) (N.state notary.new)) }
-    ensures sound { KeepsSound (StandsFor (alone store.old))
+    ensures sound { KeepsSound (StandsFor (alone sessions.old store.old))
         (desk (D.state disk.old) (N.state notary.old)) (desk (D.state disk.new) (N.state notary.new)) }
     ensures disk_frame { disks.GoesOn (D.state disk.old) (D.state disk.new) }
     ensures notary_frame { notaries.GoesOn (N.state notary.old) (N.state notary.new) }
@@ -130,6 +130,6 @@ pub fn is_world_line(line: &Line) -> bool
         Line::Plain {
             stmt: Stmt::Notarize | Stmt::Validate | Stmt::Analyse { .. },
         } => true,
-        _ => is_table_line(line),
+        _ => is_statement_line(line),
     }
 }

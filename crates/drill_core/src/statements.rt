@@ -1,22 +1,23 @@
-//! Statements on tables, over an open store.
+//! Statements on tables and lines of sessions, over an open store.
 
 ghost use Rattle.std.specs.Prelude.{◌≡◌, false, IsErrOf, OnOk};
 ghost use Rattle.outside_words.specs.Faults.{HasCause};
 ghost use Rattle.disk_words.specs.Disk as disks;
 ghost use Rattle.stmt_text.specs.Fits.{FitsParts};
-ghost use Rattle.statement_core.specs.Steps.{IsTableLine};
+ghost use Rattle.session_model.specs.Standing.{IsStatementLine};
 ghost use Rattle.drill_core.specs.declared.fail.LineFail.TheVariants.{DiskFault, NotaryFault};
-ghost use Rattle.drill_core.specs.Parts.{StepsBeside, StaysSound};
+ghost use Rattle.drill_core.specs.Parts.{alone, StepsBeside, StaysSound};
 
 use crate::answered::Answered;
 use crate::fail::LineFail;
 use disk_model::Disk;
-use statement_core::{Sessions, print_reply};
+use session_core::Sessions;
+use statement_core::print_reply;
 use std::alloc::Global;
 use stmt_text::Line;
 use store_engine::Store;
 
-/// Carries out a statement on tables at these clock seconds.
+/// Carries out a statement on tables, or a line of a session, at these clock seconds.
 pub(crate) fn answer_statement<D: Disk>(
     alloc: Global,
     sessions: &mut Sessions,
@@ -26,12 +27,12 @@ pub(crate) fn answer_statement<D: Disk>(
     now: u64,
 ) -> Result<Answered, LineFail>
     requires open { store.old.at.is_closed ≡ false }
-    requires on_tables { IsTableLine line.now }
+    requires statement { IsStatementLine line.now }
     requires fits { FitsParts line.now }
     ensures open { OnOk result (store.new.at.is_closed ≡ false) }
     ensures header { store.new.header ≡ store.old.header }
-    ensures told { StepsBeside line.now now result store.old store.new (D.state disk.old) (D.state disk.new) }
-    ensures sound { StaysSound store.old (D.state disk.old) (D.state disk.new) }
+    ensures told { StepsBeside line.now now result (alone sessions.old store.old) (alone sessions.new store.new) (D.state disk.old) (D.state disk.new) }
+    ensures sound { StaysSound (alone sessions.old store.old) (D.state disk.old) (D.state disk.new) }
     ensures frame { disks.GoesOn (D.state disk.old) (D.state disk.new) }
     ensures disk_only { IsErrOf result NotaryFault → ⊥ }
     ensures cause { HasCause DiskFault (D.state disk.old).faults (D.state disk.new).faults result }

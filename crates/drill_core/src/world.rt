@@ -1,7 +1,7 @@
-//! A store and its sessions, as lines find them.
+//! A world of the code: the store of an id with its sessions, as lines find them.
 
 ghost use Rattle.std.proofs.Props.{props};
-ghost use Rattle.std.specs.Prelude.{◌≡◌, ◌≤◌, ◌+◌, ⊤, None, false, true, IfSome, IsSome, IfOk, IfErr, MatchOption, MatchResult, OnErr, OnOk, is_some};
+ghost use Rattle.std.specs.Prelude.{◌≡◌, ◌≤◌, ◌+◌, ⊤, None, false, true, IfSome, IsSome, IfOk, IfErr, MatchOption, MatchResult, OnErr, OnOk, is_some, option_map};
 ghost use Rattle.std.specs.Option.{option_copied};
 ghost use Rattle.outside_words.specs.Faults.{HasCause};
 ghost use Rattle.disk_words.specs.Disk as disks;
@@ -10,7 +10,7 @@ ghost use Rattle.history_model.specs.Stored.{stored};
 ghost use Rattle.stmt_text.specs.Fits.{FitsParts};
 ghost use Rattle.stmt_text.specs.declared.line.Line.TheVariants as lines;
 ghost use Rattle.stmt_text.specs.declared.stmt.Stmt.TheVariants as stmts;
-ghost use Rattle.statement_core.specs.Steps.{IsTableLine};
+ghost use Rattle.session_model.specs.Standing.{IsStatementLine, NoneKept};
 ghost use Rattle.store_engine.specs.declared.fail.StoreFail.TheVariants as stores;
 ghost use Rattle.store_engine.specs.Opened.{IsOpenOn};
 ghost use Rattle.store_engine.specs.Refusals.{IsNoStore, IsOfOpening};
@@ -24,9 +24,10 @@ ghost use Rattle.drill_core.specs.Unheld.{NeedsStore, IsToldNone, GoesByBytes, A
 use crate::answered::Answered;
 use crate::fail::LineFail;
 use crate::lines::{answer_with_store, answer_without_store};
+use crate::open_store::OpenStore;
 use disk_model::Disk;
 use notary_link::Notary;
-use statement_core::Sessions;
+use session_core::Sessions;
 use std::alloc::Global;
 use std::marker::Model;
 use stmt_text::Line;
@@ -37,10 +38,9 @@ use store_engine::{Store, StoreFail};
 #[derive(Drop)]
 pub struct World {
     id: u64,
-    sessions: Sessions,
-    store: Option<Store>,
-    ghost open: { IfSome store (λ s. s.at.is_closed ≡ false) } by { Prim.hlevel props },
-    ghost own: { IfSome store (λ s. s.header.id ≡ id) } by { Prim.hlevel props },
+    opened: Option<OpenStore>,
+    ghost unclosed: { IfSome opened (λ o. o.store.at.is_closed ≡ false) } by { Prim.hlevel props },
+    ghost own: { IfSome opened (λ o. o.store.header.id ≡ id) } by { Prim.hlevel props },
 }
 
 impl Model for World {
@@ -48,42 +48,41 @@ impl Model for World {
 
     ghost Value = { Held };
 
-    ghost view = { λ w. record { id = w.id; store = w.store } };
+    ghost view = { λ w. record { id = w.id; opened = w.opened } };
 }
 
 impl World {
     /// No store, and no memory.
-    pub fn new(alloc: Global, id: u64) -> World
+    pub fn new(id: u64) -> World
         ensures id { result.id ≡ id }
-        ensures value { result.store ≡ None }
+        ensures value { result.opened ≡ None }
     {
-        World {
-            id,
-            sessions: Sessions::new(alloc),
-            store: None,
-        }
+        World { id, opened: None }
     }
 
     /// Opens the store of the id anew, without any session. After a refusal there is no store.
     pub fn enter<D: Disk>(&mut self, alloc: Global, disk: &mut D) -> Result<(), StoreFail>
         ensures id { self.new.id ≡ self.old.id }
-        ensures value { IfSome (D.state disk.old).reads (λ bytes. IsEntered self.old.id bytes result self.new.store) }
-        ensures some { OnOk result (IsSome self.new.store) }
-        ensures open { IfSome self.new.store (λ s. s.at.is_closed ≡ false) }
-        ensures own { IfSome self.new.store (λ s. s.header.id ≡ self.old.id) }
-        ensures none { OnErr result (self.new.store ≡ None) }
+        ensures value { IfSome (D.state disk.old).reads (λ bytes. IsEntered self.old.id bytes result self.new.opened) }
+        ensures some { OnOk result (IsSome self.new.opened) }
+        ensures open { IfSome self.new.opened (λ o. o.store.at.is_closed ≡ false) }
+        ensures own { IfSome self.new.opened (λ o. o.store.header.id ≡ self.old.id) }
+        ensures sessions { IfSome self.new.opened (λ o. NoneKept o.sessions) }
+        ensures none { OnErr result (self.new.opened ≡ None) }
         ensures none_other { IfErr result IsOfOpening }
         ensures same { disks.Unchanged (D.state disk.old) (D.state disk.new) }
         ensures frame { disks.GoesOn (D.state disk.old) (D.state disk.new) }
         ensures cause { HasCause stores.DiskFault (D.state disk.old).faults (D.state disk.new).faults result }
     {
-        self.store = None;
-        self.sessions = Sessions::new(alloc);
-        self.store = Some(Store::open_store(alloc, disk, self.id)?);
+        self.opened = None;
+        self.opened = Some(OpenStore {
+            store: Store::open_store(alloc, disk, self.id)?,
+            sessions: Sessions::new(alloc),
+        });
         Ok(())
     }
 
-    /// Carries out a line at these clock seconds. After a failure there is no store.
+    /// Carries out a line at these clock seconds. After a failure there is no store, and no session.
     pub fn line<D: Disk, N: Notary>(
         &mut self,
         alloc: Global,
@@ -96,15 +95,15 @@ impl World {
         requires fits { FitsParts line.now }
         ensures id { self.new.id ≡ self.old.id }
         ensures store { KeepsStore result self.old self.new }
-        ensures open { IfSome self.new.store (λ s. s.at.is_closed ≡ false) }
-        ensures own { IfSome self.new.store (λ s. s.header.id ≡ self.old.id) }
-        ensures none { self.old.store ≡ None → NeedsStore line.now → IsToldNone result
+        ensures open { IfSome self.new.opened (λ o. o.store.at.is_closed ≡ false) }
+        ensures own { IfSome self.new.opened (λ o. o.store.header.id ≡ self.old.id) }
+        ensures none { self.old.opened ≡ None → NeedsStore line.now → IsToldNone result
             (D.state disk.old) (D.state disk.new) (N.state notary.old) (N.state notary.new) }
         ensures bytes { line.now ≡ lines.Plain stmts.Validate → GoesByBytes self.old.id now result
             (D.state disk.old) (D.state disk.new) (N.state notary.old) (N.state notary.new) }
         ensures report { AnalysesBy line.now self.old.id now result
             (desk (D.state disk.old) (N.state notary.old)) (desk (D.state disk.new) (N.state notary.new)) }
-        ensures unasked { IsTableLine line.now → N.state notary.new ≡ N.state notary.old }
+        ensures unasked { IsStatementLine line.now → N.state notary.new ≡ N.state notary.old }
         ensures told { StepsFor line.now now result self.old self.new
             (desk (D.state disk.old) (N.state notary.old)) (desk (D.state disk.new) (N.state notary.new)) }
         ensures sound { KeepsSound (StandsFor self.old)
@@ -114,13 +113,18 @@ impl World {
         ensures disk_cause { HasCause DiskFault (D.state disk.old).faults (D.state disk.new).faults result }
         ensures notary_cause { HasCause NotaryFault (N.state notary.old).faults (N.state notary.new).faults result }
     {
-        match self.store.take() {
-            Some(mut store) => {
-                let sessions = &mut self.sessions;
+        match self.opened.take() {
+            Some(mut open) => {
                 let answered = answer_with_store(
-                    alloc, sessions, &mut store, disk, notary, line, now,
+                    alloc,
+                    &mut open.sessions,
+                    &mut open.store,
+                    disk,
+                    notary,
+                    line,
+                    now,
                 )?;
-                self.store = Some(store);
+                self.opened = Some(open);
                 Ok(answered)
             }
             None => answer_without_store(alloc, disk, notary, self.id, line, now),
@@ -129,8 +133,11 @@ impl World {
 
     /// The store, where there is one.
     pub fn store(&self) -> Option<&Store>
-        ensures value { option_copied result ≡ self.now.store }
+        ensures value { option_copied result ≡ option_map (λ o. o.store) self.now.opened }
     {
-        self.store.as_ref()
+        match &self.opened {
+            Some(open) => Some(&open.store),
+            None => None,
+        }
     }
 }

@@ -4,7 +4,7 @@ use Rattle.tuple_bytes.specs.declared.op.Op.{Op}
 use Rattle.store_engine.specs.Opened.{Opened}
 use Rattle.statement_core.specs.declared.reply.Reply.{Reply}
 use Rattle.statement_core.specs.declared.reply.Reply.TheVariants as replies
-use Rattle.statement_core.specs.declared.sessions.StepFail.{StepFail}
+use Rattle.statement_core.specs.declared.statements.StepFail.{StepFail}
 use Rattle.statement_core.specs.World as stores
 use Rattle.statement_core.specs.Steps as statements
 use Rattle.session_index.specs.Index.{Noted}

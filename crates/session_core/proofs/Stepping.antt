@@ -12,8 +12,8 @@ use Rattle.stmt_text.specs.declared.line.Line.{Line}
 use Rattle.stmt_text.specs.declared.line.Line.TheVariants as lines
 use Rattle.statement_core.specs.declared.reply.Reply.{Reply}
 use Rattle.statement_core.specs.declared.reply.Reply.TheVariants as replies
-use Rattle.statement_core.specs.declared.sessions.StepFail.{StepFail}
-use Rattle.statement_core.specs.declared.sessions.StepFail.TheVariants as failures
+use Rattle.statement_core.specs.declared.statements.StepFail.{StepFail}
+use Rattle.statement_core.specs.declared.statements.StepFail.TheVariants as failures
 use Rattle.statement_core.specs.World as stores
 use Rattle.statement_core.specs.Promises as promises
 use Rattle.statement_core.specs.Steps as statements

@@ -8,7 +8,7 @@ ghost use Rattle.disk_words.specs.Disk.{GoesOn};
 ghost use Rattle.tuple_bytes.specs.Writing.{IsCountedOp};
 ghost use Rattle.history_model.specs.Answers.{op_of};
 ghost use Rattle.stmt_text.specs.Fits.{FitsStmt};
-ghost use Rattle.statement_core.specs.declared.sessions.StepFail.TheVariants.{DiskFault};
+ghost use Rattle.statement_core.specs.declared.statements.StepFail.TheVariants.{DiskFault};
 ghost use Rattle.statement_core.specs.Steps.{commit, write, write_in, write_or_read};
 ghost use Rattle.statement_core.specs.Stepping.{DoesAs, StaysOrCloses, LeavesBoth};
 ghost use Rattle.session_core.specs.Answering.{NotesFor, NotesStored};

@@ -10,7 +10,7 @@ ghost use Rattle.stmt_text.specs.Fits.{FitsParts, FitsStmt};
 ghost use Rattle.stmt_text.specs.declared.line.Line.TheVariants.{InSession, Plain};
 ghost use Rattle.stmt_text.specs.declared.stmt.Stmt.TheVariants.{Commit};
 ghost use Rattle.statement_core.specs.declared.reply.Reply.TheVariants.{Refused};
-ghost use Rattle.statement_core.specs.declared.sessions.StepFail.TheVariants.{DiskFault};
+ghost use Rattle.statement_core.specs.declared.statements.StepFail.TheVariants.{DiskFault};
 ghost use Rattle.statement_core.specs.Reading.{IsHistory};
 ghost use Rattle.statement_core.specs.Stepping.{DoesAs, StaysOrCloses, LeavesBoth};
 ghost use Rattle.statement_core.specs.Steps.{commit};
@@ -23,7 +23,7 @@ use crate::committing::{commit_noted, write_or_read_noted};
 use crate::session::Session;
 use disk_model::Disk;
 use session_index::Touched;
-use statement_core::{Refusal, Reply, StepFail, is_table_line, write_or_read};
+use statement_core::{Refusal, Reply, StepFail, is_on_tables, write_or_read};
 use std::alloc::{AllocError, Global};
 use std::collections::BTreeMap;
 use std::marker::Model;
@@ -391,8 +391,9 @@ pub fn is_statement_line(line: &Line) -> bool
     ensures value { IsTrue result ↔ IsStatementLine line.now }
 {
     match line {
+        Line::Plain { stmt } => is_on_tables(stmt),
         Line::InSession { .. } => true,
-        _ => is_table_line(line),
+        Line::Blank | Line::Drill { .. } => false,
     }
 }
 

@@ -16,7 +16,7 @@ use Rattle.store_engine.specs.declared.fail.StoreFail.TheVariants as fails
 use Rattle.store_engine.specs.Opened.{Opened}
 use Rattle.store_engine.specs.Refusals.{next_txn, commit_fault}
 use Rattle.statement_core.specs.declared.reply.Reply.{Reply}
-use Rattle.statement_core.specs.declared.sessions.StepFail.{StepFail}
+use Rattle.statement_core.specs.declared.statements.StepFail.{StepFail}
 use Rattle.statement_core.specs.World as stores
 use Rattle.statement_core.specs.Refusing.{refused_by_store}
 use Rattle.statement_core.specs.Steps as statements

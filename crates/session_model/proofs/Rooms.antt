@@ -39,7 +39,7 @@ pending_has_room w line now room = each_session (λ s. size_fault s.pending ≡ 
 
 -- ---- what room is good for
 
-no_cause : (cause : Bool) (fail : StoreFail) (others : Option StoreFail) → where_true cause fail others ≡ None → (cause ≡ false) × (others ≡ None)
+pub no_cause : (cause : Bool) (fail : StoreFail) (others : Option StoreFail) → where_true cause fail others ≡ None → (cause ≡ false) × (others ≡ None)
 no_cause true fail others e = cc
 no_cause false fail others e = (refl, e)
 

@@ -13,7 +13,7 @@ use Rattle.stmt_text.specs.declared.line.Line.{Line}
 use Rattle.stmt_text.specs.declared.line.Line.TheVariants as lines
 use Rattle.statement_core.specs.declared.reply.Reply.{Reply}
 use Rattle.statement_core.specs.declared.reply.Reply.TheVariants as replies
-use Rattle.statement_core.specs.declared.sessions.StepFail.{StepFail}
+use Rattle.statement_core.specs.declared.statements.StepFail.{StepFail}
 use Rattle.statement_core.specs.World as stores
 use Rattle.statement_core.specs.Steps as statements
 use Rattle.statement_core.specs.Stepping as stepping

@@ -103,13 +103,6 @@ IsOnTables stmts.Validate = ⊥
 IsOnTables (stmts.Analyse algorithm) = ⊥
 IsOnTables (stmts.Now moment) = ⊥
 
--- a line that is one
-abbrev pub IsTableLine : Line → Type 0
-IsTableLine (lines.Plain stmt) = IsOnTables stmt
-IsTableLine lines.Blank = ⊥
-IsTableLine (lines.InSession session stmt) = ⊥
-IsTableLine (lines.Drill event) = ⊥
-
 -- ---- a line
 
 -- What a line does at these clock seconds. A line that is none of these does nothing here.

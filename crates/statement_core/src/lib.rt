@@ -14,27 +14,26 @@
 //!
 //! A read without `as of` is one of the state of now, to which all transactions belong. A write is refused
 //! for the first cause of: those of the tables, ClockBack, TooLate, TooLong, StoreFull. NoSession,
-//! SessionOpen and Conflict are refusals of sessions, and never come here.
+//! SessionOpen and Conflict are refusals of sessions, and come from `session_core` alone.
 //!
 //! What the layers above may rely on:
 //!
 //! | Sentence | Clause |
 //! |---|---|
-//! | a step does to the store and its bytes, and replies, what the definition says | `told` of `Sessions::step`, by `StepsTo` |
+//! | a step does to the store and its bytes, and replies, what the definition says | `told` of `write_or_read`, by `DoesAs` |
 //! | a crash at any moment leaves the world before the step or the world after it | `images` and `kept` of `StepsIn` |
 //! | once a step is replied to, its world is the only one that a crash leaves, where that was so before | `settled` of `StepsIn` |
-//! | a reply that stores nothing leaves the store and its disk as they were; so does a failure, unless the store is closed | `same` of `Sessions::step` |
+//! | a reply that stores nothing leaves the store and its disk as they were; so does a failure, unless the store is closed | `same` of `write_or_read` |
 //! | a transaction is stored by the calls of one append, in order and none after one that failed; all else makes no call | `trace` of `StepsIn` |
-//! | after a failure the store is closed, or as it was | `kept` of `Sessions::step` |
-//! | a failure is the disk's own, or want of memory; behind a reply, a refusal too, the disk counted no fault | `cause`, `counted` of `Sessions::step` |
+//! | after a failure the store is closed, or as it was | `kept` of `write_or_read` |
+//! | a failure is the disk's own, or want of memory; behind a reply, a refusal too, the disk counted no fault | `cause`, `counted` of `write_or_read` |
 //! | a number that is replied is that of a new last transaction; every other reply leaves the world as it was | `steps_keep_promises` |
 //! | the text of a reply | `value` of `print_reply` |
 //!
 //! Only tested: that memory suffices, and that the text of a scan takes a time in its length.
 //!
 //! ```rust
-//! let mut sessions = Sessions::new(alloc);
-//! let reply = sessions.step(alloc, &mut store, &mut disk, &line, now)?;
+//! let reply = write_or_read(alloc, &mut store, &mut disk, &stmt, now)?;
 //! out.write(print_reply(alloc, &reply)?.as_slice())?;
 //! ```
 #![tactic(auto)]
@@ -43,12 +42,12 @@ mod laws;
 mod reading;
 mod refusing;
 mod reply;
-mod sessions;
+mod statements;
 mod writing;
 
 pub use laws::steps_keep_promises;
 pub use reading::read;
 pub use refusing::{answered, refused_by_store, refused_by_tables};
 pub use reply::{Refusal, Reply, print_reply};
-pub use sessions::{Sessions, StepFail, is_table_line, write_or_read};
+pub use statements::{StepFail, is_on_tables, write_or_read};
 pub use writing::write_in;

@@ -6,7 +6,7 @@ ghost use Rattle.statement_core.specs.declared.reply.Reply.TheVariants as replie
 ghost use Rattle.statement_core.specs.Refusing.{refused_by_tables, refused_by_store, answered};
 
 use crate::reply::{Refusal, Reply};
-use crate::sessions::StepFail;
+use crate::statements::StepFail;
 use std::alloc::AllocError;
 use store_engine::StoreFail;
 use tt_table::TableFail;

@@ -8,13 +8,13 @@ ghost use Rattle.disk_words.specs.Disk.{GoesOn};
 ghost use Rattle.tuple_bytes.specs.Writing.{IsCountedOp};
 ghost use Rattle.history_model.specs.Answers.{op_of};
 ghost use Rattle.stmt_text.specs.Fits.{FitsStmt};
-ghost use Rattle.statement_core.specs.declared.sessions.StepFail.TheVariants.{DiskFault};
+ghost use Rattle.statement_core.specs.declared.statements.StepFail.TheVariants.{DiskFault};
 ghost use Rattle.statement_core.specs.Steps.{commit, write, write_in};
 ghost use Rattle.statement_core.specs.Stepping.{DoesAs, StaysOrCloses, LeavesBoth};
 
 use crate::refusing::{answered, refused_by_tables};
 use crate::reply::Reply;
-use crate::sessions::StepFail;
+use crate::statements::StepFail;
 use disk_model::Disk;
 use std::alloc::{AllocError, Global};
 use stmt_text::Stmt;

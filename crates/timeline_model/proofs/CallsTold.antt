@@ -20,8 +20,8 @@ use Rattle.store_engine.specs.Opened.{Opened}
 use Rattle.store_engine.specs.Refusals.{Tail, tail_of}
 use Rattle.statement_core.specs.declared.reply.Reply.{Reply}
 use Rattle.statement_core.specs.declared.reply.Reply.TheVariants as replies
-use Rattle.statement_core.specs.declared.sessions.StepFail.{StepFail}
-use Rattle.statement_core.specs.declared.sessions.StepFail.TheVariants as steps
+use Rattle.statement_core.specs.declared.statements.StepFail.{StepFail}
+use Rattle.statement_core.specs.declared.statements.StepFail.TheVariants as steps
 use Rattle.statement_core.specs.World as statements
 use Rattle.statement_core.specs.Steps as statement_steps
 use Rattle.statement_core.specs.Stepping.{StepsIn, MakesFor, Appends}

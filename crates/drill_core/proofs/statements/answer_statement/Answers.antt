@@ -10,24 +10,24 @@ pub returns-in_err-reply-clause-told : goal.returns-in_err-reply-clause-told
 returns-in_err-reply-clause-told g c =
     let S = g.D.Disk.state in
     let p = err_from_is_err_and c.from_residual.result c.from_residual.ensures.1 in
-    rw p.1 (beside c.args.store.now c.step.new.store c.step.ensures.header (S c.args.disk.now) (S c.step.new.disk) c.args.line.now c.args.now c.requires.on_tables c.step.result (Err p.0) (fails_anyhow c.step.result p.0) c.step.ensures.told)
+    rw p.1 (beside c.args.sessions.now c.step.new.self c.args.store.now c.step.new.store c.step.ensures.header (S c.args.disk.now) (S c.step.new.disk) c.args.line.now c.args.now c.requires.statement c.step.result (Err p.0) (fails_anyhow c.step.result p.0) c.step.ensures.told)
 
 pub returns-in_err-print_reply-clause-told : goal.returns-in_err-print_reply-clause-told
 returns-in_err-print_reply-clause-told g c =
     let S = g.D.Disk.state in
     let p = err_from_is_err_and c.from_residual-in_err-print_reply.result c.from_residual-in_err-print_reply.ensures.1 in
-    rw p.1 (beside c.args.store.now c.step.new.store c.step.ensures.header (S c.args.disk.now) (S c.step.new.disk) c.args.line.now c.args.now c.requires.on_tables c.step.result (Err p.0) (fails_anyhow c.step.result p.0) c.step.ensures.told)
+    rw p.1 (beside c.args.sessions.now c.step.new.self c.args.store.now c.step.new.store c.step.ensures.header (S c.args.disk.now) (S c.step.new.disk) c.args.line.now c.args.now c.requires.statement c.step.result (Err p.0) (fails_anyhow c.step.result p.0) c.step.ensures.told)
 
 pub returns-clause-told : goal.returns-clause-told
 returns-clause-told g c =
     let S = g.D.Disk.state in
-    beside c.args.store.now c.step.new.store c.step.ensures.header (S c.args.disk.now) (S c.step.new.disk) c.args.line.now c.args.now c.requires.on_tables (Ok c.in_ok-reply.reply) _
+    beside c.args.sessions.now c.step.new.self c.args.store.now c.step.new.store c.step.ensures.header (S c.args.disk.now) (S c.step.new.disk) c.args.line.now c.args.now c.requires.statement (Ok c.in_ok-reply.reply) _
     (answered_as c.is_refusal.result c.in_ok-print_reply.field-0 c.in_ok-reply.reply c.is_refusal.ensures.value c.in_ok-print_reply.ensures.value) c.in_ok-reply.ensures.told
 
 pub returns-in_err-reply-clause-sound : goal.returns-in_err-reply-clause-sound
 returns-in_err-reply-clause-sound g c =
     let S = g.D.Disk.state in
-    stays_sound c.args.store.now c.step.new.store c.args.line.now c.args.now c.step.result (S c.args.disk.now) (S c.step.new.disk)
+    stays_sound c.args.sessions.now c.step.new.self c.args.store.now c.step.new.store c.args.line.now c.args.now c.step.result (S c.args.disk.now) (S c.step.new.disk)
     (subst FitsHeader c.header-header.ensures.value c.header-header.ensures.fits)
     (λ x le image. g.met.D.Disk.counts_now c.step.new.disk (turn (S c.args.disk.now)) x le image)
     (g.met.D.Disk.reads_image c.args.disk.now) c.step.ensures.told
@@ -35,7 +35,7 @@ returns-in_err-reply-clause-sound g c =
 pub returns-in_err-print_reply-clause-sound : goal.returns-in_err-print_reply-clause-sound
 returns-in_err-print_reply-clause-sound g c =
     let S = g.D.Disk.state in
-    stays_sound c.args.store.now c.step.new.store c.args.line.now c.args.now c.step.result (S c.args.disk.now) (S c.step.new.disk)
+    stays_sound c.args.sessions.now c.step.new.self c.args.store.now c.step.new.store c.args.line.now c.args.now c.step.result (S c.args.disk.now) (S c.step.new.disk)
     (subst FitsHeader c.header-header.ensures.value c.header-header.ensures.fits)
     (λ x le image. g.met.D.Disk.counts_now c.step.new.disk (turn (S c.args.disk.now)) x le image)
     (g.met.D.Disk.reads_image c.args.disk.now) c.step.ensures.told
@@ -43,7 +43,7 @@ returns-in_err-print_reply-clause-sound g c =
 pub returns-clause-sound : goal.returns-clause-sound
 returns-clause-sound g c =
     let S = g.D.Disk.state in
-    stays_sound c.args.store.now c.step.new.store c.args.line.now c.args.now c.step.result (S c.args.disk.now) (S c.step.new.disk)
+    stays_sound c.args.sessions.now c.step.new.self c.args.store.now c.step.new.store c.args.line.now c.args.now c.step.result (S c.args.disk.now) (S c.step.new.disk)
     (subst FitsHeader c.header-header.ensures.value c.header-header.ensures.fits)
     (λ x le image. g.met.D.Disk.counts_now c.step.new.disk (turn (S c.args.disk.now)) x le image)
     (g.met.D.Disk.reads_image c.args.disk.now) c.step.ensures.told

@@ -6,7 +6,7 @@ use Rattle.statement_core.proofs.Promising.{of_stmt}
 use Rattle.statement_core.proofs.Untouched.{unchanged_same, untouched}
 use Rattle.statement_core.proofs.Leaving.{leaves_same}
 use Rattle.statement_core.proofs.ReadFrom.{reads}
-use Rattle.statement_core.proofs.sessions.write_or_read.Goals as goal
+use Rattle.statement_core.proofs.statements.write_or_read.Goals as goal
 
 pub returns-in_err-change-clause-frame : goal.returns-in_err-change-clause-frame
 returns-in_err-change-clause-frame g c = goes_on_same _
