@@ -34,7 +34,7 @@ use Rattle.session_model.proofs.Serials.{AreHeld, line_goes, reach_held, none_he
 use Rattle.session_model.proofs.Promising.{commits_are_alike}
 use Rattle.validator.specs.declared.verdict.Verdict.{Verdict}
 use Rattle.validator.specs.declared.fail.AuditFail.{AuditFail}
-use Rattle.validator.specs.Notarizing.{tiles_at, end_of}
+use Rattle.validator.specs.Tiles.{tiles_at, end_of}
 use Rattle.validator.specs.Verdicts.{mark_of}
 use Rattle.validator.specs.Texts.{verdict_text}
 use Rattle.drill_core.specs.World.{World}

@@ -5,7 +5,7 @@
 //! |---|---|---|
 //! | `link` | `link` | `link_outcome` of what the bytes of the store hold |
 //! | `init ID W K ALGS` | `init` | `init_outcome` of the clock's second and of whether the device is free |
-//! | `run ID`, `run ID scripted` | `run` | `carried` over the lines of the input: the reply of each line |
+//! | `run ID`, `run ID scripted` | `run` | `carried` over the lines of the input, those of sessions too: the reply of each line |
 //! | `notarize ID` | `notarize` | `notarize_outcome` of what the notarization answers: how many tiles are sealed |
 //! | `validate ID` | `validate` | `validate_outcome` of what the validation answers: its verdict |
 //! | `analyse ID ALG` | `analyse` | `analyse_outcome` of what the analysis answers: its report |
@@ -50,6 +50,7 @@
 //! | where the store is sound no line tells of an alteration | `unaltered` |
 //! | the laws behind it, over any lines: a run over bytes that hold what is filed begins over a sound world; it ends over one, and no line tells of an alteration | `sound_bytes_begin_sound`, `sound_runs_are_unaltered` |
 //! | and: what was acknowledged is stored when the lines were carried out, and no line takes an item away | `acknowledged_is_stored`, `runs_only_append` |
+//! | and: every run is serial. A session that commits was told, since its `begin`, the texts that its statements are told alone over the history just before its commit; what these want to store is stored, as one transaction | `runs_are_serial` |
 //!
 //! `notarize` is `NotarizesOn` in `leaves`: the store is opened, the clock's second taken, and the tiles that have
 //! ended by then are filed, as `validator` says it; the notary is asked at most two questions, whatever is answered

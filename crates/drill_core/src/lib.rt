@@ -1,12 +1,13 @@
 //! The world that lines run in: a store with its sessions, beside a notary.
 //!
-//! A `World` is the id of a store, what is stored under it, if anything, and what the notary holds.
+//! A `World` is the id of a store, what is stored under it, if anything, its sessions, and what the notary holds.
 //! `step` says of every world and line the next world and the reply. A `World` of the code keeps the
-//! id and the open store, and is lent the disk and the notary at each call.
+//! id, the open store and its sessions, and is lent the disk and the notary at each call. Sessions go with
+//! their store: a notarization, a validation and an analysis leave them; none is begun where there is no store.
 //!
 //! | Line | World after it | Reply |
 //! |---|---|---|
-//! | a statement on tables | as `statement_core` says | as `statement_core` says |
+//! | a statement on tables, or a line of a session | as `step` of `session_model` says | as it says |
 //! | `notarize` | a Frontier more, where one is needed, and a batch more for each tile that has ended | `sealed N`, the number of sealed tiles |
 //! | `validate` | a mark more, where something was filed | the verdict: `clean N`, `header altered N`, `altered N from M`, `unsealed` |
 //! | `analyse` | as before | the report of `forensic_report` |
@@ -26,9 +27,10 @@
 //! | whatever was answered, the notary holds the first of what the line adds, and all that it held | `between` of `Goes` |
 //! | a batch is filed only where every image of a settled store has reached the end of its tile | `ordered` of `Goes` |
 //! | each image of a sound store is still what was filed | `sound` of `World::line` |
-//! | a store stays open, of the same header, until a failure; after one there is none | `store` of `World::line` |
+//! | a store stays open, of the same header, until a failure; after one there is none, and no session | `store` of `World::line` |
+//! | a store that is opened anew has no session | `sessions` of `World::enter` |
 //! | where nothing is stored, no call changes the disk | `same` of `Goes` |
-//! | a statement on tables leaves the notary | `unasked` of `World::line` |
+//! | a statement on tables and a line of a session leave the notary | `unasked` of `World::line` |
 //! | where no store is held, whatever is told, all but `validate` and `analyse` are refused and call nothing | `none` of `World::line` |
 //! | a validation goes by the stored bytes and what is filed alone | `bytes` of `World::line` |
 //! | so does an analysis, which leaves the disk and the notary; its report shows what is altered of each history that was filed so | `report` of `World::line` |

@@ -1,7 +1,8 @@
 //! Scripts of statements over a store in memory, and the texts that are replied.
 
 use disk_model::MemDisk;
-use statement_core::{Sessions, is_table_line, print_reply};
+use session_core::{Sessions, is_statement_line};
+use statement_core::print_reply;
 use std::alloc::{AllocError, Global};
 use std::test::Fail;
 use stmt_text::{Line, Stmt, parse_line};
@@ -36,7 +37,7 @@ fn replies(alloc: Global, width: u32, script: &[&[u8]]) -> Result<Vec<u8>, Alloc
         {
             now = moment.saturating_add(1000);
         }
-        if is_table_line(&line) && !store.is_closed() {
+        if is_statement_line(&line) && !store.is_closed() {
             let Ok(reply) = sessions.step(alloc, &mut store, &mut disk, &line, now) else {
                 return Err(AllocError);
             };

@@ -124,7 +124,7 @@ fn worlds_reply_as_worked_by_hand(rt: HostRuntime) -> Result<(), Fail> {
             marks: 2,
         };
         let mut notary = MemNotary::new(alloc, limits);
-        let mut world = World::new(alloc, 7);
+        let mut world = World::new(7);
         let mut now = 1000;
         for step in story {
             match step {

@@ -2,7 +2,7 @@
 //!
 //! A session that commits was told what its statements would have been told alone, over the history just
 //! before its commit. [`Sessions::step`] carries out each line as `step` of `session_model` says, and of that
-//! it is a law for every run. The program does not call it yet.
+//! it is a law for every run.
 //!
 //! A `Sessions` keeps of each session that is begun the number of transactions at its begin, the set of
 //! places that it has read, and the operations that it wants to store. Beside them stands an index: at

@@ -7,7 +7,7 @@
 //!
 //! Here are definitions, and laws about them. The only code is the order of places. What a statement means
 //! over a store stands in `statement_core`, and is used for a line outside sessions and for one in a session
-//! alike. No command of the program has sessions yet.
+//! alike. `dragoon_app` says the law of whole runs of the program by these definitions.
 //!
 //! # Definitions
 //!

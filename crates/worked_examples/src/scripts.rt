@@ -30,11 +30,13 @@ const SCRIPTS: [Story; 10] = [
                 &[10, 20, 30, 40, 39, 50],
                 b"create t k int v int\ninsert u 1 1\ninsert t 1\ninsert t null 1\ninsert t 1 'a'\nupdate t 1 1\n\
                   create t k int\ninsert t 1 1\ninsert t 1 1\ninsert t 9223372036854775808 1\nscan t w = 1\n\
-                  get t 'a'\nget t null\nnow 7\nnow 6\ninsert t 2 2\nselect t\ns1 begin\n",
+                  get t 'a'\nget t null\nnow 7\nnow 6\ninsert t 2 2\nselect t\ns1 commit\n\
+                  s1 begin\ns1 begin\n",
                 3,
                 b"ok 1\nrefused NoTable\nrefused BadCount\nrefused NullKey\nrefused BadType 2\nrefused NoRow\n\
                   refused TableExists\nok 2\nrefused RowExists\nrefused NumberTooWide\nrefused NoColumn\n\
-                  refused BadType 1\nrefused NullKey\nok\nok\nok 3\nrefused Syntax\nrefused Syntax\n",
+                  refused BadType 1\nrefused NullKey\nok\nok\nok 3\nrefused Syntax\nrefused NoSession\n\
+                  ok\nrefused SessionOpen\n",
             ),
         ],
     ),
