@@ -252,7 +252,7 @@ module _ (w : World) (logs : Logs) (held : AreHeld w logs) where
     session_goes (Some s) is stmts.Abort = (tt, gone_held s is)
     session_goes (Some s) is stmt = (tt, spoken s is stmt)
 
-  all_later : (later : stores.World) → IsLater w.store later → (k : ℕ) → IsHeld later (w.sessions k) (logs k)
+  pub all_later : (later : stores.World) → IsLater w.store later → (k : ℕ) → IsHeld later (w.sessions k) (logs k)
   all_later later more k = held_later w.store later (w.sessions k) (logs k) more (held k)
 
   pub line_goes : (line : Line) (now : ℕ) → Goes line (step w line now)

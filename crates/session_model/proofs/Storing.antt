@@ -1,5 +1,5 @@
 -- What a line stores: nothing, or one transaction, which it acknowledges.
-use Rattle.std.proofs.Common.{◌≡◌, ◌⊎◌, inl, inr, ℕ, ◌≤◌, Bool, true, false, List, [], ◌∷◌, length, Option, Some, None, Result, Ok, Err, refl, ap, arith}
+use Rattle.std.proofs.Common.{◌≡◌, ◌⊎◌, inl, inr, ℕ, ◌≤◌, false, List, [], ◌∷◌, length, Option, Some, None, Result, Ok, Err, refl, ap, arith}
 use Rattle.std.specs.Prelude.{nat_lt}
 use Rattle.std.proofs.lemmas.Bool.Decides.{nat_tests}
 use Rattle.tuple_bytes.specs.declared.item.Item.TheVariants as items
@@ -14,7 +14,7 @@ use Rattle.stmt_text.specs.declared.line.Line.{Line}
 use Rattle.stmt_text.specs.declared.line.Line.TheVariants as lines
 use Rattle.store_engine.specs.declared.fail.StoreFail.{StoreFail}
 use Rattle.store_engine.specs.declared.fail.StoreFail.TheVariants as fails
-use Rattle.store_engine.specs.Refusals.{Tail, moment_at, is_back, is_late, where_true, item_fault, commit_fault, next_txn}
+use Rattle.store_engine.specs.Refusals.{Tail, moment_at, is_back, is_late, item_fault, commit_fault, next_txn}
 use Rattle.statement_core.specs.declared.reply.Reply.TheVariants as replies
 use Rattle.statement_core.specs.World as stores
 use Rattle.statement_core.specs.World.{tail_of_world, tables_now}

@@ -1,7 +1,8 @@
 -- A line that is replied `ok` and a number has stored a transaction of that number.
-use Rattle.std.proofs.Common.{◌≡◌, inl, inr, ℕ, ◌+◌, ◌<◌, ◌^◌, Bool, true, false, List, [], ◌∷◌, ◌++◌, length, Option, Some, None, Result, Ok, Err, refl, sym, ap, subst, ◌∙◌, append_assoc, arith}
-use Rattle.std.specs.Prelude.{nat_le, nat_lt, slice_index, if◌then◌else◌, codes}
+use Rattle.std.proofs.Common.{◌≡◌, inl, inr, ℕ, ◌+◌, ◌<◌, ◌≤◌, ◌^◌, Bool, true, false, List, [], ◌∷◌, ◌++◌, length, Option, Some, None, Result, Ok, Err, refl, sym, ap, subst, ◌∙◌, append_assoc, arith}
+use Rattle.std.specs.Prelude.{nat_le, nat_lt, if◌then◌else◌, codes}
 use Rattle.std.specs.Fmt.{decimal}
+use Rattle.std.specs.List.{AllByRecursion}
 use Rattle.std.proofs.lemmas.Fmt.{decimal_injective}
 use Rattle.std.proofs.lemmas.List.{append_cancel_left, append_cancel_right}
 use Rattle.std.proofs.lemmas.List.Elements.{filter_map-append}
@@ -9,11 +10,11 @@ use Rattle.byte_grammar.specs.Reading.{IsBytes}
 use Rattle.tuple_bytes.specs.declared.item.Item.{Item}
 use Rattle.tuple_bytes.specs.declared.item.Item.TheVariants as items
 use Rattle.tuple_bytes.specs.declared.item.Txn.{Txn}
+use Rattle.tuple_bytes.specs.declared.op.Op.{Op}
 use Rattle.tuple_bytes.specs.Limits.{max_moment}
 use Rattle.history_model.specs.Stored.{stored}
 use Rattle.history_model.specs.History.{History, history, txns, txn_in}
-use Rattle.notary_link.specs.declared.mark.Mark.{Mark}
-use Rattle.notary_link.specs.Notary.{marks_in_all}
+use Rattle.store_engine.specs.Refusals.{commit_fault}
 use Rattle.stmt_text.specs.declared.error.ParseFail.{ParseFail}
 use Rattle.stmt_text.specs.declared.event.Event.TheVariants as events
 use Rattle.stmt_text.specs.declared.stmt.LineAlgorithm.{LineAlgorithm}
@@ -21,38 +22,36 @@ use Rattle.stmt_text.specs.declared.stmt.Stmt.{Stmt}
 use Rattle.stmt_text.specs.declared.stmt.Stmt.TheVariants as stmts
 use Rattle.stmt_text.specs.declared.line.Line.{Line}
 use Rattle.stmt_text.specs.declared.line.Line.TheVariants as lines
-use Rattle.stmt_text.specs.Fits.{FitsStmt, FitsParts}
-use Rattle.stmt_text.specs.Printing.{row_text}
-use Rattle.tt_table.specs.declared.version.Version.{Version}
-use Rattle.tuple_bytes.specs.declared.value.Value.{Value}
-use Rattle.validator.specs.declared.verdict.Verdict.TheVariants as verdicts
-use Rattle.validator.specs.declared.fail.AuditFail.TheVariants as fails
-use Rattle.validator.specs.Notarizing.{notarize_fault}
-use Rattle.validator.specs.Verdicts.{mark_of}
-use Rattle.number_text.specs.Numbered.{numbered}
-use Rattle.validator.specs.Texts.{verdict_text, refusal_text}
-use Rattle.statement_core.specs.declared.reply.Reply.{Reply}
+use Rattle.stmt_text.specs.Fits.{FitsParts}
 use Rattle.statement_core.specs.declared.reply.Reply.TheVariants as replies
 use Rattle.statement_core.specs.Replies.{reply_text}
-use Rattle.statement_core.specs.Promises.{IsPromised}
 use Rattle.statement_core.specs.World as statements
-use Rattle.statement_core.specs.Steps as statement_steps
-use Rattle.statement_core.proofs.Promising.{steps_keep, none_more}
+use Rattle.statement_core.proofs.Promising.{none_more}
+use Rattle.session_model.specs.Standing.{reply_of}
+use Rattle.session_model.specs.Steps as session_steps
+use Rattle.session_model.specs.Steps.{Answer, Replied}
+use Rattle.session_model.proofs.Promising.{steps_keep_promises}
+use Rattle.session_model.proofs.Storing.{StoresOrNot, stores_or_not}
 use Rattle.drill_core.specs.Found.{Found}
 use Rattle.drill_core.specs.World as worlds
+use Rattle.drill_core.specs.World.{no_sessions}
 use Rattle.drill_core.specs.Steps as world_steps
+use Rattle.drill_core.proofs.Acknowledging.{promised}
 use Rattle.drill_core.proofs.Texts.{SaysOk, says_ok, reply_ok, notarized_no, validated_no, analysed_no}
 use Rattle.drill_core.specs.Steps.{on_tables, notarized, sealed, all_filed, validated, algorithm_of, marked}
 use Rattle.txn_journal.specs.Create.{is_free}
-use Rattle.timeline_model.specs.Scene.{Scene, Crash, nothing_yet, store_in, world_of, held}
+use Rattle.timeline_model.specs.Scene.{Scene, Crash, nothing_yet, store_in, world_with, world_of, held}
 use Rattle.timeline_model.specs.LineCalls.{notary_calls, items_added}
 use Rattle.timeline_model.specs.Lines.{Act, Next, quiet, says, refuses, over_world, over_store, header_at, makes, brings, act}
-use Rattle.timeline_model.specs.Timeline.{Event, calls_in, stopped, crashed, under, taken, act_on, name_of, step, after, IsReading, IsDrillLine, FitsReading, MayCome}
+use Rattle.timeline_model.specs.Timeline.{Event, calls_in, stopped, crashed, ended, under, taken, act_on, name_of, step, after, IsReading, IsDrillLine, FitsReading, MayCome}
 use Rattle.timeline_model.specs.Sound.{stored_by, stores, HasAlso}
 use Rattle.timeline_model.specs.Acknowledged.{IsAcknowledged, HasTxn, IsStoredAs, AcknowledgedStaysStored}
-use Rattle.timeline_model.proofs.Doings.{world_with, StoreIs, store_is, IsOnTables}
-use Rattle.timeline_model.proofs.Statements.{new_txn, StoresOrNot, stores_or_not}
-use Rattle.timeline_model.proofs.Events.{bytes_after, no_bytes}
+use Rattle.timeline_model.proofs.Doings.{StoreIs, store_is, IsOnTables}
+use Rattle.timeline_model.proofs.Statements.{new_txn, with_begun}
+use Rattle.timeline_model.proofs.Events.{fit_after, nothing_fit}
+use Rattle.timeline_model.proofs.StayBytes.{still_fit}
+use Rattle.timeline_model.proofs.Sessions.{AreFit, IsFit, asked_fit}
+use Rattle.timeline_model.proofs.Spellings.{IsFitOp}
 use Rattle.timeline_model.proofs.Fitting.{few}
 use Rattle.timeline_model.proofs.Sound.{stored_held, one_stored, stores_whole}
 use Rattle.timeline_model.proofs.SoundLines.{taken_stored, event_good}
@@ -90,59 +89,75 @@ IfOk more t next = SaysOk next.text → Acknowledges more t next
 refusal_not : (more : List Item) (t was : Scene) (name : List ℕ) → IfOk more was (refuses t name)
 refusal_not more t was name ok = absurd (no_refusal t name ok)
 
-module _ (i : ℕ) (t : Scene) (line : Line) (stmt : Stmt) (line_is : line ≡ lines.Plain stmt) (found : Found) (store : statements.World) (is : store_in i (stored t.bytes) ≡ Some store)
-    (bytes_before : IsBytes t.bytes) (no_calls : notary_calls (world_with t i (Some store)) line t.clock found ≡ []) (fits : FitsStmt stmt) where
+module _ (i : ℕ) (t : Scene) (line : Line) (found : Found) (store : statements.World) (is : store_in i (stored t.bytes) ≡ Some store)
+    (bytes_before : IsBytes t.bytes) (no_calls : notary_calls (world_with t i (Some store)) line t.clock found ≡ []) where
   abbrev w : worlds.World
   w = world_with t i (Some store)
 
-  abbrev next : statement_steps.Step
-  next = statement_steps.step store line t.clock
+  abbrev next : session_steps.Step
+  next = session_steps.step (with_begun w store) line t.clock
 
   facts : StoreIs i t.bytes store
   facts = store_is i t.bytes store is
 
-  statement_acks : (s : world_steps.Step) → s ≡ world_steps.after_statement w (statement_steps.step store line t.clock) → IfOk (items_added (Some store) s.world.store) t (over_world t w line found s).next
-  statement_acks s s_is ok = by (subst (λ (l : Line). StoresOrNot store stmt t.clock (statement_steps.step store l t.clock)) (sym line_is) (stores_or_not store stmt t.clock))
-    where
-      store_of_step : s.world.store ≡ Some (statement_steps.step store line t.clock).world
-      store_of_step = ap (λ (x : world_steps.Step). x.world.store) s_is
+  module _ (s : world_steps.Step) (s_is : s ≡ world_steps.after_statement w (session_steps.step (with_begun w store) line t.clock)) where
+    store_of_step : s.world.store ≡ Some next.world.store
+    store_of_step = ap (λ (x : world_steps.Step). x.world.store) s_is
 
-      text_of_step : s.text ≡ reply_text (statement_steps.step store line t.clock).reply
-      text_of_step = ap (λ (x : world_steps.Step). x.text) s_is
+    text_of_step : s.text ≡ reply_text (reply_of next.answer)
+    text_of_step = ap (λ (x : world_steps.Step). x.text) s_is
 
-      by : StoresOrNot store stmt t.clock (statement_steps.step store line t.clock) → Acknowledges (items_added (Some store) s.world.store) t (over_world t w line found s).next
-      by (inl same) = absurd (no_more_than (reply_ok (statement_steps.step store line t.clock).reply (subst SaysOk text_of_step ok)))
-        where
-          no_more_than : (number : ℕ) × ((statement_steps.step store line t.clock).reply ≡ replies.Committed number) → ⊥
-          no_more_than (number, reply) =
-              let promise = subst (λ (r : Reply). IsPromised store r (statement_steps.step store line t.clock).world) reply (steps_keep store line t.clock) in
-              none_more (txns store.items) promise.txn (sym (ap (λ (x : statements.World). txns x.items) same) ∙ promise.behind)
-      by (inr more) =
-          let txn : Txn = new_txn store more.change t.clock in
-          let small = few i t store is bytes_before stmt (statement_steps.step store line t.clock) more fits in
-          record {
-            txn = txn;
-            one = one_stored i t line stmt line_is found store is bytes_before no_calls s (statement_steps.step store line t.clock) store_of_step more fits;
-            before = history store.header store.items;
-            held_before = stored_held store.header store.items t (record { header_is = facts.header; items_are = facts.items });
-            held_now = stored_held store.header (store.items ++ items.Txn txn ∷ []) (over_world t w line found s).next.scene
-                (stores_whole i t line stmt line_is found store is bytes_before no_calls s (statement_steps.step store line t.clock) store_of_step more fits);
-            counted = refl;
-            few_yet = omega (arith, small);
-            text = text_of_step ∙ ap (λ (x : statement_steps.Step). reply_text x.reply) more.is ∙ committed_text txn.number;
-          }
+    -- a transaction more was promised
+    not_same : next.world.store ≡ store → SaysOk s.text → ⊥
+    not_same same ok = by (reply_ok (reply_of next.answer) (subst SaysOk text_of_step ok))
+      where
+        by : (number : ℕ) × (reply_of next.answer ≡ replies.Committed number) → ⊥
+        by (number, reply) =
+            let promise = promised store next.world.store next.answer number (steps_keep_promises (with_begun w store) line t.clock).store reply in
+            none_more (txns store.items) promise.txn (sym (ap (λ (x : statements.World). txns x.items) same) ∙ promise.behind)
 
-tables_acks : (i : ℕ) (t : Scene) (line : Line) (stmt : Stmt) → line ≡ lines.Plain stmt → FitsStmt stmt → (found : Found) → IsBytes t.bytes → (o : Option statements.World) → store_in i (stored t.bytes) ≡ o
+    module _ (ops : List Op) (some : 1 ≤ length ops) (fit : AllByRecursion IsFitOp ops) (free : commit_fault (statements.tail_of_world store) false ops t.clock ≡ None)
+        (stored_is : next.world.store ≡ statements.with_txn store (new_txn store ops t.clock)) (answer : next.answer ≡ Replied (replies.Committed (new_txn store ops t.clock).number)) where
+      abbrev txn : Txn
+      txn = new_txn store ops t.clock
+
+      store_same : s.world.store ≡ Some (statements.with_txn store (new_txn store ops t.clock))
+      store_same = store_of_step ∙ ap (λ (x : statements.World). Some x) stored_is
+
+      small : txn.number < 2 ^ 32
+      small = few i t store is bytes_before ops some fit free
+
+      acknowledges : Acknowledges (items_added (Some store) s.world.store) t (over_world t w line found s).next
+      acknowledges = record {
+        txn = txn;
+        one = one_stored i t line found store is bytes_before no_calls s ops some fit free store_same;
+        before = history store.header store.items;
+        held_before = stored_held store.header store.items t (record { header_is = facts.header; items_are = facts.items });
+        held_now = stored_held store.header (store.items ++ items.Txn txn ∷ []) (over_world t w line found s).next.scene
+            (stores_whole i t line found store is bytes_before no_calls s ops some fit free store_same);
+        counted = refl;
+        few_yet = (let lt = small in omega (arith, lt));
+        text = text_of_step ∙ ap (λ (x : Answer). reply_text (reply_of x)) answer ∙ committed_text txn.number;
+      }
+
+    statement_acks : FitsParts line → AreFit t.sessions → IfOk (items_added (Some store) s.world.store) t (over_world t w line found s).next
+    statement_acks fits begun ok = by (stores_or_not (with_begun w store) line t.clock)
+      where
+        by : StoresOrNot (with_begun w store) line t.clock (session_steps.step (with_begun w store) line t.clock) → Acknowledges (items_added (Some store) s.world.store) t (over_world t w line found s).next
+        by (inl same) = absurd (not_same same ok)
+        by (inr one) = acknowledges one.ops one.some (asked_fit (with_begun w store) line one.ops one.asked fits begun) one.free one.store one.answer
+
+tables_acks : (i : ℕ) (t : Scene) (line : Line) → FitsParts line → (found : Found) → IsFit t → (o : Option statements.World) → store_in i (stored t.bytes) ≡ o
     → (s : world_steps.Step) → s ≡ on_tables (world_with t i o) o line t.clock → notary_calls (world_with t i o) line t.clock found ≡ [] → IfOk (items_added o s.world.store) t (over_world t (world_with t i o) line found s).next
-tables_acks i t line stmt line_is fits found bytes (Some store) is s s_is no_calls ok = statement_acks i t line stmt line_is found store is bytes no_calls fits s s_is ok
-tables_acks i t line stmt line_is fits found bytes None is s s_is no_calls ok =
+tables_acks i t line parts found fits (Some store) is s s_is no_calls ok = statement_acks i t line found store is fits.bytes no_calls s s_is parts fits.sessions ok
+tables_acks i t line parts found fits None is s s_is no_calls ok =
     let text : s.text ≡ (refuses t (codes "NotAStore")).text = ap (λ (x : world_steps.Step). x.text) s_is in
     absurd (no_refusal t (codes "NotAStore") (subst SaysOk text ok))
 
-over_tables : (t : Scene) (o : Option ℕ) (line : Line) (stmt : Stmt) → line ≡ lines.Plain stmt → FitsStmt stmt → (found : Found) → IsBytes t.bytes → IsOnTables line → IfOk (stored_by o t (Ok line) found) t (over_store t o line found).next
+over_tables : (t : Scene) (o : Option ℕ) (line : Line) → FitsParts line → (found : Found) → IsFit t → IsOnTables line → IfOk (stored_by o t (Ok line) found) t (over_store t o line found).next
 unfolding world_of
-over_tables t None line stmt line_is fits found bytes is = refusal_not [] t t (codes "NotAStore")
-over_tables t (Some i) line stmt line_is fits found bytes is = tables_acks i t line stmt line_is fits found bytes (store_in i (stored t.bytes)) refl
+over_tables t None line parts found fits is = refusal_not [] t t (codes "NotAStore")
+over_tables t (Some i) line parts found fits is = tables_acks i t line parts found fits (store_in i (stored t.bytes)) refl
     (world_steps.step (world_of t i) line t.clock found) (is.steps (world_of t i) t.clock found) (is.calls (world_of t i) t.clock found)
 
 -- ---- other lines say something else
@@ -168,7 +183,7 @@ says_only_ok t ok = (let third = ok.third in omega (arith, third))
 inits_not : (t : Scene) (id width k algs : ℕ) → SaysOk (brings t (events.Init id width k algs)).next.text → ⊥
 inits_not t id width k algs = by (nat_lt max_moment t.clock) (is_free t.bytes)
   where
-    by : (late free : Bool) → SaysOk (if late then quiet (refuses (record t { id = Some id }) (codes "TooLate")) else if free then makes (record t { id = Some id }) (header_at id t.clock width k algs) else quiet (refuses (record t { id = Some id }) (codes "AlreadyThere"))).next.text → ⊥
+    by : (late free : Bool) → SaysOk (if late then quiet (refuses (record t { id = Some id; sessions = no_sessions }) (codes "TooLate")) else if free then makes (record t { id = Some id; sessions = no_sessions }) (header_at id t.clock width k algs) else quiet (refuses (record t { id = Some id; sessions = no_sessions }) (codes "AlreadyThere"))).next.text → ⊥
     by true free ok = (let first = ok.first in omega (arith, first))
     by false true ok = (let first = ok.first in omega (arith, first))
     by false false ok = (let first = ok.first in omega (arith, first))
@@ -179,36 +194,36 @@ changed_not false t later ok = no_refusal t (codes "NoPlace") ok
 
 -- ---- each line
 
-stmt_acks : (t : Scene) (stmt : Stmt) (found : Found) → IsDrillLine (lines.Plain stmt) → FitsStmt stmt → IsBytes t.bytes → IfOk (stored_by t.id t (Ok (lines.Plain stmt)) found) t (act t (lines.Plain stmt) found).next
+stmt_acks : (t : Scene) (stmt : Stmt) (found : Found) → IsDrillLine (lines.Plain stmt) → FitsParts (lines.Plain stmt) → IsFit t → IfOk (stored_by t.id t (Ok (lines.Plain stmt)) found) t (act t (lines.Plain stmt) found).next
 unfolding act world_steps.step notary_calls
-stmt_acks t stmts.Notarize found is fits bytes ok = absurd (over_notarize t t.id found ok)
-stmt_acks t stmts.Validate found is fits bytes ok = absurd (over_validate t t.id found ok)
-stmt_acks t (stmts.Now moment) found is fits bytes ok = absurd (says_only_ok t ok)
-stmt_acks t (stmts.Create table columns) found is fits bytes ok = over_tables t t.id (lines.Plain (stmts.Create table columns)) (stmts.Create table columns) refl fits found bytes (record { steps = λ w now f. refl; calls = λ w now f. refl }) ok
-stmt_acks t (stmts.Insert table row) found is fits bytes ok = over_tables t t.id (lines.Plain (stmts.Insert table row)) (stmts.Insert table row) refl fits found bytes (record { steps = λ w now f. refl; calls = λ w now f. refl }) ok
-stmt_acks t (stmts.Update table row) found is fits bytes ok = over_tables t t.id (lines.Plain (stmts.Update table row)) (stmts.Update table row) refl fits found bytes (record { steps = λ w now f. refl; calls = λ w now f. refl }) ok
-stmt_acks t (stmts.Delete table key) found is fits bytes ok = over_tables t t.id (lines.Plain (stmts.Delete table key)) (stmts.Delete table key) refl fits found bytes (record { steps = λ w now f. refl; calls = λ w now f. refl }) ok
-stmt_acks t (stmts.Get table key moment) found is fits bytes ok = over_tables t t.id (lines.Plain (stmts.Get table key moment)) (stmts.Get table key moment) refl fits found bytes (record { steps = λ w now f. refl; calls = λ w now f. refl }) ok
-stmt_acks t (stmts.Scan table filter moment) found is fits bytes ok = over_tables t t.id (lines.Plain (stmts.Scan table filter moment)) (stmts.Scan table filter moment) refl fits found bytes (record { steps = λ w now f. refl; calls = λ w now f. refl }) ok
-stmt_acks t (stmts.History table key) found is fits bytes ok = over_tables t t.id (lines.Plain (stmts.History table key)) (stmts.History table key) refl fits found bytes (record { steps = λ w now f. refl; calls = λ w now f. refl }) ok
-stmt_acks t stmts.Begin found is fits bytes ok = absurd is
-stmt_acks t stmts.Commit found is fits bytes ok = absurd is
-stmt_acks t stmts.Abort found is fits bytes ok = absurd is
-stmt_acks t (stmts.Analyse algorithm) found is fits bytes ok = absurd (over_analyse t algorithm t.id found ok)
+stmt_acks t stmts.Notarize found is parts fits ok = absurd (over_notarize t t.id found ok)
+stmt_acks t stmts.Validate found is parts fits ok = absurd (over_validate t t.id found ok)
+stmt_acks t (stmts.Now moment) found is parts fits ok = absurd (says_only_ok t ok)
+stmt_acks t (stmts.Create table columns) found is parts fits ok = over_tables t t.id (lines.Plain (stmts.Create table columns)) parts found fits (record { steps = λ w now f. refl; calls = λ w now f. refl }) ok
+stmt_acks t (stmts.Insert table row) found is parts fits ok = over_tables t t.id (lines.Plain (stmts.Insert table row)) parts found fits (record { steps = λ w now f. refl; calls = λ w now f. refl }) ok
+stmt_acks t (stmts.Update table row) found is parts fits ok = over_tables t t.id (lines.Plain (stmts.Update table row)) parts found fits (record { steps = λ w now f. refl; calls = λ w now f. refl }) ok
+stmt_acks t (stmts.Delete table key) found is parts fits ok = over_tables t t.id (lines.Plain (stmts.Delete table key)) parts found fits (record { steps = λ w now f. refl; calls = λ w now f. refl }) ok
+stmt_acks t (stmts.Get table key moment) found is parts fits ok = over_tables t t.id (lines.Plain (stmts.Get table key moment)) parts found fits (record { steps = λ w now f. refl; calls = λ w now f. refl }) ok
+stmt_acks t (stmts.Scan table filter moment) found is parts fits ok = over_tables t t.id (lines.Plain (stmts.Scan table filter moment)) parts found fits (record { steps = λ w now f. refl; calls = λ w now f. refl }) ok
+stmt_acks t (stmts.History table key) found is parts fits ok = over_tables t t.id (lines.Plain (stmts.History table key)) parts found fits (record { steps = λ w now f. refl; calls = λ w now f. refl }) ok
+stmt_acks t stmts.Begin found is parts fits ok = absurd is
+stmt_acks t stmts.Commit found is parts fits ok = absurd is
+stmt_acks t stmts.Abort found is parts fits ok = absurd is
+stmt_acks t (stmts.Analyse algorithm) found is parts fits ok = absurd (over_analyse t algorithm t.id found ok)
 
-line_acks : (t : Scene) (line : Line) (found : Found) → IsDrillLine line → FitsParts line → IsBytes t.bytes → IfOk (stored_by t.id t (Ok line) found) t (act t line found).next
-unfolding act
-line_acks t (lines.Plain stmt) found is fits bytes ok = stmt_acks t stmt found is fits.0 bytes ok
-line_acks t (lines.Drill (events.Init id width k algs)) found is fits bytes ok = absurd (inits_not t id width k algs ok)
-line_acks t (lines.Drill (events.Crash calls choice)) found is fits bytes ok = absurd (says_only_ok t ok)
-line_acks t (lines.Drill (events.Alter place piece)) found is fits bytes ok = absurd (changed_not (nat_le (place + length piece) (length t.bytes)) t _ ok)
-line_acks t (lines.Drill (events.Cut n)) found is fits bytes ok = absurd (changed_not (nat_le n (length t.bytes)) t _ ok)
-line_acks t lines.Blank found is fits bytes ok = absurd is
-line_acks t (lines.InSession session stmt) found is fits bytes ok = absurd is
+line_acks : (t : Scene) (line : Line) (found : Found) → IsDrillLine line → FitsParts line → IsFit t → IfOk (stored_by t.id t (Ok line) found) t (act t line found).next
+unfolding act world_steps.step notary_calls
+line_acks t (lines.Plain stmt) found is parts fits ok = stmt_acks t stmt found is parts fits ok
+line_acks t (lines.Drill (events.Init id width k algs)) found is parts fits ok = absurd (inits_not t id width k algs ok)
+line_acks t (lines.Drill (events.Crash calls choice)) found is parts fits ok = absurd (says_only_ok t ok)
+line_acks t (lines.Drill (events.Alter place piece)) found is parts fits ok = absurd (changed_not (nat_le (place + length piece) (length t.bytes)) t _ ok)
+line_acks t (lines.Drill (events.Cut n)) found is parts fits ok = absurd (changed_not (nat_le n (length t.bytes)) t _ ok)
+line_acks t lines.Blank found is parts fits ok = absurd is
+line_acks t (lines.InSession session stmt) found is parts fits ok = over_tables t t.id (lines.InSession session stmt) parts found fits (record { steps = λ w now f. refl; calls = λ w now f. refl }) ok
 
-reading_acks : (t : Scene) (l : Result Line ParseFail) (found : Found) → IsReading l → FitsReading l → IsBytes t.bytes → IfOk (stored_by t.id t l found) t (act_on t l found).next
-reading_acks t (Ok l) found is fits bytes = line_acks t l found is fits bytes
-reading_acks t (Err fail) found is fits bytes = refusal_not (stored_by t.id t (Err fail) found) t t (name_of fail)
+reading_acks : (t : Scene) (l : Result Line ParseFail) (found : Found) → IsReading l → FitsReading l → IsFit t → IfOk (stored_by t.id t l found) t (act_on t l found).next
+reading_acks t (Ok l) found is parts fits = line_acks t l found is parts fits
+reading_acks t (Err fail) found is parts fits = refusal_not (stored_by t.id t (Err fail) found) t t (name_of fail)
 
 -- ---- each event
 
@@ -217,14 +232,14 @@ under_acks : (more : List Item) (t : Scene) (a : Act) (crash : Option Crash) →
 under_acks more t a None acks = acks
 under_acks more t a (Some crash) acks = by (nat_le (calls_in a) crash.after)
   where
-    by : (b : Bool) → IfOk more t (if b then a.next else crashed (stopped t crash a))
-    by true ok = acks ok
+    by : (b : Bool) → IfOk more t (if b then ended a.next else crashed (stopped t crash a))
+    by true ok = (let said = acks ok in record { txn = said.txn; one = said.one; before = said.before; held_before = said.held_before; held_now = said.held_now; counted = said.counted; few_yet = said.few_yet; text = said.text })
     by false ok = absurd (let first = ok.first in omega (arith, first))
 
-event_acks : (t : Scene) (e : Event) → IsBytes t.bytes → MayCome t e → IfOk (stores t e) t (step t e.line e.found)
+event_acks : (t : Scene) (e : Event) → IsFit t → MayCome t e → IfOk (stores t e) t (step t e.line e.found)
 unfolding step
-event_acks t e bytes may ok =
-    let acks = under_acks (stored_by t.id (taken t) e.line e.found) (taken t) (act_on (taken t) e.line e.found) t.crash (reading_acks (taken t) e.line e.found may.line may.fits bytes) ok in
+event_acks t e fits may ok =
+    let acks = under_acks (stored_by t.id (taken t) e.line e.found) (taken t) (act_on (taken t) e.line e.found) t.crash (reading_acks (taken t) e.line e.found may.line may.fits (still_fit t fits)) ok in
     record { txn = acks.txn; one = sym (taken_stored t.id t e.line e.found) ∙ acks.one; before = acks.before; held_before = acks.held_before; held_now = acks.held_now; counted = acks.counted; few_yet = acks.few_yet; text = acks.text }
 
 -- ---- its place, at once and later
@@ -243,9 +258,9 @@ place_stays number txn h more has = record {
 
 module _ (t : Scene) (e : Event) (number : ℕ) where
   -- at once
-  pub stored_at : IsBytes t.bytes → MayCome t e → IsAcknowledged t e number → IsStoredAs t e number (step t e.line e.found).scene
-  stored_at bytes may told =
-      let acks = event_acks t e bytes may (subst SaysOk (sym told.text) (says_ok (decimal number))) in
+  pub stored_at : IsFit t → MayCome t e → IsAcknowledged t e number → IsStoredAs t e number (step t e.line e.found).scene
+  stored_at fits may told =
+      let acks = event_acks t e fits may (subst SaysOk (sym told.text) (says_ok (decimal number))) in
       let same : ok_text acks.txn.number ≡ ok_text number = sym acks.text ∙ told.text in
       let digits : decimal acks.txn.number ≡ decimal number = append_cancel_left (codes "ok ") (decimal acks.txn.number) (decimal number) (append_cancel_right (codes "ok " ++ decimal acks.txn.number) (codes "ok " ++ decimal number) (10 ∷ []) same) in
       let is : acks.txn.number ≡ number = decimal_injective acks.txn.number number acks.few_yet told.wide digits in
@@ -275,8 +290,8 @@ module _ (t : Scene) (e : Event) (number : ℕ) where
 
 pub stays_stored : AcknowledgedStaysStored
 unfolding after
-stays_stored limits [] e es number is inside told = stored_at (after (nothing_yet limits) es) e number (bytes_after (nothing_yet limits) es (no_bytes limits) is.0) is.1 told
+stays_stored limits [] e es number is inside told = stored_at (after (nothing_yet limits) es) e number (fit_after (nothing_yet limits) es (nothing_fit limits) is.0) is.1 told
 stays_stored limits (last ∷ later) e es number is inside told =
     stored_still (after (nothing_yet limits) es) e number (after (nothing_yet limits) (later ++ e ∷ es)) (after (nothing_yet limits) (last ∷ (later ++ e ∷ es))) (stores (after (nothing_yet limits) (later ++ e ∷ es)) last)
-    (event_good (after (nothing_yet limits) (later ++ e ∷ es)) last (bytes_after (nothing_yet limits) (later ++ e ∷ es) (no_bytes limits) is.0) is.1 inside.1).extends
+    (event_good (after (nothing_yet limits) (later ++ e ∷ es)) last (fit_after (nothing_yet limits) (later ++ e ∷ es) (nothing_fit limits) is.0) is.1 inside.1).extends
     (stays_stored limits later e es number is.0 inside.0 told)

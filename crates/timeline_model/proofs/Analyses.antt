@@ -30,7 +30,7 @@ use Rattle.timeline_model.specs.Analyses.{IsRead, IsHeaderRefused, NamesAltered,
 use Rattle.timeline_model.proofs.Judged.{audit, under_held}
 use Rattle.timeline_model.proofs.Steady.{Holds, Stands, stands}
 use Rattle.timeline_model.proofs.Doings.{spelled_of}
-use Rattle.timeline_model.proofs.Events.{all_act, bytes_after, no_bytes}
+use Rattle.timeline_model.proofs.Events.{all_act, fit_after, nothing_fit}
 use Rattle.audit_model.specs.Notary.{header_answer}
 use Rattle.notary_link.specs.declared.answer.Answer.TheVariants.{Same, Differs}
 
@@ -66,10 +66,10 @@ module _ (limits : NotaryLimits) (es : List Event) (id : ℕ) (is_timeline : IsT
   is = after t es
 
   bytes : IsBytes is.bytes
-  bytes = bytes_after t es (no_bytes limits) is_timeline
+  bytes = (fit_after t es (nothing_fit limits) is_timeline).bytes
 
   known : Stands t es id
-  known = stands t es id refl (all_act id t es (no_bytes limits) is_timeline)
+  known = stands t es id refl (all_act id t es (nothing_fit limits) is_timeline)
 
   module _ (h : History) (n : ℕ) (over : IsFiledOver t es id h n) where
     -- that which was filed is known

@@ -133,13 +133,13 @@ none_of id None s other = refl
 none_of id (Some header) s other = ap (λ (b : Bool). if b then Some (record { header = header; items = s.items; end = s.end }) else None) (ne_eqb header.id id other)
 
 pub world_is : WorldsGoByBytes
-world_is id None None bytes other = none_of id (stored bytes).header (stored bytes) other
-world_is id None (Some s) bytes is = absurd is
-world_is id (Some w) None bytes is = absurd is
-world_is id (Some w) (Some s) bytes (is, own) =
-    let stores = is.open_on.stores in
-    let header_is : (stored bytes).header ≡ Some w.header = stores.header_is ∙ ap (λ (h : Header). Some h) is.header in
-    let end_is : (stored bytes).end ≡ w.end = is.open_on.end ∙ is.end in
+world_is id None begun None bytes is = none_of id (stored bytes).header (stored bytes) is.0
+world_is id None begun (Some o) bytes is = absurd is
+world_is id (Some w) begun None bytes is = absurd is
+world_is id (Some w) begun (Some o) bytes (is, own) =
+    let stores = is.store.open_on.stores in
+    let header_is : (stored bytes).header ≡ Some w.header = stores.header_is ∙ ap (λ (h : Header). Some h) is.store.header in
+    let end_is : (stored bytes).end ≡ w.end = is.store.open_on.end ∙ is.store.end in
     ap (λ (o : Option Header). store_under id o (stored bytes)) header_is
     ∙ ap (λ (b : Bool). if b then Some (record { header = w.header; items = (stored bytes).items; end = (stored bytes).end }) else None) (eq-eqb w.header.id id own)
     ∙ ap (λ (l : List Item). Some (record { header = w.header; items = l; end = (stored bytes).end })) stores.items_are

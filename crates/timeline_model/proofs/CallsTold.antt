@@ -24,7 +24,11 @@ use Rattle.statement_core.specs.declared.statements.StepFail.{StepFail}
 use Rattle.statement_core.specs.declared.statements.StepFail.TheVariants as steps
 use Rattle.statement_core.specs.World as statements
 use Rattle.statement_core.specs.Steps as statement_steps
-use Rattle.statement_core.specs.Stepping.{StepsIn, MakesFor, Appends}
+use Rattle.statement_core.specs.Stepping.{MakesFor, Appends}
+use Rattle.session_model.specs.World as sessions
+use Rattle.session_model.specs.World.{Session}
+use Rattle.session_model.specs.Steps as session_steps
+use Rattle.session_model.specs.Standing.{Machine, of_store, StepsIn}
 use Rattle.statement_core.specs.Promises.{KeepsPromise, IsPromised}
 use Rattle.validator.specs.Desk.{content, desk}
 use Rattle.validator.specs.declared.fail.AuditFail.{AuditFail}
@@ -65,7 +69,7 @@ validation_calls o end bytes result old new same = subst (λ (its : List Item). 
     none None = refl
     none (Some store) = drop_all store.items
 
--- ---- a statement
+-- ---- a statement, or a line of a session
 
 -- what a line comes to by what its statement came to: text may want memory
 abbrev pub ComesOf : Result Reply StepFail → Result Answered LineFail → Type 0
@@ -85,24 +89,30 @@ module _ (w : statements.World) (s : Opened) (before : List ℕ) (i : statements
   one_item : (item : Item) → append_calls s.at (spell_item item) ≡ appends (standing w.end before) (item ∷ [])
   one_item item = same_calls (spell_item item) ∙ sym (append-nil (append_calls (standing w.end before) (spell_item item)))
 
-  module _ (next : statement_steps.Step) (later : Opened) (old new : disks.State) (after : List ℕ) where
-    abbrev made_calls : List disks.Call
-    made_calls = appends (standing w.end before) (items_added (Some w) (Some next.world))
+  module _ (begun : ℕ → Option Session) (next : session_steps.Step) (m later_m : Machine) (later : Opened) (old new : disks.State) (after : List ℕ) where
+    abbrev from : sessions.World
+    from = record { store = w; sessions = begun }
 
-    none_calls : next.world ≡ w → made_calls ≡ []
+    abbrev here : statement_steps.Step
+    here = of_store next
+
+    abbrev made_calls : List disks.Call
+    made_calls = appends (standing w.end before) (items_added (Some w) (Some next.world.store))
+
+    none_calls : next.world.store ≡ w → made_calls ≡ []
     none_calls same = ap (λ (x : statements.World). appends (standing w.end before) (drop (length w.items) x.items)) same ∙ ap (appends (standing w.end before)) (drop_all w.items)
 
     -- one append
-    txn_calls : (r : Result Reply StepFail) (a : Appends w next r s old new) → append_calls s.at (spell_txn a.txn) ≡ made_calls
+    txn_calls : (r : Result Reply StepFail) (a : Appends w here r s old new) → append_calls s.at (spell_txn a.txn) ≡ made_calls
     txn_calls r a =
         one_item (items.Txn a.txn)
         ∙ ap (appends (standing w.end before)) (sym (ap (λ (x : statement_steps.Step). drop (length w.items) x.world.items) a.stores ∙ drop_at w.items (items.Txn a.txn ∷ []) (length w.items) refl))
 
-    stayed : (result : Result Answered LineFail) → next.world ≡ w → new.trace ≡ old.trace → MakesOfDisk made_calls result old new
+    stayed : (result : Result Answered LineFail) → next.world.store ≡ w → new.trace ≡ old.trace → MakesOfDisk made_calls result old new
     stayed result same trace = subst (λ (cs : List disks.Call). MakesOfDisk cs result old new) (sym (none_calls same)) (no_calls result old new trace)
 
     -- a reply
-    replied : (reply : Reply) (result : Result Answered LineFail) → ComesOf (Ok reply) result → IsPromised w reply next.world → MakesFor w next (Ok reply) s old new → MakesOfDisk made_calls result old new
+    replied : (reply : Reply) (result : Result Answered LineFail) → ComesOf (Ok reply) result → IsPromised w reply next.world.store → MakesFor w here (Ok reply) s old new → MakesOfDisk made_calls result old new
     replied (replies.Committed number) (Ok answered) comes promised makes = subst (λ (cs : List disks.Call). MakesCalls cs (Ok tt) old new) (txn_calls (Ok (replies.Committed number)) makes) makes.makes
     replied (replies.Committed number) (Err fails.NoMemory) comes promised makes = inl (subst (λ (cs : List disks.Call). MakesCalls cs (Ok tt) old new) (txn_calls (Ok (replies.Committed number)) makes) makes.makes)
     replied (replies.Committed number) (Err fails.DiskFault) comes promised makes = absurd comes
@@ -114,22 +124,22 @@ module _ (w : statements.World) (s : Opened) (before : List ℕ) (i : statements
     replied (replies.Told versions) result comes promised makes = stayed result promised makes
     replied (replies.Refused refusal) result comes promised makes = stayed result promised makes
 
-    by : (r : Result Reply StepFail) (result : Result Answered LineFail) → ComesOf r result → KeepsPromise w next → StepsIn w next r s later old new before after → MakesOfDisk made_calls result old new
-    by (Ok reply) result comes promised told = replied reply result comes (subst (λ (x : Reply). IsPromised w x next.world) (sym told.reply) promised) told.trace
+    by : (r : Result Reply StepFail) (result : Result Answered LineFail) → ComesOf r result → KeepsPromise w here → StepsIn from next r m later_m s later old new before after → MakesOfDisk made_calls result old new
+    by (Ok reply) result comes promised told = replied reply result comes (subst (λ (x : Reply). IsPromised w x next.world.store) (sym told.reply) promised) told.trace
     by (Err steps.DiskFault) (Err fails.DiskFault) comes promised told = inr (subst (λ (cs : List disks.Call). MakesCalls cs (Err disk_fails.Failed) old new) (txn_calls (Err steps.DiskFault) told.trace) told.trace.makes)
     by (Err steps.DiskFault) (Err fails.NotaryFault) comes promised told = absurd comes
     by (Err steps.DiskFault) (Err fails.NoMemory) comes promised told = absurd comes
     by (Err steps.DiskFault) (Ok answered) comes promised told = absurd comes
     by (Err steps.NoMemory) (Err fails.NoMemory) comes promised told = wanted told.trace
       where
-        wanted : Appends w next (Err steps.NoMemory) s old new ⊎ (new.trace ≡ old.trace) → MakesOfDisk made_calls (Err fails.NoMemory) old new
+        wanted : Appends w here (Err steps.NoMemory) s old new ⊎ (new.trace ≡ old.trace) → MakesOfDisk made_calls (Err fails.NoMemory) old new
         wanted (inl a) = subst (λ (cs : List disks.Call). MakesOfDisk cs (Err fails.NoMemory) old new) (txn_calls (Err steps.NoMemory) a) a.makes
         wanted (inr same) = untouched made_calls old new same
     by (Err steps.NoMemory) (Err fails.DiskFault) comes promised told = absurd comes
     by (Err steps.NoMemory) (Err fails.NotaryFault) comes promised told = absurd comes
     by (Err steps.NoMemory) (Ok answered) comes promised told = absurd comes
 
-    pub statement_calls : (r : Result Reply StepFail) (result : Result Answered LineFail) → ComesOf r result → KeepsPromise w next → StepsIn w next r s later old new before after → MakesOfDisk made_calls result old new
+    pub statement_calls : (r : Result Reply StepFail) (result : Result Answered LineFail) → ComesOf r result → KeepsPromise w here → StepsIn from next r m later_m s later old new before after → MakesOfDisk made_calls result old new
     statement_calls r result comes promised told = by r result comes promised told
 
 -- ---- a notarization
@@ -181,7 +191,7 @@ module _ (calls : List disks.Call) (old new : disks.State) where
   audit_calls (Err (audits.SealMissing name)) result comes free makes = absurd cc
   audit_calls (Err (audits.OutOfTurn count)) result comes free makes = absurd free
 
-module _ (now : ℕ) (w : World) (ws : statements.World) (is : w.store ≡ Some ws) (s later : Opened) (before after : List ℕ) (lists later_lists : notaries.Lists) (i : IsIn w (alone s) before lists) (stands : statements.IsIn ws s before)
+module _ (now : ℕ) (w : World) (ws : statements.World) (is : w.store ≡ Some ws) (kept : Machine) (s later : Opened) (before after : List ℕ) (lists later_lists : notaries.Lists) (i : IsIn w (alone kept s) before lists) (stands : statements.IsIn ws s before)
     (is_open : s.at.is_closed ≡ false) (old new : disks.State) (filed filed_later : notaries.State) (r : Result ℕ AuditFail) (told : reaching.Notarizes now ws.items r s later (desk old filed) (desk new filed_later) (content before lists) (content after later_lists)) where
   -- the same, of the world
   tail_is : tail_of s ≡ statements.tail_of_world ws

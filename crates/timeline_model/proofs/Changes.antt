@@ -1,17 +1,15 @@
 -- What was filed and is altered was changed in between.
-use Rattle.std.proofs.Common.{◌≡◌, ◌⊎◌, inl, inr, ℕ, zero, suc, max, ◌+◌, ◌-◌, ◌*◌, ◌^◌, ◌<◌, ◌≤◌, Bool, true, false, cond, List, [], ◌∷◌, ◌++◌, length, map, drop, Option, Some, None, IfSome, refl, sym, ap, subst, ◌∙◌, arith, length-append}
+use Rattle.std.proofs.Common.{◌≡◌, ◌⊎◌, inl, inr, ℕ, zero, suc, max, ◌+◌, ◌-◌, ◌<◌, ◌≤◌, Bool, true, false, cond, List, [], ◌∷◌, ◌++◌, length, map, drop, Option, Some, None, IfSome, refl, sym, ap, subst, ◌∙◌, arith, length-append}
 use Rattle.std.specs.Prelude.{nat_lt, unwrap_or, reverse, ◌&&◌, not}
 use Rattle.std.specs.List.{All, Contains, find, after_last, suffix_len, prefix_len, slice_get}
 use Rattle.std.specs.Option.{option_map}
 use Rattle.std.proofs.lemmas.Bool.{cases_lt, eqb-true}
 use Rattle.std.proofs.lemmas.Bool.Decides.{nat_tests}
-use Rattle.std.proofs.lemmas.Nat.{mul-le}
 use Rattle.std.proofs.lemmas.Option.{same_Some, none-some}
 use Rattle.std.proofs.lemmas.List.{reverse-append, drop_at}
 use Rattle.std.proofs.lemmas.List.Elements.{All-head, All-tail}
 use mathlib.Core.List.{List-discrete}
 use native.Mathlib.Decide.{ℕ_discrete}
-use Rattle.byte_grammar.specs.Reading.{IsBytes}
 use Rattle.tuple_bytes.specs.declared.item.Txn.{Txn}
 use Rattle.tuple_bytes.specs.Spelling.{spell_txn, FitsTxn}
 use Rattle.history_model.specs.History.{History, rows}
@@ -39,7 +37,8 @@ use Rattle.timeline_model.proofs.Acts.{Marks, Acts, drop_all, some_weaker}
 use Rattle.timeline_model.proofs.Transport.{grows, mark_counts}
 use Rattle.timeline_model.proofs.Steady.{Holds}
 use Rattle.timeline_model.proofs.Doings.{spelled_of}
-use Rattle.timeline_model.proofs.Events.{all_act, bytes_after, no_bytes}
+use Rattle.timeline_model.proofs.Events.{all_act, fit_after, nothing_fit}
+use Rattle.timeline_model.proofs.Sessions.{IsFit}
 use Rattle.timeline_model.proofs.Analyses.{known_of}
 
 -- ---- views are the same or not
@@ -411,11 +410,11 @@ module _ (id tile : ℕ) (h : History) (ours : HasSpelling h) where
 
 -- ---- all timelines
 
-all_spelled : (t : Scene) (es : List Event) → IsBytes t.bytes → IsTimeline t es → EachEvent (λ was is. IsSpelled was × IsSpelled is) t es
-all_spelled t [] bytes is = tt
-all_spelled t (e ∷ es) bytes is = (
-  ((λ s held_is. spelled_of (after t es).bytes s (bytes_after t es bytes is.0) held_is), (λ s held_is. spelled_of (after t (e ∷ es)).bytes s (bytes_after t (e ∷ es) bytes is) held_is)),
-  all_spelled t es bytes is.0,
+all_spelled : (t : Scene) (es : List Event) → IsFit t → IsTimeline t es → EachEvent (λ was is. IsSpelled was × IsSpelled is) t es
+all_spelled t [] fits is = tt
+all_spelled t (e ∷ es) fits is = (
+  ((λ s held_is. spelled_of (after t es).bytes s (fit_after t es fits is.0).bytes held_is), (λ s held_is. spelled_of (after t (e ∷ es)).bytes s (fit_after t (e ∷ es) fits is).bytes held_is)),
+  all_spelled t es fits is.0,
 )
 
 module _ (limits : NotaryLimits) (es : List Event) (id : ℕ) (is_timeline : IsTimeline (nothing_yet limits) es) (rises : ClockRises (nothing_yet limits) es) (h : History) (n : ℕ) (over : IsFiledOver (nothing_yet limits) es id h n) where
@@ -426,8 +425,8 @@ module _ (limits : NotaryLimits) (es : List Event) (id : ℕ) (is_timeline : IsT
   knows_of tile holds = record {
     no_batch = refl;
     no_mark = refl;
-    acts = all_act id t es (no_bytes limits) is_timeline;
-    spelled = all_spelled t es (no_bytes limits) is_timeline;
+    acts = all_act id t es (nothing_fit limits) is_timeline;
+    spelled = all_spelled t es (nothing_fit limits) is_timeline;
     rises = rises;
     filings = holds.kept.filings;
     clean = holds.kept.clean;

@@ -1,10 +1,9 @@
 -- What an event leaves under a crash, from its single laws.
-use Rattle.std.proofs.Common.{◌≡◌, inl, inr, ℕ, ◌-◌, ◌^◌, ◌<◌, ◌≤◌, Bool, true, false, List, [], ◌∷◌, ◌++◌, length, take, Option, Some, None, Result, Ok, refl, sym, ap, subst, ◌∙◌, arith}
+use Rattle.std.proofs.Common.{◌≡◌, inl, inr, ℕ, ◌-◌, ◌<◌, ◌≤◌, Bool, true, false, List, [], ◌∷◌, ◌++◌, length, take, Option, Some, None, Result, Ok, refl, sym, ap, subst, ◌∙◌, arith}
 use Rattle.std.specs.Prelude.{nat_le, if◌then◌else◌}
 use Rattle.std.proofs.lemmas.Bool.{leb-true, leb-false}
 use Rattle.std.proofs.lemmas.Nat.{mul-le}
 use Rattle.std.proofs.lemmas.List.{take_all}
-use Rattle.byte_grammar.specs.Reading.{IsBytes}
 use Rattle.outside_words.specs.Runs.{after_calls}
 use Rattle.disk_words.specs.Disk as disks
 use Rattle.disk_words.specs.Record.{image_of}
@@ -22,11 +21,13 @@ use Rattle.stmt_text.specs.declared.line.Line.TheVariants as lines
 use Rattle.drill_core.specs.Laws.{HoldsFiled}
 use Rattle.timeline_model.specs.Scene.{Scene, Crash, nothing_yet, held, batches_of}
 use Rattle.timeline_model.specs.Lines.{Act, header_at}
-use Rattle.timeline_model.specs.Timeline.{Event, calls_in, stopped, crashed, with_calls, under, taken, act_on, step, after, IsTimeline, MayCome}
+use Rattle.timeline_model.specs.Timeline.{Event, calls_in, stopped, crashed, ended, with_calls, under, taken, act_on, step, after, IsTimeline, MayCome}
 use Rattle.timeline_model.specs.Sound.{stored_by, IsFromInside, AllFromInside}
 use Rattle.timeline_model.specs.Acknowledged.{IsAcknowledged, IsStoredAs}
 use Rattle.timeline_model.specs.Crashes.{LeavesHalfMade, WasAdded, made_under, calls_made, LeavesOnly, HasReached, SurvivesCrashes, CrashesAreSurvived}
-use Rattle.timeline_model.proofs.Events.{bytes_after, no_bytes}
+use Rattle.timeline_model.proofs.Events.{fit_after, nothing_fit}
+use Rattle.timeline_model.proofs.Sessions.{IsFit}
+use Rattle.timeline_model.proofs.StayBytes.{still_fit}
 use Rattle.timeline_model.proofs.Sound.{SoundEither}
 use Rattle.timeline_model.proofs.SoundLines.{reading_sound, event_good, stay_sound, keep_items, next_tells}
 use Rattle.timeline_model.proofs.Inits.{inits_half}
@@ -57,16 +58,16 @@ module _ (more : List Item) (t : Scene) (a : Act) (sound : SoundEither more t a)
   durable None new = sound.lasts
   durable (Some crash) new = by (nat_le (calls_in a) crash.after) refl new
     where
-      by : (b : Bool) → nat_le (calls_in a) crash.after ≡ b → index < length (batches_of (if b then a.next else crashed (stopped t crash a)).scene id) → LeavesOnly t.bytes (take crash.after a.disk_calls) (if b then a.next else crashed (stopped t crash a)).scene.bytes
+      by : (b : Bool) → nat_le (calls_in a) crash.after ≡ b → index < length (batches_of (if b then ended a.next else crashed (stopped t crash a)).scene id) → LeavesOnly t.bytes (take crash.after a.disk_calls) (if b then ended a.next else crashed (stopped t crash a)).scene.bytes
       by true enough new =
           let all : take crash.after a.disk_calls ≡ a.disk_calls = take_all crash.after a.disk_calls (omega (arith, leb-true (calls_in a) crash.after enough)) in
           λ choice. ap (λ (calls : List disks.Call). image_of choice t.bytes (after_calls is_done calls [])) all ∙ sound.lasts choice
       by false few new = durable_part crash new
 
-durable_event : (t : Scene) (e : Event) → IsBytes t.bytes → MayCome t e → IsFromInside e.line → (id index : ℕ) → WasAdded id index t (step t e.line e.found).scene → LeavesOnly t.bytes (calls_made t e) (step t e.line e.found).scene.bytes
+durable_event : (t : Scene) (e : Event) → IsFit t → MayCome t e → IsFromInside e.line → (id index : ℕ) → WasAdded id index t (step t e.line e.found).scene → LeavesOnly t.bytes (calls_made t e) (step t e.line e.found).scene.bytes
 unfolding step
-durable_event t e bytes may inside id index added =
-    durable (stored_by t.id (taken t) e.line e.found) (taken t) (act_on (taken t) e.line e.found) (reading_sound (taken t) e.line e.found may.line inside may.fits bytes) id index added.new t.crash added.filed
+durable_event t e fits may inside id index added =
+    durable (stored_by t.id (taken t) e.line e.found) (taken t) (act_on (taken t) e.line e.found) (reading_sound (taken t) e.line e.found may.line inside may.fits (still_fit t fits)) id index added.new t.crash added.filed
 
 -- the store that is filed has reached the end of each tile
 reached_by : (was : Scene) (e : Event) (is : Scene) (id index : ℕ) → LeavesOnly was.bytes (calls_made was e) is.bytes → index < length (batches_of is id) → (o : Option History) → held is ≡ o → HoldsFiled (batches_of is id) id o → HasReached index was e is
@@ -98,7 +99,7 @@ module _ (limits : NotaryLimits) (e : Event) (es : List Event) (is : IsTimeline 
   unfolding after
   batches id index added =
       reached_by (after t es) e (after t (e ∷ es)) id index
-      (durable_event (after t es) e (bytes_after t es (no_bytes limits) is.0) is.1 inside.1 id index added)
+      (durable_event (after t es) e (fit_after t es (nothing_fit limits) is.0) is.1 inside.1 id index added)
       added.filed (held (after t (e ∷ es))) refl (sound id)
 
   init : (id width k algs : ℕ) → e.line ≡ Ok (lines.Drill (events.Init id width k algs)) → LeavesHalfMade (header_at id (after t es).clock width k algs) (after t es).bytes (after t (e ∷ es)).bytes
@@ -109,7 +110,7 @@ module _ (limits : NotaryLimits) (e : Event) (es : List Event) (is : IsTimeline 
 
   bare : held (after t es) ≡ None → (stored (after t (e ∷ es)).bytes).items ≡ []
   unfolding after
-  bare = (event_good (after t es) e (bytes_after t es (no_bytes limits) is.0) is.1 inside.1).bare
+  bare = (event_good (after t es) e (fit_after t es (nothing_fit limits) is.0) is.1 inside.1).bare
 
   -- the later events are from inside, as all are
   acknowledged : (later before : List Event) (past : Event) (number : ℕ) → e ∷ es ≡ later ++ past ∷ before → IsAcknowledged (after t before) past number → IsStoredAs (after t before) past number (after t (e ∷ es))

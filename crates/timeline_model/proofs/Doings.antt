@@ -33,17 +33,17 @@ use Rattle.validator.specs.declared.fail.AuditFail.TheVariants as fails
 use Rattle.validator.specs.Texts.{verdict_text, refusal_text}
 use Rattle.drill_core.specs.Found.{Found}
 use Rattle.drill_core.specs.World as worlds
-use Rattle.drill_core.specs.World.{with_mark}
+use Rattle.drill_core.specs.World.{no_sessions, with_mark}
 use Rattle.drill_core.specs.Steps as world_steps
 use Rattle.drill_core.specs.Steps.{on_tables, notarized, validated, algorithm_of, marked, history_of, MayFind}
 use Rattle.drill_core.proofs.Analysing.{analysed_stays}
 use Rattle.txn_journal.specs.Create.{is_free}
-use Rattle.timeline_model.specs.Scene.{Scene, Crash, store_under, store_in, world_of, batches_of}
+use Rattle.timeline_model.specs.Scene.{Scene, Crash, store_under, store_in, world_with, world_of, batches_of}
 use Rattle.txn_journal.specs.Held.{standing}
 use Rattle.timeline_model.specs.LineCalls.{items_added, with_items, appends, end_of_store, notary_calls, validate_calls, noting}
 use Rattle.timeline_model.specs.Lines.{Act, quiet, says, refuses, over_world, over_store, header_at, makes, inits, altered, shortened, brings}
-use Rattle.timeline_model.specs.Timeline.{with_calls, calls_in, stopped, under, MayBeFound}
-use Rattle.timeline_model.proofs.Acts.{Acts, take_none, none_added}
+use Rattle.timeline_model.specs.Timeline.{with_calls, calls_in, stopped, crashed, ended, under, MayBeFound}
+use Rattle.timeline_model.proofs.Acts.{Acts, acts_dropped, take_none, none_added}
 
 -- ---- what leaves the lists
 
@@ -69,8 +69,8 @@ pub under_crash : (id : ℕ) (t : Scene) (a : Act) (crash : Option Crash) → Ac
 under_crash id t a None acts = acts.whole
 under_crash id t a (Some crash) acts = by (nat_le (calls_in a) crash.after) refl
   where
-    by : (b : Bool) → nat_le (calls_in a) crash.after ≡ b → ActsOn id t (if b then a.next else record { scene = stopped t crash a; text = codes "crashed" ++ 10 ∷ []; is_refused = false }).scene
-    by true le = acts.whole
+    by : (b : Bool) → nat_le (calls_in a) crash.after ≡ b → ActsOn id t (if b then ended a.next else crashed (stopped t crash a)).scene
+    by true le = λ bytes. acts_dropped id t a.next.scene (acts.whole bytes)
     by false more = acts.in_part crash (grind (arith, nat_tests, more))
 
 -- no call of the notary
@@ -92,9 +92,6 @@ pub spelled_of : (bytes : List ℕ) (s : History) → IsBytes bytes → history_
 spelled_of bytes s fits held_is = spelled_by bytes (stored bytes).header s fits refl held_is
 
 -- ---- the world that stands under an id
-
-abbrev pub world_with : Scene → ℕ → Option statements.World → worlds.World
-world_with t i o = record { id = i; store = o; lists = t.lists; limits = t.limits }
 
 pub record StoreIs (i : ℕ) (bytes : List ℕ) (store : statements.World) : Type 0 where
   pub header : (stored bytes).header ≡ Some store.header
@@ -162,19 +159,19 @@ init_acts id t was header same = by (nat_lt max_moment t.clock)
 alter_acts : (id : ℕ) (t : Scene) (place : ℕ) (bytes : List ℕ) → ActsEither id t (quiet (altered t place bytes))
 alter_acts id t place bytes = by (nat_le (place + length bytes) (length t.bytes))
   where
-    by : (b : Bool) → ActsEither id t (quiet (if b then says (record t { bytes = written place bytes t.bytes }) (codes "ok") else refuses t (codes "NoPlace")))
-    by true = without_notary id t (quiet (says (record t { bytes = written place bytes t.bytes }) (codes "ok"))) refl refl
+    by : (b : Bool) → ActsEither id t (quiet (if b then says (record t { bytes = written place bytes t.bytes; sessions = no_sessions }) (codes "ok") else refuses t (codes "NoPlace")))
+    by true = without_notary id t (quiet (says (record t { bytes = written place bytes t.bytes; sessions = no_sessions }) (codes "ok"))) refl refl
     by false = without_notary id t (quiet (refuses t (codes "NoPlace"))) refl refl
 
 cut_acts : (id : ℕ) (t : Scene) (n : ℕ) → ActsEither id t (quiet (shortened t n))
 cut_acts id t n = by (nat_le n (length t.bytes))
   where
-    by : (b : Bool) → ActsEither id t (quiet (if b then says (record t { bytes = take n t.bytes }) (codes "ok") else refuses t (codes "NoPlace")))
-    by true = without_notary id t (quiet (says (record t { bytes = take n t.bytes }) (codes "ok"))) refl refl
+    by : (b : Bool) → ActsEither id t (quiet (if b then says (record t { bytes = take n t.bytes; sessions = no_sessions }) (codes "ok") else refuses t (codes "NoPlace")))
+    by true = without_notary id t (quiet (says (record t { bytes = take n t.bytes; sessions = no_sessions }) (codes "ok"))) refl refl
     by false = without_notary id t (quiet (refuses t (codes "NoPlace"))) refl refl
 
 pub drill_acts : (id : ℕ) (t : Scene) (event : Event) → ActsEither id t (brings t event)
-drill_acts id t (events.Init i width k algs) = init_acts id (record t { id = Some i }) t (header_at i t.clock width k algs) refl
+drill_acts id t (events.Init i width k algs) = init_acts id (record t { id = Some i; sessions = no_sessions }) t (header_at i t.clock width k algs) refl
 drill_acts id t (events.Crash after choice) = without_notary id t (brings t (events.Crash after choice)) refl refl
 drill_acts id t (events.Alter place bytes) = alter_acts id t place bytes
 drill_acts id t (events.Cut n) = cut_acts id t n

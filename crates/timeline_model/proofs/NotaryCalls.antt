@@ -30,6 +30,7 @@ use Rattle.drill_core.specs.declared.answered.Answered.{Answered}
 use Rattle.drill_core.specs.declared.fail.LineFail.{LineFail}
 use Rattle.drill_core.specs.declared.fail.LineFail.TheVariants as fails
 use Rattle.drill_core.specs.World.{World, IsIn}
+use Rattle.session_model.specs.Standing.{Machine}
 use Rattle.drill_core.specs.Parts.{alone}
 use Rattle.drill_core.specs.Steps.{filed_for, reached, sealed, notarized}
 use Rattle.drill_core.specs.Steps as steps
@@ -100,7 +101,7 @@ all_fit : (id : ℕ) (limits : NotaryLimits) (batches : List Batch) (r : Result 
 all_fit id limits batches (Ok n) lists later files = files.fit
 all_fit id limits batches (Err e) lists later files = tt
 
-module _ (now : ℕ) (w : World) (ws : statements.World) (is : w.store ≡ Some ws) (s later : Opened) (before after : List ℕ) (lists later_lists : Lists) (i : IsIn w (alone s) before lists) (stands : statements.IsIn ws s before)
+module _ (now : ℕ) (w : World) (ws : statements.World) (is : w.store ≡ Some ws) (kept : Machine) (s later : Opened) (before after : List ℕ) (lists later_lists : Lists) (i : IsIn w (alone kept s) before lists) (stands : statements.IsIn ws s before)
     (is_open : s.at.is_closed ≡ false) (old new : disks.State) (filed filed_later : notaries.State) (r : Result ℕ AuditFail) (told : reaching.Notarizes now ws.items r s later (desk old filed) (desk new filed_later) (content before lists) (content after later_lists)) where
   abbrev next_of : Header → List Batch → List Batch
   next_of header batches = next_batches (history header ws.items) now batches
@@ -109,10 +110,10 @@ module _ (now : ℕ) (w : World) (ws : statements.World) (is : w.store ≡ Some 
   fault = notarize_fault (statements.tail_of_world ws) false now ws.items (filed_for w)
 
   faulty : notarize_fault (tail_of s) s.at.is_closed now ws.items (lists.batches s.header.id) ≡ fault
-  faulty = fault_is now w ws is s later before after lists later_lists i stands is_open old new filed filed_later r told
+  faulty = fault_is now w ws is kept s later before after lists later_lists i stands is_open old new filed filed_later r told
 
   mine : lists.batches s.header.id ≡ filed_for w
-  mine = mine_is now w ws is s later before after lists later_lists i stands is_open old new filed filed_later r told
+  mine = mine_is now w ws is kept s later before after lists later_lists i stands is_open old new filed filed_later r told
 
   no_call : (fail : AuditFail) → fault ≡ Some fail → WhereTold filed.trace filed_later.trace (λ was is. is ≡ was)
   no_call fail e = (told.free (subst (λ (o : Option AuditFail). IsSome o) (sym (faulty ∙ e)) refl)).2
@@ -153,8 +154,8 @@ module _ (now : ℕ) (w : World) (ws : statements.World) (is : w.store ≡ Some 
   order_by (Some fail) e = told_map filed.trace filed_later.trace _ _ (no_call fail e) (λ was is same. inl same)
   order_by None e =
       subst (λ (store : Option statements.World). BehindAll (calls_to store)) (sym (sealed_store w ws now))
-      (subst BehindAll (frontier_is now w ws is s later before after lists later_lists i stands is_open old new filed filed_later r told (frontier_for (layout (history ws.header ws.items)) (statements.tail_of_world ws) now (filed_for w)))
-      (subst (λ (o : Option ℕ). BehindAll (reaching.frontier_calls s o)) (need_is now w ws is s later before after lists later_lists i stands is_open old new filed filed_later r told) told.order))
+      (subst BehindAll (frontier_is now w ws is kept s later before after lists later_lists i stands is_open old new filed filed_later r told (frontier_for (layout (history ws.header ws.items)) (statements.tail_of_world ws) now (filed_for w)))
+      (subst (λ (o : Option ℕ). BehindAll (reaching.frontier_calls s o)) (need_is now w ws is kept s later before after lists later_lists i stands is_open old new filed filed_later r told) told.order))
 
   pub notarization_order : BehindAll (disk_calls w (notarized w w.store now) before)
   notarization_order = subst (λ (o : Option statements.World). BehindAll (appends (standing (end_of_store o) before) (items_added o (notarized w o now).world.store))) (sym is) (order_by fault refl)

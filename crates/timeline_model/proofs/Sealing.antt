@@ -1,5 +1,5 @@
 -- What a notarization files over a timeline, stopped or not.
-use Rattle.std.proofs.Common.{◌≡◌, ◌⊎◌, inl, inr, ℕ, zero, suc, ◌+◌, ◌-◌, ◌*◌, ◌^◌, ◌<◌, ◌≤◌, ◌==◌, Bool, true, false, List, [], ◌∷◌, ◌++◌, length, map, filter, take, Option, Some, None, refl, sym, ap, subst, ◌∙◌, arith, length-take, length-take-le}
+use Rattle.std.proofs.Common.{◌≡◌, ◌⊎◌, inl, inr, ℕ, zero, suc, ◌+◌, ◌-◌, ◌^◌, ◌<◌, ◌≤◌, ◌==◌, Bool, true, false, List, [], ◌∷◌, ◌++◌, length, map, filter, take, Option, Some, None, refl, sym, ap, subst, ◌∙◌, arith, length-take, length-take-le}
 use Rattle.std.specs.Prelude.{nat_le, nat_lt, ◌&&◌, if◌then◌else◌, codes}
 use Rattle.std.specs.List.{All, range_with_len}
 use Rattle.std.specs.Option.{option_map}
@@ -11,23 +11,20 @@ use Rattle.std.proofs.lemmas.List.{append-nil, drop_at, take_all}
 use Rattle.std.proofs.lemmas.List.FromFn.{take-map-range_with_len, length-map-range_with_len}
 use Rattle.std.proofs.lemmas.List.Elements.{All-nil, All-cons, filter_map-append}
 use Rattle.byte_grammar.specs.Reading.{IsBytes}
-use Rattle.byte_grammar.specs.Gated.{open_gate}
 use Rattle.disk_words.specs.Disk as disks
 use Rattle.disk_words.specs.Record.{image_of}
-use Rattle.disk_model.specs.Gate.{with_piece}
 use Rattle.disk_model.specs.Moments.{is_done}
 use Rattle.outside_words.specs.Runs.{after_calls}
 use Rattle.tuple_bytes.specs.declared.header.Header.{Header}
 use Rattle.tuple_bytes.specs.declared.item.Item.{Item}
 use Rattle.tuple_bytes.specs.declared.item.Item.TheVariants as items
-use Rattle.tuple_bytes.specs.Spelling.{spell_item, spell_frontier, FitsHeader}
+use Rattle.tuple_bytes.specs.Spelling.{spell_frontier, FitsHeader}
 use Rattle.history_model.specs.Stored.{stored}
 use Rattle.history_model.specs.History.{History, history, rows, txns, txn_in, is_in_granule}
 use Rattle.history_model.proofs.Stores.{stored_history}
 use Rattle.digest_model.specs.Layout.{Layout, layout, first_granule, max_granules}
 use Rattle.digest_model.specs.Digests.{cum, header_digest}
 use Rattle.digest_model.proofs.Follows.{follow}
-use Rattle.txn_journal.specs.Append.{behind_gate}
 use Rattle.notary_link.specs.declared.answer.Answer.{Answer}
 use Rattle.notary_link.specs.declared.name.Name.TheVariants as names
 use Rattle.notary_link.specs.declared.seal.Seal.{Seal}
@@ -59,7 +56,7 @@ use Rattle.drill_core.specs.World as worlds
 use Rattle.drill_core.specs.World.{with_batches}
 use Rattle.drill_core.specs.Steps as world_steps
 use Rattle.drill_core.specs.Steps.{notarized, sealed, reached, filed, all_filed}
-use Rattle.timeline_model.specs.Scene.{Scene, Crash, store_in, world_of, held}
+use Rattle.timeline_model.specs.Scene.{Scene, Crash, store_in, world_with, world_of, held}
 use Rattle.txn_journal.specs.Held.{standing}
 use Rattle.store_engine.specs.Appended.{with_record, Takes}
 use Rattle.store_engine.proofs.Appended.{gate_inside, stores_record}
@@ -68,7 +65,7 @@ use Rattle.timeline_model.specs.Lines.{Act, over_world, over_store}
 use Rattle.timeline_model.specs.Timeline.{with_calls, calls_in, stopped}
 use Rattle.timeline_model.proofs.Acts.{Acts, drop_all}
 use Rattle.timeline_model.proofs.Bytes.{all_calls, one_last}
-use Rattle.timeline_model.proofs.Doings.{ActsOn, ActsEither, without_notary, spelled_of, world_with, StoreIs, store_is}
+use Rattle.timeline_model.proofs.Doings.{ActsOn, ActsEither, without_notary, spelled_of, StoreIs, store_is}
 use Rattle.digest_model.proofs.Layouts.{header_alike, ascends}
 
 -- ---- calls of the notary, one after the other

@@ -1,6 +1,7 @@
 -- A timeline without a change from outside stays sound.
 use Rattle.std.proofs.Common.{◌≡◌, ◌⊎◌, inl, inr, ℕ, ◌<◌, ◌≤◌, ◌==◌, Bool, true, false, cond, ltb, List, [], ◌∷◌, ◌++◌, length, take, drop, Option, Some, None, Ok, refl, sym, ap, subst, ◌∙◌, arith}
 use Rattle.std.specs.Prelude.{nat_le, nat_lt, ◌&&◌, if◌then◌else◌, codes, slice_index}
+use Rattle.std.specs.List.{AllByRecursion}
 use Rattle.std.specs.Option.{option_map}
 use Rattle.std.proofs.lemmas.Bool.{eq-eqb}
 use Rattle.std.proofs.lemmas.Bool.Decides.{nat_tests, Decides-eqb}
@@ -18,9 +19,10 @@ use Rattle.tuple_bytes.specs.declared.header.Header.{Header}
 use Rattle.tuple_bytes.specs.declared.item.Item.{Item}
 use Rattle.tuple_bytes.specs.declared.item.Item.TheVariants as items
 use Rattle.tuple_bytes.specs.declared.item.Txn.{Txn}
+use Rattle.tuple_bytes.specs.declared.op.Op.{Op}
 use Rattle.tuple_bytes.specs.Limits.{max_moment}
 use Rattle.tuple_bytes.specs.HeaderBytes.{header_of, header_at}
-use Rattle.tuple_bytes.specs.Spelling.{spell_header, spell_item, head_text, FitsHeader}
+use Rattle.tuple_bytes.specs.Spelling.{spell_header, head_text, FitsHeader}
 use Rattle.history_model.specs.Stored.{stored, store_shape, header_length, front_header, stored_under}
 use Rattle.history_model.specs.History.{History, history, last_moment, MayFollow}
 use Rattle.history_model.proofs.Stores.{stored_history}
@@ -28,38 +30,38 @@ use Rattle.notary_link.specs.Batches.{Batch}
 use Rattle.notary_link.specs.Notary.{Lists}
 use Rattle.audit_model.specs.Altered.{history_in}
 use Rattle.audit_model.proofs.Adding.{added_stays}
-use Rattle.disk_model.specs.Gate.{with_piece}
-use Rattle.txn_journal.specs.Append.{behind_gate}
 use Rattle.store_engine.specs.Opened.{Stores, StoresOldOrNew}
-use Rattle.stmt_text.specs.declared.stmt.Stmt.{Stmt}
+use Rattle.store_engine.specs.Refusals.{commit_fault}
 use Rattle.stmt_text.specs.declared.line.Line.{Line}
-use Rattle.stmt_text.specs.declared.line.Line.TheVariants as lines
-use Rattle.stmt_text.specs.Fits.{FitsStmt}
+use Rattle.stmt_text.specs.Fits.{FitsParts}
 use Rattle.statement_core.specs.World as statements
-use Rattle.statement_core.specs.World.{tail_of_world}
-use Rattle.statement_core.specs.Steps as statement_steps
+use Rattle.statement_core.specs.World.{tail_of_world, with_txn}
+use Rattle.session_model.specs.Steps as session_steps
+use Rattle.session_model.proofs.Storing.{StoresOrNot, stores_or_not}
 use Rattle.drill_core.specs.Found.{Found}
 use Rattle.drill_core.specs.Laws.{HoldsFiled}
 use Rattle.drill_core.specs.World as worlds
 use Rattle.drill_core.specs.Steps as world_steps
 use Rattle.txn_journal.specs.Create.{is_free}
-use Rattle.timeline_model.specs.Scene.{Scene, Crash, store_in, world_of, held, batches_of}
+use Rattle.timeline_model.specs.Scene.{Scene, Crash, store_in, world_with, world_of, held, batches_of}
 use Rattle.txn_journal.specs.Held.{standing}
 use Rattle.store_engine.specs.Appended.{with_record, Takes}
 use Rattle.store_engine.proofs.Appended.{gate_inside, stores_record}
 use Rattle.timeline_model.specs.LineCalls.{notary_calls, items_added, with_items, appends}
 use Rattle.timeline_model.specs.Lines.{Next, Act, quiet, refuses, over_world, over_store, makes, inits}
-use Rattle.timeline_model.specs.Timeline.{calls_in, stopped, under}
+use Rattle.timeline_model.specs.Timeline.{calls_in, stopped, crashed, ended, under}
 use Rattle.timeline_model.specs.Sound.{stored_by, HasAlso}
 use Rattle.timeline_model.specs.Crashes.{LeavesOnly}
 use Rattle.timeline_model.proofs.Acts.{drop_all}
 use Rattle.timeline_model.proofs.Bytes.{all_calls, ItemsLast, none_last, one_last, none_stopped}
 use Rattle.timeline_model.proofs.Calls.{inits_write}
-use Rattle.timeline_model.proofs.Fitting.{takes_txn}
+use Rattle.timeline_model.proofs.Fitting.{takes_txn, follows}
 use Rattle.timeline_model.proofs.Inits.{half_part, half_all, half_bare}
-use Rattle.timeline_model.proofs.Statements.{new_txn, IsStoredNow, StoresOrNot, stores_or_not}
+use Rattle.timeline_model.proofs.Sessions.{AreFit, IsFit, asked_fit}
+use Rattle.timeline_model.proofs.Spellings.{IsFitOp}
+use Rattle.timeline_model.proofs.Statements.{new_txn, with_begun}
 use Rattle.timeline_model.proofs.Stopped.{stopped_stores}
-use Rattle.timeline_model.proofs.Doings.{unstopped, world_with, StoreIs, store_is, IsOnTables}
+use Rattle.timeline_model.proofs.Doings.{unstopped, StoreIs, store_is, IsOnTables}
 
 -- ---- a sound scene
 
@@ -107,8 +109,8 @@ pub under_sound : (more : List Item) (t : Scene) (a : Act) (crash : Option Crash
 under_sound more t a None acts = acts.whole
 under_sound more t a (Some crash) acts = by (nat_le (calls_in a) crash.after) refl
   where
-    by : (b : Bool) → nat_le (calls_in a) crash.after ≡ b → IsGood more t (if b then a.next else record { scene = stopped t crash a; text = codes "crashed" ++ 10 ∷ []; is_refused = false }).scene
-    by true le = acts.whole
+    by : (b : Bool) → nat_le (calls_in a) crash.after ≡ b → IsGood more t (if b then ended a.next else crashed (stopped t crash a)).scene
+    by true le = record { sound = acts.whole.sound; extends = acts.whole.extends; bare = acts.whole.bare }
     by false early = acts.in_part crash (grind (arith, nat_tests, early))
 
 pub quiet_sound : (more : List Item) (t : Scene) (next : Next) → next.scene.bytes ≡ t.bytes → next.scene.lists ≡ t.lists → SoundEither more t (quiet next)
@@ -228,10 +230,10 @@ module _ (header : Header) (is : List Item) (item : Item) (fits : FitsHeader hea
       by k same (inl old) = inl (stored_held header is next old ∙ ap (λ (x : History). Some x) same)
       by k same (inr new) = inr (stored_held header (is ++ item ∷ []) next new ∙ ap (λ (x : History). Some (history x.header (x.items ++ item ∷ []))) same ∙ ap (λ (its : List Item). Some (history k.header (k.items ++ its))) (sym one))
 
--- ---- a statement on tables
+-- ---- a statement on tables, or a line of a session
 
 -- over the store of a scene
-module _ (i : ℕ) (t : Scene) (line : Line) (stmt : Stmt) (line_is : line ≡ lines.Plain stmt) (found : Found) (store : statements.World) (is : store_in i (stored t.bytes) ≡ Some store)
+module _ (i : ℕ) (t : Scene) (line : Line) (found : Found) (store : statements.World) (is : store_in i (stored t.bytes) ≡ Some store)
     (bytes_before : IsBytes t.bytes) (no_calls : notary_calls (world_with t i (Some store)) line t.clock found ≡ []) where
   abbrev w : worlds.World
   w = world_with t i (Some store)
@@ -265,15 +267,19 @@ module _ (i : ℕ) (t : Scene) (line : Line) (stmt : Stmt) (line_is : line ≡ l
       none = ap (items_added (Some store)) same ∙ drop_all store.items
 
   -- it has a transaction more
-  module _ (s : world_steps.Step) (next : statement_steps.Step) (store_same : s.world.store ≡ Some next.world) (more : IsStoredNow store stmt t.clock next) (stmt_fits : FitsStmt stmt) where
+  module _ (s : world_steps.Step) (ops : List Op) (some : 1 ≤ length ops) (fit : AllByRecursion IsFitOp ops) (free : commit_fault (tail_of_world store) false ops t.clock ≡ None)
+      (store_same : s.world.store ≡ Some (with_txn store (new_txn store ops t.clock))) where
     abbrev txn : Txn
-    txn = new_txn store more.change t.clock
+    txn = new_txn store ops t.clock
 
     pub one_stored : items_added (Some store) s.world.store ≡ items.Txn txn ∷ []
-    one_stored = ap (items_added (Some store)) (store_same ∙ ap (λ (x : statement_steps.Step). Some x.world) more.is) ∙ drop_at store.items (items.Txn txn ∷ []) (length store.items) refl
+    one_stored = ap (items_added (Some store)) store_same ∙ drop_at store.items (items.Txn txn ∷ []) (length store.items) refl
 
     takes : Takes t.bytes (items.Txn txn)
-    takes = takes_txn i t store is bytes_before stmt next more stmt_fits
+    takes = takes_txn i t store is bytes_before ops some fit free
+
+    later : last_moment store.items ≤ txn.moment
+    later = follows i t store is bytes_before ops some fit free
 
     pub stores_whole : Stores store.header (store.items ++ items.Txn txn ∷ []) (act_to s).next.scene.bytes
     stores_whole = subst (λ (its : List Item). Stores store.header (store.items ++ items.Txn txn ∷ []) (with_items store.end its t.bytes)) (sym one_stored)
@@ -290,37 +296,37 @@ module _ (i : ℕ) (t : Scene) (line : Line) (stmt : Stmt) (line_is : line ≡ l
 
     gets : s.world.lists ≡ t.lists → SoundEither (items_added (Some store) s.world.store) t (act_to s)
     gets lists_same = record {
-      whole = good_more store.header store.items (items.Txn txn) header_fits more.later (items_added (Some store) s.world.store) one_stored t (act_to s).next.scene held_now (λ id. ap (λ (l : Lists). l.batches id) lists_same) (inr stores_whole);
-      in_part = λ crash soon. good_more store.header store.items (items.Txn txn) header_fits more.later (items_added (Some store) s.world.store) one_stored t (stopped t crash (act_to s)) held_now (λ id. ap (λ (l : Lists). l.batches id) (unstopped t crash (act_to s) no_calls)) (stores_part crash);
+      whole = good_more store.header store.items (items.Txn txn) header_fits later (items_added (Some store) s.world.store) one_stored t (act_to s).next.scene held_now (λ id. ap (λ (l : Lists). l.batches id) lists_same) (inr stores_whole);
+      in_part = λ crash soon. good_more store.header store.items (items.Txn txn) header_fits later (items_added (Some store) s.world.store) one_stored t (stopped t crash (act_to s)) held_now (λ id. ap (λ (l : Lists). l.batches id) (unstopped t crash (act_to s) no_calls)) (stores_part crash);
       lasts = subst (ItemsLast t.bytes store.end) (sym one_stored) (one_last t.bytes store.end (items.Txn txn) inside);
     }
 
-  statement_sound : FitsStmt stmt → (s : world_steps.Step) → s ≡ world_steps.after_statement w (statement_steps.step store line t.clock) → SoundEither (items_added (Some store) s.world.store) t (act_to s)
-  statement_sound fits s s_is = by (subst (λ (l : Line). StoresOrNot store stmt t.clock (statement_steps.step store l t.clock)) (sym line_is) (stores_or_not store stmt t.clock))
+  statement_sound : FitsParts line → AreFit t.sessions → (s : world_steps.Step) → s ≡ world_steps.after_statement w (session_steps.step (with_begun w store) line t.clock) → SoundEither (items_added (Some store) s.world.store) t (act_to s)
+  statement_sound fits begun s s_is = by (stores_or_not (with_begun w store) line t.clock)
     where
-      store_of_step : s.world.store ≡ Some (statement_steps.step store line t.clock).world
+      store_of_step : s.world.store ≡ Some (session_steps.step (with_begun w store) line t.clock).world.store
       store_of_step = ap (λ (x : world_steps.Step). x.world.store) s_is
 
       lists_of_step : s.world.lists ≡ t.lists
       lists_of_step = ap (λ (x : world_steps.Step). x.world.lists) s_is
 
-      by : StoresOrNot store stmt t.clock (statement_steps.step store line t.clock) → SoundEither (items_added (Some store) s.world.store) t (act_to s)
+      by : StoresOrNot (with_begun w store) line t.clock (session_steps.step (with_begun w store) line t.clock) → SoundEither (items_added (Some store) s.world.store) t (act_to s)
       by (inl same) = stays (items_added (Some store) s.world.store) s (store_of_step ∙ ap (λ (x : statements.World). Some x) same) lists_of_step
-      by (inr more) = gets s (statement_steps.step store line t.clock) store_of_step more fits lists_of_step
+      by (inr one) = gets s one.ops one.some (asked_fit (with_begun w store) line one.ops one.asked fits begun) one.free (store_of_step ∙ ap (λ (x : statements.World). Some x) one.store) lists_of_step
 
 -- whatever is stored
-pub tables_by : (i : ℕ) (t : Scene) (line : Line) (stmt : Stmt) → line ≡ lines.Plain stmt → FitsStmt stmt → (found : Found) → IsBytes t.bytes → (o : Option statements.World) → store_in i (stored t.bytes) ≡ o
+pub tables_by : (i : ℕ) (t : Scene) (line : Line) → FitsParts line → (found : Found) → IsFit t → (o : Option statements.World) → store_in i (stored t.bytes) ≡ o
     → (s : world_steps.Step) → s ≡ world_steps.on_tables (world_with t i o) o line t.clock → notary_calls (world_with t i o) line t.clock found ≡ [] → SoundEither (items_added o s.world.store) t (over_world t (world_with t i o) line found s)
-tables_by i t line stmt line_is parts found bytes (Some store) is s s_is no_calls = statement_sound i t line stmt line_is found store is bytes no_calls parts s s_is
-tables_by i t line stmt line_is parts found bytes None is s s_is no_calls = record {
+tables_by i t line parts found fits (Some store) is s s_is no_calls = statement_sound i t line found store is fits.bytes no_calls parts fits.sessions s s_is
+tables_by i t line parts found fits None is s s_is no_calls = record {
   whole = good_same [] t (over_world t (world_with t i None) line found s).next.scene (λ id. ap (λ (x : world_steps.Step). x.world.lists.batches id) s_is) refl;
   in_part = λ crash soon. good_same [] t (stopped t crash (over_world t (world_with t i None) line found s)) (λ id. ap (λ (l : Lists). l.batches id) (unstopped t crash (over_world t (world_with t i None) line found s) no_calls))
       (ap (λ (x : List ℕ). history_in (stored x)) (none_stopped crash.choice crash.after 0 [] t.bytes refl));
   lasts = none_last t.bytes 0;
 }
 
-pub tables_sound : (t : Scene) (o : Option ℕ) (line : Line) (stmt : Stmt) → line ≡ lines.Plain stmt → FitsStmt stmt → (found : Found) → IsBytes t.bytes → IsOnTables line → SoundEither (stored_by o t (Ok line) found) t (over_store t o line found)
+pub tables_sound : (t : Scene) (o : Option ℕ) (line : Line) → FitsParts line → (found : Found) → IsFit t → IsOnTables line → SoundEither (stored_by o t (Ok line) found) t (over_store t o line found)
 unfolding world_of
-tables_sound t None line stmt line_is parts found bytes is = quiet_sound [] t (refuses t (codes "NotAStore")) refl refl
-tables_sound t (Some i) line stmt line_is parts found bytes is = tables_by i t line stmt line_is parts found bytes (store_in i (stored t.bytes)) refl
+tables_sound t None line parts found fits is = quiet_sound [] t (refuses t (codes "NotAStore")) refl refl
+tables_sound t (Some i) line parts found fits is = tables_by i t line parts found fits (store_in i (stored t.bytes)) refl
     (world_steps.step (world_of t i) line t.clock found) (is.steps (world_of t i) t.clock found) (is.calls (world_of t i) t.clock found)

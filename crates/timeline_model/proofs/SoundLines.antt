@@ -35,7 +35,7 @@ use Rattle.stmt_text.specs.declared.stmt.Stmt.{Stmt}
 use Rattle.stmt_text.specs.declared.stmt.Stmt.TheVariants as stmts
 use Rattle.stmt_text.specs.declared.line.Line.{Line}
 use Rattle.stmt_text.specs.declared.line.Line.TheVariants as lines
-use Rattle.stmt_text.specs.Fits.{FitsStmt, FitsParts}
+use Rattle.stmt_text.specs.Fits.{FitsParts}
 use Rattle.statement_core.specs.World as statements
 use Rattle.validator.specs.declared.verdict.Verdict.{Verdict}
 use Rattle.validator.specs.declared.fail.AuditFail.{AuditFail}
@@ -48,10 +48,11 @@ use Rattle.drill_core.specs.Found.{Found}
 use Rattle.drill_core.specs.Laws.{HoldsFiled, TellsNoAlteration}
 use Rattle.drill_core.proofs.SoundWorlds.{sound_worlds}
 use Rattle.drill_core.specs.World as worlds
+use Rattle.drill_core.specs.World.{no_sessions}
 use Rattle.drill_core.specs.Steps as world_steps
 use Rattle.drill_core.specs.Steps.{notarized, validated, analysed, algorithm_of, marked, sealed, reached, history_of, MayFind}
 use Rattle.drill_core.proofs.Analysing.{analysed_stays}
-use Rattle.timeline_model.specs.Scene.{Scene, Crash, nothing_yet, store_in, world_of, held, batches_of}
+use Rattle.timeline_model.specs.Scene.{Scene, Crash, nothing_yet, store_in, world_with, world_of, held, batches_of}
 use Rattle.txn_journal.specs.Held.{standing}
 use Rattle.timeline_model.specs.LineCalls.{end_of_store, items_added, with_items, appends, notary_calls, validate_calls, noting, filing_calls, unless}
 use Rattle.timeline_model.specs.Lines.{Act, says, refuses, over_world, over_store, header_at, act}
@@ -60,8 +61,10 @@ use Rattle.timeline_model.specs.Sound.{IsFromInside, stored_by, stores, AllFromI
 use Rattle.timeline_model.proofs.Acts.{take_none, none_added}
 use Rattle.timeline_model.proofs.Bytes.{all_calls, ItemsLast, none_last, none_stopped}
 use Rattle.timeline_model.proofs.Stopped.{stopped_stores}
-use Rattle.timeline_model.proofs.Doings.{history_same, world_with, StoreIs, store_is}
-use Rattle.timeline_model.proofs.Events.{bytes_after, no_bytes}
+use Rattle.timeline_model.proofs.Doings.{history_same, StoreIs, store_is}
+use Rattle.timeline_model.proofs.Events.{fit_after, nothing_fit}
+use Rattle.timeline_model.proofs.StayBytes.{still_fit}
+use Rattle.timeline_model.proofs.Sessions.{IsFit}
 use Rattle.timeline_model.proofs.Statements.{with_validated}
 use Rattle.timeline_model.proofs.Sealing as sealing
 use Rattle.timeline_model.proofs.Sealing.{HasMore, more_with, calls_file, take_inner, frontier_items}
@@ -324,53 +327,53 @@ module _ (i : ℕ) (t : Scene) (found : Found) (store : statements.World) (is : 
       by None free = files_sound free (notarized w (Some store) now)
           (ap (λ (fault : Option AuditFail). (world_steps.unless fault w (sealed w store now)).world) free ∙ sealing.world_of_all i t found store is bytes_before 0 (fit == length next) (new_world free) (numbered (codes "sealed ") (sealed_after (layout h) store.header now batches)))
           (ap (λ (fault : Option AuditFail). unless fault (filing_calls w next)) free)
-      by (Some fail) cause = stays i t line stmts.Notarize refl found store is bytes_before (ap (λ (fault : Option AuditFail). unless fault (filing_calls w next)) cause)
+      by (Some fail) cause = stays i t line found store is bytes_before (ap (λ (fault : Option AuditFail). unless fault (filing_calls w next)) cause)
           (items_added (Some store) (notarized w (Some store) now).world.store) (notarized w (Some store) now)
           (ap (λ (fault : Option AuditFail). (world_steps.unless fault w (sealed w store now)).world.store) cause)
           (ap (λ (fault : Option AuditFail). (world_steps.unless fault w (sealed w store now)).world.lists) cause)
 
-with_store : (i : ℕ) (t : Scene) (found : Found) → IsBytes t.bytes → (o : Option statements.World) → store_in i (stored t.bytes) ≡ o → SoundEither (items_added o (notarized (world_with t i o) o t.clock).world.store) t (over_world t (world_with t i o) line found (notarized (world_with t i o) o t.clock))
+with_store : (i : ℕ) (t : Scene) (found : Found) → IsFit t → (o : Option statements.World) → store_in i (stored t.bytes) ≡ o → SoundEither (items_added o (notarized (world_with t i o) o t.clock).world.store) t (over_world t (world_with t i o) line found (notarized (world_with t i o) o t.clock))
 unfolding notary_calls line
-with_store i t found bytes None is = tables_by i t line stmts.Notarize refl tt found bytes None is (notarized (world_with t i None) None t.clock) refl refl
-with_store i t found bytes (Some store) is = store_sound i t found store is bytes
+with_store i t found fits None is = tables_by i t line (tt, refl) found fits None is (notarized (world_with t i None) None t.clock) refl refl
+with_store i t found fits (Some store) is = store_sound i t found store is fits.bytes
 
-notarize_sound : (t : Scene) (o : Option ℕ) (found : Found) → IsBytes t.bytes → SoundEither (stored_by o t (Ok (lines.Plain stmts.Notarize)) found) t (over_store t o (lines.Plain stmts.Notarize) found)
+notarize_sound : (t : Scene) (o : Option ℕ) (found : Found) → IsFit t → SoundEither (stored_by o t (Ok (lines.Plain stmts.Notarize)) found) t (over_store t o (lines.Plain stmts.Notarize) found)
 unfolding world_of world_steps.step line
-notarize_sound t None found bytes = quiet_sound [] t (refuses t (codes "NotAStore")) refl refl
-notarize_sound t (Some i) found bytes = with_store i t found bytes (store_in i (stored t.bytes)) refl
+notarize_sound t None found fits = quiet_sound [] t (refuses t (codes "NotAStore")) refl refl
+notarize_sound t (Some i) found fits = with_store i t found fits (store_in i (stored t.bytes)) refl
 
 -- ---- each line
 
-stmt_sound : (t : Scene) (stmt : Stmt) (found : Found) → IsDrillLine (lines.Plain stmt) → FitsStmt stmt → IsBytes t.bytes → SoundEither (stored_by t.id t (Ok (lines.Plain stmt)) found) t (act t (lines.Plain stmt) found)
+stmt_sound : (t : Scene) (stmt : Stmt) (found : Found) → IsDrillLine (lines.Plain stmt) → FitsParts (lines.Plain stmt) → IsFit t → SoundEither (stored_by t.id t (Ok (lines.Plain stmt)) found) t (act t (lines.Plain stmt) found)
 unfolding act world_steps.step notary_calls
-stmt_sound t stmts.Notarize found is fits bytes = notarize_sound t t.id found bytes
-stmt_sound t stmts.Validate found is fits bytes = validate_sound t t.id found
-stmt_sound t (stmts.Now moment) found is fits bytes = quiet_sound (stored_by t.id t (Ok (lines.Plain (stmts.Now moment))) found) t (says (record t { clock = moment }) (codes "ok")) refl refl
-stmt_sound t (stmts.Create table columns) found is fits bytes = tables_sound t t.id (lines.Plain (stmts.Create table columns)) (stmts.Create table columns) refl fits found bytes (record { steps = λ w now f. refl; calls = λ w now f. refl })
-stmt_sound t (stmts.Insert table row) found is fits bytes = tables_sound t t.id (lines.Plain (stmts.Insert table row)) (stmts.Insert table row) refl fits found bytes (record { steps = λ w now f. refl; calls = λ w now f. refl })
-stmt_sound t (stmts.Update table row) found is fits bytes = tables_sound t t.id (lines.Plain (stmts.Update table row)) (stmts.Update table row) refl fits found bytes (record { steps = λ w now f. refl; calls = λ w now f. refl })
-stmt_sound t (stmts.Delete table key) found is fits bytes = tables_sound t t.id (lines.Plain (stmts.Delete table key)) (stmts.Delete table key) refl fits found bytes (record { steps = λ w now f. refl; calls = λ w now f. refl })
-stmt_sound t (stmts.Get table key moment) found is fits bytes = tables_sound t t.id (lines.Plain (stmts.Get table key moment)) (stmts.Get table key moment) refl fits found bytes (record { steps = λ w now f. refl; calls = λ w now f. refl })
-stmt_sound t (stmts.Scan table filter moment) found is fits bytes = tables_sound t t.id (lines.Plain (stmts.Scan table filter moment)) (stmts.Scan table filter moment) refl fits found bytes (record { steps = λ w now f. refl; calls = λ w now f. refl })
-stmt_sound t (stmts.History table key) found is fits bytes = tables_sound t t.id (lines.Plain (stmts.History table key)) (stmts.History table key) refl fits found bytes (record { steps = λ w now f. refl; calls = λ w now f. refl })
-stmt_sound t stmts.Begin found is fits bytes = absurd is
-stmt_sound t stmts.Commit found is fits bytes = absurd is
-stmt_sound t stmts.Abort found is fits bytes = absurd is
-stmt_sound t (stmts.Analyse algorithm) found is fits bytes = analyse_sound t algorithm t.id found
+stmt_sound t stmts.Notarize found is parts fits = notarize_sound t t.id found fits
+stmt_sound t stmts.Validate found is parts fits = validate_sound t t.id found
+stmt_sound t (stmts.Now moment) found is parts fits = quiet_sound (stored_by t.id t (Ok (lines.Plain (stmts.Now moment))) found) t (says (record t { clock = moment }) (codes "ok")) refl refl
+stmt_sound t (stmts.Create table columns) found is parts fits = tables_sound t t.id (lines.Plain (stmts.Create table columns)) parts found fits (record { steps = λ w now f. refl; calls = λ w now f. refl })
+stmt_sound t (stmts.Insert table row) found is parts fits = tables_sound t t.id (lines.Plain (stmts.Insert table row)) parts found fits (record { steps = λ w now f. refl; calls = λ w now f. refl })
+stmt_sound t (stmts.Update table row) found is parts fits = tables_sound t t.id (lines.Plain (stmts.Update table row)) parts found fits (record { steps = λ w now f. refl; calls = λ w now f. refl })
+stmt_sound t (stmts.Delete table key) found is parts fits = tables_sound t t.id (lines.Plain (stmts.Delete table key)) parts found fits (record { steps = λ w now f. refl; calls = λ w now f. refl })
+stmt_sound t (stmts.Get table key moment) found is parts fits = tables_sound t t.id (lines.Plain (stmts.Get table key moment)) parts found fits (record { steps = λ w now f. refl; calls = λ w now f. refl })
+stmt_sound t (stmts.Scan table filter moment) found is parts fits = tables_sound t t.id (lines.Plain (stmts.Scan table filter moment)) parts found fits (record { steps = λ w now f. refl; calls = λ w now f. refl })
+stmt_sound t (stmts.History table key) found is parts fits = tables_sound t t.id (lines.Plain (stmts.History table key)) parts found fits (record { steps = λ w now f. refl; calls = λ w now f. refl })
+stmt_sound t stmts.Begin found is parts fits = absurd is
+stmt_sound t stmts.Commit found is parts fits = absurd is
+stmt_sound t stmts.Abort found is parts fits = absurd is
+stmt_sound t (stmts.Analyse algorithm) found is parts fits = analyse_sound t algorithm t.id found
 
-line_sound : (t : Scene) (line : Line) (found : Found) → IsDrillLine line → IsFromInside (Ok line) → FitsParts line → IsBytes t.bytes → SoundEither (stored_by t.id t (Ok line) found) t (act t line found)
-unfolding act
-line_sound t (lines.Plain stmt) found is inside fits bytes = stmt_sound t stmt found is fits.0 bytes
-line_sound t (lines.Drill (events.Init id width k algs)) found is inside fits bytes = init_sound (stored_by t.id t (Ok (lines.Drill (events.Init id width k algs))) found) (record t { id = Some id }) t (header_at id t.clock width k algs) refl refl
-line_sound t (lines.Drill (events.Crash after choice)) found is inside fits bytes = quiet_sound (stored_by t.id t (Ok (lines.Drill (events.Crash after choice))) found) t (says (record t { crash = Some (record { after = after; choice = choice }) }) (codes "ok")) refl refl
-line_sound t (lines.Drill (events.Alter place bytes)) found is inside fits b = absurd inside
-line_sound t (lines.Drill (events.Cut n)) found is inside fits bytes = absurd inside
-line_sound t lines.Blank found is inside fits bytes = absurd is
-line_sound t (lines.InSession session stmt) found is inside fits bytes = absurd is
+line_sound : (t : Scene) (line : Line) (found : Found) → IsDrillLine line → IsFromInside (Ok line) → FitsParts line → IsFit t → SoundEither (stored_by t.id t (Ok line) found) t (act t line found)
+unfolding act world_steps.step notary_calls
+line_sound t (lines.Plain stmt) found is inside parts fits = stmt_sound t stmt found is parts fits
+line_sound t (lines.Drill (events.Init id width k algs)) found is inside parts fits = init_sound (stored_by t.id t (Ok (lines.Drill (events.Init id width k algs))) found) (record t { id = Some id; sessions = no_sessions }) t (header_at id t.clock width k algs) refl refl
+line_sound t (lines.Drill (events.Crash after choice)) found is inside parts fits = quiet_sound (stored_by t.id t (Ok (lines.Drill (events.Crash after choice))) found) t (says (record t { crash = Some (record { after = after; choice = choice }) }) (codes "ok")) refl refl
+line_sound t (lines.Drill (events.Alter place bytes)) found is inside parts fits = absurd inside
+line_sound t (lines.Drill (events.Cut n)) found is inside parts fits = absurd inside
+line_sound t lines.Blank found is inside parts fits = absurd is
+line_sound t (lines.InSession session stmt) found is inside parts fits = tables_sound t t.id (lines.InSession session stmt) parts found fits (record { steps = λ w now f. refl; calls = λ w now f. refl })
 
-pub reading_sound : (t : Scene) (l : Result Line ParseFail) (found : Found) → IsReading l → IsFromInside l → FitsReading l → IsBytes t.bytes → SoundEither (stored_by t.id t l found) t (act_on t l found)
-reading_sound t (Ok l) found is inside fits bytes = line_sound t l found is inside fits bytes
-reading_sound t (Err fail) found is inside fits bytes = quiet_sound (stored_by t.id t (Err fail) found) t (refuses t (name_of fail)) refl refl
+pub reading_sound : (t : Scene) (l : Result Line ParseFail) (found : Found) → IsReading l → IsFromInside l → FitsReading l → IsFit t → SoundEither (stored_by t.id t l found) t (act_on t l found)
+reading_sound t (Ok l) found is inside parts fits = line_sound t l found is inside parts fits
+reading_sound t (Err fail) found is inside parts fits = quiet_sound (stored_by t.id t (Err fail) found) t (refuses t (name_of fail)) refl refl
 
 -- ---- all events
 
@@ -380,28 +383,28 @@ taken_stored None t l found = refl
 taken_stored (Some id) t (Ok l) found = refl
 taken_stored (Some id) t (Err fail) found = refl
 
-pub event_good : (t : Scene) (e : Event) → IsBytes t.bytes → MayCome t e → IsFromInside e.line → IsGood (stores t e) t (step t e.line e.found).scene
+pub event_good : (t : Scene) (e : Event) → IsFit t → MayCome t e → IsFromInside e.line → IsGood (stores t e) t (step t e.line e.found).scene
 unfolding step
-event_good t e bytes may inside =
+event_good t e fits may inside =
     let good = under_sound (stored_by t.id (taken t) e.line e.found) (taken t) (act_on (taken t) e.line e.found) t.crash
-    (reading_sound (taken t) e.line e.found may.line inside may.fits bytes) in
+    (reading_sound (taken t) e.line e.found may.line inside may.fits (still_fit t fits)) in
     record {
       sound = good.sound;
       extends = λ h some. subst (λ (more : List Item). HasAlso h more (held (step t e.line e.found).scene)) (taken_stored t.id t e.line e.found) (good.extends h some);
       bare = good.bare;
     }
 
-pub all_sound : (t : Scene) (es : List Event) → IsBytes t.bytes → IsSoundScene t → IsTimeline t es → AllFromInside es → IsSoundScene (after t es)
+pub all_sound : (t : Scene) (es : List Event) → IsFit t → IsSoundScene t → IsTimeline t es → AllFromInside es → IsSoundScene (after t es)
 unfolding after
-all_sound t [] bytes sound is inside = sound
-all_sound t (e ∷ es) bytes sound is inside = (event_good (after t es) e (bytes_after t es bytes is.0) is.1 inside.1).sound (all_sound t es bytes sound is.0 inside.0)
+all_sound t [] fits sound is inside = sound
+all_sound t (e ∷ es) fits sound is inside = (event_good (after t es) e (fit_after t es fits is.0) is.1 inside.1).sound (all_sound t es fits sound is.0 inside.0)
 
 pub stay_sound : TimelinesStaySound
-stay_sound limits es id is inside = all_sound (nothing_yet limits) es (no_bytes limits) (λ any. inl refl) is inside id
+stay_sound limits es id is inside = all_sound (nothing_yet limits) es (nothing_fit limits) (λ any. inl refl) is inside id
 
 pub keep_items : EventsKeepItems
 unfolding after
-keep_items limits e es h is inside some = (event_good (after (nothing_yet limits) es) e (bytes_after (nothing_yet limits) es (no_bytes limits) is.0) is.1 inside).extends h some
+keep_items limits e es h is inside some = (event_good (after (nothing_yet limits) es) e (fit_after (nothing_yet limits) es (nothing_fit limits) is.0) is.1 inside).extends h some
 
 -- ---- the next line
 
@@ -424,4 +427,4 @@ tells t id line found bytes sound may =
     (sound_worlds (world_of t id) line t.clock found (fit_header t id bytes (store_in id (stored t.bytes)) refl) under may).2
 
 pub next_tells : NextLinesTellNoAlteration
-next_tells limits es id line found is inside may = tells (after (nothing_yet limits) es) id line found (bytes_after (nothing_yet limits) es (no_bytes limits) is) (all_sound (nothing_yet limits) es (no_bytes limits) (λ any. inl refl) is inside) may
+next_tells limits es id line found is inside may = tells (after (nothing_yet limits) es) id line found (fit_after (nothing_yet limits) es (nothing_fit limits) is).bytes (all_sound (nothing_yet limits) es (nothing_fit limits) (λ any. inl refl) is inside) may

@@ -1,5 +1,5 @@
--- Bytes stay bytes, whatever lines and crashes come.
-use Rattle.std.proofs.Common.{inl, inr, inl, inr, ℕ, zero, suc, ◌+◌, ◌%◌, ◌<◌, Bool, true, false, List, [], ◌∷◌, ◌++◌, length, take, drop, Option, Some, None, IfSome, Result, Ok, Err, refl, sym, subst, arith}
+-- Bytes stay bytes, whatever lines and crashes come, and sessions want to store what a line can hold.
+use Rattle.std.proofs.Common.{inl, inr, inl, inr, ℕ, zero, suc, ◌+◌, ◌%◌, ◌<◌, Bool, true, false, List, [], ◌∷◌, ◌++◌, length, take, drop, Option, Some, None, Result, Ok, Err, refl, sym, subst, arith}
 use Rattle.std.specs.Prelude.{nat_le, nat_lt, if◌then◌else◌, codes, replicate}
 use Rattle.std.specs.Int.{w32, w64, to_be_bytes}
 use Rattle.std.specs.List.{AllByRecursion}
@@ -17,13 +17,13 @@ use Rattle.tuple_bytes.specs.declared.header.Header.{Header}
 use Rattle.tuple_bytes.specs.declared.item.Item.{Item}
 use Rattle.tuple_bytes.specs.Limits.{max_moment}
 use Rattle.tuple_bytes.specs.Spelling.{spell_item, spell_header, head_text, head_zeros}
-use Rattle.history_model.specs.declared.change.Write.{Write}
 use Rattle.txn_journal.specs.Held.{Standing, behind, standing}
 use Rattle.txn_journal.specs.Append.{append_calls, addition, behind_gate, closed_gate}
 use Rattle.txn_journal.specs.Create.{is_free, creation}
 use Rattle.stmt_text.specs.declared.error.ParseFail.{ParseFail}
 use Rattle.stmt_text.specs.declared.event.Event.{Event}
 use Rattle.stmt_text.specs.declared.event.Event.TheVariants as events
+use Rattle.stmt_text.specs.declared.stmt.Stmt.{Stmt}
 use Rattle.stmt_text.specs.declared.stmt.Stmt.TheVariants as stmts
 use Rattle.stmt_text.specs.declared.line.Line.{Line}
 use Rattle.stmt_text.specs.declared.line.Line.TheVariants as lines
@@ -31,14 +31,16 @@ use Rattle.stmt_text.specs.Fits.{FitsParts, FitsEvent}
 use Rattle.statement_core.specs.World as statements
 use Rattle.drill_core.specs.Found.{Found}
 use Rattle.drill_core.specs.World as worlds
+use Rattle.drill_core.specs.World.{no_sessions}
 use Rattle.drill_core.specs.Steps as world_steps
 use Rattle.drill_core.specs.Steps.{on_tables, notarized, reached}
 use Rattle.timeline_model.specs.Scene.{Scene, Crash, world_of}
 use Rattle.timeline_model.specs.LineCalls.{items_added, with_items, appends, end_of_store}
 use Rattle.timeline_model.specs.Lines.{Act, Next, quiet, says, refuses, over_world, over_store, header_at, makes, inits, altered, shortened, brings, act}
-use Rattle.timeline_model.specs.Timeline.{calls_in, stopped, crashed, under, taken, act_on, name_of, step, Event as Happening, FitsReading, IsReading, IsDrillLine}
-use Rattle.timeline_model.proofs.Statements.{new_txn, Stores, step_stores, same_added, txn_added, frontier_added}
-use Rattle.timeline_model.proofs.Spellings.{bytes_nil, bytes_cons, bytes_append, bytes_number, bytes_tested, FitsChange, change_fits, txn_bytes}
+use Rattle.timeline_model.specs.Timeline.{calls_in, stopped, crashed, ended, under, taken, act_on, name_of, step, Event as Happening, FitsReading, IsReading, IsDrillLine}
+use Rattle.timeline_model.proofs.Statements.{new_txn, with_begun, Stores, step_stores, same_added, txn_added, frontier_added}
+use Rattle.timeline_model.proofs.Spellings.{bytes_nil, bytes_cons, bytes_append, bytes_number, bytes_tested, txn_bytes}
+use Rattle.timeline_model.proofs.Sessions.{AreFit, IsFit, asked_fit, step_under, world_fit}
 
 -- ---- what calls leave
 
@@ -144,7 +146,7 @@ under_bytes t a (Some crash) was leaves = by (nat_le (calls_in a) crash.after)
     part : IsBytes (stopped t crash a).bytes
     part = image_bytes t.bytes was crash.choice (after_calls is_done (take crash.after a.disk_calls) []) (calls_bytes (take crash.after a.disk_calls) [] (take_bytes crash.after a.disk_calls leaves.calls) tt)
 
-    by : (b : Bool) → IsBytes (if b then a.next else crashed (stopped t crash a)).scene.bytes
+    by : (b : Bool) → IsBytes (if b then ended a.next else crashed (stopped t crash a)).scene.bytes
     by true = leaves.whole
     by false = part
 
@@ -159,23 +161,22 @@ world_bytes t w line found s all was = record {
 
 -- ---- what a line stores
 
-pub step_bytes : (w : worlds.World) (line : Line) (now : ℕ) (found : Found) → FitsParts line → AllByRecursion SpelledInBytes (items_added w.store (world_steps.step w line now found).world.store)
-step_bytes w line now found fits = by (world_steps.step w line now found).world.store (step_stores w line now found)
+pub step_bytes : (w : worlds.World) (line : Line) (now : ℕ) (found : Found) → FitsParts line → AreFit w.sessions → AllByRecursion SpelledInBytes (items_added w.store (world_steps.step w line now found).world.store)
+step_bytes w line now found fits begun = by (world_steps.step w line now found).world.store (step_stores w line now found)
   where
     by : (new : Option statements.World) → Stores w line now new → AllByRecursion SpelledInBytes (items_added w.store new)
     by new (inl same) = subst (AllByRecursion SpelledInBytes) (sym (same_added w line now new same)) tt
     by new (inr (inl txn)) =
-        let of_line : FitsParts (lines.Plain txn.stmt) = subst FitsParts txn.line_is fits in
-        let change : FitsChange txn.stored.change = subst (λ (o : Option Write). IfSome o FitsChange) txn.stored.asked (change_fits txn.stmt of_line.0) in
-        subst (AllByRecursion SpelledInBytes) (sym (txn_added w line now new txn)) (txn_bytes (new_txn txn.store txn.stored.change now).number (new_txn txn.store txn.stored.change now).moment txn.stored.change change, tt)
+        subst (AllByRecursion SpelledInBytes) (sym (txn_added w line now new txn))
+        (txn_bytes (new_txn txn.store txn.ops now).number (new_txn txn.store txn.ops now).moment txn.ops (asked_fit (with_begun w txn.store) line txn.ops txn.asked fits begun), tt)
     by new (inr (inr frontier)) =
         subst (AllByRecursion SpelledInBytes) (sym (frontier_added w line now new frontier)) (bytes_cons 2 (to_be_bytes w64 frontier.moment) (omega arith) (bytes_number 8 frontier.moment), tt)
 
 -- ---- each line
 
-over_bytes : (t : Scene) (o : Option ℕ) (line : Line) (found : Found) → FitsParts line → IsBytes t.bytes → LeavesBytes (over_store t o line found)
-over_bytes t None line found fits was = quiet_bytes (refuses t (codes "NotAStore")) was
-over_bytes t (Some id) line found fits was = world_bytes t (world_of t id) line found (world_steps.step (world_of t id) line t.clock found) (step_bytes (world_of t id) line t.clock found fits) was
+over_bytes : (t : Scene) (o : Option ℕ) (line : Line) (found : Found) → FitsParts line → IsFit t → LeavesBytes (over_store t o line found)
+over_bytes t None line found fits was = quiet_bytes (refuses t (codes "NotAStore")) was.bytes
+over_bytes t (Some id) line found fits was = world_bytes t (world_of t id) line found (world_steps.step (world_of t id) line t.clock found) (step_bytes (world_of t id) line t.clock found fits (world_fit t id was.sessions)) was.bytes
 
 zeros_bytes : (n : ℕ) → IsBytes (replicate n 0)
 zeros_bytes zero = bytes_nil
@@ -214,27 +215,27 @@ inits_bytes t h k algs was = by (nat_lt max_moment t.clock) (is_free t.bytes)
 altered_bytes : (t : Scene) (place : ℕ) (bytes : List ℕ) → IsBytes bytes → IsBytes t.bytes → LeavesBytes (quiet (altered t place bytes))
 altered_bytes t place bytes new was = quiet_bytes (altered t place bytes) (by (nat_le (place + length bytes) (length t.bytes)))
   where
-    by : (b : Bool) → IsBytes (if b then says (record t { bytes = written place bytes t.bytes }) (codes "ok") else refuses t (codes "NoPlace")).scene.bytes
+    by : (b : Bool) → IsBytes (if b then says (record t { bytes = written place bytes t.bytes; sessions = no_sessions }) (codes "ok") else refuses t (codes "NoPlace")).scene.bytes
     by true = written_bytes place bytes t.bytes new was
     by false = was
 
 shortened_bytes : (t : Scene) (n : ℕ) → IsBytes t.bytes → LeavesBytes (quiet (shortened t n))
 shortened_bytes t n was = quiet_bytes (shortened t n) (by (nat_le n (length t.bytes)))
   where
-    by : (b : Bool) → IsBytes (if b then says (record t { bytes = take n t.bytes }) (codes "ok") else refuses t (codes "NoPlace")).scene.bytes
+    by : (b : Bool) → IsBytes (if b then says (record t { bytes = take n t.bytes; sessions = no_sessions }) (codes "ok") else refuses t (codes "NoPlace")).scene.bytes
     by true = IsBytes-take n t.bytes was
     by false = was
 
 brings_bytes : (t : Scene) (event : Event) → FitsEvent event → IsBytes t.bytes → LeavesBytes (brings t event)
-brings_bytes t (events.Init id width k algs) fits was = inits_bytes (record t { id = Some id }) (header_at id t.clock width k algs) (omega (arith, fits.2)) (omega (arith, fits.3)) was
+brings_bytes t (events.Init id width k algs) fits was = inits_bytes (record t { id = Some id; sessions = no_sessions }) (header_at id t.clock width k algs) (omega (arith, fits.2)) (omega (arith, fits.3)) was
 brings_bytes t (events.Crash after choice) fits was = quiet_bytes (says (record t { crash = Some (record { after = after; choice = choice }) }) (codes "ok")) was
 brings_bytes t (events.Alter place bytes) fits was = altered_bytes t place bytes fits.2 was
 brings_bytes t (events.Cut n) fits was = shortened_bytes t n was
 
-act_bytes : (t : Scene) (line : Line) (found : Found) → IsDrillLine line → FitsParts line → IsBytes t.bytes → LeavesBytes (act t line found)
+act_bytes : (t : Scene) (line : Line) (found : Found) → IsDrillLine line → FitsParts line → IsFit t → LeavesBytes (act t line found)
 unfolding act
-act_bytes t (lines.Drill event) found is fits was = brings_bytes t event fits was
-act_bytes t (lines.Plain (stmts.Now moment)) found is fits was = quiet_bytes (says (record t { clock = moment }) (codes "ok")) was
+act_bytes t (lines.Drill event) found is fits was = brings_bytes t event fits was.bytes
+act_bytes t (lines.Plain (stmts.Now moment)) found is fits was = quiet_bytes (says (record t { clock = moment }) (codes "ok")) was.bytes
 act_bytes t (lines.Plain stmts.Notarize) found is fits was = over_bytes t t.id (lines.Plain stmts.Notarize) found fits was
 act_bytes t (lines.Plain stmts.Validate) found is fits was = over_bytes t t.id (lines.Plain stmts.Validate) found fits was
 act_bytes t (lines.Plain (stmts.Create table columns)) found is fits was = over_bytes t t.id (lines.Plain (stmts.Create table columns)) found fits was
@@ -249,12 +250,78 @@ act_bytes t (lines.Plain stmts.Commit) found is fits was = absurd is
 act_bytes t (lines.Plain stmts.Abort) found is fits was = absurd is
 act_bytes t (lines.Plain (stmts.Analyse algorithm)) found is fits was = over_bytes t t.id (lines.Plain (stmts.Analyse algorithm)) found fits was
 act_bytes t lines.Blank found is fits was = absurd is
-act_bytes t (lines.InSession session stmt) found is fits was = absurd is
+act_bytes t (lines.InSession session stmt) found is fits was = over_bytes t t.id (lines.InSession session stmt) found fits was
 
-reading_bytes : (t : Scene) (line : Result Line ParseFail) (found : Found) → IsReading line → FitsReading line → IsBytes t.bytes → LeavesBytes (act_on t line found)
+reading_bytes : (t : Scene) (line : Result Line ParseFail) (found : Found) → IsReading line → FitsReading line → IsFit t → LeavesBytes (act_on t line found)
 reading_bytes t (Ok line) found is fits was = act_bytes t line found is fits was
-reading_bytes t (Err fail) found is fits was = quiet_bytes (refuses t (name_of fail)) was
+reading_bytes t (Err fail) found is fits was = quiet_bytes (refuses t (name_of fail)) was.bytes
 
-pub event_bytes : (t : Scene) (e : Happening) → IsReading e.line → FitsReading e.line → IsBytes t.bytes → IsBytes (step t e.line e.found).scene.bytes
+-- ---- the sessions then
+
+under_begun : (t : Scene) (a : Act) (crash : Option Crash) → AreFit a.next.scene.sessions → AreFit (under crash t a).scene.sessions
+under_begun t a None fits = fits
+under_begun t a (Some crash) fits = by (nat_le (calls_in a) crash.after)
+  where
+    by : (b : Bool) → AreFit (if b then ended a.next else crashed (stopped t crash a)).scene.sessions
+    by true = λ n. tt
+    by false = λ n. tt
+
+over_begun : (t : Scene) (o : Option ℕ) (line : Line) (found : Found) → FitsParts line → AreFit t.sessions → AreFit (over_store t o line found).next.scene.sessions
+over_begun t None line found fits was = was
+over_begun t (Some id) line found fits was = (step_under (world_of t id) line t.clock found fits).fit (world_fit t id was)
+
+inits_begun : (t : Scene) (h : Header) → AreFit t.sessions → AreFit (inits t h).next.scene.sessions
+inits_begun t h was = by (nat_lt max_moment t.clock) (is_free t.bytes)
+  where
+    by : (late free : Bool) → AreFit (if late then quiet (refuses t (codes "TooLate")) else if free then makes t h else quiet (refuses t (codes "AlreadyThere"))).next.scene.sessions
+    by true free = was
+    by false true = was
+    by false false = was
+
+altered_begun : (t : Scene) (place : ℕ) (bytes : List ℕ) → AreFit t.sessions → AreFit (altered t place bytes).scene.sessions
+altered_begun t place bytes was = by (nat_le (place + length bytes) (length t.bytes))
+  where
+    by : (b : Bool) → AreFit (if b then says (record t { bytes = written place bytes t.bytes; sessions = no_sessions }) (codes "ok") else refuses t (codes "NoPlace")).scene.sessions
+    by true = λ n. tt
+    by false = was
+
+shortened_begun : (t : Scene) (n : ℕ) → AreFit t.sessions → AreFit (shortened t n).scene.sessions
+shortened_begun t n was = by (nat_le n (length t.bytes))
+  where
+    by : (b : Bool) → AreFit (if b then says (record t { bytes = take n t.bytes; sessions = no_sessions }) (codes "ok") else refuses t (codes "NoPlace")).scene.sessions
+    by true = λ n. tt
+    by false = was
+
+brings_begun : (t : Scene) (event : Event) → AreFit t.sessions → AreFit (brings t event).next.scene.sessions
+brings_begun t (events.Init id width k algs) was = inits_begun (record t { id = Some id; sessions = no_sessions }) (header_at id t.clock width k algs) (λ n. tt)
+brings_begun t (events.Crash after choice) was = was
+brings_begun t (events.Alter place bytes) was = altered_begun t place bytes was
+brings_begun t (events.Cut n) was = shortened_begun t n was
+
+stmt_begun : (t : Scene) (stmt : Stmt) (found : Found) → FitsParts (lines.Plain stmt) → AreFit t.sessions → AreFit (act t (lines.Plain stmt) found).next.scene.sessions
+unfolding act
+stmt_begun t (stmts.Now moment) found fits was = was
+stmt_begun t stmt found fits was = over_begun t t.id (lines.Plain stmt) found fits was
+
+act_begun : (t : Scene) (line : Line) (found : Found) → FitsParts line → AreFit t.sessions → AreFit (act t line found).next.scene.sessions
+unfolding act
+act_begun t (lines.Plain stmt) found fits was = stmt_begun t stmt found fits was
+act_begun t (lines.Drill event) found fits was = brings_begun t event was
+act_begun t (lines.InSession n stmt) found fits was = over_begun t t.id (lines.InSession n stmt) found fits was
+act_begun t lines.Blank found fits was = over_begun t t.id lines.Blank found fits was
+
+reading_begun : (t : Scene) (line : Result Line ParseFail) (found : Found) → FitsReading line → AreFit t.sessions → AreFit (act_on t line found).next.scene.sessions
+reading_begun t (Ok line) found fits was = act_begun t line found fits was
+reading_begun t (Err fail) found fits was = was
+
+-- ---- an event
+
+pub still_fit : (t : Scene) → IsFit t → IsFit (taken t)
+still_fit t fit = record { bytes = fit.bytes; sessions = fit.sessions }
+
+pub event_fit : (t : Scene) (e : Happening) → IsReading e.line → FitsReading e.line → IsFit t → IsFit (step t e.line e.found).scene
 unfolding step
-event_bytes t e is fits was = under_bytes (taken t) (act_on (taken t) e.line e.found) t.crash was (reading_bytes (taken t) e.line e.found is fits was)
+event_fit t e is fits was = record {
+  bytes = under_bytes (taken t) (act_on (taken t) e.line e.found) t.crash was.bytes (reading_bytes (taken t) e.line e.found is fits (still_fit t was));
+  sessions = under_begun (taken t) (act_on (taken t) e.line e.found) t.crash (reading_begun (taken t) e.line e.found fits was.sessions);
+}

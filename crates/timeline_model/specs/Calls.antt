@@ -1,5 +1,5 @@
 -- How the calls of a device stand for what a timeline says of a line.
-use Rattle.std.specs.Prelude.{◌≡◌, ℕ, ◌<◌, Bool, false, if◌then◌else◌, List, [], ◌∷◌, ◌++◌, length, Option, None, true, Result, Ok, Err}
+use Rattle.std.specs.Prelude.{◌≡◌, ℕ, ◌<◌, Bool, false, if◌then◌else◌, List, [], ◌∷◌, ◌++◌, length, Option, None, IfSome, true, Result, Ok, Err}
 use Rattle.outside_words.specs.Runs.{after_calls}
 use Rattle.disk_words.specs.Disk.{Call}
 use Rattle.disk_words.specs.Record.{bytes_after, bytes_synced, is_covered, image_of}
@@ -14,10 +14,12 @@ use Rattle.txn_journal.specs.Create.{is_free, creation}
 use Rattle.notary_link.specs.Notary.{Lists, Keeps}
 use Rattle.store_engine.specs.declared.fail.StoreFail.{StoreFail}
 use Rattle.store_engine.specs.declared.fail.StoreFail.TheVariants as fails
-use Rattle.store_engine.specs.Opened.{Opened}
 use Rattle.statement_core.specs.World as statements
+use Rattle.session_model.specs.World.{Session}
+use Rattle.session_model.specs.Standing.{NoneKept}
+use Rattle.drill_core.specs.declared.open_store.OpenStore.{OpenStore}
 use Rattle.drill_core.specs.World.{StoreIsIn, IsIn, IsEntered}
-use Rattle.timeline_model.specs.Scene.{Scene, store_in, world_of}
+use Rattle.timeline_model.specs.Scene.{Scene, dropped, store_in, world_of}
 use Rattle.timeline_model.specs.LineCalls.{with_items, appends}
 
 -- nothing is on its way to the disk: what reads give was synced
@@ -52,14 +54,15 @@ ImagesGoByNewCalls = (choice : ℕ) (first : List ℕ) (trace : List (Call × Bo
 
 -- The world that an open store stands for over some bytes is the one that a timeline reads from them.
 abbrev pub WorldsGoByBytes : Type 0
-WorldsGoByBytes = (id : ℕ) (w : Option statements.World) (s : Option Opened) (bytes : List ℕ) → StoreIsIn id w s bytes → store_in id (stored bytes) ≡ w
+WorldsGoByBytes = (id : ℕ) (w : Option statements.World) (begun : ℕ → Option Session) (kept : Option OpenStore) (bytes : List ℕ) → StoreIsIn id w begun kept bytes → store_in id (stored bytes) ≡ w
 
--- what a machine stands for behind an answer of entering, if it came to one
-abbrev pub StandsEntered : Scene → ℕ → Result (Unit {0}) StoreFail → Option Opened → Lists → Type 0
-StandsEntered t id (Ok _) store lists = IsIn (world_of t id) (record { id = id; store = store }) t.bytes lists
-StandsEntered t id (Err fails.NotAStore) store lists = IsIn (world_of t id) (record { id = id; store = None }) t.bytes lists
-StandsEntered t id (Err fail) store lists = Unit {0}
+-- what a machine stands for behind an answer of entering, if it came to one: a world without sessions
+abbrev pub StandsEntered : Scene → ℕ → Result (Unit {0}) StoreFail → Option OpenStore → Lists → Type 0
+StandsEntered t id (Ok _) kept lists = IsIn (world_of (dropped t) id) (record { id = id; opened = kept }) t.bytes lists
+StandsEntered t id (Err fails.NotAStore) kept lists = IsIn (world_of (dropped t) id) (record { id = id; opened = None }) t.bytes lists
+StandsEntered t id (Err fail) kept lists = Unit {0}
 
--- The other way round: a machine that entered over a scene's bytes stands for the world that a timeline reads.
+-- The other way round: a machine that entered over a scene's bytes, without sessions, stands for the world that a timeline reads.
 abbrev pub EnteredStandForWorlds : Type 0
-EnteredStandForWorlds = (t : Scene) (id : ℕ) (result : Result (Unit {0}) StoreFail) (store : Option Opened) (lists : Lists) → Keeps t.lists lists → IsEntered id t.bytes result store → StandsEntered t id result store lists
+EnteredStandForWorlds = (t : Scene) (id : ℕ) (result : Result (Unit {0}) StoreFail) (kept : Option OpenStore) (lists : Lists) → Keeps t.lists lists
+    → IsEntered id t.bytes result kept → IfSome kept (λ o. NoneKept o.sessions) → StandsEntered t id result kept lists

@@ -1,10 +1,9 @@
 -- What each line of a drill does where nothing stops it: the changing calls that it makes, what stands then, and the reply.
-use Rattle.std.specs.Prelude.{ℕ, ◌+◌, ◌==◌, nat_lt, nat_le, not, ◌&&◌, ◌||◌, if◌then◌else◌, Bool, true, false, List, [], ◌∷◌, ◌++◌, length, take, slice_index, codes, Option, Some, None}
+use Rattle.std.specs.Prelude.{ℕ, ◌+◌, nat_lt, nat_le, if◌then◌else◌, Bool, true, false, List, [], ◌∷◌, ◌++◌, length, take, codes, Option, Some, None}
 use Rattle.std.specs.Fmt.{decimal}
 use Rattle.disk_words.specs.Disk as disks
 use Rattle.disk_words.specs.Disk.{written}
 use Rattle.disk_model.specs.Moments.{calls_of}
-use Rattle.byte_grammar.specs.Gated.{open_gate}
 use Rattle.tuple_bytes.specs.declared.header.Header.{Header}
 use Rattle.tuple_bytes.specs.Limits.{max_moment}
 use Rattle.tuple_bytes.specs.Spelling.{spell_header}
@@ -18,6 +17,7 @@ use Rattle.stmt_text.specs.declared.line.Line.{Line}
 use Rattle.stmt_text.specs.declared.line.Line.TheVariants as lines
 use Rattle.drill_core.specs.Found.{Found}
 use Rattle.drill_core.specs.World as worlds
+use Rattle.drill_core.specs.World.{no_sessions}
 use Rattle.drill_core.specs.Steps as world_steps
 use Rattle.drill_core.specs.Steps.{filed_for}
 use Rattle.timeline_model.specs.LineCalls.{items_added, with_items, end_of_store, disk_calls, notary_calls}
@@ -49,7 +49,11 @@ quiet next = record { disk_calls = []; notary_calls = []; next = next }
 
 -- with what a step made of the world
 abbrev pub with_step : Scene → worlds.World → world_steps.Step → Scene
-with_step t w s = record t { bytes = with_items (end_of_store w.store) (items_added w.store s.world.store) t.bytes; lists = s.world.lists }
+with_step t w s = record t {
+  bytes = with_items (end_of_store w.store) (items_added w.store s.world.store) t.bytes;
+  sessions = s.world.sessions;
+  lists = s.world.lists;
+}
 
 abbrev pub over_world : Scene → worlds.World → Line → Found → world_steps.Step → Act
 over_world t w line found s = record {
@@ -84,19 +88,20 @@ inits t header =
     else if is_free t.bytes then makes t header
     else quiet (refuses t (codes "AlreadyThere"))
 
--- a change of the bytes from outside
+-- A change of the bytes from outside drops the sessions. One that is refused changes nothing.
 abbrev pub altered : Scene → ℕ → List ℕ → Next
 altered t place bytes =
-    if nat_le (place + length bytes) (length t.bytes) then says (record t { bytes = written place bytes t.bytes }) (codes "ok")
+    if nat_le (place + length bytes) (length t.bytes) then says (record t { bytes = written place bytes t.bytes; sessions = no_sessions }) (codes "ok")
     else refuses t (codes "NoPlace")
 
 abbrev pub shortened : Scene → ℕ → Next
 shortened t n =
-    if nat_le n (length t.bytes) then says (record t { bytes = take n t.bytes }) (codes "ok")
+    if nat_le n (length t.bytes) then says (record t { bytes = take n t.bytes; sessions = no_sessions }) (codes "ok")
     else refuses t (codes "NoPlace")
 
+-- an `init` line drops the sessions, refused or not
 abbrev pub brings : Scene → Event → Act
-brings t (events.Init id width k algs) = inits (record t { id = Some id }) (header_at id t.clock width k algs)
+brings t (events.Init id width k algs) = inits (record t { id = Some id; sessions = no_sessions }) (header_at id t.clock width k algs)
 brings t (events.Crash after choice) = quiet (says (record t { crash = Some (record { after = after; choice = choice }) }) (codes "ok"))
 brings t (events.Alter place bytes) = quiet (altered t place bytes)
 brings t (events.Cut n) = quiet (shortened t n)
