@@ -1,6 +1,6 @@
 -- What lines of a run acknowledge stays stored.
-use Rattle.std.proofs.Common.{◌≡◌, ◌∙◌, ℕ, ◌+◌, Bool, true, false, List, [], ◌∷◌, ◌++◌, length, Option, Some, None, Result, Ok, Err, refl, sym, ap, subst, arith, append_assoc, length-append, ⊎_elim}
-use Rattle.std.specs.Prelude.{◌⊎◌, slice_index, codes}
+use Rattle.std.proofs.Common.{◌≡◌, ◌∙◌, ℕ, Bool, true, false, List, [], ◌∷◌, ◌++◌, length, Option, Some, None, Result, Ok, Err, refl, sym, ap, subst, arith, append_assoc, length-append}
+use Rattle.std.specs.Prelude.{codes}
 use Rattle.std.proofs.lemmas.List.{append_cancel_left}
 use Rattle.std.proofs.lemmas.List.Sums.{fold-append}
 use Rattle.std.proofs.lemmas.List.Elements.{filter_map-append}
@@ -14,9 +14,9 @@ use Rattle.stmt_text.specs.declared.line.Line.{Line}
 use Rattle.stmt_text.specs.Lines.{answer}
 use Rattle.statement_core.specs.World as statements
 use Rattle.drill_core.specs.Found.{Found}
-use Rattle.drill_core.specs.World.{World, StoresWorld, StoresOf}
+use Rattle.drill_core.specs.World.{StoresWorld, StoresOf}
 use Rattle.drill_core.specs.Steps.{step}
-use Rattle.drill_core.specs.Acknowledged.{HasTxn, IsStored, Extends, OnlyAppends, ok_text}
+use Rattle.drill_core.specs.Acknowledged.{HasTxn, IsStored, OnlyAppends, ok_text}
 use Rattle.drill_core.proofs.Texts.{SaysOk, says_ok}
 use Rattle.drill_core.proofs.Acknowledging.{appends_none, steps_append, steps_acknowledge}
 use Rattle.dragoon_app.specs.declared.line_kind.LineKind.{LineKind}

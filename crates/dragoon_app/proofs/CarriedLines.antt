@@ -178,7 +178,7 @@ module _ (runner : Runner) (old now : disks.State) (clock ahead : clocks.State) 
 
 -- ---- exits
 
-nothing_more : (scripted : Bool) (begin : Running) (done : List Timed) → carried scripted begin (done ++ nothing ∷ []) ≡ carried scripted begin done
+pub nothing_more : (scripted : Bool) (begin : Running) (done : List Timed) → carried scripted begin (done ++ nothing ∷ []) ≡ carried scripted begin done
 nothing_more scripted begin done = carried_more scripted begin done nothing ∙ carry_nothing scripted (carried scripted begin done)
 
 -- between two lines

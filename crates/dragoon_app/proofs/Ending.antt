@@ -1,6 +1,7 @@
 -- How a run ends, and what it leaves then.
-use Rattle.std.proofs.Common.{if◌then◌else◌, ◌≡◌, ◌≢◌, ◌≤◌, ◌∙◌, ℕ, Bool, true, false, List, [], ◌∷◌, ◌++◌, take, Some, refl, sym, ap, subst, arith, inl, inr, ⊎_elim, Result, Ok, Err}
-use Rattle.std.specs.Prelude.{◌⊎◌, IsErrOf, IfSome}
+use Rattle.std.proofs.Common.{if◌then◌else◌, ◌≡◌, ◌≢◌, ◌<◌, ◌≤◌, ◌∙◌, ℕ, Bool, true, false, List, [], ◌∷◌, ◌++◌, take, Some, refl, sym, ap, subst, arith, inl, inr, ⊎_elim, Result, Ok, Err}
+use Rattle.std.specs.Prelude.{◌⊎◌, nat_lt, IsErrOf, IfSome}
+use Rattle.std.proofs.lemmas.Bool.Decides.{nat_tests}
 use Rattle.outside_words.specs.Faults.{Rose}
 use Rattle.outside_words.proofs.Told.{told_map}
 use Rattle.disk_words.specs.Disk as disks
@@ -22,9 +23,9 @@ use Rattle.dragoon_app.specs.declared.runner.Runner.{Runner}
 use Rattle.dragoon_app.specs.Texts.{fault_line}
 use Rattle.dragoon_app.specs.Outcome.{Said, CutsOff, WriteCause, refused}
 use Rattle.dragoon_app.specs.Running.{Running, Timed, start, carried, world_of}
-use Rattle.dragoon_app.specs.Ran.{AreFirst, IsNext, TakesNoMore, Reads, IsOutBut, CauseOf, IsToTell, IsCutAtEnd, Writes, IsSettled, Runs, RunsStore, RunsHeader, RunsOn, opened, lines_in, text_before}
+use Rattle.dragoon_app.specs.Ran.{AreFirst, IsNext, TakesNoMore, Reads, IsOutBut, CauseOf, IsToTell, IsCutAtEnd, Writes, IsSettled, RunsLines, Runs, KeepsPromises, RunsStore, RunsHeader, RunsOn, opened, lines_in, text_before}
 use Rattle.dragoon_app.specs.Carrying.{IsReady, Carries, CarriesFrom, IsWritten, IsBetween, ending, EndsWith, RunsFrom, SoundFrom}
-use Rattle.dragoon_app.specs.Devices.{Content, Devices, StaysSound, content, desk, devices}
+use Rattle.dragoon_app.specs.Devices.{Content, Devices, StaysSound, content, desk, devices, site_of}
 use Rattle.dragoon_app.proofs.OnStore.{IsHeaderOf, cause_from, only_before, every_image_from, told_from, at_disk, opened_on, telling}
 use Rattle.dragoon_app.proofs.SoundKept.{sound_images}
 use Rattle.dragoon_app.proofs.SoundRuns.{sound_runs, sound_begin}
@@ -48,7 +49,7 @@ module _ (first last : Runner) (old new : Devices) (written : State) where
 
   -- the lines that were carried out, wherever the run began
   ran : (result : Status) (r : Ended) → ((begin : Running) (before after : Content) (c : Carries first.is_scripted r last old new begin before after)
-      → (x : Running) (shown : List ℕ) → (IsBetween r → last.is_refused ≡ x.is_refused) → IsWritten (c.next.line ≡ []) shown x.text r old.out new.out → Writes (c.next.line ≡ []) (IsToTell c.done c.next old (at_out written new)) shown x result old.out written)
+      → (x : Running) (shown : List ℕ) → (IsBetween r → last.refused ≡ x.refused) → IsWritten (c.next.line ≡ []) shown x.text r old.out new.out → Writes (c.next.line ≡ []) (IsToTell c.done c.next old (at_out written new)) shown x result old.out written)
       → ((done : List Timed) (next : Timed) (all others : List ℕ) → AreFirst (lines_in done) all → Reads (ending r) done next all others → Reads result done next all others)
       → (IsSettled result old.desk new.desk → IsBetween r)
       → CarriesFrom r first last old new → End result
@@ -104,7 +105,7 @@ module _ (first last : Runner) (old new : Devices) (written : State) where
       tell c = record { cause = cause; read = told_map old.input.rest new.input.rest _ _ c.read (λ all others r. reads c.done c.next all others r) }
 
       cut : {t : Status} → CutsOff t → FrontIsOut (fault_line s) new.out written → (begin : Running) (before after : Content) (c : Carries first.is_scripted (Err fail) last old new begin before after)
-          → (x : Running) (shown : List ℕ) → (IsBetween (Err fail) → last.is_refused ≡ x.is_refused) → IsWritten (c.next.line ≡ []) shown x.text (Err fail) old.out new.out → Writes (c.next.line ≡ []) (IsToTell c.done c.next old (at_out written new)) shown x t old.out written
+          → (x : Running) (shown : List ℕ) → (IsBetween (Err fail) → last.refused ≡ x.refused) → IsWritten (c.next.line ≡ []) shown x.text (Err fail) old.out new.out → Writes (c.next.line ≡ []) (IsToTell c.done c.next old (at_out written new)) shown x t old.out written
       cut cuts front begin before after c x shown at out = inr (inr (cuts, inr (inr (s, tell c, out_but_end x.text (fault_line s) old.out new.out written (whole (c.next.line ≡ []) shown x.text out) front))))
 
   -- no fault line is told
@@ -135,18 +136,25 @@ module _ (first last : Runner) (old new : Devices) (written : State) where
   ran_failed fails.WriteFault result c disk notary read ends = unsaid fails.WriteFault (inl refl) (λ Idle before text is. inl is) (λ x. tt) c result ends
   ran_failed fails.NoMemory result c disk notary read ends = unsaid fails.NoMemory (inr refl) (λ Idle before text is. is) (λ x. x.memory refl) c result ends
 
+-- whether some reply is a refusal
+pub some_refused : (n : ℕ) → 0 < n → nat_lt 0 n ≡ true
+some_refused n some = grind (arith, nat_tests, some)
+
+pub none_refused : (n : ℕ) → n ≤ 0 → nat_lt 0 n ≡ false
+none_refused n none = grind (arith, nat_tests, none)
+
 -- all lines were carried out
 module _ (first last : Runner) (old new : Devices) where
   ran_all : (b : Bool) (result : Status) → ((done : List Timed) (next : Timed) (all others : List ℕ) → Reads statuses.Ok done next all others → Reads result done next all others) → (if b then statuses.Refused else statuses.Ok) ≡ result
-      → CarriesFrom (Ok tt) first last old new → last.is_refused ≡ b → RunsFrom result first old new
+      → CarriesFrom (Ok tt) first last old new → nat_lt 0 last.refused ≡ b → RunsFrom result first old new
   ran_all b result reads is c flag = ran first last old new new.out result (Ok tt)
-      (λ begin before after c x shown at out. inl (sym is ∙ ap (λ (f : Bool). if f then statuses.Refused else statuses.Ok) (sym flag ∙ at tt), out))
+      (λ begin before after c x shown at out. inl (sym is ∙ ap (λ (f : Bool). if f then statuses.Refused else statuses.Ok) (sym flag ∙ ap (nat_lt 0) (at tt)), out))
       (λ done next all others f e. reads done next all others e) (λ s. tt) c
 
-  pub ran_ok : CarriesFrom (Ok tt) first last old new → last.is_refused ≡ false → RunsFrom statuses.Ok first old new
+  pub ran_ok : CarriesFrom (Ok tt) first last old new → nat_lt 0 last.refused ≡ false → RunsFrom statuses.Ok first old new
   ran_ok c none = ran_all false statuses.Ok (λ done next all others e. e) refl c none
 
-  pub ran_refused : CarriesFrom (Ok tt) first last old new → last.is_refused ≡ true → RunsFrom statuses.Refused first old new
+  pub ran_refused : CarriesFrom (Ok tt) first last old new → nat_lt 0 last.refused ≡ true → RunsFrom statuses.Refused first old new
   ran_refused c some = ran_all true statuses.Refused (λ done next all others e. record { lines = e.lines; under_way = e.under_way; little = tt; front = e.front }) refl c some
 
 -- what was sound stays so, however the run ends
@@ -155,7 +163,7 @@ ran_sound r first last old new told = wherever_map old.desk.notary.limits first 
 
 -- ---- the store was opened before
 
-rose_on : (old mid new : ℕ) → mid ≤ new → Rose old mid → Rose old new
+pub rose_on : (old mid new : ℕ) → mid ≤ new → Rose old mid → Rose old new
 rose_on old mid new le rose = omega (arith, le, rose)
 
 -- a fault of the output, while the lines were carried out or behind them
@@ -169,14 +177,14 @@ written_cause fails.WriteFault result out mid written before le on cause = λ e.
 written_cause fails.NoMemory result out mid written before le on cause = λ e. cause_from out.faults mid.faults written.faults le (cause (λ x. cc) e)
 
 module _ (first : disks.State) (old new : Devices) (le : first.faults ≤ old.desk.disk.faults) where
-  rose : Rose old.desk.disk.faults new.desk.disk.faults → Rose first.faults new.desk.disk.faults
-  rose r = cause_from first.faults old.desk.disk.faults new.desk.disk.faults le r
+  pub rose_before : Rose old.desk.disk.faults new.desk.disk.faults → Rose first.faults new.desk.disk.faults
+  rose_before r = cause_from first.faults old.desk.disk.faults new.desk.disk.faults le r
 
   settled_from : (result : Status) → IsSettled result (desk first old.desk.notary) new.desk → IsSettled result old.desk new.desk
-  settled_from result s = record { disk = s.disk; notary = s.notary; memory = s.memory; write = λ e. ((λ r. (s.write e).0 (rose r)), (s.write e).1) }
+  settled_from result s = record { disk = s.disk; notary = s.notary; memory = s.memory; write = λ e. ((λ r. (s.write e).0 (rose_before r)), (s.write e).1) }
 
   told_cause : (s : Status) → CauseOf s old new → CauseOf s (at_disk first old) new
-  told_cause s h = ⊎_elim (λ (d : (s ≡ statuses.DiskFault) × Rose old.desk.disk.faults new.desk.disk.faults). inl (d.0, rose d.1)) (λ (other : ((s ≡ statuses.NotaryFault) × Rose old.desk.notary.faults new.desk.notary.faults) ⊎ ((s ≡ statuses.ReadFault) × Rose old.input.faults new.input.faults) ⊎ (s ≡ statuses.InputLimit)). inr other) h
+  told_cause s h = ⊎_elim (λ (d : (s ≡ statuses.DiskFault) × Rose old.desk.disk.faults new.desk.disk.faults). inl (d.0, rose_before d.1)) (λ (other : ((s ≡ statuses.NotaryFault) × Rose old.desk.notary.faults new.desk.notary.faults) ⊎ ((s ≡ statuses.ReadFault) × Rose old.input.faults new.input.faults) ⊎ (s ≡ statuses.InputLimit)). inr other) h
 
   tell_from : (done : List Timed) (next : Timed) (s : Status) → IsToTell done next old new s → IsToTell done next (at_disk first old) new s
   tell_from done next s t = record { cause = told_cause s t.cause; read = t.read }
@@ -188,47 +196,57 @@ writes_from Idle P Q before r s out written f (inr (inr (cuts, inl short))) = in
 writes_from Idle P Q before r s out written f (inr (inr (cuts, inr (inl all)))) = inr (inr (cuts, inr (inl all)))
 writes_from Idle P Q before r s out written f (inr (inr (cuts, inr (inr told)))) = inr (inr (cuts, inr (inr (told.0, f told.0 told.1, told.2))))
 
-runs_from : (scripted : Bool) (begin : Running) (result : Status) (first : disks.State) (old new : Devices) (before after : Content) → disks.Unchanged first old.desk.disk → first.faults ≤ old.desk.disk.faults
-    → Runs scripted begin result old new before after → Runs scripted begin result (at_disk first old) new before after
-runs_from scripted begin result first old new before after same le r =
+-- the lines of a store that was opened before
+pub lines_from : (scripted : Bool) (begin : Running) (done : List Timed) (next : Timed) (result : Status) (first : disks.State) (old new : Devices) (before after : Content) → disks.Unchanged first old.desk.disk → first.faults ≤ old.desk.disk.faults
+    → RunsLines scripted begin done next result (site_of old) (site_of new) before after → RunsLines scripted begin done next result (site_of (at_disk first old)) (site_of new) before after
+lines_from scripted begin done next result first old new before after same le lines =
     let settles : IsSettled result (desk first old.desk.notary) new.desk → IsSettled result old.desk new.desk = settled_from first old new le result in
-    let s = r.lines.store in
+    let s = lines.store in
     record {
-      done = r.done;
-      next = r.next;
-      lines = record {
-        none = λ x. r.lines.none (settles x);
-        found = r.lines.found;
-        seconds = r.lines.seconds;
-        store = record {
-          images = λ only. every_image_from first old.desk.disk new.desk.disk _ same (s.images (only_before first old.desk.disk before.bytes same only));
-          kept = λ only. s.kept (only_before first old.desk.disk before.bytes same only);
-          settled = λ x only. s.settled (settles x) (only_before first old.desk.disk before.bytes same only);
-          stores = λ x. s.stores (settles x);
-          between = s.between;
-          ordered = λ id more only. s.ordered id more (only_before first old.desk.disk before.bytes same only);
-          holds = λ x. s.holds (settles x);
-        };
+      none = λ x. lines.none (settles x);
+      found = lines.found;
+      seconds = lines.seconds;
+      store = record {
+        images = λ only. every_image_from first old.desk.disk new.desk.disk _ same (s.images (only_before first old.desk.disk before.bytes same only));
+        kept = λ only. s.kept (only_before first old.desk.disk before.bytes same only);
+        settled = λ x only. s.settled (settles x) (only_before first old.desk.disk before.bytes same only);
+        stores = λ x. s.stores (settles x);
+        between = s.between;
+        ordered = λ id more only. s.ordered id more (only_before first old.desk.disk before.bytes same only);
+        holds = λ x. s.holds (settles x);
       };
-      read = r.read;
-      said = writes_from (r.next.line ≡ []) (IsToTell r.done r.next old new) (IsToTell r.done r.next (at_disk first old) new) (text_before scripted begin r.done) (carried scripted begin r.done) result old.out new.out (tell_from first old new le r.done r.next) r.said;
+    }
+
+-- what is promised of lines over a store of this header, whatever became of their replies
+pub promises_kept : (scripted : Bool) (header : Header) (done : List Timed) (next : Timed) (result : Status) (old new : Devices) (before after : Content)
+    → old.desk.disk.is_image before.bytes → (stored before.bytes).header ≡ Some header → FitsHeader header
+    → RunsLines scripted (opened header old before) done next result (site_of old) (site_of new) before after → KeepsPromises scripted header done next old new before
+promises_kept scripted header done next result old new before after here has fits lines =
+    let begin : Running = opened header old before in
+    let all : List Timed = done ++ next ∷ [] in
+    record {
+      unaltered = λ sound. (sound_runs sound_worlds scripted begin all (fits, refl) (sound_begin old.desk.disk.is_image before.bytes header before.lists old.desk.notary.limits here has sound) lines.found).0;
+      appends = λ only. weaker (lines.store.images only) (λ c front. appended_in scripted begin (world_of header before.bytes) (take front.0 all) c refl front.1);
+      acknowledged = λ only digits replied c is. ⊎_elim
+          (λ (so_far : StoresWorld (carried scripted begin done).world c). acknowledged_in scripted begin done digits c replied so_far)
+          (λ (more : StoresWorld (carried scripted begin all).world c). acknowledged_in scripted begin all digits c (replied_more (ok_text digits) scripted begin done (next ∷ []) replied) more)
+          (lines.store.kept only c is);
     }
 
 runs_store : (scripted : Bool) (header : Header) (result : Status) (first : disks.State) (old new : Devices) (before after : Content) → disks.Unchanged first old.desk.disk → first.faults ≤ old.desk.disk.faults
     → first.is_image before.bytes → (stored before.bytes).header ≡ Some header → FitsHeader header → Runs scripted (opened header old before) result old new before after → RunsStore scripted header result (at_disk first old) new before after
-unfolding runs_from
 runs_store scripted header result first old new before after same le here has fits r =
     let begin : Running = opened header old before in
-    let runs = runs_from scripted begin result first old new before after same le r in
-    let all : List Timed = r.done ++ r.next ∷ [] in
+    let lines = lines_from scripted begin r.done r.next result first old new before after same le r.lines in
     record {
-      runs = runs;
-      unaltered = λ sound. (sound_runs sound_worlds scripted begin all (fits, refl) (sound_begin first.is_image before.bytes header before.lists old.desk.notary.limits here has sound) r.lines.found).0;
-      appends = λ only. weaker (runs.lines.store.images only) (λ c front. appended_in scripted begin (world_of header before.bytes) (take front.0 all) c refl front.1);
-      acknowledged = λ only digits replied c is. ⊎_elim
-          (λ (done : StoresWorld (carried scripted begin r.done).world c). acknowledged_in scripted begin r.done digits c replied done)
-          (λ (more : StoresWorld (carried scripted begin all).world c). acknowledged_in scripted begin all digits c (replied_more (ok_text digits) scripted begin r.done (r.next ∷ []) replied) more)
-          (runs.lines.store.kept only c is);
+      runs = record {
+        done = r.done;
+        next = r.next;
+        lines = lines;
+        read = r.read;
+        said = writes_from (r.next.line ≡ []) (IsToTell r.done r.next old new) (IsToTell r.done r.next (at_disk first old) new) (text_before scripted begin r.done) (carried scripted begin r.done) result old.out new.out (tell_from first old new le r.done r.next) r.said;
+      };
+      promises = promises_kept scripted header r.done r.next result (at_disk first old) new before after here has fits lines;
     }
 
 module _ (id : ℕ) (runner : Runner) (first : disks.State) (old new : Devices) (ready : IfSome first.reads (IsReady runner)) (is : runner.world.id ≡ id) (same : disks.Unchanged first old.desk.disk) where

@@ -26,3 +26,6 @@ pub mod Standing
 pub mod CarriedLines
 pub mod Replying
 pub mod Ending
+pub mod MadeLines
+pub mod LastTwo
+pub mod MadeEnding

@@ -1,6 +1,6 @@
 -- A line is carried out and replied to.
 use Rattle.std.proofs.Common.{◌≡◌, ◌∙◌, ◌+◌, ℕ, Bool, true, false, List, [], ◌∷◌, ◌++◌, refl, sym, ap, subst, inl, inr, Result, Ok, Err}
-use Rattle.std.specs.Prelude.{◌||◌, min, codes}
+use Rattle.std.specs.Prelude.{min, codes}
 use Rattle.std.proofs.lemmas.List.{append-nil}
 use Rattle.outside_words.proofs.Told.{told_map}
 use Rattle.disk_words.specs.Disk.{State}
@@ -25,7 +25,7 @@ use Rattle.dragoon_app.specs.declared.runner.Runner.{Runner}
 use Rattle.dragoon_app.specs.declared.line_kind.LineKind.{LineKind}
 use Rattle.dragoon_app.specs.declared.line_kind.LineKind.TheVariants as kinds
 use Rattle.stmt_text.specs.Numbers.{max_u64}
-use Rattle.dragoon_app.specs.Running.{Running, Timed, carry, answered, said_by, stmt_kind, kind_of, seconds_of, stepped, set_moment, refused_line, refused_text, MayFindBy}
+use Rattle.dragoon_app.specs.Running.{Running, Timed, carry, counted, answered, said_by, stmt_kind, kind_of, seconds_of, stepped, set_moment, refused_line, refused_text, MayFindBy}
 use Rattle.dragoon_app.specs.Ran.{Takes}
 use Rattle.dragoon_app.specs.Devices.{content, desk, site}
 use Rattle.dragoon_app.specs.Carrying.{Wherever, Goes, GoesTo, StepsFrom, LineFrom, RepliesFrom, IsLineOf, TakesFor, GivesSeconds, refusing, SetsMoment}
@@ -36,10 +36,6 @@ use Rattle.dragoon_app.proofs.Wherever.{told_both, wherever_map, wherever_same}
 use Rattle.dragoon_app.proofs.Standing.{IsStill, goes_still}
 
 -- ---- where the disk and the notary are left alone
-
-or_true : (b : Bool) → true ≡ (b || true)
-or_true true = refl
-or_true false = refl
 
 module _ (runner later : Runner) (s : State) (filed : notaries.State) (still : IsStill s) where
   -- what is said, and where the run stands then
@@ -59,7 +55,7 @@ module _ (runner later : Runner) (s : State) (filed : notaries.State) (still : I
         within = at.within;
         epoch = ap (λ (x : Runner). x.epoch) is ∙ at.epoch;
         moment = ap (λ (x : Runner). x.moment) is ∙ at.moment;
-        refused = ap (λ (x : Runner). x.is_refused) is ∙ or_true r.is_refused;
+        refused = ap (λ (x : Runner). x.refused) is ∙ ap (counted true) at.refused;
       }))
 
   -- the moment is set
@@ -70,7 +66,7 @@ module _ (runner later : Runner) (s : State) (filed : notaries.State) (still : I
         within = at.within;
         epoch = ap (λ (x : Runner). x.epoch) sets.later_is ∙ at.epoch;
         moment = ap (λ (x : Runner). x.moment) sets.later_is;
-        refused = ap (λ (x : Runner). x.is_refused) sets.later_is ∙ at.refused;
+        refused = ap (λ (x : Runner). x.refused) sets.later_is ∙ at.refused;
       }))
   sets_goes E false moment text sets = refuses_goes (codes "NotScripted") text sets.text sets.later_is
 
@@ -87,7 +83,7 @@ blank_goes text runner s filed still none = wherever_same filed.limits runner s 
 
 module _ (line : Line) (now : ℕ) (runner last : Runner) (old new : State) (filed later : notaries.State) where
   pub steps_on : (answered : Answered) → StepsFor line now (Ok answered) runner.world last.world (desk old filed) (desk new later) → KeepsSound (StandsFor runner.world) (desk old filed) (desk new later)
-      → last.epoch ≡ runner.epoch → last.moment ≡ runner.moment → last.is_refused ≡ (runner.is_refused || answered.refused) → StepsFrom line now (Ok answered.text) runner last (desk old filed) (desk new later)
+      → last.epoch ≡ runner.epoch → last.moment ≡ runner.moment → last.refused ≡ counted answered.refused runner.refused → StepsFrom line now (Ok answered.text) runner last (desk old filed) (desk new later)
   steps_on answered steps sound epoch moment refused = told_map old.reads new.reads _ _ (told_both old.reads new.reads _ _ steps sound) (λ before after h.
       told_map filed.lists later.lists _ _ (told_both filed.lists later.lists _ _ h.0 h.1) (λ lists later_lists p r at.
       let s = p.0 r.world at.stands at.within in
@@ -101,7 +97,7 @@ module _ (line : Line) (now : ℕ) (runner last : Runner) (old new : State) (fil
             within = step_limits r.world line now s.found;
             epoch = epoch ∙ at.epoch;
             moment = moment ∙ at.moment;
-            refused = refused ∙ ap (λ (b : Bool). b || answered.refused) at.refused ∙ ap (λ (b : Bool). r.is_refused || b) s.goes.reply.refused;
+            refused = refused ∙ ap (counted answered.refused) at.refused ∙ ap (λ (b : Bool). counted b r.refused) s.goes.reply.refused;
           };
           settled = s.goes.settled;
           images = s.goes.images;

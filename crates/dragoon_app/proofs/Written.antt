@@ -1,20 +1,9 @@
 -- Replies behind replies, and texts of which the end is cut short.
-use Rattle.std.proofs.Common.{◌≡◌, ◌∙◌, ◌+◌, ◌-◌, ◌≤◌, ℕ, Bool, true, false, List, [], ◌∷◌, ◌++◌, length, take, drop, sym, ap, subst, arith, length-append, Result, Ok, Err, codes}
-use Rattle.std.proofs.lemmas.List.{take_all, take-append-drop}
-use Rattle.std.proofs.lemmas.List.Sums.{fold-append}
+use Rattle.std.proofs.Common.{◌≡◌, ◌∙◌, ◌+◌, ◌-◌, ℕ, Bool, List, [], ◌∷◌, ◌++◌, length, take, sym, ap, arith, length-append}
 use Rattle.std.proofs.Math.Seq.{take-append-add}
 use Rattle.outside_io.specs.Sink.{State, appended, IsOut, FrontIsOut}
 use Rattle.outside_io.proofs.Out.{out_then}
-use Rattle.stmt_text.specs.declared.error.ParseFail.{ParseFail}
-use Rattle.stmt_text.specs.declared.error.ParseFail.TheVariants as parses
-use Rattle.stmt_text.specs.declared.line.Line.{Line}
-use Rattle.stmt_text.specs.Lines.{answer}
-use Rattle.validator.specs.declared.verdict.Verdict.{Verdict}
-use Rattle.validator.specs.declared.fail.AuditFail.{AuditFail}
-use Rattle.drill_core.specs.Steps.{step}
-use Rattle.dragoon_app.specs.declared.line_kind.LineKind.{LineKind}
-use Rattle.dragoon_app.specs.declared.line_kind.LineKind.TheVariants as kinds
-use Rattle.dragoon_app.specs.Running.{Running, Timed, carry, carried, seconds_of, said_by, answered, kind_of, set_moment, refused_text}
+use Rattle.dragoon_app.specs.Running.{Running, Timed, carried}
 use Rattle.dragoon_app.specs.Ran.{IsOutBut, text_before}
 use Rattle.dragoon_app.proofs.Reading.{take_first}
 

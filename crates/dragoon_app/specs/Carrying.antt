@@ -33,7 +33,7 @@ use Rattle.dragoon_app.specs.declared.line_kind.LineKind.TheVariants as kinds
 use Rattle.stmt_text.specs.Numbers.{max_u64}
 use Rattle.dragoon_app.specs.Outcome.{Said, refused}
 use Rattle.dragoon_app.specs.Devices.{Desk, Content, Site, Devices, content}
-use Rattle.dragoon_app.specs.Running.{Running, Timed, start, carry, carried, stepped, world_of, seconds_of, said_by, kind_of, refused_text, MayFindBy, AllMayFind}
+use Rattle.dragoon_app.specs.Running.{Running, Timed, start, carry, carried, counted, stepped, world_of, seconds_of, said_by, kind_of, refused_text, MayFindBy, AllMayFind}
 use Rattle.dragoon_app.specs.Ran.{Runs, Reads, AreFirst, IsOutBut, lines_in, text_before, StoresFront, Takes}
 
 -- ---- failures
@@ -75,7 +75,7 @@ pub record IsAt (r : Running) (runner : Runner) (bytes : List ℕ) (limits : Not
   pub within : r.world.limits ≡ limits
   pub epoch : runner.epoch ≡ r.epoch
   pub moment : runner.moment ≡ r.moment
-  pub refused : runner.is_refused ≡ r.is_refused
+  pub refused : runner.refused ≡ r.refused
 
 -- just opened: where a run begins over a header with the world's id, whatever the notary holds
 pub record IsReady (runner : Runner) (bytes : List ℕ) : Type 0 where
@@ -108,13 +108,17 @@ StaysSound old new before lists later_lists =
 
 -- ---- a runner alone
 
--- with one more refusal
+-- with one reply more
+abbrev pub counting : Bool → Runner → Runner
+counting refusal runner = record { world = runner.world; epoch = runner.epoch; moment = runner.moment; is_scripted = runner.is_scripted; refused = counted refusal runner.refused }
+
+-- with one refusal more
 abbrev pub refusing : Runner → Runner
-refusing runner = record { world = runner.world; epoch = runner.epoch; moment = runner.moment; is_scripted = runner.is_scripted; is_refused = true }
+refusing = counting true
 
 -- at another moment
 abbrev pub moved : Runner → ℕ → Runner
-moved runner moment = record { world = runner.world; epoch = runner.epoch; moment = moment; is_scripted = runner.is_scripted; is_refused = runner.is_refused }
+moved runner moment = record { world = runner.world; epoch = runner.epoch; moment = moment; is_scripted = runner.is_scripted; refused = runner.refused }
 
 -- a line is refused by this name
 pub record Refuses {E : Type 0} (name : List ℕ) (result : Result (List ℕ) E) (runner later : Runner) : Type 0 where

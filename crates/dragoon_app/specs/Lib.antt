@@ -13,4 +13,6 @@ pub mod Acknowledged
 pub mod Audited
 pub mod Analysed
 pub mod Carrying
+pub mod Made
+pub mod MakingLines
 pub mod Top

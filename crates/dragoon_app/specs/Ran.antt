@@ -1,5 +1,5 @@
 -- What `run` leaves: what it wrote, what its store holds at every moment, and what it took from its input and the clock.
-use Rattle.std.specs.Prelude.{if◌then◌else◌, ◌≡◌, ◌≢◌, ◌⊎◌, ◌<◌, ◌≤◌, ◌+◌, ◌-◌, ℕ, Bool, true, false, List, [], ◌∷◌, ◌++◌, length, take, drop, map, slice_index}
+use Rattle.std.specs.Prelude.{if◌then◌else◌, ◌≡◌, ◌≢◌, ◌⊎◌, ◌<◌, ◌≤◌, ◌+◌, ◌-◌, nat_lt, ℕ, Bool, true, false, List, [], ◌∷◌, ◌++◌, length, take, drop, map, slice_index}
 use Rattle.outside_words.specs.Told.{WhereTold}
 use Rattle.outside_words.specs.Faults.{Rose}
 use Rattle.disk_words.specs.Disk as disks
@@ -17,7 +17,7 @@ use Rattle.drill_core.specs.World.{StoresWorld, AreBetween}
 use Rattle.drill_core.specs.Acknowledged.{HasTxn, ok_text}
 use Rattle.dragoon_app.specs.declared.status.Status.{Status}
 use Rattle.dragoon_app.specs.declared.status.Status.TheVariants as statuses
-use Rattle.dragoon_app.specs.Devices.{Desk, Content, Devices, Effect, WhereBothTell}
+use Rattle.dragoon_app.specs.Devices.{Desk, Content, Site, Devices, Effect, WhereBothTell, site_of}
 use Rattle.dragoon_app.specs.Outcome.{CutsOff}
 use Rattle.dragoon_app.specs.Commands.{OnStore}
 use Rattle.dragoon_app.specs.Texts.{fault_line}
@@ -121,8 +121,11 @@ IsCutAtEnd Idle Told before text old new =
     ⊎ ((s : Status) × Told s × IsOutBut text (text ++ fault_line s) old new)
 
 -- how a run ends whose lines were all carried out: by whether some reply is a refusal
+abbrev pub ending_by : ℕ → Status
+ending_by refused = if nat_lt 0 refused then statuses.Refused else statuses.Ok
+
 abbrev pub ending_of : Running → Status
-ending_of r = if r.is_refused then statuses.Refused else statuses.Ok
+ending_of r = ending_by r.refused
 
 -- All replies are out, and no other text; or the line of a fault that is told is behind them; or the end is cut short.
 abbrev pub Writes : Type 0 → (Status → Type 0) → List ℕ → Running → Status → sinks.State → sinks.State → Type 0
@@ -172,7 +175,7 @@ pub record RunsOver (scripted : Bool) (begin : Running) (done : List Timed) (nex
   pub holds : IsSettled result old new → notaries.Keeps (carried scripted begin done).world.lists after.lists
 
 -- Lines were carried out, and one was perhaps under way, wherever they came from and whatever became of their replies.
-pub record RunsLines (scripted : Bool) (begin : Running) (done : List Timed) (next : Timed) (result : Status) (old new : Devices) (before after : Content) : Type 0 where
+pub record RunsLines (scripted : Bool) (begin : Running) (done : List Timed) (next : Timed) (result : Status) (old new : Site) (before after : Content) : Type 0 where
   pub none : IsSettled result old.desk new.desk → next.line ≡ []
   -- each validation and each analysis found what its world allows
   pub found : AllMayFind scripted begin (done ++ next ∷ [])
@@ -184,7 +187,7 @@ pub record Runs (scripted : Bool) (begin : Running) (result : Status) (old new :
   -- the lines that were carried out, and the one under way
   pub done : List Timed
   pub next : Timed
-  pub lines : RunsLines scripted begin done next result old new before after
+  pub lines : RunsLines scripted begin done next result (site_of old) (site_of new) before after
   pub read : WhereTold old.input.rest new.input.rest (Reads result done next)
   pub said : Writes (next.line ≡ []) (IsToTell done next old new) (text_before scripted begin done) (carried scripted begin done) result old.out new.out
 
@@ -192,15 +195,19 @@ pub record Runs (scripted : Bool) (begin : Running) (result : Status) (old new :
 abbrev pub opened : Header → Devices → Content → Running
 opened header old before = start (world_of header before.bytes) before.lists old.desk.notary.limits
 
--- A run over a store of this header.
-pub record RunsStore (scripted : Bool) (header : Header) (result : Status) (old new : Devices) (before after : Content) : Type 0 where
-  pub runs : Runs scripted (opened header old before) result old new before after
+-- What is promised of lines over a store of this header, where these were carried out and this one was perhaps under way.
+pub record KeepsPromises (scripted : Bool) (header : Header) (done : List Timed) (next : Timed) (old new : Devices) (before : Content) : Type 0 where
   -- no line tells of an alteration where the store is sound
-  pub unaltered : IsSound old.desk.disk.is_image (before.lists.batches header.id) header.id → AllTellNone scripted (opened header old before) (runs.done ++ runs.next ∷ [])
+  pub unaltered : IsSound old.desk.disk.is_image (before.lists.batches header.id) header.id → AllTellNone scripted (opened header old before) (done ++ next ∷ [])
   -- a crash at any moment leaves all items that were stored, and perhaps more
   pub appends : disks.Only before.bytes old.desk.disk → EveryImage old.desk.disk new.desk.disk (StoresMore (stored before.bytes).items)
   -- each transaction of which `ok N` was replied stands in every image, by its number
-  pub acknowledged : disks.Only before.bytes old.desk.disk → (digits : List ℕ) → IsReplied (ok_text digits) scripted (opened header old before) runs.done → (c : List ℕ) → new.desk.disk.is_image c → HasTxn digits (stored c).items
+  pub acknowledged : disks.Only before.bytes old.desk.disk → (digits : List ℕ) → IsReplied (ok_text digits) scripted (opened header old before) done → (c : List ℕ) → new.desk.disk.is_image c → HasTxn digits (stored c).items
+
+-- A run over a store of this header.
+pub record RunsStore (scripted : Bool) (header : Header) (result : Status) (old new : Devices) (before after : Content) : Type 0 where
+  pub runs : Runs scripted (opened header old before) result old new before after
+  pub promises : KeepsPromises scripted header runs.done runs.next old new before
 
 -- a run whose store was opened, where both tell what they hold
 abbrev pub RunsHeader : Bool → Header → Effect

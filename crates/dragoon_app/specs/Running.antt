@@ -1,5 +1,5 @@
 -- What a script does, line by line.
-use Rattle.std.specs.Prelude.{ℕ, ◌+◌, min, Bool, true, false, ◌||◌, List, [], ◌∷◌, ◌++◌, fold, filter, not, map, codes, Some, Result, Ok, Err}
+use Rattle.std.specs.Prelude.{ℕ, ◌+◌, min, Bool, true, false, List, [], ◌∷◌, ◌++◌, fold, filter, not, map, codes, Some, Result, Ok, Err}
 use Rattle.history_model.specs.Stored.{stored}
 use Rattle.history_model.specs.History.{last_moment}
 use Rattle.tuple_bytes.specs.declared.header.Header.{Header}
@@ -29,8 +29,8 @@ pub record Running : Type 0 where
   pub moment : ℕ
   -- all replies so far
   pub text : List ℕ
-  -- whether one of them is a refusal
-  pub is_refused : Bool
+  -- how many of them are refusals
+  pub refused : ℕ
 
 -- the world of a store's bytes behind this header
 abbrev pub world_of : Header → List ℕ → statements.World
@@ -43,7 +43,7 @@ start store lists limits = record {
   epoch = store.header.epoch;
   moment = last_moment store.items;
   text = [];
-  is_refused = false;
+  refused = 0;
 }
 
 -- ---- a line
@@ -60,9 +60,14 @@ abbrev pub seconds_of : Bool → Running → ℕ → ℕ
 seconds_of true r second = min (r.epoch + r.moment) max_u64
 seconds_of false r second = second
 
+-- with one reply more: the count stands still at the greatest number of 64 bits
+abbrev pub counted : Bool → ℕ → ℕ
+counted true refused = min (refused + 1) max_u64
+counted false refused = refused
+
 -- something is replied, and the world stays
 abbrev pub replied : Running → List ℕ → Bool → Running
-replied r text refusal = record { world = r.world; epoch = r.epoch; moment = r.moment; text = r.text ++ text; is_refused = r.is_refused || refusal }
+replied r text refusal = record { world = r.world; epoch = r.epoch; moment = r.moment; text = r.text ++ text; refused = counted refusal r.refused }
 
 abbrev pub refused_text : List ℕ → List ℕ
 refused_text name = codes "refused " ++ name ++ 10 ∷ []
@@ -72,11 +77,11 @@ refused_line r name = replied r (refused_text name) true
 
 -- after a step
 abbrev pub stepped : Running → Step → Running
-stepped r s = record { world = s.world; epoch = r.epoch; moment = r.moment; text = r.text ++ s.text; is_refused = r.is_refused || s.is_refused }
+stepped r s = record { world = s.world; epoch = r.epoch; moment = r.moment; text = r.text ++ s.text; refused = counted s.is_refused r.refused }
 
 -- a moment is set where the run is scripted
 abbrev pub set_moment : Bool → Running → ℕ → Running
-set_moment true r moment = record { world = r.world; epoch = r.epoch; moment = moment; text = r.text ++ codes "ok\n"; is_refused = r.is_refused }
+set_moment true r moment = record { world = r.world; epoch = r.epoch; moment = moment; text = r.text ++ codes "ok\n"; refused = r.refused }
 set_moment false r moment = refused_line r (codes "NotScripted")
 
 -- what a statement outside sessions asks for

@@ -1,5 +1,6 @@
 -- What the words, the clock, the bytes of the store and the input define.
-use Rattle.std.specs.Prelude.{Option, Some, None}
+use Rattle.std.specs.Prelude.{◌≤◌, Option, Some, None}
+use Rattle.workload_make.specs.Script.{max_steps}
 use Rattle.dragoon_app.specs.declared.command.Command.{Command}
 use Rattle.dragoon_app.specs.declared.command.Command.TheVariants as commands
 use Rattle.dragoon_app.specs.declared.status.Status.{Status}
@@ -11,10 +12,12 @@ use Rattle.dragoon_app.specs.Init.{Inits, FitsStore}
 use Rattle.dragoon_app.specs.Ran.{RunsOn}
 use Rattle.dragoon_app.specs.Audited.{NotarizesOn, ValidatesOn, SaysUnaltered}
 use Rattle.dragoon_app.specs.Analysed.{AnalysesOn}
+use Rattle.dragoon_app.specs.Made.{MakesOn}
 
 -- what a command may say
 abbrev pub FitsCommand : Command → Type 0
 FitsCommand (commands.Init s) = FitsStore s
+FitsCommand (commands.Make id seed count) = (1 ≤ count) × (count ≤ max_steps)
 FitsCommand command = Unit {0}
 
 -- what is written, and what becomes of the devices
@@ -26,6 +29,7 @@ Leaves (Some (commands.Run id scripted)) = RunsOn scripted id
 Leaves (Some (commands.Notarize id)) = NotarizesOn id
 Leaves (Some (commands.Validate id)) = ValidatesOn id
 Leaves (Some (commands.Analyse id algorithm)) = AnalysesOn id algorithm
+Leaves (Some (commands.Make id seed count)) = MakesOn id seed count
 
 -- of a sound store no command says that it is altered
 abbrev pub SoundIsUnaltered : Option Command → Status → Desk → Desk → Type 0

@@ -3,6 +3,7 @@ use Rattle.std.specs.Prelude.{◌≡◌, ◌<◌, ◌≤◌, ◌&&◌, not, nat_
 use Rattle.std.specs.List.{list_any, starts_with}
 use Rattle.std.specs.Str.{bytes_eq}
 use Rattle.tuple_bytes.specs.Limits.{max_width, max_exponent}
+use Rattle.workload_make.specs.Script.{max_steps}
 use Rattle.forensic_report.specs.declared.algorithm.Algorithm.{Algorithm}
 use Rattle.forensic_report.specs.declared.algorithm.Algorithm.TheVariants as algorithms
 use Rattle.dragoon_app.specs.declared.command.NewStore.{NewStore}
@@ -101,6 +102,15 @@ abbrev pub analyse_of : List (List ℕ) → Option Command
 analyse_of [] = None
 analyse_of (id ∷ words) = new_analysis (number_of 0 max_u64 id) (algorithm_of words)
 
+abbrev pub new_script : Option ℕ → Option ℕ → Option ℕ → Option Command
+new_script (Some id) (Some seed) (Some count) = Some (commands.Make id seed count)
+new_script id seed count = None
+
+-- behind `make` stand any id, any seed, and how many steps
+abbrev pub make_of : List (List ℕ) → Option Command
+make_of (id ∷ seed ∷ count ∷ []) = new_script (number_of 0 max_u64 id) (number_of 0 max_u64 seed) (number_of 1 max_steps count)
+make_of words = None
+
 -- the command that the words are
 abbrev pub command_of : List (List ℕ) → Option Command
 command_of [] = None
@@ -111,4 +121,5 @@ command_of (word ∷ words) =
     else if bytes_eq word (codes "notarize") then option_map commands.Notarize (id_of words)
     else if bytes_eq word (codes "validate") then option_map commands.Validate (id_of words)
     else if bytes_eq word (codes "analyse") then analyse_of words
+    else if bytes_eq word (codes "make") then make_of words
     else None

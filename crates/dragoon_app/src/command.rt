@@ -5,11 +5,12 @@ ghost use Rattle.std.specs.String.{string_bytes};
 ghost use Rattle.dragoon_app.specs.Init.{FitsStore};
 ghost use Rattle.dragoon_app.specs.Top.{FitsCommand};
 ghost use Rattle.dragoon_app.specs.Words.{new_store_of, link_of, init_of};
-ghost use Rattle.dragoon_app.specs.Words.{scripted_of, run_of, id_of, algorithm_of, analyse_of, command_of};
+ghost use Rattle.dragoon_app.specs.Words.{scripted_of, run_of, id_of, algorithm_of, analyse_of, make_of, command_of};
 
 use forensic_report::Algorithm;
 use stmt_text::{algs_of, plain_number_of as number_of};
 use tuple_bytes::{MAX_EXPONENT, MAX_WIDTH};
+use workload_make::MAX_STEPS;
 
 /// As many granules as a tile has at most.
 const MAX_KAPPA: u64 = 1024;
@@ -50,6 +51,9 @@ pub enum Command {
 
     /// Which granules of it are altered, and when they were.
     Analyse { id: u64, algorithm: Algorithm },
+
+    /// A generated history of so many steps, stored, filed and validated.
+    Make { id: u64, seed: u64, count: u32 },
 }
 
 /// What the four words behind `init` say.
@@ -175,6 +179,25 @@ fn analyse_of(words: &[String]) -> Option<Command>
     Some(Command::Analyse { id, algorithm })
 }
 
+fn make_of(words: &[String]) -> Option<Command>
+    ensures value { result ≡ make_of (map string_bytes words.now) }
+    ensures fits { IfSome result FitsCommand }
+{
+    match words {
+        [id, seed, count] => {
+            let id = number_of(id.as_bytes(), 0, u64::MAX)?;
+            let seed = number_of(seed.as_bytes(), 0, u64::MAX)?;
+            let count = number_of(count.as_bytes(), 1, u64::from(MAX_STEPS))?;
+            Some(Command::Make {
+                id,
+                seed,
+                count: count as u32,
+            })
+        }
+        _ => None,
+    }
+}
+
 /// The command that the words are, if they are one.
 pub fn command_of(words: &[String]) -> Option<Command>
     ensures value { result ≡ command_of (map string_bytes words.now) }
@@ -195,6 +218,8 @@ pub fn command_of(words: &[String]) -> Option<Command>
         Some(Command::Validate { id })
     } else if word.as_bytes() == b"analyse".as_slice() {
         analyse_of(words)
+    } else if word.as_bytes() == b"make".as_slice() {
+        make_of(words)
     } else {
         None
     }

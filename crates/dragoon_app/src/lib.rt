@@ -9,6 +9,7 @@
 //! | `notarize ID` | `notarize` | `notarize_outcome` of what the notarization answers: how many tiles are sealed |
 //! | `validate ID` | `validate` | `validate_outcome` of what the validation answers: its verdict |
 //! | `analyse ID ALG` | `analyse` | `analyse_outcome` of what the analysis answers: its report |
+//! | `make ID SEED N` | `make` | `made_outcome` of the lines of a generated script: how many replies are refusals, how many transactions then, and the last two replies |
 //!
 //! | The layer above may rely on | Clause of `dragoon` |
 //! |---|---|
@@ -41,9 +42,9 @@
 //! | the notary holds all that the lines filed and marked, and no more unless a line was under way | `between`, `holds` there |
 //! | on a settled store a batch is filed only where every image has what its line stores, and so the end of the batch's tile | `ordered` there |
 //!
-//! And of a run over a store of a header, in its terms:
+//! And of lines over a store of a header, in its terms:
 //!
-//! | The layer above may rely on | Field of `RunsStore` |
+//! | The layer above may rely on | Field of `KeepsPromises` |
 //! |---|---|
 //! | on a settled store each transaction of which `ok N` was replied stands in every image, as the N-th | `acknowledged` |
 //! | on a settled store a crash at any moment leaves all items that were stored, and perhaps more | `appends` |
@@ -61,6 +62,12 @@
 //! altered of each history whose batches the notary holds (`shows`). Where one of them answers a fault its count rose,
 //! also where the output then failed; an operation that wants memory writes nothing, and where the output wants it
 //! a front of the text is out.
+//!
+//! `make` is `MakesOn` in `leaves`. Its lines are those of the script that `workload_make` defines, for the header's granule width
+//! and the last moment. What they do to the store, the clock and the notary is said by the same words as of a scripted run,
+//! `RunsLines` and `KeepsPromises`. It reads no input. What is out is `Tells`: the summary behind all lines, or the line
+//! of a fault that has its cause, or a front of one of them; or nothing where memory was wanting. The summary ends with
+//! the replies to the last two lines (`last_two_are_told`).
 //!
 //! `leading` says how many words in front of the command name devices. A further device is one more
 //! prefix there, one more parameter of `dragoon` and one more field of `Devices`. A further command is a case of
@@ -85,6 +92,7 @@ mod laws;
 mod leading_words;
 mod line_kind;
 mod link;
+mod make;
 mod notarize;
 mod run;
 mod run_fail;
@@ -95,8 +103,8 @@ mod top;
 mod validate;
 
 pub use laws::{
-    acknowledged_is_stored, runs_are_serial, runs_only_append, sound_bytes_begin_sound,
-    sound_runs_are_unaltered,
+    acknowledged_is_stored, last_two_are_told, runs_are_serial, runs_only_append,
+    sound_bytes_begin_sound, sound_runs_are_unaltered,
 };
 pub use leading_words::leading;
 pub use status::Status;

@@ -78,7 +78,7 @@ fn run_opened<D: Disk, N: Notary, C: Clock, I: Source, O: Sink>(
 {
     match carry_lines(alloc, runner, disk, notary, clock, input, out) {
         Ok(()) => {
-            if runner.is_refused {
+            if 0 < runner.refused {
                 Status::Refused
             } else {
                 Status::Ok

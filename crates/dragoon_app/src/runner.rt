@@ -1,6 +1,6 @@
 //! A run over an open store, one line at a time.
 
-ghost use Rattle.std.specs.Prelude.{◌≡◌, IfOk, IfErr, IfSome, MatchResult};
+ghost use Rattle.std.specs.Prelude.{◌≡◌, IfOk, IfErr, IfSome, IsSome, MatchResult};
 ghost use Rattle.outside_words.specs.Faults.{HasCause};
 ghost use Rattle.disk_words.specs.Disk as disks;
 ghost use Rattle.notary_link.specs.Notary as notaries;
@@ -13,7 +13,7 @@ ghost use Rattle.drill_core.specs.declared.fail.LineFail.TheVariants as lines;
 ghost use Rattle.drill_core.specs.Steps.{IsWorldLine};
 ghost use Rattle.dragoon_app.specs.Devices.{desk, site};
 ghost use Rattle.dragoon_app.specs.Carrying.{IsReady, GivesSeconds, StepsFrom, LineFrom, RepliesFrom};
-ghost use Rattle.dragoon_app.specs.Carrying.{refusing, SetsMoment};
+ghost use Rattle.dragoon_app.specs.Carrying.{counting, refusing, SetsMoment};
 
 use crate::line_kind::{LineKind, kind_of};
 use disk_model::Disk;
@@ -26,14 +26,14 @@ use store_engine::StoreFail;
 use tuple_bytes::Blob;
 
 /// A run over an open store: the world that its lines change, the store's first second, the moment of
-/// a scripted run, and whether a reply was a refusal.
+/// a scripted run, and how many replies were refusals.
 #[derive(Drop)]
 pub struct Runner {
     pub world: World,
     pub epoch: u64,
     pub moment: u64,
     pub is_scripted: bool,
-    pub is_refused: bool,
+    pub refused: u64,
 }
 
 impl Runner {
@@ -48,6 +48,7 @@ impl Runner {
             (λ r. IsReady r bytes)
             (IsNoStore id (stored bytes).header)) }
         ensures id { IfOk result (λ r. r.world.id ≡ id) }
+        ensures store { IfOk result (λ r. IsSome r.world.opened) }
         ensures scripted { IfOk result (λ r. r.is_scripted ≡ is_scripted) }
         ensures none_other { IfErr result IsOfOpening }
         ensures same { disks.Unchanged (D.state disk.old) (D.state disk.new) }
@@ -64,7 +65,7 @@ impl Runner {
             epoch,
             moment,
             is_scripted,
-            is_refused: false,
+            refused: 0,
         })
     }
 
@@ -80,12 +81,21 @@ impl Runner {
         }
     }
 
+    /// Counts a reply, where it is a refusal. The count stands still at its type's end.
+    fn count(&mut self, is_refusal: bool)
+        ensures change { self.new ≡ counting is_refusal self.old }
+    {
+        if is_refusal {
+            self.refused = self.refused.saturating_add(1);
+        }
+    }
+
     /// The line is refused.
     fn refuse(&mut self, alloc: Global, text: &str) -> Result<Blob, AllocError>
         ensures value { IfOk result (λ b. b ≡ text.now) }
         ensures change { self.new ≡ refusing self.old }
     {
-        self.is_refused = true;
+        self.count(true);
         Ok(Blob::from_vec(text.as_bytes().to_vec(alloc)?))
     }
 
@@ -120,7 +130,7 @@ impl Runner {
         ensures notary_cause { HasCause lines.NotaryFault (N.state notary.old).faults (N.state notary.new).faults result }
     {
         let answered = self.world.line(alloc, disk, notary, line, now)?;
-        self.is_refused |= answered.refused;
+        self.count(answered.refused);
         Ok(answered.text)
     }
 

@@ -11,6 +11,7 @@ use crate::analyse::run_analyse;
 use crate::command::{Command, command_of};
 use crate::init::run_init;
 use crate::link::run_link;
+use crate::make::run_make;
 use crate::notarize::run_notarize;
 use crate::run::run_lines;
 use crate::saying::refuse;
@@ -65,6 +66,9 @@ pub fn dragoon<D: Disk, N: Notary, C: Clock, I: Source, O: Sink>(
         Some(Command::Validate { id }) => run_validate(alloc, id, store, notary, clock, out),
         Some(Command::Analyse { id, algorithm }) => {
             run_analyse(alloc, id, algorithm, store, notary, clock, out)
+        }
+        Some(Command::Make { id, seed, count }) => {
+            run_make(alloc, id, seed, count, store, notary, clock, out)
         }
         None => refuse(out, Status::Usage),
     }

@@ -15,6 +15,7 @@ Make and fill
                     ALGS  the algorithms: `m`, `t`, `a` or `ta`
   run ID            carries out standard input, one statement a line, and answers each line in turn
   run ID scripted   does the same at the moments that lines `now M` set, and asks no clock
+  make ID SEED N    carries out N generated steps, 1 to 100000, the same for each SEED, and prints a summary
 
 Ask
   run ID            takes `get`, `scan` and `history` too, of now or `as of` a moment

@@ -15,6 +15,8 @@ mod desk;
 #[cfg(test)]
 mod limits;
 #[cfg(test)]
+mod makes;
+#[cfg(test)]
 mod notarized;
 #[cfg(test)]
 mod scripts;

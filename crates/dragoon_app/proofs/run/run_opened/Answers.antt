@@ -1,19 +1,19 @@
 use Rattle.std.proofs.Common.{Ok, Err, rules}
 use Rattle.dragoon_app.specs.Devices.{devices}
-use Rattle.dragoon_app.proofs.Ending.{ran_ok, ran_refused, ran_failed, ran_sound, written_cause}
+use Rattle.dragoon_app.proofs.Ending.{some_refused, none_refused, ran_ok, ran_refused, ran_failed, ran_sound, written_cause}
 use Rattle.dragoon_app.proofs.run.run_opened.Goals as goal
 
-pub returns-then-runner-clause-told : goal.returns-then-runner-clause-told
-returns-then-runner-clause-told g c =
+pub returns-then-runner-gt0-clause-told : goal.returns-then-runner-gt0-clause-told
+returns-then-runner-gt0-clause-told g c =
     ran_refused c.args.runner.now c.carry_lines.new.runner (devices (g.D.Disk.state c.args.disk.now) (g.N.Notary.state c.args.notary.now) (g.C.Clock.state c.args.clock.now) (g.I.Source.state c.args.input.now) (g.O.Sink.state c.args.out.now))
     (devices (g.D.Disk.state c.carry_lines.new.disk) (g.N.Notary.state c.carry_lines.new.notary) (g.C.Clock.state c.carry_lines.new.clock) (g.I.Source.state c.carry_lines.new.input) (g.O.Sink.state c.carry_lines.new.out))
-    c.in-Ok.ensures.told c.if-runner.true
+    c.in-Ok.ensures.told (some_refused c.carry_lines.new.runner.refused c.if-runner-gt0.true)
 
-pub returns-else-runner-clause-told : goal.returns-else-runner-clause-told
-returns-else-runner-clause-told g c =
+pub returns-else-runner-gt0-clause-told : goal.returns-else-runner-gt0-clause-told
+returns-else-runner-gt0-clause-told g c =
     ran_ok c.args.runner.now c.carry_lines.new.runner (devices (g.D.Disk.state c.args.disk.now) (g.N.Notary.state c.args.notary.now) (g.C.Clock.state c.args.clock.now) (g.I.Source.state c.args.input.now) (g.O.Sink.state c.args.out.now))
     (devices (g.D.Disk.state c.carry_lines.new.disk) (g.N.Notary.state c.carry_lines.new.notary) (g.C.Clock.state c.carry_lines.new.clock) (g.I.Source.state c.carry_lines.new.input) (g.O.Sink.state c.carry_lines.new.out))
-    c.in-Ok.ensures.told c.if-runner.false
+    c.in-Ok.ensures.told (none_refused c.carry_lines.new.runner.refused c.if-runner-gt0.false)
 
 pub returns-in-Err-clause-told : goal.returns-in-Err-clause-told
 returns-in-Err-clause-told g c =
@@ -30,14 +30,14 @@ returns-in-Err-clause-causes g c = record {
       c.in-Err.ensures.write_cause c.carry_lines.ensures.out_frame.faults c.end.ensures.frame.faults c.end.ensures.cause;
 }
 
-pub returns-then-runner-clause-sound : goal.returns-then-runner-clause-sound
-returns-then-runner-clause-sound g c =
+pub returns-then-runner-gt0-clause-sound : goal.returns-then-runner-gt0-clause-sound
+returns-then-runner-gt0-clause-sound g c =
     ran_sound (Ok tt) c.args.runner.now c.carry_lines.new.runner (devices (g.D.Disk.state c.args.disk.now) (g.N.Notary.state c.args.notary.now) (g.C.Clock.state c.args.clock.now) (g.I.Source.state c.args.input.now) (g.O.Sink.state c.args.out.now))
     (devices (g.D.Disk.state c.carry_lines.new.disk) (g.N.Notary.state c.carry_lines.new.notary) (g.C.Clock.state c.carry_lines.new.clock) (g.I.Source.state c.carry_lines.new.input) (g.O.Sink.state c.carry_lines.new.out))
     c.in-Ok.ensures.told
 
-pub returns-else-runner-clause-sound : goal.returns-else-runner-clause-sound
-returns-else-runner-clause-sound g c =
+pub returns-else-runner-gt0-clause-sound : goal.returns-else-runner-gt0-clause-sound
+returns-else-runner-gt0-clause-sound g c =
     ran_sound (Ok tt) c.args.runner.now c.carry_lines.new.runner (devices (g.D.Disk.state c.args.disk.now) (g.N.Notary.state c.args.notary.now) (g.C.Clock.state c.args.clock.now) (g.I.Source.state c.args.input.now) (g.O.Sink.state c.args.out.now))
     (devices (g.D.Disk.state c.carry_lines.new.disk) (g.N.Notary.state c.carry_lines.new.notary) (g.C.Clock.state c.carry_lines.new.clock) (g.I.Source.state c.carry_lines.new.input) (g.O.Sink.state c.carry_lines.new.out))
     c.in-Ok.ensures.told

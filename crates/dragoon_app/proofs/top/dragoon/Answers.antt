@@ -57,6 +57,9 @@ returns-in-Some-Validate-clause-goes_on g c = c.run_validate.ensures.goes_on (g.
 pub returns-in-Some-Analyse-clause-goes_on : goal.returns-in-Some-Analyse-clause-goes_on
 returns-in-Some-Analyse-clause-goes_on g c = c.run_analyse.ensures.goes_on (g.I.Source.state c.args.input.now)
 
+pub returns-in-Some-Make-clause-goes_on : goal.returns-in-Some-Make-clause-goes_on
+returns-in-Some-Make-clause-goes_on g c = c.run_make.ensures.goes_on (g.I.Source.state c.args.input.now)
+
 pub returns-in-None-clause-leaves : goal.returns-in-None-clause-leaves
 returns-in-None-clause-leaves g c = leaves_at _ None c.refuse.result _ _ (sym c.in-None.is ∙ c.command_of.ensures.value) (record { said = c.refuse.ensures.said; left = all_left _ _ _ _ _ (unchanged_same _) })
 

@@ -1,0 +1,194 @@
+-- How `make` ends, and what it leaves then.
+use Rattle.std.proofs.Common.{◌≡◌, ◌∙◌, ◌≤◌, ℕ, true, List, ◌++◌, length, drop, refl, sym, ap, subst, inl, inr, ⊎_elim, append_assoc, Result, Ok, Err, Option, Some, None}
+use Rattle.std.specs.Prelude.{nat_lt, if◌then◌else◌, Bool, false, IfSome, IsErrOf}
+use Rattle.outside_words.specs.Faults.{Rose}
+use Rattle.outside_words.proofs.Told.{told_map}
+use Rattle.disk_words.specs.Disk as disks
+use Rattle.disk_words.proofs.Steady.{unchanged_then}
+use Rattle.notary_link.specs.Notary as notaries
+use Rattle.notary_link.specs.declared.notary.NotaryLimits.{NotaryLimits}
+use Rattle.outside_io.specs.Sink.{State, IsOut, FrontIsOut}
+use Rattle.tuple_bytes.specs.declared.header.Header.{Header}
+use Rattle.tuple_bytes.specs.Spelling.{FitsHeader}
+use Rattle.history_model.specs.Stored.{stored}
+use Rattle.history_model.specs.History.{last_moment}
+use Rattle.statement_core.specs.World as statements
+use Rattle.session_model.specs.World.{Session}
+use Rattle.drill_core.specs.declared.open_store.OpenStore.{OpenStore}
+use Rattle.drill_core.specs.World.{StoreIsIn, no_sessions}
+use Rattle.drill_core.specs.declared.fail.LineFail.{LineFail}
+use Rattle.drill_core.specs.declared.fail.LineFail.TheVariants as lines
+use Rattle.validator.proofs.Telling.{if_both}
+use Rattle.workload_make.specs.Script.{script}
+use Rattle.dragoon_app.specs.declared.make.LastTwo.{LastTwo}
+use Rattle.dragoon_app.specs.declared.runner.Runner.{Runner}
+use Rattle.dragoon_app.specs.declared.status.Status.{Status}
+use Rattle.dragoon_app.specs.declared.status.Status.TheVariants as statuses
+use Rattle.dragoon_app.specs.Outcome.{Outcome, Said, CutsOff, refused}
+use Rattle.dragoon_app.specs.Devices.{Desk, Content, Site, Devices, AllIsLeft, content, desk, site_of}
+use Rattle.dragoon_app.specs.Running.{Running, Timed, start, carried, world_of}
+use Rattle.dragoon_app.specs.Ran.{IsSettled, RunsLines, ending_by, opened}
+use Rattle.dragoon_app.specs.Carrying.{IsReady, IsAt, EndsWith, FromWhere, SoundFrom, of_line}
+use Rattle.dragoon_app.specs.Made.{Makes, MakesStore, MakesHeader, MakesOn, Tells, made_line, made_outcome, last_two, all_but_two, txns_in}
+use Rattle.dragoon_app.specs.MakingLines.{AreLastTwo, MakesLines, MakesLinesFrom, MakesFrom, script_for, width_of, stored_in, told_of, line_status}
+use Rattle.dragoon_app.proofs.OnStore.{IsHeaderOf, at_disk, told_from, opened_on, telling, wanting}
+use Rattle.dragoon_app.proofs.Wherever.{wherever_map, wherever_same}
+use Rattle.dragoon_app.proofs.LastTwo.{drop_front}
+use Rattle.dragoon_app.proofs.Ending.{lines_from, promises_kept, rose_before}
+
+-- ---- what is told behind all lines
+
+txns_told : (id : ℕ) (w : Option statements.World) (begun : ℕ → Option Session) (held : Option OpenStore) (bytes : List ℕ) → StoreIsIn id w begun held bytes → txns_in w ≡ stored_in held
+txns_told id None begun None bytes h = refl
+txns_told id (Some w) begun (Some o) bytes h = sym h.0.store.open_on.knows.count
+txns_told id (Some w) begun None bytes h = absurd h
+txns_told id None begun (Some o) bytes h = absurd h
+
+two_told : (begin : Running) (done : List Timed) (two : LastTwo) → AreLastTwo begin done two → last_two begin done ≡ two.first ++ two.second
+two_told begin done two are =
+    let before : List ℕ = (all_but_two begin done).text in
+    ap (drop (length before)) (are.second ∙ ap (λ (xs : List ℕ). xs ++ two.second) are.first ∙ append_assoc before two.first two.second) ∙ drop_front before (two.first ++ two.second)
+
+abbrev telling_so : ℕ → ℕ → ℕ → List ℕ → Outcome
+telling_so count refusals stored replies = record { status = ending_by refusals; text = made_line count refusals stored ++ replies }
+
+outcome_told : (count : ℕ) (begin : Running) (done : List Timed) (last : Runner) (two : LastTwo) (bytes : List ℕ) (limits : NotaryLimits) (lists : notaries.Lists) → IsAt (carried true begin done) last bytes limits lists → AreLastTwo begin done two
+    → made_outcome count begin done ≡ told_of count last two
+outcome_told count begin done last two bytes limits lists at are =
+    let r : Running = carried true begin done in
+    ap (λ (n : ℕ). telling_so count n (txns_in r.world.store) (last_two begin done)) (sym at.refused)
+    ∙ ap (λ (n : ℕ). telling_so count last.refused n (last_two begin done)) (txns_told r.world.id r.world.store r.world.sessions last.world.opened bytes at.stands.store)
+    ∙ ap (telling_so count last.refused (stored_in last.world.opened)) (two_told begin done two are)
+
+-- it ends well, or by a refusal
+module _ (P : Status → Type 0) (ok : P statuses.Ok) (refuses : P statuses.Refused) where
+  by_ending : (b : Bool) → P (if b then statuses.Refused else statuses.Ok)
+  by_ending true = refuses
+  by_ending false = ok
+
+  pub ending_is : (refusals : ℕ) → P (ending_by refusals)
+  ending_is refusals = by_ending (nat_lt 0 refusals)
+
+-- ---- the ends of the lines
+
+-- the same lines, where fewer ends are settled
+lines_as : (scripted : Bool) (begin : Running) (done : List Timed) (next : Timed) (s t : Status) (old new : Site) (before after : Content) → (IsSettled t old.desk new.desk → IsSettled s old.desk new.desk)
+    → RunsLines scripted begin done next s old new before after → RunsLines scripted begin done next t old new before after
+lines_as scripted begin done next s t old new before after settles l = record {
+  none = λ x. l.none (settles x);
+  found = l.found;
+  seconds = l.seconds;
+  store = record {
+    images = l.store.images;
+    kept = l.store.kept;
+    settled = λ x. l.store.settled (settles x);
+    stores = λ x. l.store.stores (settles x);
+    between = l.store.between;
+    ordered = l.store.ordered;
+    holds = λ x. l.store.holds (settles x);
+  };
+}
+
+ok_settled : (old new : Desk) → IsSettled statuses.Ok old new
+ok_settled old new = record { disk = λ e. cc; notary = λ e. cc; memory = λ e. cc; write = λ e. absurd cc }
+
+module _ (count : ℕ) (text : List ℕ) (first last : Runner) (old new : Devices) (unread : new.input ≡ old.input) (result : Status) where
+  abbrev Made : Type 0
+  Made = FromWhere first old.desk new.desk (λ begin before after. Makes count begin text result old new before after)
+
+  abbrev Lines : Result LastTwo LineFail → Type 0
+  Lines r = MakesLinesFrom text r first last (site_of old) (site_of new)
+
+  made : (r : Result LastTwo LineFail) → (IsSettled result old.desk new.desk → IsSettled (line_status r) old.desk new.desk)
+      → ((begin : Running) (before after : Content) → (m : MakesLines text r last (site_of old) (site_of new) begin before after) → Tells count begin m.done m.next text result old new) → Lines r → Made
+  made r settles tells told = wherever_map old.desk.notary.limits first old.desk.disk new.desk.disk old.desk.notary new.desk.notary _ _ told (λ begin before after lists later_lists at m. record {
+    done = m.done;
+    next = m.next;
+    lines = lines_as true begin m.done m.next (line_status r) result (site_of old) (site_of new) (content before lists) (content after later_lists) settles m.lines;
+    tells = tells begin (content before lists) (content after later_lists) m;
+    none_read = unread;
+  })
+
+  pub made_all : (two : LastTwo) → Lines (Ok two) → Said (told_of count last two) result old.out new.out → Made
+  made_all two told said = made (Ok two) (λ s. ok_settled old.desk new.desk)
+      (λ begin before after m. inl (m.reaches, subst (λ (o : Outcome). Said o result old.out new.out) (sym (outcome_told count begin m.done last two after.bytes old.desk.notary.limits after.lists m.stands m.two)) said)) told
+
+  -- a line was under way where a device failed
+  unsettled_disk : Rose old.desk.disk.faults new.desk.disk.faults → Said (refused statuses.DiskFault) result old.out new.out → IsSettled result old.desk new.desk → ⊥
+  unsettled_disk rose said s = ⊎_elim (λ (h : (result ≡ statuses.DiskFault) × IsOut (refused statuses.DiskFault).text old.out new.out). s.disk h.0)
+      (λ (h : CutsOff result × FrontIsOut (refused statuses.DiskFault).text old.out new.out). ⊎_elim (λ (e : result ≡ statuses.WriteFault). (s.write e).0 rose) s.memory h.0) said
+
+  unsettled_notary : Rose old.desk.notary.faults new.desk.notary.faults → Said (refused statuses.NotaryFault) result old.out new.out → IsSettled result old.desk new.desk → ⊥
+  unsettled_notary rose said s = ⊎_elim (λ (h : (result ≡ statuses.NotaryFault) × IsOut (refused statuses.NotaryFault).text old.out new.out). s.notary h.0)
+      (λ (h : CutsOff result × FrontIsOut (refused statuses.NotaryFault).text old.out new.out). ⊎_elim (λ (e : result ≡ statuses.WriteFault). (s.write e).1 rose) s.memory h.0) said
+
+  pub made_failed : (fail : LineFail) → Lines (Err fail) → (IsErrOf {T = LastTwo} (Err fail) lines.DiskFault → Rose old.desk.disk.faults new.desk.disk.faults) → (IsErrOf {T = LastTwo} (Err fail) lines.NotaryFault → Rose old.desk.notary.faults new.desk.notary.faults)
+      → EndsWith (of_line fail) result old.out new.out → Made
+  made_failed lines.DiskFault told disk notary said = made (Err lines.DiskFault) (λ s. absurd (unsettled_disk (disk refl) said s)) (λ begin before after m. inr (inl (m.reaches, inl (disk refl, said)))) told
+  made_failed lines.NotaryFault told disk notary said = made (Err lines.NotaryFault) (λ s. absurd (unsettled_notary (notary refl) said s)) (λ begin before after m. inr (inl (m.reaches, inr (notary refl, said)))) told
+  made_failed lines.NoMemory told disk notary said = made (Err lines.NoMemory) (λ s. absurd (s.memory said.0))
+      (λ begin before after m. inr (inr (m.reaches, (said.0, ap (λ (x : State). x.held) said.1)))) told
+
+-- ---- the store was opened before
+
+tells_from : (count : ℕ) (begin : Running) (done : List Timed) (next : Timed) (text : List ℕ) (result : Status) (first : disks.State) (old new : Devices) → first.faults ≤ old.desk.disk.faults
+    → Tells count begin done next text result old new → Tells count begin done next text result (at_disk first old) new
+tells_from count begin done next text result first old new le (inl all) = inl all
+tells_from count begin done next text result first old new le (inr (inl (is, inl (rose, said)))) = inr (inl (is, inl (rose_before first old new le rose, said)))
+tells_from count begin done next text result first old new le (inr (inl (is, inr notary))) = inr (inl (is, inr notary))
+tells_from count begin done next text result first old new le (inr (inr wants)) = inr (inr wants)
+
+makes_store : (seed count : ℕ) (header : Header) (result : Status) (first : disks.State) (old new : Devices) (before after : Content) → disks.Unchanged first old.desk.disk → first.faults ≤ old.desk.disk.faults
+    → first.is_image before.bytes → (stored before.bytes).header ≡ Some header → FitsHeader header
+    → Makes count (opened header old before) (script header.width (last_moment (stored before.bytes).items) seed count) result old new before after → MakesStore seed count header result (at_disk first old) new before after
+makes_store seed count header result first old new before after same le here has fits m =
+    let begin : Running = opened header old before in
+    let text : List ℕ = script header.width (last_moment (stored before.bytes).items) seed count in
+    let lines = lines_from true begin m.done m.next result first old new before after same le m.lines in
+    record {
+      makes = record {
+        done = m.done;
+        next = m.next;
+        lines = lines;
+        tells = tells_from count begin m.done m.next text result first old new le m.tells;
+        none_read = m.none_read;
+      };
+      promises = promises_kept true header m.done m.next result (at_disk first old) new before after here has fits lines;
+    }
+
+width_here : (held : Option OpenStore) (header : Header) (bytes : List ℕ) → StoreIsIn header.id (Some (world_of header bytes)) no_sessions held bytes → width_of held ≡ header.width
+width_here None header bytes h = absurd h
+width_here (Some o) header bytes h = ap (λ (x : Header). x.width) h.0.store.header
+
+script_here : (seed count : ℕ) (runner : Runner) (header : Header) (bytes : List ℕ) (limits : NotaryLimits) (lists : notaries.Lists) → IsAt (start (world_of header bytes) lists limits) runner bytes limits lists
+    → script_for runner seed count ≡ script header.width (last_moment (stored bytes).items) seed count
+script_here seed count runner header bytes limits lists at =
+    ap (λ (w : ℕ). script w runner.moment seed count) (width_here runner.world.opened header bytes at.stands.store) ∙ ap (λ (m : ℕ). script header.width m seed count) at.moment
+
+left_before : (first : disks.State) (old new : Devices) → disks.Unchanged first old.desk.disk → AllIsLeft old new → AllIsLeft (at_disk first old) new
+left_before first old new same left = record {
+  desk = record { disk = unchanged_then first old.desk.disk new.desk.disk same left.desk.disk; notary = left.desk.notary };
+  clock = left.clock;
+  input = left.input;
+}
+
+module _ (id seed count : ℕ) (runner : Runner) (first : disks.State) (old new : Devices) (ready : IfSome first.reads (IsReady runner)) (is : runner.world.id ≡ id) (same : disks.Unchanged first old.desk.disk) where
+  pub made_opened : (result : Status) → IfSome first.reads first.is_image → first.faults ≤ old.desk.disk.faults → MakesFrom seed count runner result old new → MakesOn id seed count result (at_disk first old) new
+  made_opened result image le (inl want) = wanting id (MakesHeader seed count) result (at_disk first old) new (left_before first old new same want.left) want.wanting want.none_out
+  made_opened result image le (inr makes) = opened_on id (MakesHeader seed count) result (at_disk first old) new (telling first.reads new.desk.disk.reads (IsHeaderOf id) _
+      (told_from first.reads old.desk.disk.reads new.desk.disk.reads _ _ _ same.reads (if_both first.reads first.is_image (IsReady runner) image ready) makes (λ before after both from.
+      let r = both.1 in
+      let h : Header = r.header in
+      let limits = old.desk.notary.limits in (
+        h,
+        (r.is, r.id ∙ is),
+        told_map old.desk.notary.lists new.desk.notary.lists _ _ from (λ lists later_lists begins.
+            let begin : Running = start (world_of h before) lists limits in
+            let at = r.at lists limits in
+            makes_store seed count h result first old new (content before lists) (content after later_lists) same le both.0 r.is r.fits
+            (subst (λ (text : List ℕ). Makes count begin text result old new (content before lists) (content after later_lists)) (script_here seed count runner h before limits lists at) (begins begin at))),
+      ))))
+
+-- nothing was done
+pub sound_same : (runner : Runner) (s : disks.State) (filed : notaries.State) → SoundFrom runner (desk s filed) (desk s filed)
+sound_same runner s filed = wherever_same filed.limits runner s filed _ (λ begin bytes lists at id only sound. sound)

@@ -1,0 +1,109 @@
+-- What `make` leaves: the lines of a generated script are carried out as those of a scripted run, and a summary is written.
+use Rattle.std.specs.Prelude.{◌≡◌, ◌⊎◌, ◌-◌, ℕ, true, List, [], ◌∷◌, ◌++◌, length, take, drop, codes, decimal, Option, Some, None}
+use Rattle.outside_words.specs.Faults.{Rose}
+use Rattle.outside_io.specs.Sink as sinks
+use Rattle.line_input.specs.Lines.{lines_of}
+use Rattle.tuple_bytes.specs.declared.header.Header.{Header}
+use Rattle.history_model.specs.Stored.{stored}
+use Rattle.history_model.specs.History.{txns, last_moment}
+use Rattle.statement_core.specs.World as statements
+use Rattle.workload_make.specs.Script.{script}
+use Rattle.dragoon_app.specs.declared.status.Status.{Status}
+use Rattle.dragoon_app.specs.declared.status.Status.TheVariants as statuses
+use Rattle.dragoon_app.specs.Devices.{Content, Devices, Effect, WhereBothTell, site_of}
+use Rattle.dragoon_app.specs.Outcome.{Outcome, Said, refused}
+use Rattle.dragoon_app.specs.Commands.{OnStore}
+use Rattle.dragoon_app.specs.Running.{Running, Timed, carry, carried}
+use Rattle.dragoon_app.specs.Ran.{AreFirst, IsNext, RunsLines, KeepsPromises, ending_of, lines_in, opened}
+
+-- ---- the summary
+
+-- how many transactions a store has
+abbrev pub txns_in : Option statements.World → ℕ
+txns_in None = 0
+txns_in (Some w) = length (txns w.items)
+
+-- how many steps, how many refusals among the replies, and how many transactions then
+abbrev pub made_line : ℕ → ℕ → ℕ → List ℕ
+made_line count refused stored = codes "made " ++ (decimal count ++ (codes " refused " ++ (decimal refused ++ (codes " txns " ++ (decimal stored ++ 10 ∷ [])))))
+
+-- behind all lines but the last two
+abbrev pub all_but_two : Running → List Timed → Running
+all_but_two begin done = carried true begin (take (length done - 2) done)
+
+-- the replies to the last two lines: what those add to the text
+abbrev pub last_two : Running → List Timed → List ℕ
+last_two begin done = drop (length (all_but_two begin done).text) (carried true begin done).text
+
+abbrev pub summary : ℕ → Running → List Timed → List ℕ
+summary count begin done =
+    let r : Running = carried true begin done in
+    made_line count r.refused (txns_in r.world.store) ++ last_two begin done
+
+-- a run whose lines were all carried out tells its summary, and ends by whether some reply is a refusal
+abbrev pub made_outcome : ℕ → Running → List Timed → Outcome
+made_outcome count begin done = record { status = ending_of (carried true begin done); text = summary count begin done }
+
+-- ---- how it ends
+
+-- all lines of the text were carried out
+abbrev pub AreAll : List Timed → List ℕ → Type 0
+AreAll done text = lines_in done ≡ lines_of text
+
+-- the line of a fault that has its cause is out, or a front of it
+abbrev pub TellsFault : Status → Devices → Devices → Type 0
+TellsFault result old new =
+    (Rose old.desk.disk.faults new.desk.disk.faults × Said (refused statuses.DiskFault) result old.out new.out)
+    ⊎ (Rose old.desk.notary.faults new.desk.notary.faults × Said (refused statuses.NotaryFault) result old.out new.out)
+
+-- this line was under way, or none was, which an empty one stands for
+abbrev pub IsPerhapsNext : List Timed → Timed → List ℕ → Type 0
+IsPerhapsNext done next text = ((next.line ≡ []) × AreFirst (lines_in done) text) ⊎ IsNext done next text
+
+-- memory was wanting, and nothing is out
+abbrev pub TellsNothing : Status → Devices → Devices → Type 0
+TellsNothing result old new = (result ≡ statuses.NoMemory) × sinks.Unchanged old.out new.out
+
+-- No reply is written but in the summary, behind all lines. A line that failed is the next of the text.
+abbrev pub Tells : ℕ → Running → List Timed → Timed → List ℕ → Status → Devices → Devices → Type 0
+Tells count begin done next text result old new =
+    (AreAll done text × Said (made_outcome count begin done) result old.out new.out)
+    ⊎ (IsNext done next text × TellsFault result old new)
+    ⊎ (IsPerhapsNext done next text × TellsNothing result old new)
+
+-- ---- the whole
+
+-- The lines of this text were carried out from this beginning on, and this one was perhaps under way.
+pub record Makes (count : ℕ) (begin : Running) (text : List ℕ) (result : Status) (old new : Devices) (before after : Content) : Type 0 where
+  pub done : List Timed
+  pub next : Timed
+  pub lines : RunsLines true begin done next result (site_of old) (site_of new) before after
+  pub tells : Tells count begin done next text result old new
+  pub none_read : new.input ≡ old.input
+
+-- over a store of this header: the script is that of its granule width and its last moment
+pub record MakesStore (seed count : ℕ) (header : Header) (result : Status) (old new : Devices) (before after : Content) : Type 0 where
+  pub makes : Makes count (opened header old before) (script header.width (last_moment (stored before.bytes).items) seed count) result old new before after
+  pub promises : KeepsPromises true header makes.done makes.next old new before
+
+abbrev pub MakesHeader : ℕ → ℕ → Header → Effect
+MakesHeader seed count header result old new = WhereBothTell old.desk new.desk (MakesStore seed count header result old new)
+
+-- `make ID SEED N`
+abbrev pub MakesOn : ℕ → ℕ → ℕ → Effect
+MakesOn id seed count = OnStore id (MakesHeader seed count)
+
+-- ---- a law
+
+-- with no reply so far
+abbrev pub silent : Running → Running
+silent r = record r { text = [] }
+
+-- the reply to a line
+abbrev pub reply_to : Running → Timed → List ℕ
+reply_to r t = (carry true (silent r) t).text
+
+-- Behind the line that counts stand the replies to the last two lines.
+abbrev pub LastTwoAreTold : Type 0
+LastTwoAreTold = (begin : Running) (front : List Timed) (t u : Timed)
+    → last_two begin (front ++ t ∷ u ∷ []) ≡ reply_to (carried true begin front) t ++ reply_to (carried true begin (front ++ t ∷ [])) u

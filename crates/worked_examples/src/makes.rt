@@ -1,0 +1,148 @@
+//! Stores that are made from a seed. Another program gave the numbers.
+
+use crate::desk::{audit, call, ended, made, notary};
+use crate::story::{Step, Story, tell};
+use disk_model::MemDisk;
+use outside_io::MemSource;
+use std::test::Fail;
+use store_engine::Store;
+
+const READY: Step = Step::Call("init 7 60 3 ta", &[0], b"", 0, b"ready 7\n");
+
+const MAKES: [Story; 4] = [
+    (
+        "a seed fills a store; a second time its table and its keys are there already",
+        &[
+            READY,
+            Step::Call(
+                "make 7 1 100",
+                &[],
+                b"",
+                0,
+                b"made 100 refused 0 txns 101\nsealed 5\nclean 5\n",
+            ),
+            Step::Holds(6, 1),
+            Step::Call(
+                "make 7 1 100",
+                &[],
+                b"",
+                3,
+                b"made 100 refused 95 txns 107\nsealed 11\nclean 11\n",
+            ),
+            Step::Call("validate 7", &[6000], b"", 0, b"clean 11\n"),
+        ],
+    ),
+    (
+        "a script has 1 to 100,000 steps, and a store of its id",
+        &[
+            READY,
+            Step::Call("make 7 1 0", &[], b"", 2, b"fault Usage\n"),
+            Step::Call("make 7 1 100001", &[], b"", 2, b"fault Usage\n"),
+            Step::Call("make 7 01 1", &[], b"", 2, b"fault Usage\n"),
+            Step::Call("make 7 1", &[], b"", 2, b"fault Usage\n"),
+            Step::Call("make 7 1 1 1", &[], b"", 2, b"fault Usage\n"),
+            Step::Call("make 8 1 1", &[], b"", 4, b"fault NotAStore\n"),
+            Step::Call(
+                "make 7 18446744073709551615 1",
+                &[],
+                b"",
+                0,
+                b"made 1 refused 0 txns 2\nsealed 0\nclean 0\n",
+            ),
+        ],
+    ),
+    (
+        "a notary that fails ends it, and what was stored stays",
+        &[
+            READY,
+            Step::Failing(&[1], &[]),
+            Step::Call("make 7 1 3", &[], b"", 6, b"fault NotaryFault\n"),
+            Step::Call(
+                "make 7 2 1",
+                &[],
+                b"",
+                3,
+                b"made 1 refused 1 txns 5\nsealed 0\nclean 0\n",
+            ),
+        ],
+    ),
+    (
+        "the two refusals of a full notary are told as replies",
+        &[
+            READY,
+            Step::Notary(0, 0),
+            Step::Call(
+                "make 7 1 1",
+                &[],
+                b"",
+                3,
+                b"made 1 refused 1 txns 2\nrefused Full\nunsealed\n",
+            ),
+        ],
+    ),
+];
+
+#[test]
+fn a_seed_gives_one_store_and_one_summary(rt: HostRuntime) -> Result<(), Fail> {
+    let alloc = rt.alloc();
+    tell(&rt, alloc, &MAKES)?;
+    let mut stores = Vec::new(alloc);
+    for _ in 0..2 {
+        let mut store = made(alloc, "init 7 60 3 ta")?;
+        let told = audit(
+            alloc,
+            &mut store,
+            &mut notary(alloc),
+            "make 7 1 100",
+            b"the input is not read\n",
+            &[],
+        )?;
+        assert_eq!(rt; told.0, 0);
+        assert_eq!(rt; store.bytes().len(), 4594);
+        stores.push(store)?;
+    }
+    let bytes: Vec<&[u8]> = stores.iter().map(MemDisk::bytes).collect(alloc)?;
+    assert_eq!(rt; bytes.first(), bytes.last());
+    Ok(())
+}
+
+/// Which changing call of the disk fails, and how many transactions were durable before.
+const FAULTS: [(u64, u32); 4] = [(1, 0), (6, 1), (12, 2), (16, 3)];
+
+#[test]
+fn a_disk_that_fails_ends_it_and_keeps_the_lines_before(rt: HostRuntime) -> Result<(), Fail> {
+    let alloc = rt.alloc();
+    for (failing, count) in FAULTS {
+        let mut store = made(alloc, "init 7 60 3 ta")?;
+        store.failing(Vec::new(alloc), [failing].to_vec(alloc)?);
+        let told = call(alloc, &mut store, "make 7 1 3", b"", &[])?;
+        assert_eq!(rt;
+            (told.0, told.1.as_slice()),
+            (5, b"fault DiskFault\n".as_slice()),
+            "{failing}"
+        );
+        store.crash(200)?;
+        let stored = match Store::open_store(alloc, &mut store, 7) {
+            Ok(opened) => opened.txn_count(),
+            Err(_) => 0,
+        };
+        assert!(rt;
+            stored == count || stored == count.saturating_add(1),
+            "{failing}"
+        );
+    }
+    let mut store = made(alloc, "init 7 60 3 ta")?;
+    let mut input = MemSource::new(Vec::new(alloc), 1, Vec::new(alloc));
+    let words = ["make", "7", "1", "3"];
+    let told = ended(
+        alloc,
+        &words,
+        &mut store,
+        &mut notary(alloc),
+        &[],
+        &mut input,
+        &[1],
+    )?;
+    assert_eq!(rt; (told.0, told.1.as_slice()), (8, b"".as_slice()));
+    Ok(())
+}
