@@ -21,6 +21,8 @@ mod notarized;
 #[cfg(test)]
 mod scripts;
 #[cfg(test)]
+mod sessions;
+#[cfg(test)]
 mod stops;
 #[cfg(test)]
 mod story;
