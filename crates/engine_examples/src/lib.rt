@@ -1,4 +1,4 @@
-//! Worked examples of the engines: queries, stores, statements, digests, plans, filings and verdicts.
+//! Worked examples of the engines: queries, stores, statements, sessions, digests, plans, filings and verdicts.
 //!
 //! Each file of tests calls one crate below. What its calls answer is proved where they stand; the examples hold the
 //! definitions against stores, digests and texts that were made by hand or by another program.
