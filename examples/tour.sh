@@ -22,7 +22,7 @@ fi
 "$program" "store=$root/examples/worked.store" link >/dev/null || exit
 work=$(mktemp -d) || exit
 trap 'rm -rf "$work"' EXIT
-cp "$root"/examples/{ledger.script,worked.script,worked.store,worked.book,altered.store} "$work" && cd "$work" || exit
+cp "$root"/examples/{ledger.script,sessions.script,worked.script,worked.store,worked.book,altered.store} "$work" && cd "$work" || exit
 
 dragoon() { "$program" "$@"; }
 
@@ -50,6 +50,11 @@ try 'echo "get ledger 1 as of 59" | dragoon store=ledger.store run 7 scripted'
 
 say 'A statement that does not fit is refused, and the script goes on.'
 try 'printf "insert ledger 1 null null\nget ledger 1\n" | dragoon store=ledger.store run 7 scripted'
+
+say 'Two sessions read one row and update it. The second to commit is refused: what it was told is no longer so.'
+try 'dragoon store=sessions.store init 9 60 3 m'
+try 'cat sessions.script'
+try 'dragoon store=sessions.store run 9 scripted < sessions.script'
 
 say 'Crash it: a process is killed in the middle of 100,000 inserts.'
 try 'dragoon store=crash.store init 8 60 3 m'
