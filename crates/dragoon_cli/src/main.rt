@@ -18,7 +18,7 @@ use std::alloc::{AllocError, Global};
 use std::fs::File;
 use std::process::ExitCode;
 use std::rt::{Files, Runtime};
-use std::{env, io};
+use std::{env, fs, io};
 
 /// The words of the process. Where one of them is no text, none: no command has such a word.
 fn words_of<R: Runtime + AllocGlobal>(rt: &R) -> Result<Vec<String>, AllocError> {
@@ -42,7 +42,14 @@ fn path_behind<'a>(prefix: &str, words: &'a [String]) -> Option<&'a str> {
         .find_map(|word| word.as_str().strip_prefix(prefix))
 }
 
+/// Three files that are never used. Where standard input, output or error is closed they take its number, so that
+/// the store doesn't: what is printed would be written into it. They are folders, so that such an input or output fails.
+fn spare_numbers<R: Files<File = File>>(rt: &R) -> [io::Result<File>; 3] {
+    [fs::open(rt, "/"), fs::open(rt, "/"), fs::open(rt, "/")]
+}
+
 fn run<R: Runtime + Files<File = File> + AllocGlobal + Drop>(rt: &R) -> Result<Status, AllocError> {
+    let _spare = spare_numbers(rt);
     let words = words_of(rt)?;
     let (devices, call) = words.split_at(leading(&words));
     let mut store = Device::named(rt, path_behind("store=", devices))?;
