@@ -1,0 +1,200 @@
+#!/usr/bin/env python3
+"""Holds a store against a notary's book. For whoever trusts nobody: written from docs/FORMATS.md and from nothing else.
+
+    python3 examples/verify.py STORE BOOK ID
+
+It computes every digest that is planned for the sealed tiles, and compares each with the one that was filed under ID. The
+first line is the verdict, as `validate` words it: `unsealed`, `clean N`, `altered N from P` or `header altered N`. N is the
+number of sealed tiles, and P the first one with a digest that differs. Behind `altered` stands a line for each name: `NAME`
+where the digest differs, else `NAME is not filed` or `NAME is not planned`. It writes no file, and
+ends with 0 if nothing differs, 1 if something does, 2 on other words, and 3 if a file can't be read or is no book.
+"""
+import hashlib
+import re
+import sys
+from itertools import zip_longest
+
+OPEN, FIRST_GATE, GRANULES = 0xA7, 64, 1_048_576
+
+
+class Source:
+    """Bytes, of which values are taken from the front. A ValueError says that they don't spell what is asked for."""
+
+    def __init__(self, content):
+        self.content, self.place = content, 0
+
+    def take(self, length):
+        begin, self.place = self.place, self.place + length
+        if self.place > len(self.content):
+            raise ValueError("too short")
+        return self.content[begin : self.place]
+
+    def number(self, length, least=0, most=(1 << 64) - 1):
+        value = int.from_bytes(self.take(length), "big")
+        if not least <= value <= most:
+            raise ValueError("out of its range")
+        return value
+
+    def word(self):
+        if not re.fullmatch(rb"[a-z_][a-z0-9_]*", self.take(self.number(1, 1, 32))):
+            raise ValueError("no word")
+
+    def value(self):
+        kind = self.number(1, 0, 4)
+        content = self.take((0, 8, 2, 2, 1)[kind])
+        if kind == 2 or kind == 3:
+            content = self.take(int.from_bytes(content, "big"))
+        if kind == 2:
+            content.decode()
+        elif kind == 4 and content > b"\x01":
+            raise ValueError("no bool")
+
+    def item(self):
+        """The moment of a transaction, or None for a Frontier."""
+        is_frontier = self.number(1, 1, 2) == 2
+        self.take(0 if is_frontier else 4)
+        moment = self.number(8)
+        for _ in range(0 if is_frontier else self.number(2, 1, 256)):
+            operation = self.number(1, 1, 3)
+            self.word()
+            for _ in range(1 if operation == 3 else self.number(1, 1, 32)):
+                if operation == 1:
+                    self.word()
+                    self.number(1, 1, 4)
+                else:
+                    self.value()
+        return None if is_frontier else moment
+
+    def name(self):
+        kind = self.number(1, 0, 3)
+        if kind == 3:
+            return f"node {self.number(1, 0, 20)} {self.number(4)}"
+        tile, part = self.number(4 if kind else 0), self.number(1) if kind == 2 else 0
+        if 9 < part < 255:
+            raise ValueError("no part")
+        return ("header", f"cum {tile}", f"tile {tile} " + ("whole" if part == 255 else f"bit {part}"))[kind]
+
+    def filing(self):
+        """The id, the index and the seals of a batch, or None for a mark."""
+        kind, id = self.number(1, 1, 2), self.number(8)
+        if kind == 1:
+            index, _moment = self.number(4), self.number(8)
+            return id, index, [(self.name(), self.take(32)) for _ in range(self.number(2, 1, 4_096))]
+        _moment, _tiles, outcome = self.number(8), self.number(4), self.number(1, 0, 2)
+        self.number(4, 0, 0xFFFF_FFFF if outcome == 1 else 0)
+
+
+def records(content, read, payload_limit, file_limit):
+    """What the payloads of the longest prefix of valid records spell, each with its bytes."""
+    place = FIRST_GATE
+    while content[place] == OPEN:
+        begin = place + 5
+        place = begin + int.from_bytes(content[place + 1 : begin], "big")
+        source = Source(content[begin:place])
+        if place - begin > payload_limit or place >= min(len(content), file_limit):
+            return
+        try:
+            value = read(source)
+        except ValueError:
+            return
+        if source.place < len(source.content):
+            return
+        yield value, source.content
+
+
+def header_of(content):
+    """The header fields, and of them the id, the width, the tile exponent and the algorithms; or None."""
+    if len(content) <= FIRST_GATE or content[:9] != b"\xa7DRAGOON1" or any(content[31:FIRST_GATE]):
+        return None
+    id, epoch, width, k, algorithms = map(Source(content[9:31]).number, (8, 8, 4, 1, 1))
+    in_range = epoch <= 1_099_511_627_775 and 1 <= width <= 86_400 and k <= 10 and algorithms <= 3
+    return (content[9:31], id, width, k, algorithms) if in_range else None
+
+
+def number(value, length):
+    return value.to_bytes(length, "big")
+
+
+def digest(*parts):
+    return hashlib.sha256(b"".join(parts)).digest()
+
+
+def ended_nodes(granule, leaf, waiting):
+    """The nodes whose last granule is this one. `waiting` are those that have no right neighbour yet, the lowest last."""
+    level, index, value = 0, granule, leaf
+    yield f"node 0 {granule}", leaf
+    while index % 2:
+        level, index = level + 1, index // 2
+        value = digest(b"\x04", number(level, 1), number(index, 4), waiting.pop(), value)
+        yield f"node {level} {index}", value
+    waiting.append(value)
+
+
+def plan(content, tiles):
+    fields, _id, width, k, algorithms = header_of(content)
+    granules, waiting, cum = [[] for _ in range(tiles << k)], [], digest(b"\x00", fields)
+    for moment, item in records(content, Source.item, 32_768, 67_108_864):
+        if moment is not None and moment // width < len(granules):
+            granules[moment // width].append(item)
+    yield {"header": digest(b"\x05", fields)}
+    for tile in range(tiles):
+        begin, leaves, nodes = tile << k, [], {}
+        for granule, items in enumerate(granules[begin : begin + (1 << k)], begin):
+            for item in items:
+                cum = digest(b"\x01", cum, item)
+            leaves.append(digest(b"\x02", number(granule, 4), *(number(len(it), 4) + it for it in items)))
+            nodes.update(ended_nodes(granule, leaves[-1], waiting))
+        chains = {f"tile {tile} whole": digest(b"\x03", number(tile, 4), b"\xff", *leaves)}
+        for bit in range(k):
+            part = (leaf for place, leaf in enumerate(leaves) if not place >> bit & 1)
+            chains[f"tile {tile} bit {bit}"] = digest(b"\x03", number(tile, 4), number(bit, 1), *part)
+        yield {f"cum {tile}": cum, **(chains if algorithms & 1 else {}), **(nodes if algorithms & 2 else {})}
+
+
+def batches_of(content, id):
+    """The batches that are filed under the id, each as a list of seals."""
+    batches = {}
+    if len(content) <= FIRST_GATE or content[:FIRST_GATE] != b"\xa7DRAGBOK1" + bytes(55):
+        raise ValueError("the second file is no notary's book")
+    filings = (filing for filing, _ in records(content, Source.filing, 262_144, 2_147_483_648) if filing)
+    for under, index, seals in filings:
+        if index != len(batches.setdefault(under, [])):
+            raise ValueError("the second file is no notary's book: a batch is out of turn")
+        batches[under].append(seals)
+    return batches.get(id, [])
+
+
+def differences(planned, filed):
+    yield from (name for name, value in planned.items() if filed.get(name, value) != value)
+    yield from (f"{name} is not filed" for name in planned if name not in filed)
+    yield from (f"{name} is not planned" for name in filed if name not in planned)
+
+
+def report(store, batches, id):
+    header, tiles = header_of(store), len(batches) - 1
+    if not batches:
+        return ["unsealed"]
+    if header is None or header[1] != id or next(plan(store, 0)) != dict(batches[0]):
+        return [f"header altered {tiles}"]
+    planned = plan(store, min(tiles, GRANULES >> header[3]))
+    found = [list(differences(*both)) for both in zip_longest(planned, map(dict, batches), fillvalue={})]
+    bad = [batch - 1 for batch, names in enumerate(found) if names]
+    return [f"altered {tiles} from {bad[0]}" if bad else f"clean {tiles}", *(name for names in found for name in names)]
+
+
+def main(words):
+    if len(words) != 3 or not re.fullmatch(r"0|[1-9][0-9]{0,19}", words[2]) or int(words[2]) >= 1 << 64:
+        print(__doc__, file=sys.stderr)
+        return 2
+    try:
+        store, book = (open(name, "rb").read() for name in words[:2])
+        lines = report(store, batches_of(book, int(words[2])), int(words[2]))
+    except (OSError, ValueError) as fault:
+        print(f"verify: {fault}", file=sys.stderr)
+        return 3
+    print("\n".join(lines))
+    return 1 if "altered" in lines[0] else 0
+
+
+if __name__ == "__main__":
+    sys.exit(main(sys.argv[1:]))
