@@ -1,0 +1,120 @@
+#!/usr/bin/env python3
+"""Tries examples/csv_in.py and csv_out.py: a table of COUNT rows goes in and comes out, and what can't be held is refused.
+
+    python3 examples/checks/tables.py [COUNT]
+
+There are 10,000 rows if no number is given. They have quotes, commas, line ends, tabs, long numbers, empty fields and text that
+isn't ASCII. They go in by transactions of many rows, and a tenth of them row by row, too. What comes out is the table, field by
+field, and goes in again as the same statements.
+"""
+import csv
+import io
+import pathlib
+import random
+import sys
+import tempfile
+
+from program import Wrong, count_of, dragoon, script
+
+TEXTS = (
+    "", "plain", "it's", "''", 'say "no"', '"', "a,b", ",", ";", " both ends ", "Grüße", "漢字と仮名", "😀", "e\u0301",
+    "null", "true", "-", "007", "1e9", "x'41'", "#", "12345678901234567890", "a" * 500)
+LINES = TEXTS + ("two\nlines", "two\r\nlines", "\n", "tab\there", "bell\x07", "\x7f", "\x00")
+HEADING = ["note", "id", "amount", "paid", "blob", "memo"]
+
+
+def a_row(rng, number):
+    """The key stands second. Of each kind some fields are empty."""
+    maybe = [lambda field: field] * 5 + [lambda field: ""]
+    numbers = 0, -1, (1 << 63) - 1, -(1 << 63), rng.randint(-(1 << 63), (1 << 63) - 1), rng.randint(-1000, 1000)
+    fields = rng.choice(TEXTS), str(rng.choice(numbers)), rng.choice(["true", "false"]), rng.randbytes(rng.randint(1, 9)).hex()
+    note, *others = (rng.choice(maybe)(field) for field in fields)
+    return [note, f"{number:05}é", *others, rng.choice(LINES)]
+
+
+def written(rows, heading=HEADING):
+    text = io.StringIO(newline="")
+    csv.writer(text).writerows([heading, *rows])
+    return text.getvalue()
+
+
+def both_ways(folder, rows, *options):
+    """In, and out, and in again."""
+    store, kinds = folder / "store", ("--kind", "blob=bytes", "--kind", "memo=utf8", *options)
+    store.unlink(missing_ok=True)
+    dragoon(f"store={store}", "init", "7", "60", "3", "m")
+    (folder / "in.csv").write_text(written(rows), newline="")
+    status, statements, told = script("csv_in.py", "--key", "id", *kinds, "t", folder / "in.csv")
+    if status:
+        raise Wrong(f"csv_in ends with {status}: {told}")
+    status, replies = dragoon(f"store={store}", "run", "7", lines=statements)
+    if status:
+        other = [line for line in replies.splitlines() if not line.startswith("ok")]
+        raise Wrong(f"the run ends with {status}: {other[:1]}")
+    _, reply = dragoon(f"store={store}", "run", "7", lines="scan t\n")
+    status, out, told = script("csv_out.py", "--utf8", "memo", "id,note,amount,paid,blob,memo", lines=reply)
+    if status:
+        raise Wrong(f"csv_out ends with {status}: {told}")
+    heading, *found = csv.reader(io.StringIO(out, newline=""))
+    wanted = [[row[1], row[0], *row[2:]] for row in rows]
+    if heading != [HEADING[1], HEADING[0], *HEADING[2:]] or found != wanted:
+        raise Wrong(f"{len(found)} rows come out, for {len(wanted)}: {[it for it in zip(found, wanted) if it[0] != it[1]][:1]}")
+    if script("csv_in.py", *kinds, "t", "-", lines=out)[1] != statements:
+        raise Wrong("what came out goes in as other statements")
+
+
+REFUSED = [  # options, heading, rows, and what is said
+    ([], "a,b", ["1,x\ty"], "row 2, column b: has the byte 0x09"),
+    ([], "a,b", ["1,x", '2,"x\ny"'], "row 3, column b: has the byte 0x0a"),
+    ([], "a,b", ["1,x\x7f"], "row 2, column b: has the byte 0x7f"),
+    (["--kind", "b=int"], "a,b", ["1,5", "2,9223372036854775808"], "row 3, column b: isn't a number of 64 bits"),
+    (["--kind", "b=int"], "a,b", ["1,five"], "row 2, column b: isn't a number"),
+    (["--kind", "b=bool"], "a,b", ["1,yes"], "row 2, column b: is neither"),
+    (["--kind", "b=bytes"], "a,b", ["1,abc"], "row 2, column b: isn't an even number"),
+    (["--key", "b"], "a,b", ["1,x", "2,"], "row 3, column b: is empty"),
+    ([], "a,b", ["1,x", "2,y", "1,z"], "row 4, column a: is the key of row 2"),
+    ([], "a,b", ["1,x", "2"], "row 3: 1 fields for 2 columns"),
+    ([], "a,b", ["1," + "x" * 32768], "row 2: longer than"),
+    ([], "a,B c", ["1,x"], "row 1, column B c: no name"),
+    ([], "a,a", ["1,x"], "row 1, column a: no name, or one that"),
+    (["--names", "a"], "a,b", ["1,x"], "there are 1 names for 2 columns"),
+    (["--key", "c"], "a,b", ["1,x"], "there is no column c"),
+    ([], "a,b", ['1,"x'], "line 2: unexpected end"),
+]
+NO_REPLIES = (
+    "", "row 1\n", "row 1\nrows 2\n", "row 1 2\nrows 1\n", "rows 0\nrows 0\n", "version 1 - row 1\nrows 1\n", "none\n",
+    "refused NoTable\n", "row 1\nrows 1\nfault DiskFault\n")
+
+
+def refusals(folder):
+    for options, heading, rows, wanted in REFUSED:
+        (folder / "in.csv").write_text("\n".join([heading, *rows]) + "\n", newline="")
+        status, out, told = script("csv_in.py", *options, "t", folder / "in.csv")
+        if (status, out) != (1, "") or not told.startswith(f"csv_in: {wanted}"):
+            raise Wrong(f"wanted {wanted}; csv_in ends with {status}, {len(out)} letters and {told}")
+    (folder / "in.csv").write_bytes(b"a,b\n1,x\n2,\xff\n")
+    if "row 3, column b: isn't valid UTF-8" not in script("csv_in.py", "t", folder / "in.csv")[2]:
+        raise Wrong("a field that isn't UTF-8 isn't refused")
+    for reply in NO_REPLIES:
+        if script("csv_out.py", "a", lines=reply)[:2] != (1, ""):
+            raise Wrong(f"csv_out takes the reply {reply!r}")
+
+
+def main(words):
+    count, rng = count_of(words, 10_000, __doc__), random.Random(1)
+    rows = [a_row(rng, number) for number in range(count)]
+    with tempfile.TemporaryDirectory() as name:
+        refusals(pathlib.Path(name))
+        print(f"tables: refuses what can't be held, in {len(REFUSED) + 1} tries")
+        both_ways(pathlib.Path(name), rows[: max(1, count // 10)])
+        both_ways(pathlib.Path(name), rows[: max(1, count // 10)], "--empty-text")
+        print(f"tables: {max(1, count // 10)} rows go in row by row, and come out, with an empty field as null and as no bytes")
+        both_ways(pathlib.Path(name), rows, "--session", "0")
+        print(f"tables: {count} rows go in by transactions of many rows, and come out")
+
+
+if __name__ == "__main__":
+    try:
+        main(sys.argv[1:])
+    except Wrong as fault:
+        sys.exit(f"tables: WRONG: {fault}")

@@ -1,0 +1,221 @@
+#!/usr/bin/env python3
+"""Turns a CSV with a heading into the statements that make a table of it.
+
+    python3 examples/csv_in.py [OPTION ..] TABLE FILE >statements
+    ./dragoon store=STORE run ID <statements >replies
+
+    --names A,B,..      the columns' names, in place of those in the heading
+    --key NAME          the key column, the first one if none is named; in the table it stands first
+    --kind NAME=KIND    the kind of a column: int, text, bool, bytes (the field is hexadecimal) or utf8 (see below)
+    --empty-text        an empty field of a text, bytes or utf8 column has no bytes; otherwise every empty field is null
+    --add               the table is there already: no `create`
+    --session N         transactions of many rows, by session N (0 to 15)
+    --rows N            so many rows in a transaction at most, 256 if not given
+    --delimiter C       between fields, a comma if not given
+
+A kind that isn't given is found: int if each field is a number of 64 bits as it would be printed, bool if each is `true` or
+`false`, else text. (`007` is text, and a number of 20 digits too.) A text of the language holds no line end, tab or other
+byte below 0x20, nor 0x7F. A column of kind utf8 is of kind bytes in the table: the UTF-8 of the field, whatever it holds.
+
+What the language can't hold is refused with its row and column, and so is a row with too few or too many fields, a key that
+is empty or stands there twice, and a name that is none. Nothing is written then, and the status is 1. The heading is row 1.
+
+FILE is in UTF-8; `-` is standard input. After a crash give the statements again: what is there is refused (RowExists), and
+the rest goes in.
+"""
+import argparse
+import csv
+import re
+import sys
+
+NAME = re.compile(r"[a-z_][a-z0-9_]{0,31}")
+BARRED = re.compile(r"[\x00-\x1f\x7f]")
+KINDS = {"int": "int", "text": "text", "bool": "bool", "bytes": "bytes", "utf8": "bytes"}
+TXN_LIMIT, OPERATIONS, LINE_LIMIT, INPUT_LIMIT = 32_768, 256, 65_536, 67_108_864
+
+
+class Refused(Exception):
+    """What can't become a statement, and where it stands."""
+
+
+def number_of(field):
+    """The number of 64 bits that a field is, or None."""
+    found = re.fullmatch(r"(-?)0*([0-9]{1,19})", field)
+    number = int(found[1] + found[2]) if found else 1 << 63
+    return number if -(1 << 63) <= number < 1 << 63 else None
+
+
+def kind_of(fields):
+    """The kind that is found for a column. Empty fields say nothing."""
+    said = [field for field in fields if field]
+    if said and all(str(number_of(field)) == field for field in said):
+        return "int"
+    return "bool" if said and all(field in ("true", "false") for field in said) else "text"
+
+
+def value(field, kind, empty_text):
+    """A field as the language has it, and the length of its spelling in a store."""
+    if not field and not (empty_text and kind in ("text", "bytes", "utf8")):
+        return "null", 1
+    if kind == "int":
+        if number_of(field) is None:
+            raise Refused("isn't a number of 64 bits")
+        return str(number_of(field)), 9
+    if kind == "bool":
+        if field not in ("true", "false"):
+            raise Refused("is neither true nor false")
+        return field, 2
+    if kind == "bytes":
+        if not re.fullmatch(r"([0-9a-fA-F]{2})*", field):
+            raise Refused("isn't an even number of hexadecimal digits")
+        return f"x'{field.lower()}'", 3 + len(field) // 2
+    try:
+        content = field.encode()
+    except UnicodeEncodeError:
+        raise Refused("isn't valid UTF-8") from None
+    if kind == "utf8":
+        return f"x'{content.hex()}'", 3 + len(content)
+    if found := BARRED.search(field):
+        raise Refused(f"has the byte 0x{ord(found[0]):02x}, which no text can hold (kind utf8 can)")
+    return "'" + field.replace("'", "''") + "'", 3 + len(content)
+
+
+def read(file, delimiter):
+    """The heading, and the rows with their numbers. Empty lines are passed over."""
+    rows = csv.reader(file, delimiter=delimiter, strict=True)
+    try:
+        table = [(number, row) for number, row in enumerate(rows, 1) if row]
+    except csv.Error as fault:
+        raise Refused(f"line {rows.line_num}: {fault}") from None
+    if not table:
+        raise Refused("there is no heading")
+    return table[0][1], table[1:]
+
+
+def columns_of(heading, rows, options):
+    """The columns in the table's order: name, place in a row, kind."""
+    names = options.names.split(",") if options.names else heading
+    kinds = dict(options.kind)
+    if len(names) != len(heading):
+        raise Refused(f"there are {len(names)} names for {len(heading)} columns")
+    for name in names:
+        if not NAME.fullmatch(name) or names.count(name) > 1:
+            raise Refused(f"row 1, column {name}: no name, or one that stands there twice (--names can give others)")
+    if len(names) > 32:
+        raise Refused(f"there are {len(names)} columns, and a table has at most 32")
+    key = options.key or names[0]
+    for name in [key, *kinds]:
+        if name not in names:
+            raise Refused(f"there is no column {name}")
+    for number, row in rows:
+        if len(row) != len(names):
+            raise Refused(f"row {number}: {len(row)} fields for {len(names)} columns")
+    columns = [(name, at, kinds.get(name) or kind_of(row[at] for _, row in rows)) for at, name in enumerate(names)]
+    return sorted(columns, key=lambda column: column[0] != key)
+
+
+def inserts(rows, columns, options):
+    """Each row as an `insert`, with the length of its operation in a store."""
+    seen = {}
+    for number, row in rows:
+        values, length = [], 3 + len(options.table)
+        for name, at, kind in columns:
+            try:
+                spelled, size = value(row[at], kind, options.empty_text)
+                if not values and spelled == "null":
+                    raise Refused("is empty, and the key can't be null")
+                if not values and seen.setdefault(spelled, number) != number:
+                    raise Refused(f"is the key of row {seen[spelled]} too")
+            except Refused as fault:
+                raise Refused(f"row {number}, column {name}: {fault}") from None
+            values.append(spelled)
+            length += size
+        line = f"insert {options.table} {' '.join(values)}"
+        if 15 + length > TXN_LIMIT or len(f"s15 {line}".encode()) > LINE_LIMIT:
+            raise Refused(f"row {number}: longer than a transaction can be")
+        yield line, length
+
+
+def in_transactions(lines, session, rows):
+    """The same lines, in as few transactions of the session as their limits allow."""
+    count, total = 0, 0
+    for line, length in lines:
+        if count and (count == rows or total + length > TXN_LIMIT):
+            yield f"s{session} commit"
+            count = 0
+        if count == 0:
+            total = 15
+            yield f"s{session} begin"
+        yield f"s{session} {line}"
+        count, total = count + 1, total + length
+    if count:
+        yield f"s{session} commit"
+
+
+def statements(file, options):
+    heading, rows = read(file, options.delimiter)
+    columns = columns_of(heading, rows, options)
+    if not options.add:
+        yield f"create {options.table} " + " ".join(f"{name} {KINDS[kind]}" for name, _, kind in columns)
+    lines = inserts(rows, columns, options)
+    if options.session is None:
+        yield from (line for line, _ in lines)
+    else:
+        yield from in_transactions(lines, options.session, options.rows)
+
+
+def words():
+    def kind(word):
+        name, _, kind = word.partition("=")
+        if kind not in KINDS:
+            raise argparse.ArgumentTypeError(f"{word} isn't NAME=KIND")
+        return name, kind
+
+    def table(word):
+        if not NAME.fullmatch(word):
+            raise argparse.ArgumentTypeError(f"{word} isn't a table's name")
+        return word
+
+    def delimiter(word):
+        if len(word) != 1 or word in '"\r\n':
+            raise argparse.ArgumentTypeError(f"{word} isn't one sign that can stand between fields")
+        return word
+
+    options = "[--names A,B,..] [--key NAME] [--kind NAME=KIND].. [--empty-text] [--add] [--session N [--rows N]]"
+    parser = argparse.ArgumentParser(usage=f"csv_in.py {options} [--delimiter C] TABLE FILE", add_help=False)
+    parser.add_argument("--names")
+    parser.add_argument("--key")
+    parser.add_argument("--kind", action="append", type=kind, default=[])
+    parser.add_argument("--empty-text", action="store_true")
+    parser.add_argument("--add", action="store_true")
+    parser.add_argument("--session", type=int, choices=range(16), metavar="N")
+    parser.add_argument("--rows", type=int, choices=range(1, OPERATIONS + 1), metavar="N")
+    parser.add_argument("--delimiter", type=delimiter, default=",")
+    parser.add_argument("table", type=table)
+    parser.add_argument("file")
+    parsed = parser.parse_args()
+    if parsed.rows is None:
+        parsed.rows = OPERATIONS
+    elif parsed.session is None:
+        parser.error("--rows is for transactions of a session: --session N")
+    return parsed
+
+
+def main():
+    options = words()
+    csv.field_size_limit(INPUT_LIMIT)
+    try:
+        source = sys.stdin.fileno() if options.file == "-" else options.file
+        with open(source, encoding="utf-8-sig", errors="surrogateescape", newline="") as file:
+            text = "".join(line + "\n" for line in statements(file, options)).encode()
+        if len(text) >= INPUT_LIMIT:
+            raise Refused("longer than the input of a run can be: give the file in parts, the later ones with --add")
+    except (OSError, Refused) as fault:
+        print(f"csv_in: {fault}", file=sys.stderr)
+        return 1
+    sys.stdout.buffer.write(text)
+    return 0
+
+
+if __name__ == "__main__":
+    sys.exit(main())

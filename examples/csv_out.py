@@ -1,0 +1,90 @@
+#!/usr/bin/env python3
+"""Turns the reply of one `scan` or `history` into a CSV with a heading.
+
+    echo 'scan TABLE' | ./dragoon store=STORE run ID | python3 examples/csv_out.py [--utf8 NAME].. NAMES >file.csv
+
+NAMES are the table's columns in its order, with commas between them, as `create` had them. A version of a history has two
+columns more in front: `start`, and `stop`, which is empty where the version is the current one.
+
+A null is an empty field, and an empty text is the field "". A value of kind bytes is printed in hexadecimal; one of a
+column after --utf8 is the text that its bytes spell in UTF-8 (as csv_in.py --kind NAME=utf8 put it in). Lines end with a
+carriage return and a line feed, as RFC 4180 says.
+
+A reply that isn't whole, or is a refusal or a fault, is refused; nothing is written then, and the status is 1.
+"""
+import argparse
+import re
+import sys
+
+VALUE = r"(-?[0-9]+|true|false|null|x'(?:[0-9a-f]{2})*'|'(?:[^']|'')*')"
+ROW = re.compile(rf"(?:version ([0-9]+) ([0-9]+|-) )?row((?: {VALUE})+)\n", re.DOTALL)
+END = re.compile(r"(row|version)s ([0-9]+)\n")
+
+
+class Refused(Exception):
+    """Why there is no CSV of this reply."""
+
+
+def field(value, is_utf8):
+    """A value as a field. Quotes stand round a text where it has to have them, or is empty."""
+    if value == "null":
+        return ""
+    if value.startswith("x"):
+        text = value[2:-1]
+        if is_utf8:
+            try:
+                text = bytes.fromhex(text).decode()
+            except UnicodeDecodeError:
+                raise Refused(f"{value} isn't UTF-8") from None
+    elif value.startswith("'"):
+        text = value[1:-1].replace("''", "'")
+    else:
+        return value
+    is_plain = text and text == text.strip() and not re.search('[",\r\n]', text)
+    return text if is_plain else '"' + text.replace('"', '""') + '"'
+
+
+def lines_of(text, names, utf8):
+    """The heading, and a line for each row or version."""
+    place, lines, versions = 0, [], 0
+    while row := ROW.match(text, place):
+        values = re.findall(VALUE, row[3])
+        if len(values) != len(names):
+            raise Refused(f"a row has {len(values)} values, and there are {len(names)} names")
+        times = [row[1], row[2].strip("-")] if row[1] else []
+        versions += len(times) > 0
+        lines.append(times + [field(it, name in utf8) for it, name in zip(values, names)])
+        place = row.end()
+    end = END.match(text, place)
+    if not end or end.end() != len(text) or int(end[2]) != len(lines):
+        line = text[place:].partition("\n")[0]
+        raise Refused(f"not the whole reply of one scan or history: {line[:80] or 'it ends too early'}")
+    if versions != (len(lines) if end[1] == "version" else 0):
+        raise Refused("rows and versions stand mixed")
+    return [(["start", "stop"] if end[1] == "version" else []) + names, *lines]
+
+
+def words():
+    parser = argparse.ArgumentParser(usage="csv_out.py [--utf8 NAME].. NAMES", add_help=False)
+    parser.add_argument("--utf8", action="append", default=[])
+    parser.add_argument("names", type=lambda word: word.split(","))
+    options = parser.parse_args()
+    for name in options.utf8:
+        if name not in options.names:
+            parser.error(f"there is no column {name}")
+    return options
+
+
+def main():
+    options = words()
+    try:
+        lines = lines_of(sys.stdin.buffer.read().decode(), options.names, options.utf8)
+    except (UnicodeDecodeError, Refused) as fault:
+        print(f"csv_out: {fault}", file=sys.stderr)
+        return 1
+    sys.stdout.buffer.write("".join(",".join(line) + "\r\n" for line in lines).encode())
+    return 0
+
+
+if __name__ == "__main__":
+    sys.exit(main())
