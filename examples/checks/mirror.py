@@ -1,0 +1,178 @@
+#!/usr/bin/env python3
+"""Tries examples/mirror: one side or both are killed COUNT times; then nothing is missing, and nothing is there twice.
+
+    python3 examples/checks/mirror.py [COUNT]
+
+It is 100 times if no number is given. A shop changes two tables all the time, and drains take the changes into a store. At some
+moment kill -9 ends one of these, chosen by lot: the shop, the drain, the program under it, or drain and program; or the drain as
+it would read the `ok N` of a commit. At the end one more drain takes what is left, and the store is held against the database:
+each table, and of each key the rows that it ever had, in order.
+"""
+import os
+import pathlib
+import random
+import re
+import signal
+import sqlite3
+import subprocess
+import sys
+import tempfile
+import time
+
+from program import DRAGOON, EXAMPLES, Wrong, count_of, dragoon, script
+
+SHOP = """
+import random, sqlite3, sys, time
+db = sqlite3.connect(sys.argv[1], isolation_level=None, timeout=60)
+db.execute("pragma journal_mode = wal")
+rng = random.Random()
+for turn in range(40):
+    if turn == 8:
+        print("begun", flush=True)
+    time.sleep(0.003)
+    db.execute("begin immediate")
+    for _ in range(rng.randint(1, 6)):
+        key, text = rng.randint(1, 30), rng.choice(["Ada", "it's", "Grüße", "", None])
+        db.execute(*rng.choice([
+            ("insert or ignore into customer values (?, ?, ?)", (key, text, rng.random())),
+            ("replace into customer values (?, ?, ?)", (key, text, rng.random())),
+            ("update customer set name = ? where id = ?", (text, key)),
+            ("update or ignore customer set id = ? where id = ?", (rng.randint(1, 30), key)),
+            ("delete from customer where id = ?", (key,)),
+            ("insert into invoice (memo) values (?)", (f"two\\nlines {key}",)),
+        ]))
+    db.execute(rng.choice(["commit", "commit", "commit", "rollback"]))
+"""
+
+# Stands between the drain and the program. It kills the drain in place of handing on the answer of a commit.
+BETWEEN = """#!/usr/bin/env python3
+import os, random, signal, subprocess, sys
+program = subprocess.Popen([{dragoon!r}, *sys.argv[1:]], stdin=subprocess.PIPE, stdout=subprocess.PIPE)
+left = random.randint(1, 10)
+for line in sys.stdin.buffer:
+    program.stdin.write(line)
+    program.stdin.flush()
+    reply = program.stdout.readline()
+    left -= line == b"s0 commit\\n"
+    if left == 0:
+        os.kill(os.getppid(), signal.SIGKILL)
+        break
+    sys.stdout.buffer.write(reply)
+    sys.stdout.buffer.flush()
+"""
+
+
+def start_drain(folder, program):
+    words = [EXAMPLES / "mirror" / "drain.py", "--changes", "9", folder / "shop.db", folder / "store", "7"]
+    said = {"stdout": subprocess.DEVNULL, "stderr": subprocess.DEVNULL}
+    return subprocess.Popen([sys.executable, *words], env={**os.environ, "DRAGOON": program}, start_new_session=True, **said)
+
+
+def programs_under(drain):
+    text = pathlib.Path(f"/proc/{drain.pid}/task/{drain.pid}/children").read_text()
+    return [int(word) for word in text.split()]
+
+
+def kill(process):
+    try:
+        os.kill(process, signal.SIGKILL)
+    except ProcessLookupError:
+        pass
+
+
+def wait_for_growths(store, count, drain):
+    """Waits until the store's file has grown so often, or the drain has ended."""
+    length, limit = store.stat().st_size, time.monotonic() + 30
+    while count > 0 and drain.poll() is None and time.monotonic() < limit:
+        time.sleep(0.0002)
+        if (now := store.stat().st_size) > length:
+            length, count = now, count - 1
+
+
+def one_time(folder, rng):
+    """A shop at work, and a drain, until the moment comes. The answer says who was killed."""
+    victim = rng.choice(["the shop", "the drain", "the program", "drain and program", "the answer"])
+    shop = subprocess.Popen([sys.executable, "-c", SHOP, folder / "shop.db"], stdout=subprocess.PIPE)
+    shop.stdout.readline()  # it has begun
+    drain = start_drain(folder, str(folder / "between") if victim == "the answer" else DRAGOON)
+    if victim != "the answer":
+        wait_for_growths(folder / "store", rng.randint(0, 15), drain)
+        time.sleep(rng.uniform(0, 0.004))
+        under = programs_under(drain) if drain.poll() is None else []
+        killed = {"the drain": [drain.pid], "the program": under, "drain and program": [drain.pid, *under]}
+        for process in killed.get(victim, []):
+            kill(process)
+        if victim == "the shop":
+            kill(shop.pid)
+    drain.wait()
+    kill(shop.pid)
+    shop.wait()
+    shop.stdout.close()
+    return victim
+
+
+# ---- what is stored, held against what was committed
+
+
+def scanned(db, table, columns):
+    rows = db.execute(f"select {columns} from {table} order by id").fetchall()
+    return "".join("row " + " ".join(row) + "\n" for row in rows) + f"rows {len(rows)}\n"
+
+
+def compare(folder):
+    """How many changes were made and are stored."""
+    db = sqlite3.connect(folder / "shop.db")
+    text = "case when {0} is null then 'null' else '''' || replace({0}, '''', '''''') || '''' end"
+    columns = {"customer": f"cast(id as text), {text.format('name')}, {text.format('quote(price)')}",
+        "invoice": "cast(id as text), 'x''' || lower(hex(memo)) || ''''"}
+    statements = [statement for (statement,) in db.execute("select statement from mirror_outbox order by number")]
+    for table in columns:
+        if dragoon(f"store={folder / 'store'}", "run", "7", lines=f"scan {table}\n") != (0, scanned(db, table, columns[table])):
+            raise Wrong(f"the table {table} isn't that of the database")
+        made = {}
+        for statement in statements:
+            if found := re.fullmatch(rf"(?:insert|update) {table} ((\S+).*)", statement):
+                made.setdefault(found[2], []).append(re.sub("x'.*'", lambda it: it[0].lower(), found[1]))
+        _, replies = dragoon(f"store={folder / 'store'}", "run", "7", lines="".join(f"history {table} {key}\n" for key in made))
+        stored = {}
+        for row in re.findall(r"^version \d+ (?:\d+|-) row (.*)$", replies, re.MULTILINE):
+            stored.setdefault(row.split(" ")[0], []).append(row)
+        for key in made:
+            if made[key] != stored.get(key):
+                raise Wrong(f"{table} {key} had these rows: {made[key]}; the store has {stored.get(key)}")
+    return len(statements)
+
+
+def main(words):
+    count, rng = count_of(words, 100, __doc__), random.Random()
+    with tempfile.TemporaryDirectory() as name:
+        folder = pathlib.Path(name)
+        db = sqlite3.connect(folder / "shop.db")
+        db.execute("create table customer (id integer primary key, name text, price real)")
+        db.execute("create table invoice (id integer primary key autoincrement, memo text)")
+        db.execute("insert into customer values (1, 'before', 0.5)")
+        db.commit()
+        db.close()
+        (folder / "between").write_text(BETWEEN.format(dragoon=DRAGOON))
+        (folder / "between").chmod(0o755)
+        status, _, told = script("mirror/attach.py", "--utf8", "invoice.memo", folder / "shop.db", "customer", "invoice")
+        if status or dragoon(f"store={folder / 'store'}", "init", "7", "60", "3", "m")[0]:
+            raise Wrong(f"the mirror can't be made: {told}")
+        killed = [one_time(folder, rng) for _ in range(count)]
+        for _ in range(50):
+            status, _, told = script("mirror/drain.py", folder / "shop.db", folder / "store", "7")
+            if status == 0:
+                break
+            time.sleep(0.1)  # a program that was left alone ends by itself
+        if status:
+            raise Wrong(f"the last drain ends with {status}: {told}")
+        changes = compare(folder)
+    told = ", ".join(f"{killed.count(it)} times {it}" for it in sorted(set(killed)))
+    print(f"mirror: {changes} changes, each of them stored once; killed were {told}")
+
+
+if __name__ == "__main__":
+    try:
+        main(sys.argv[1:])
+    except Wrong as fault:
+        sys.exit(f"mirror: WRONG: {fault}")

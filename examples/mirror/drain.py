@@ -1,0 +1,152 @@
+#!/usr/bin/env python3
+"""Takes the changes of a database from its outbox, in order, and has a store hold them; then it ends.
+
+    python3 examples/mirror/drain.py [--notary BOOK] [--changes N] DATABASE STORE ID
+
+attach.py makes the outbox, and `./dragoon store=STORE init ID ..` the store, which is for this database alone. Run it as often as
+the history is to follow: by a timer, or in a loop. With --notary it ends by `notarize`. It prints how many changes it took.
+
+All changes that the database has committed by then go into one transaction of the store, if it can hold them: 255, or N of them,
+and 32,000 bytes of statements at most. So a transaction of the database is seen whole at every moment, unless more has piled up.
+
+The same transaction of the store says in its table `mirrored` up to which number of the outbox it goes. Nothing else tells what
+was stored. So after a crash of either side, also between `ok N` and its reading, each change is in the store once: the next
+drain asks for that row first. Before changes are sent, their number is made durable in the database, together with all that
+stands before it. A row that is none of the two numbers says that one side was put back from a copy, and nothing is sent.
+
+It ends with 0 if all was taken, 1 if it had to stop, and 2 on other words. DRAGOON names another program than ./dragoon.
+"""
+import argparse
+import os
+import pathlib
+import sqlite3
+import subprocess
+import sys
+from urllib.parse import quote
+
+DRAGOON = os.environ.get("DRAGOON") or str(pathlib.Path(__file__).resolve().parents[2] / "dragoon")
+CHANGES, WEIGHT = 255, 32_000
+
+
+class Stopped(Exception):
+    """Why the rest waits in the outbox."""
+
+
+class Program:
+    """A run of the program over the store."""
+
+    def __init__(self, devices, id):
+        self.run = subprocess.Popen([DRAGOON, *devices, "run", id], stdin=subprocess.PIPE, stdout=subprocess.PIPE)
+
+    def ask(self, line):
+        """The reply of a line that has one line of reply."""
+        try:
+            self.run.stdin.write(line.encode() + b"\n")
+            self.run.stdin.flush()
+        except BrokenPipeError:
+            pass
+        reply = self.run.stdout.readline().decode()
+        if not reply.endswith("\n") or reply.startswith("fault "):
+            raise Stopped(f"the program ended ({reply.strip() or 'without a word'})")
+        return reply[:-1]
+
+    def have(self, line, *wanted):
+        """The same, of a line whose reply has to begin with one of these words."""
+        reply = self.ask(line)
+        if not reply.startswith(wanted):
+            raise Stopped(f"{line[:100]} is answered {reply}")
+        return reply
+
+    def end(self):
+        self.run.stdin.close()
+        self.run.wait()
+
+
+def stored_up_to(program):
+    """The number of the last change that the store holds. The table that says it is made where it is missing."""
+    reply = program.ask("get mirrored 0")
+    if reply == "refused NoTable":
+        program.have("create mirrored only int number int", "ok ")
+        reply = "none"
+    if reply == "none":
+        program.have("insert mirrored 0 0", "ok ")
+        reply = "row 0 0"
+    return int(reply.removeprefix("row 0 "))
+
+
+def weight(statement):
+    """At least as many bytes as the change takes in a transaction."""
+    return len(statement.encode()) + 7 * statement.count(" ")
+
+
+def next_changes(db, number, most):
+    """The next changes that fit into one transaction, at least one if there is any."""
+    found, total = [], 0
+    ask = "select number, statement from mirror_outbox where number > ? order by number limit ?"
+    for change in db.execute(ask, (number, most)):
+        total += weight(change[1])
+        if found and total > WEIGHT:
+            break
+        found.append(change)
+    return found
+
+
+def store(program, changes):
+    """One transaction of the store, with the number of its last change."""
+    program.have("s0 begin", "ok")
+    for _, statement in changes:
+        if program.have(f"s0 {statement}", "ok", "refused RowExists") != "ok":
+            # `replace` put a row at a key that had one
+            program.have("s0 update" + statement.removeprefix("insert"), "ok")
+    program.have(f"s0 update mirrored 0 {changes[-1][0]}", "ok")
+    program.have("s0 commit", "ok ")
+
+
+def drain(db, program, most):
+    """How many changes were taken."""
+    number, taken = stored_up_to(program), 0
+    # asked after the store, which nobody else has open from then on
+    sent, acknowledged = db.execute("select sent, acknowledged from mirror_state").fetchone()
+    if number not in (sent, acknowledged):
+        raise Stopped(f"the store goes up to change {number}, and {sent} were sent: one side was put back from a copy")
+    db.execute("update mirror_state set acknowledged = ?1 where acknowledged < ?1", (number,))
+    while changes := next_changes(db, number, most):
+        number = changes[-1][0]
+        db.execute("update mirror_state set sent = max(sent, ?)", (number,))
+        store(program, changes)
+        db.execute("update mirror_state set acknowledged = max(acknowledged, ?)", (number,))
+        taken += len(changes)
+    return taken
+
+
+def words():
+    parser = argparse.ArgumentParser(usage="drain.py [--notary BOOK] [--changes N] DATABASE STORE ID", add_help=False)
+    parser.add_argument("--notary")
+    parser.add_argument("--changes", type=int, choices=range(1, CHANGES + 1), default=CHANGES, metavar="N")
+    parser.add_argument("database")
+    parser.add_argument("store")
+    parser.add_argument("id")
+    return parser.parse_args()
+
+
+def main():
+    options = words()
+    devices = [f"store={options.store}"] + ([f"notary={options.notary}"] if options.notary else [])
+    try:
+        db = sqlite3.connect(f"file:{quote(options.database)}?mode=rw", uri=True, isolation_level=None, timeout=60)
+        db.execute("pragma synchronous = full")
+        program = Program(devices, options.id)
+        try:
+            print(f"drained {drain(db, program, options.changes)}")
+            if options.notary:
+                print(program.have("notarize", "sealed"))
+        finally:
+            program.end()
+    except (OSError, sqlite3.Error, Stopped) as fault:
+        print(f"drain: {fault}", file=sys.stderr)
+        return 1
+    return 0
+
+
+if __name__ == "__main__":
+    sys.exit(main())
