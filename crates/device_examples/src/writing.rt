@@ -7,9 +7,7 @@ use disk_model::{Disk, MemDisk};
 use std::alloc::Global;
 use std::test::Fail;
 use tuple_bytes::{Header, Item, encode_header};
-use txn_journal::{
-    Journal, JournalFail, Opened, Shape, StoreShape, create, open_journal, read_stored,
-};
+use txn_journal::{Journal, JournalFail, Opened, Shape, StoreShape, create, open_journal};
 
 /// Any payloads of at most 100 bytes behind a head of the letter T, in a file of at most 127 bytes.
 struct Tiny;
@@ -197,25 +195,5 @@ fn a_torn_append_leaves_the_old_payloads_or_the_new_one_too(rt: HostRuntime) -> 
             }
         }
     }
-    Ok(())
-}
-
-#[test]
-fn a_store_is_read_back(rt: HostRuntime) -> Result<(), Fail> {
-    let alloc = rt.alloc();
-    let mut disk = MemDisk::new(alloc);
-    let none = read_stored(alloc, &mut disk)?;
-    assert!(rt; none.header.is_none() && none.items.as_slice().is_empty() && none.end == 0);
-    let (mut disk, mut opened) = file_with_old::<StoreShape>(alloc, &store_head(), false, 9)?;
-    add(alloc, &mut opened.journal, &mut disk, &NEW)?;
-    let stored = read_stored(alloc, &mut disk)?;
-    assert_eq!(rt; stored.header.map(|header| header.id), Some(7));
-    assert_eq!(rt; (stored.items.as_slice().len(), stored.end), (2, 92));
-    assert!(rt;
-        matches!(
-            stored.items.as_slice(),
-            [Item::Frontier { moment: 1 }, Item::Frontier { moment: 9 }]
-        )
-    );
     Ok(())
 }

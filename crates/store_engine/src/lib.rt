@@ -35,7 +35,7 @@
 //! | on a settled disk a crash at any moment leaves the old items, with the new one or without | `images` of `told` |
 //! | the changing calls are those of one append, in order, and none after one that failed; a refusal makes none | `trace` of `told` |
 //! | on a settled disk the bytes before the gate are as they were, whatever is answered | `front` of `told` |
-//! | a fault of the disk has its cause, and behind Ok and a refusal there was none | `cause`, `counted` |
+//! | a fault of the disk has its cause; behind Ok there was none, nor behind a refusal of `commit` or `frontier` | `cause`, `counted` |
 //!
 //! Of the bytes alone, without a disk, `appends_leave_old_or_new` says what the writes of an append leave,
 //! whole (`whole`, `puts`, `within`) and cut short anywhere (`cut`, `front`).

@@ -48,7 +48,6 @@
 //! | the payloads read, one by one, are those of the walk, and reading ends where the walk does | `value` of `advance` |
 //! | the place goes on by a record within the limits, also over a disk that tells nothing | `moves` |
 //! | after a fault the reader stands where it stood | `err` |
-//! | a store is read as what its bytes mean, and, also over a disk that tells nothing, its header and items have spellings that its records can hold | `value`, `fits` of `read_stored` |
 //! | the disk is only read, and a fault has its cause | `same`, `frame`, `cause` |
 //! | after Ok the disk counted no fault: no call that failed was tried again; `open_journal` says the same where it finds no file | `counted` of every call |
 //!
@@ -99,7 +98,6 @@ mod payload;
 mod records;
 mod shape;
 mod store_shape;
-mod stored;
 mod window;
 
 pub use creation::{create, is_free};
@@ -109,4 +107,3 @@ pub use opening::{Opened, open_journal};
 pub use records::Records;
 pub use shape::Shape;
 pub use store_shape::StoreShape;
-pub use stored::read_stored;
