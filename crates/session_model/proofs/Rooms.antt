@@ -3,7 +3,6 @@ use Rattle.std.proofs.Common.{◌≡◌, Bool, true, false, nat_lt, Option, Some
 use Rattle.tuple_bytes.specs.declared.op.Op.{Op}
 use Rattle.tuple_bytes.specs.declared.item.Item.TheVariants as items
 use Rattle.tuple_bytes.specs.Limits.{max_ops, max_payload}
-use Rattle.tuple_bytes.specs.Spelling.{spell_txn}
 use Rattle.history_model.specs.declared.change.TableFail.{TableFail}
 use Rattle.history_model.specs.declared.change.Write.{Write}
 use Rattle.history_model.specs.Answers.{prepared}
@@ -14,7 +13,7 @@ use Rattle.store_engine.specs.declared.fail.StoreFail.TheVariants as fails
 use Rattle.store_engine.specs.Refusals.{where_true, is_back, is_late, is_full, next_txn, item_fault}
 use Rattle.statement_core.specs.World as stores
 use Rattle.statement_core.specs.Steps.{write_in}
-use Rattle.session_model.specs.Statements.{draft, size_fault, pended, pend, change_or_read, say}
+use Rattle.session_model.specs.Statements.{size_of, size_fault, pended, pend, change_or_read, say}
 use Rattle.session_model.specs.Pending.{PendingHasRoom, RoomIsEnough}
 use Rattle.session_model.proofs.Each.{each_session}
 
@@ -45,8 +44,8 @@ no_cause false fail others e = (refl, e)
 
 pub room_is_enough : RoomIsEnough
 room_is_enough t ops now room =
-    let few = no_cause (nat_lt max_ops (length ops)) fails.TooManyOps (where_true (nat_lt max_payload (length (spell_txn (draft ops)))) fails.TooLong None) room in
-    let short = no_cause (nat_lt max_payload (length (spell_txn (draft ops)))) fails.TooLong None few.1 in
+    let few = no_cause (nat_lt max_ops (length ops)) fails.TooManyOps (where_true (nat_lt max_payload (size_of ops)) fails.TooLong None) room in
+    let short = no_cause (nat_lt max_payload (size_of ops)) fails.TooLong None few.1 in
     ap (λ o. where_true (is_back t now) (fails.ClockBack t.last) (where_true (is_late t now) fails.TooLate o))
     (ap (λ b. where_true b fails.TooManyOps (item_fault t false (items.Txn (next_txn t ops now)))) few.0
-    ∙ ap (λ b. where_true b fails.TooLong (where_true (is_full t.end (length (spell_txn (draft ops)))) fails.StoreFull None)) short.0)
+    ∙ ap (λ b. where_true b fails.TooLong (where_true (is_full t.end (size_of ops)) fails.StoreFull None)) short.0)

@@ -1,7 +1,6 @@
 -- What is pending has room in a transaction, and fits the tables.
-use Rattle.std.specs.Prelude.{◌≡◌, ℕ, false, length, List, [], ◌∷◌, Option, None, IfSome, Ok}
+use Rattle.std.specs.Prelude.{◌≡◌, ℕ, false, List, [], ◌∷◌, Option, None, IfSome, Ok}
 use Rattle.tuple_bytes.specs.declared.op.Op.{Op}
-use Rattle.tuple_bytes.specs.Spelling.{spell_txn}
 use Rattle.history_model.specs.declared.change.Write.{Write}
 use Rattle.history_model.specs.Answers.{prepared}
 use Rattle.history_model.specs.State.{State, after_ops}
@@ -11,7 +10,7 @@ use Rattle.store_engine.specs.declared.fail.StoreFail.TheVariants as fails
 use Rattle.store_engine.specs.declared.fail.StoreFail.{StoreFail}
 use Rattle.store_engine.specs.Refusals.{Tail, where_true, is_back, is_late, is_full, commit_fault}
 use Rattle.statement_core.specs.World as stores
-use Rattle.session_model.specs.Statements.{draft, size_fault}
+use Rattle.session_model.specs.Statements.{size_of, size_fault}
 use Rattle.session_model.specs.World.{Session, World}
 use Rattle.session_model.specs.Steps.{step}
 use Rattle.session_model.specs.Alone.{alone}
@@ -29,7 +28,7 @@ abbrev pub room_fault : Tail → List Op → ℕ → Option StoreFail
 room_fault t ops now =
     where_true (is_back t now) (fails.ClockBack t.last)
     (where_true (is_late t now) fails.TooLate
-    (where_true (is_full t.end (length (spell_txn (draft ops)))) fails.StoreFull None))
+    (where_true (is_full t.end (size_of ops)) fails.StoreFull None))
 
 -- So a commit is refused for the clock or for a full store, and for nothing else.
 abbrev pub RoomIsEnough : Type 0

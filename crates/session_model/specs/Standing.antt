@@ -11,6 +11,10 @@ use Rattle.history_model.specs.History.{txns}
 use Rattle.store_engine.specs.Opened.{Opened}
 use Rattle.stmt_text.specs.declared.line.Line.{Line}
 use Rattle.stmt_text.specs.declared.line.Line.TheVariants as lines
+use Rattle.stmt_text.specs.declared.kind.LineKind.{LineKind}
+use Rattle.stmt_text.specs.declared.kind.LineKind.TheVariants as kinds
+use Rattle.stmt_text.specs.declared.kind.WorldPart.TheVariants as parts
+use Rattle.stmt_text.specs.Kinds.{line_kind}
 use Rattle.statement_core.specs.declared.reply.Reply.{Reply}
 use Rattle.statement_core.specs.declared.reply.Reply.TheVariants as replies
 use Rattle.statement_core.specs.declared.statements.StepFail.{StepFail}
@@ -30,7 +34,7 @@ use Rattle.session_model.specs.Pending.{HasRoom}
 -- of a session
 pub record Kept : Type 0 where
   pub begun : ℕ
-  -- in the order of places, none twice
+  -- as a set: neither their order counts, nor how often a place is there
   pub reads : List Place
   pub pending : List Op
 
@@ -38,7 +42,7 @@ pub record Kept : Type 0 where
 pub record Touched : Type 0 where
   -- as many are not noted
   pub from : ℕ
-  -- the numbers of each place, in the order of places
+  -- the numbers that are noted at each place
   pub places : List (Place × List ℕ)
 
 -- the whole, the sessions under their numbers
@@ -69,7 +73,7 @@ pub record IsIn (w : World) (m : Machine) (stand : Opened) (bytes : List ℕ) : 
   pub sessions : (n : ℕ) → IsSession (w.sessions n) (kept_at m n)
   pub room : (n : ℕ) → HasRoom (w.sessions n)
   pub numbered : AreAllNumbered w
-  -- while a session is begun; with none, nothing is noted
+  -- the transactions since the begin of each session are noted
   pub indexed : (n : ℕ) → IfSome (w.sessions n) (λ s. (m.touched.from ≤ s.begun) × IsIndex m.touched.from (numbers_at m.touched.places) (txns w.store.items))
 
 -- what the code finds where a session commits
@@ -113,12 +117,15 @@ StepsTo line now result m new_m stand new_stand old new before after =
 
 -- ---- the conditions of a step, and what it leaves
 
+-- the store answers lines of this kind, by its tables or by a session
+abbrev pub IsOfStore : LineKind → Type 0
+IsOfStore (kinds.InWorld parts.Tables) = Unit {0}
+IsOfStore (kinds.InWorld parts.Sessions) = Unit {0}
+IsOfStore kind = ⊥
+
 -- a statement on tables, or a line of a session
 abbrev pub IsStatementLine : Line → Type 0
-IsStatementLine (lines.Plain stmt) = statements.IsOnTables stmt
-IsStatementLine (lines.InSession n stmt) = Unit {0}
-IsStatementLine lines.Blank = ⊥
-IsStatementLine (lines.Drill event) = ⊥
+IsStatementLine line = IsOfStore (line_kind line)
 
 -- what is kept of other sessions stays
 abbrev pub OnlyOwnKept : Line → Machine → Machine → Type 0

@@ -26,6 +26,7 @@
 //! | a reply that stores nothing leaves the store and its disk as they were; so does a failure, unless the store is closed | `same` of `write_or_read` |
 //! | a transaction is stored by the calls of one append, in order and none after one that failed; all else makes no call | `trace` of `StepsIn` |
 //! | after a failure the store is closed, or as it was | `kept` of `write_or_read` |
+//! | what a statement asks is a reply, or operations that may be committed; that, granted, is its step | `value`, `counted` of `ask` |
 //! | a failure is the disk's own, or want of memory; behind a reply, a refusal too, the disk counted no fault | `cause`, `counted` of `write_or_read` |
 //! | a number that is replied is that of a new last transaction; every other reply leaves the world as it was | `steps_keep_promises` |
 //! | the text of a reply | `value` of `print_reply` |
@@ -38,6 +39,7 @@
 //! ```
 #![tactic(auto)]
 
+mod asking;
 mod laws;
 mod reading;
 mod refusing;
@@ -45,9 +47,10 @@ mod reply;
 mod statements;
 mod writing;
 
+pub use asking::{Asked, ask};
 pub use laws::steps_keep_promises;
 pub use reading::read;
-pub use refusing::{answered, refused_by_store, refused_by_tables};
+pub use refusing::{answered, refused, refused_by_store, refused_by_tables};
 pub use reply::{Refusal, Reply, print_reply};
-pub use statements::{StepFail, is_on_tables, write_or_read};
-pub use writing::write_in;
+pub use statements::{StepFail, write_or_read};
+pub use writing::{single, write_in};

@@ -1,17 +1,17 @@
 //! Statements outside sessions.
 
-ghost use Rattle.std.specs.Prelude.{◌≡◌, ◌↔◌, false, IsTrue, OnOk, OnErr};
+ghost use Rattle.std.specs.Prelude.{◌≡◌, false, OnOk, OnErr};
 ghost use Rattle.outside_words.specs.Faults.{HasCause, HidesNoFault};
 ghost use Rattle.outside_words.specs.Told.{WhereTold};
 ghost use Rattle.disk_words.specs.Disk.{GoesOn};
 ghost use Rattle.stmt_text.specs.Fits.{FitsStmt};
 ghost use Rattle.statement_core.specs.declared.statements.StepFail.TheVariants.{DiskFault, NoMemory};
-ghost use Rattle.statement_core.specs.Steps.{IsOnTables, write_in, write_or_read};
+ghost use Rattle.statement_core.specs.Steps.{write_in, write_or_read};
 ghost use Rattle.statement_core.specs.Stepping.{DoesAs, StaysOrCloses, LeavesBoth};
 
-use crate::reading::read;
+use crate::asking::{Asked, ask};
 use crate::reply::Reply;
-use crate::writing::{write, write_in};
+use crate::writing::commit;
 use disk_model::Disk;
 use std::alloc::{AllocError, Global};
 use stmt_text::Stmt;
@@ -29,25 +29,6 @@ impl From<AllocError> for StepFail {
 
     fn from(_: AllocError) -> Self {
         StepFail::NoMemory
-    }
-}
-
-/// Whether it is a statement on tables.
-pub fn is_on_tables(stmt: &Stmt) -> bool
-    ensures value { IsTrue result ↔ IsOnTables stmt.now }
-{
-    match stmt {
-        Stmt::Create { .. } => true,
-        Stmt::Insert { .. } => true,
-        Stmt::Update { .. } => true,
-        Stmt::Delete { .. } => true,
-        Stmt::Get { .. } => true,
-        Stmt::Scan { .. } => true,
-        Stmt::History { .. } => true,
-        Stmt::Begin | Stmt::Commit | Stmt::Abort => false,
-        Stmt::Notarize | Stmt::Validate => false,
-        Stmt::Analyse { .. } => false,
-        Stmt::Now { .. } => false,
     }
 }
 
@@ -72,8 +53,8 @@ pub fn write_or_read<D: Disk>(
     ensures cause { HasCause DiskFault (D.state disk.old).faults (D.state disk.new).faults result }
     ensures counted { HidesNoFault (D.state disk.old).faults (D.state disk.new).faults result }
 {
-    match write_in(alloc, stmt)? {
-        Some(change) => write(alloc, store, disk, change, now),
-        None => Ok(read(alloc, store, stmt)?),
+    match ask(alloc, store, stmt)? {
+        Asked::ForReply { reply } => Ok(reply),
+        Asked::ToStore { ops } => commit(alloc, store, disk, &ops, now),
     }
 }

@@ -1,6 +1,6 @@
-//! Statements that write: each is a transaction of its own.
+//! What is stored: the change of a statement, and a transaction.
 
-ghost use Rattle.std.specs.Prelude.{◌≡◌, ◌<◌, false, length, IfOk, IfSome, OnOk, OnErr};
+ghost use Rattle.std.specs.Prelude.{◌≡◌, ◌<◌, ◌∷◌, [], false, length, IfOk, IfSome, OnOk, OnErr};
 ghost use Rattle.std.specs.List.{All};
 ghost use Rattle.outside_words.specs.Faults.{HasCause, HidesNoFault};
 ghost use Rattle.outside_words.specs.Told.{WhereTold};
@@ -9,10 +9,10 @@ ghost use Rattle.tuple_bytes.specs.Writing.{IsCountedOp};
 ghost use Rattle.history_model.specs.Answers.{op_of};
 ghost use Rattle.stmt_text.specs.Fits.{FitsStmt};
 ghost use Rattle.statement_core.specs.declared.statements.StepFail.TheVariants.{DiskFault};
-ghost use Rattle.statement_core.specs.Steps.{commit, write, write_in};
+ghost use Rattle.statement_core.specs.Steps.{commit, write_in};
 ghost use Rattle.statement_core.specs.Stepping.{DoesAs, StaysOrCloses, LeavesBoth};
 
-use crate::refusing::{answered, refused_by_tables};
+use crate::refusing::answered;
 use crate::reply::Reply;
 use crate::statements::StepFail;
 use disk_model::Disk;
@@ -20,7 +20,7 @@ use std::alloc::{AllocError, Global};
 use stmt_text::Stmt;
 use store_engine::Store;
 use tt_table::Write;
-use tuple_bytes::Ops;
+use tuple_bytes::{Op, Ops};
 
 /// The change that a statement asks for, if it asks for one.
 pub fn write_in(alloc: Global, stmt: &Stmt) -> Result<Option<Write>, AllocError>
@@ -49,7 +49,17 @@ pub fn write_in(alloc: Global, stmt: &Stmt) -> Result<Option<Write>, AllocError>
     })
 }
 
-fn commit<D: Disk>(
+/// One operation.
+pub fn single(alloc: Global, op: Op) -> Result<Ops, AllocError>
+    ensures value { IfOk result (λ ops. ops ≡ op ∷ []) }
+{
+    let mut ops = Ops::new(alloc);
+    ops.push(op)?;
+    Ok(ops)
+}
+
+/// Stores operations as one transaction.
+pub(crate) fn commit<D: Disk>(
     alloc: Global,
     store: &mut Store,
     disk: &mut D,
@@ -70,34 +80,4 @@ fn commit<D: Disk>(
     ensures counted { HidesNoFault (D.state disk.old).faults (D.state disk.new).faults result }
 {
     answered(store.commit(alloc, disk, ops, now))
-}
-
-/// Carries out a change, as a transaction of its own. The tables refuse it first.
-pub(crate) fn write<D: Disk>(
-    alloc: Global,
-    store: &mut Store,
-    disk: &mut D,
-    change: Write,
-    now: u64,
-) -> Result<Reply, StepFail>
-    requires open { store.old.at.is_closed ≡ false }
-    requires counted { IsCountedOp (op_of change) }
-    ensures open { OnOk result (store.new.at.is_closed ≡ false) }
-    ensures header { store.new.header ≡ store.old.header }
-    ensures kept { OnErr result (StaysOrCloses store.old store.new) }
-    ensures same { LeavesBoth result store.old store.new (D.state disk.old) (D.state disk.new) }
-    ensures told { WhereTold (D.state disk.old).reads (D.state disk.new).reads
-        (DoesAs (λ w. write w change now) result store.old store.new (D.state disk.old) (D.state disk.new)) }
-    ensures frame { GoesOn (D.state disk.old) (D.state disk.new) }
-    ensures cause { HasCause DiskFault (D.state disk.old).faults (D.state disk.new).faults result }
-    ensures counted { HidesNoFault (D.state disk.old).faults (D.state disk.new).faults result }
-{
-    let pending = Ops::new(alloc);
-    let op = match store.tables().prepare(&pending, change) {
-        Ok(op) => op,
-        Err(fail) => return Ok(refused_by_tables(fail)?),
-    };
-    let mut ops = Ops::new(alloc);
-    ops.push(op)?;
-    commit(alloc, store, disk, &ops, now)
 }

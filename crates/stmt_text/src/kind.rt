@@ -1,0 +1,69 @@
+//! What a line asks for, and of which part of a program.
+
+ghost use Rattle.std.specs.Prelude.{◌≡◌};
+ghost use Rattle.stmt_text.specs.Kinds.{stmt_kind, line_kind};
+
+use crate::line::Line;
+use crate::stmt::Stmt;
+
+/// The part of a store's world that answers a line.
+#[derive(Clone, Copy, Debug, PartialEq, Eq)]
+pub enum WorldPart {
+    /// Its tables: `create`, `insert`, `update`, `delete`, `get`, `scan` and `history`.
+    Tables,
+    /// One of its sixteen sessions.
+    Sessions,
+    /// Its notary: `notarize`, `validate` and `analyse`.
+    Notary,
+}
+
+/// What a line asks for.
+#[derive(Clone, Copy, Debug, PartialEq, Eq)]
+pub enum LineKind {
+    Blank,
+    InWorld { part: WorldPart },
+    /// `now`, in a scripted run.
+    SetsMoment { moment: u64 },
+    /// What stands in no script: `begin`, `commit` and `abort` outside sessions, and what a drill does.
+    OutsideScripts,
+}
+
+impl Stmt {
+    /// What it asks for where it stands outside sessions.
+    pub fn kind(&self) -> LineKind
+        ensures value { result ≡ stmt_kind self.now }
+    {
+        match self {
+            Stmt::Create { .. }
+            | Stmt::Insert { .. }
+            | Stmt::Update { .. }
+            | Stmt::Delete { .. }
+            | Stmt::Get { .. }
+            | Stmt::Scan { .. }
+            | Stmt::History { .. } => LineKind::InWorld {
+                part: WorldPart::Tables,
+            },
+            Stmt::Notarize | Stmt::Validate | Stmt::Analyse { .. } => LineKind::InWorld {
+                part: WorldPart::Notary,
+            },
+            Stmt::Now { moment } => LineKind::SetsMoment { moment: *moment },
+            Stmt::Begin | Stmt::Commit | Stmt::Abort => LineKind::OutsideScripts,
+        }
+    }
+}
+
+impl Line {
+    /// What it asks for.
+    pub fn kind(&self) -> LineKind
+        ensures value { result ≡ line_kind self.now }
+    {
+        match self {
+            Line::Blank => LineKind::Blank,
+            Line::Plain { stmt } => stmt.kind(),
+            Line::InSession { .. } => LineKind::InWorld {
+                part: WorldPart::Sessions,
+            },
+            Line::Drill { .. } => LineKind::OutsideScripts,
+        }
+    }
+}
