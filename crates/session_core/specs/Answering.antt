@@ -95,12 +95,12 @@ IsCommit reply = ⊥
 abbrev pub IsLeftOrNone : Machine → Machine → Type 0
 IsLeftOrNone m new = (new.touched ≡ m.touched) ⊎ (new.sessions ≡ [])
 
--- with no session kept nothing is noted any more
+-- the sessions stay; so does the index, while one is kept
 pub record ClearsIndex (m new : Machine) : Type 0 where
   pub sessions : new.sessions ≡ m.sessions
   pub index : IsLeftOrNone m new
 
--- session n is gone
+-- session n is gone; the index stays while one is kept
 pub record IsGone (n : ℕ) (m new : Machine) : Type 0 where
   pub sessions : (k : ℕ) → kept_at new k ≡ (if k == n then None else kept_at m k)
   pub index : IsLeftOrNone m new

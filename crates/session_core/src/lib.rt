@@ -5,14 +5,14 @@
 //! it is a law for every run.
 //!
 //! A `Sessions` keeps of each session that is begun the number of transactions at its begin, the set of
-//! places that it has read, and the operations that it wants to store. Beside them stands an index: at
+//! places that it has read, and the operations that it wants to store with the bytes that they take. So a
+//! statement spells its own operation alone, however many are pending. Beside them stands an index: at
 //! each place that was touched since the first of them began, the numbers of the transactions that
 //! touched it. A commit looks up the places that its session has read, each by its logarithm, and never
-//! goes over the store. While no session is begun nothing is noted, and a line outside sessions is carried
-//! out as if there were none.
+//! goes over the store.
 //!
-//! A line outside sessions and one in a session use the same statements and the same commit: those of
-//! `statement_core`.
+//! A line outside sessions is carried out as if there were none. It and a line in a session use the same
+//! statements and the same commit: those of `statement_core`.
 //!
 //! | Line of a session | What is done | Reply |
 //! |---|---|---|

@@ -1,29 +1,31 @@
 //! A session: since when it is, what it has read, and what it wants to store.
 
-ghost use Rattle.std.specs.Prelude.{◌≡◌, ◌<◌, ◌≤◌, ◌∷◌, ◌++◌, [], length, IfOk, OnOk};
+ghost use Rattle.std.specs.Prelude.{◌≡◌, ◌≤◌, ◌∷◌, ◌++◌, [], IfOk, OnOk};
 ghost use Rattle.std.specs.List.{All};
-ghost use Rattle.std.specs.Option.{option_map};
 ghost use Rattle.tuple_bytes.specs.Writing.{IsCountedOp};
 ghost use Rattle.history_model.specs.Answers.{op_of, prepared};
 ghost use Rattle.stmt_text.specs.Fits.{FitsStmt};
 ghost use Rattle.tt_table.specs.Versions.{AreTables};
 ghost use Rattle.statement_core.specs.Reading.{IsHistory};
-ghost use Rattle.statement_core.specs.Refusing.{refused_by_store};
 ghost use Rattle.session_model.specs.Index.{least_above};
 ghost use Rattle.session_model.specs.Standing.{numbers_at};
 ghost use Rattle.session_model.specs.Statements.{size_fault, pend, pended};
+ghost use Rattle.session_core.specs.Sizes.{IsSizeOf};
 ghost use Rattle.session_core.specs.Speaking.{IsSaid, over_now};
 
 use crate::reading::read_over;
 use crate::reads::Reads;
 use session_index::Touched;
-use statement_core::{Refusal, Reply, refused_by_tables, write_in};
+use statement_core::{Refusal, Reply, refused, refused_by_tables, single, write_in};
 use std::alloc::{AllocError, Global};
 use std::marker::Model;
 use stmt_text::Stmt;
 use store_engine::Store;
 use tt_table::Write;
-use tuple_bytes::{EncodeFail, Item, MAX_OPS, Op, Ops, Txn, encode_item};
+use tuple_bytes::{EncodeFail, Item, MAX_OPS, MAX_PAYLOAD, Op, Ops, Txn, encode_item};
+
+/// The bytes of a transaction before its operations: the mark of one, its number, its moment, and their count.
+const TXN_HEAD: usize = 15;
 
 /// A session that is begun.
 #[derive(Drop)]
@@ -31,42 +33,35 @@ pub(crate) struct Session {
     begun: u32,
     reads: Reads,
     pending: Ops,
+    /// The bytes of what is pending, as a transaction.
+    size: usize,
 }
 
 impl Model for Session {
-    ghost use Rattle.std.specs.List.{All};
-    ghost use Rattle.tuple_bytes.specs.Writing.{IsCountedOp};
     ghost use Rattle.session_model.specs.Standing.{Kept};
+    ghost use Rattle.session_core.specs.Sizes.{AreSized};
 
     ghost Value = { Kept };
 
     ghost view = { λ s. record { begun = s.begun; reads = s.reads; pending = s.pending } };
 
-    ghost invariant = { λ s. All IsCountedOp s.pending };
+    ghost invariant = { λ s. AreSized s.pending s.size };
 }
 
-/// Why operations have no room in a transaction, whatever its number and its moment.
-fn size_refusal(alloc: Global, ops: &Ops) -> Result<Option<Reply>, AllocError>
-    requires some { 0 < length ops.now }
-    requires counted { All IsCountedOp ops.now }
-    ensures value { IfOk result (λ reply. reply ≡ option_map refused_by_store (size_fault ops.now)) }
+/// The bytes of a transaction of one operation, whatever its number and its moment; None where they are too many.
+fn size_alone(alloc: Global, op: &Op) -> Result<Option<usize>, AllocError>
+    requires counted { IsCountedOp op.now }
+    ensures value { IfOk result (IsSizeOf (op.now ∷ [])) }
 {
-    if ops.as_slice().len() > usize::from(MAX_OPS) {
-        let refusal = Refusal::TooManyOps;
-        return Ok(Some(Reply::Refused { refusal }));
-    }
     let draft = Txn {
         number: 0,
         moment: 0,
-        ops: ops.copy(alloc)?,
+        ops: single(alloc, op.copy(alloc)?)?,
     };
     match encode_item(alloc, &Item::Txn(draft)) {
-        Ok(_) => Ok(None),
+        Ok(bytes) => Ok(Some(bytes.as_slice().len())),
         Err(EncodeFail::NoMemory) => Err(AllocError),
-        Err(_) => {
-            let refusal = Refusal::TooLong;
-            Ok(Some(Reply::Refused { refusal }))
-        }
+        Err(_) => Ok(None),
     }
 }
 
@@ -79,6 +74,7 @@ impl Session {
             begun,
             reads: Reads::new(alloc),
             pending: Ops::new(alloc),
+            size: TXN_HEAD,
         }
     }
 
@@ -97,6 +93,21 @@ impl Session {
         self.reads.first_above(touched, self.begun)
     }
 
+    // The bytes with one operation more, of which it is enough to spell that one.
+    fn size_with(&self, alloc: Global, op: &Op) -> Result<Option<usize>, AllocError>
+        requires counted { IsCountedOp op.now }
+        ensures value { IfOk result (IsSizeOf (self.now.pending ++ op.now ∷ [])) }
+    {
+        let Some(alone) = size_alone(alloc, op)? else {
+            return Ok(None);
+        };
+        let size = self.size + alone - TXN_HEAD;
+        if size > MAX_PAYLOAD {
+            return Ok(None);
+        }
+        Ok(Some(size))
+    }
+
     // One operation more, where there is room for it.
     fn add(&mut self, alloc: Global, op: Op) -> Result<Reply, AllocError>
         requires counted { IsCountedOp op }
@@ -107,14 +118,16 @@ impl Session {
         ensures begun { self.new.begun ≡ self.old.begun }
         ensures reads { self.new.reads ≡ self.old.reads }
     {
-        let mut more = self.pending.copy(alloc)?;
-        more.push(op)?;
-        match size_refusal(alloc, &more)? {
-            Some(reply) => Ok(reply),
-            None => {
-                self.pending = more;
+        if self.pending.as_slice().len() >= usize::from(MAX_OPS) {
+            return Ok(refused(Refusal::TooManyOps));
+        }
+        match self.size_with(alloc, &op)? {
+            Some(size) => {
+                self.pending.push(op)?;
+                self.size = size;
                 Ok(Reply::Done)
             }
+            None => Ok(refused(Refusal::TooLong)),
         }
     }
 

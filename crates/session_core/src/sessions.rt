@@ -9,7 +9,6 @@ ghost use Rattle.store_engine.specs.Opened.{Opened};
 ghost use Rattle.stmt_text.specs.Fits.{FitsParts, FitsStmt};
 ghost use Rattle.stmt_text.specs.declared.line.Line.TheVariants.{InSession, Plain};
 ghost use Rattle.stmt_text.specs.declared.stmt.Stmt.TheVariants.{Commit};
-ghost use Rattle.statement_core.specs.declared.reply.Reply.TheVariants.{Refused};
 ghost use Rattle.statement_core.specs.declared.statements.StepFail.TheVariants.{DiskFault};
 ghost use Rattle.statement_core.specs.Reading.{IsHistory};
 ghost use Rattle.statement_core.specs.Stepping.{DoesAs, StaysOrCloses, LeavesBoth};
@@ -23,11 +22,11 @@ use crate::committing::{commit_noted, write_or_read_noted};
 use crate::session::Session;
 use disk_model::Disk;
 use session_index::Touched;
-use statement_core::{Refusal, Reply, StepFail, is_on_tables, write_or_read};
+use statement_core::{Refusal, Reply, StepFail, refused, write_or_read};
 use std::alloc::{AllocError, Global};
 use std::collections::BTreeMap;
 use std::marker::Model;
-use stmt_text::{Line, Stmt};
+use stmt_text::{Line, LineKind, Stmt, WorldPart};
 use store_engine::Store;
 
 type SessionMap = BTreeMap<u8, Session>;
@@ -46,12 +45,6 @@ impl Model for Sessions {
     ghost Value = { Machine };
 
     ghost view = { λ s. record { sessions = s.open.entries; touched = record { from = s.from; places = s.touched } } };
-}
-
-fn refused(refusal: Refusal) -> Reply
-    ensures value { result ≡ Refused refusal }
-{
-    Reply::Refused { refusal }
 }
 
 impl Sessions {
@@ -390,11 +383,12 @@ impl Sessions {
 pub fn is_statement_line(line: &Line) -> bool
     ensures value { IsTrue result ↔ IsStatementLine line.now }
 {
-    match line {
-        Line::Plain { stmt } => is_on_tables(stmt),
-        Line::InSession { .. } => true,
-        Line::Blank | Line::Drill { .. } => false,
-    }
+    matches!(
+        line.kind(),
+        LineKind::InWorld {
+            part: WorldPart::Tables | WorldPart::Sessions
+        }
+    )
 }
 
 // Stores what is kept of a session to be stored.
