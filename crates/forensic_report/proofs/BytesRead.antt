@@ -4,7 +4,7 @@ use Rattle.std.specs.Option.{is_some, option_map}
 use Rattle.outside_words.specs.Told.{WhereTold}
 use Rattle.tuple_bytes.specs.declared.header.Header.{Header}
 use Rattle.history_model.specs.declared.stored.Stored.{Stored}
-use Rattle.history_model.specs.History.{History, history}
+use Rattle.history_model.specs.History.{history}
 use Rattle.history_model.specs.Stored.{stored}
 use Rattle.history_model.specs.StoredHistory.{IsHistory}
 use Rattle.notary_link.specs.Batches.{Batch}

@@ -68,16 +68,16 @@ altered_in h s l n (Leaves (g ∷ granules) checks) (inl one) only told = inr (g
 
 -- ---- under the header that was filed
 
-pub own_shows : (algorithm : Algorithm) (batches : List Batch) (id : ℕ) (h s : History) (n : ℕ) (findings : Findings) → IsAudit batches id h s n
-    → ((g : ℕ) → IsAltered h (Some s) n g → IsPromised algorithm h (Some s) n g → NamesIn algorithm (layout h) findings g ⊎ HashClash h (Some s) n)
-    → (is_some_bad (bad_tiles (layout h) n findings) ≡ false → (g : ℕ) → IsAltered h (Some s) n g → HashClash h (Some s) n)
-    → BeginsAltered h s n findings → AreAltered h s n findings → AreExplained algorithm batches s (layout h) findings
-    → Shows algorithm batches h (Some s) n (Found (layout h) n findings)
-own_shows algorithm batches id h s n findings audit named unaltered begins only explained = record {
+pub own_shows : (algorithm : Algorithm) (batches : List Batch) (id : ℕ) (h s : History) (l : Layout) (n : ℕ) (findings : Findings) → IsAudit batches id h s n
+    → ((g : ℕ) → IsAltered h (Some s) n g → IsPromised algorithm h (Some s) n g → NamesIn algorithm l findings g ⊎ HashClash h (Some s) n)
+    → (is_some_bad (bad_tiles l n findings) ≡ false → (g : ℕ) → IsAltered h (Some s) n g → HashClash h (Some s) n)
+    → BeginsAltered h s n findings → AreAltered h s n findings → AreExplained algorithm batches s l findings
+    → Shows algorithm batches h (Some s) n (Found l n findings)
+own_shows algorithm batches id h s l n findings audit named unaltered begins only explained = record {
   named = named;
   unaltered = unaltered;
   begins = begins;
-  altered = altered_in h s (layout h) n findings (inl (record { header = audit.header; tiles = audit.places })) only;
+  altered = altered_in h s l n findings (inl (record { header = audit.header; tiles = audit.places })) only;
   header = tt;
   only = only;
   explained = explained;

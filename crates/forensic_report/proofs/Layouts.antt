@@ -1,10 +1,13 @@
 -- Where granules lie: all that the proofs use of tiles.
-use Rattle.std.proofs.Common.{◌≡◌, ℕ, ◌+◌, ◌-◌, ◌^◌, ◌<◌, ◌≤◌, true, ap, ◌∙◌, arith}
+use Rattle.std.proofs.Common.{◌≡◌, ℕ, ◌+◌, ◌-◌, ◌^◌, ◌<◌, ◌≤◌, true, List, refl, ap, ◌∙◌, arith}
 use Rattle.history_model.specs.History.{History}
 use Rattle.digest_model.specs.Layout.{Layout, layout, tile_size, first_granule, tile_of, max_granules, has_tile_chains, has_tree}
 use Rattle.digest_model.proofs.Layouts as layouts
+use Rattle.notary_link.specs.Batches.{Batch}
+use Rattle.audit_model.specs.Laws.{IsAudit, HasTree}
+use Rattle.forensic_report.specs.declared.algorithm.Algorithm.{Algorithm}
 use Rattle.cumulative_chain.specs.Tiles.{layout_of}
-use Rattle.forensic_report.specs.declared.algorithm.Algorithm.TheVariants.{Tiled, A3d}
+use Rattle.forensic_report.specs.declared.algorithm.Algorithm.TheVariants.{Mono, Tiled, TiledExactly, A3d}
 use Rattle.forensic_report.specs.Finding.{has_chains}
 
 -- the number of a granule within its tile
@@ -47,6 +50,26 @@ tile_has_chains h n tile has below = layouts.one_chains h tile 0 ∙ has
 pub tile_has_tree : (h : History) (n tile : ℕ) → has_chains A3d (layout h) ≡ true → tile < n → has_tree (layout h) tile ≡ true
 tile_has_tree h n tile has below = layouts.one_tree h tile 0 ∙ has
 
--- one header, one layout
+-- the first tile lies as the header says, so it has the chains that are asked for, or not, by the header
+pub same_has : (algorithm : Algorithm) (h s : History) → h.header ≡ s.header → has_chains algorithm (layout h) ≡ has_chains algorithm (layout s)
+same_has Mono h s one = refl
+same_has Tiled h s one = layouts.same_chains (layout h) (layout s) 0 (layouts.header_alike h s one 1 0 (omega arith))
+same_has (TiledExactly kappa) h s one = layouts.same_chains (layout h) (layout s) 0 (layouts.header_alike h s one 1 0 (omega arith))
+same_has A3d h s one = layouts.same_tree (layout h) (layout s) 0 (layouts.header_alike h s one 1 0 (omega arith))
+
+-- one header, one layout: the timelines' reports go by it
 pub one_layout : (h s : History) → h.header ≡ s.header → layout h ≡ layout s
 one_layout h s one = ap layout_of one
+
+-- ---- of a file with the sealed tiles of what was filed
+
+-- each sealed tile has the chains of its parts
+abbrev pub HaveTileChains : History → ℕ → Type 0
+HaveTileChains h n = (tile : ℕ) → tile < n → has_tile_chains (layout h) tile ≡ true
+
+module _ (batches : List Batch) (id : ℕ) (h s : History) (n : ℕ) (audit : IsAudit batches id h s n) where
+  pub chains_of_audit : has_chains Tiled (layout s) ≡ true → HaveTileChains h n
+  chains_of_audit has tile below = layouts.same_chains (layout h) (layout s) tile (audit.places tile below) ∙ tile_has_chains s n tile has below
+
+  pub tree_of_audit : has_chains A3d (layout s) ≡ true → HasTree h n
+  tree_of_audit has tile below = layouts.same_tree (layout h) (layout s) tile (audit.places tile below) ∙ tile_has_tree s n tile has below

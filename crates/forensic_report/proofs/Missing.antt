@@ -1,10 +1,11 @@
 -- Under the header that was filed nothing is refused.
-use Rattle.std.proofs.Common.{◌≡◌, ◌⊎◌, inl, inr, ℕ, zero, suc, ◌+◌, ◌<◌, ◌≤◌, true, false, List, Some, None, Err, refl, sym, ap, subst, ◌∙◌, arith}
+use Rattle.std.proofs.Common.{◌≡◌, ◌⊎◌, inl, inr, ℕ, zero, suc, ◌+◌, ◌<◌, ◌≤◌, true, false, List, Some, None, Err, refl, ap, subst, ◌∙◌, arith}
 use Rattle.std.specs.Prelude.{nat_le}
 use Rattle.std.specs.List.{Contains, find, range_with_len}
 use Rattle.std.specs.Option.{option_map}
 use Rattle.history_model.specs.History.{History}
-use Rattle.digest_model.specs.Layout.{Layout, layout, exponent, first_granule, max_granules, has_tile_chains, has_tree, whole}
+use Rattle.digest_model.specs.Layout.{layout, exponent, first_granule, max_granules, whole}
+use Rattle.digest_model.proofs.Layouts.{same_exponent, same_begins}
 use Rattle.digest_model.specs.Laws.{HasSpelling}
 use Rattle.digest_model.proofs.Lists.{from_range}
 use Rattle.notary_link.specs.declared.answer.Answer.{Answer}
@@ -16,7 +17,7 @@ use Rattle.notary_link.specs.Batches.{Batch}
 use Rattle.audit_model.specs.Names.{planned}
 use Rattle.audit_model.specs.Notary.{NotaryOf, answers, header_answer, cums}
 use Rattle.audit_model.specs.Altered.{HashClash}
-use Rattle.audit_model.specs.Laws.{IsAudit, HasTree}
+use Rattle.audit_model.specs.Laws.{IsAudit}
 use Rattle.audit_model.proofs.Compare.{compare}
 use Rattle.audit_model.proofs.Planned.{cum_planned, part_planned}
 use Rattle.audit_model.proofs.Exact.{consistent}
@@ -31,7 +32,7 @@ use Rattle.forensic_report.specs.declared.fail.AnalyseFail.{AnalyseFail}
 use Rattle.forensic_report.specs.declared.fail.AnalyseFail.TheVariants as fails
 use Rattle.forensic_report.specs.Analysis.{Targets}
 use Rattle.forensic_report.specs.Finding.{IsRegion, stop_told, analysis_by, targets_told, has_chains, IsFoundBy}
-use Rattle.forensic_report.proofs.Layouts.{tile_has_chains, tile_has_tree, one_layout}
+use Rattle.forensic_report.proofs.Layouts.{chains_of_audit, tree_of_audit, same_has}
 use Rattle.forensic_report.proofs.Told.{leaves, stop_at_tile, stop_of_tiles, failing_tiles, tile_is, stop_of_tree, found_in_tree, tree_is}
 use Rattle.forensic_report.proofs.Filed.{is_there, not_absent, header_not_absent}
 use Rattle.ask_words.proofs.Stops.{no_stop}
@@ -64,12 +65,13 @@ module _ (batches : List Batch) (id n : ℕ) (h s : History) (audit : IsAudit ba
 
   tile_goes_on : has_chains Tiled (layout s) ≡ true → (tile : ℕ) → tile < n → stop_at_tile batches s n tile ≡ None
   tile_goes_on has tile below =
-      let own = subst (λ (l : Layout). has_tile_chains l tile ≡ true) (sym (one_layout h s audit.header)) (tile_has_chains s n tile has below) in
+      let own = chains_of_audit batches id h s n audit has tile below in
+      let alike = same_exponent (layout h) (layout s) tile (audit.places tile below) in
       ap stop_told (tile_is batches s n tile has below)
       ∙ none_stops_at (parts batches s tile whole) (parts batches s tile) (exponent (layout s) tile) tile
       (there (names.Tile tile whole) (part_planned (layout h) n tile whole own below (inl refl)))
       (no_chain_missing (parts batches s tile) (exponent (layout s) tile) tile
-      (λ bit low. there (names.Tile tile bit) (part_planned (layout h) n tile bit own below (inr (subst (λ (l : Layout). bit < exponent l tile) (sym (one_layout h s audit.header)) low)))))
+      (λ bit low. there (names.Tile tile bit) (part_planned (layout h) n tile bit own below (inr (omega (arith, low, alike))))))
 
   tiled_ends : (fail : AnalyseFail) → has_chains Tiled (layout s) ≡ true → Err fail ≡ analysis_by Targets (layout s) n (targets_told batches s n) → ⊥
   tiled_ends fail has is = ended Targets (layout s) n (stop_of_tiles batches s n) (failing_tiles batches s n) fail
@@ -77,10 +79,10 @@ module _ (batches : List Batch) (id n : ℕ) (h s : History) (audit : IsAudit ba
 
   tree_ends : (fail : AnalyseFail) → has_chains A3d (layout s) ≡ true → Err fail ≡ analysis_by leaves (layout s) n (tree_told batches s n) → ⊥
   tree_ends fail has is =
-      let own : HasTree h n = λ tile below. subst (λ (l : Layout). has_tree l tile ≡ true) (sym (one_layout h s audit.header)) (tile_has_tree s n tile has below) in
+      let own = tree_of_audit batches id h s n audit has in
       let none = ends (first_granule (layout h) n) (nodes_of batches s) (consistent batches id h s n audit own) (node_filed compare batches id h s n audit own) in
       ended leaves (layout s) n (stop_of_tree batches s n) (found_in_tree batches s n) fail
-      (subst (λ (l : Layout). stop_of (first_granule l n) (nodes_of batches s) ≡ None) (one_layout h s audit.header) none) (is ∙ ap (analysis_by leaves (layout s) n) (tree_is batches s n has))
+      (subst (λ (end : ℕ). stop_of end (nodes_of batches s) ≡ None) (same_begins (layout h) (layout s) n audit.places) none) (is ∙ ap (analysis_by leaves (layout s) n) (tree_is batches s n has))
 
   region_ends : (fail : AnalyseFail) → IsRegion (cums batches s) (layout s) n (Err fail) → ⊥
   region_ends (fails.SealMissing name) is = not_absent batches id n h s audit.filed (names.Cum is.0) (cum_planned (layout h) n is.0 is.1) is.3
@@ -98,7 +100,7 @@ module _ (batches : List Batch) (id n : ℕ) (h s : History) (audit : IsAudit ba
 
   -- nor do the tiles end behind the last granule
   none_past : nat_le (first_granule (layout s) n) max_granules ≡ false → ⊥
-  none_past test = not_past (first_granule (layout s) n) (subst (λ (l : Layout). first_granule l n ≤ max_granules) (one_layout h s audit.header) audit.filed.within) test
+  none_past test = not_past (first_granule (layout s) n) (subst (λ (end : ℕ). end ≤ max_granules) (same_begins (layout h) (layout s) n audit.places) audit.filed.within) test
 
 -- ---- so it is refused under another one
 
@@ -123,6 +125,6 @@ module _ (batches : List Batch) (id n : ℕ) (h s : History) (filed : NotaryOf b
   lacking_by algorithm (past same test is) = absurd cc
   lacking_by algorithm (asked same has small is) = inr (clash_unless same (λ audit. none_refused batches id n h s audit algorithm fails.NotSealedSo has is))
   lacking_by algorithm (chainless same lacks is) = elim (decided batches id h s n filed ours theirs same) [
-    | inl audit ↦ inl (subst (λ (l : Layout). has_chains algorithm l ≡ false) (sym (one_layout h s audit.header)) lacks)
+    | inl audit ↦ inl (same_has algorithm h s audit.header ∙ lacks)
     | inr passed ↦ inr passed.clash
   ]

@@ -1,8 +1,9 @@
 -- What a region shows.
-use Rattle.std.proofs.Common.{◌≡◌, ◌⊎◌, inl, inr, ℕ, zero, suc, ◌+◌, ◌-◌, ◌<◌, true, false, List, Option, Some, None, Ok, refl, sym, subst, ◌∙◌, arith}
+use Rattle.std.proofs.Common.{◌≡◌, ◌⊎◌, inl, inr, ℕ, zero, suc, ◌+◌, ◌-◌, ◌<◌, ◌≤◌, true, false, List, Option, Some, None, Ok, refl, sym, subst, ◌∙◌, arith}
 use Rattle.std.specs.List.{range_with_len}
 use Rattle.history_model.specs.History.{History}
 use Rattle.digest_model.specs.Layout.{Layout, layout, first_granule}
+use Rattle.digest_model.proofs.Layouts.{same_first}
 use Rattle.notary_link.specs.declared.answer.Answer.{Answer}
 use Rattle.notary_link.specs.Batches.{Batch}
 use Rattle.audit_model.specs.Altered.{HasOtherHeader, IsAltered, HashClash}
@@ -16,7 +17,7 @@ use Rattle.forensic_report.specs.declared.algorithm.Algorithm.TheVariants.{Mono}
 use Rattle.forensic_report.specs.Analysis.{Analysis, Region, Targets, Leaves, Unsealed, HeaderAltered, Found, is_some_bad, bad_tiles}
 use Rattle.forensic_report.specs.Finding.{IsRegion}
 use Rattle.forensic_report.specs.Shows.{AreAltered, BeginsAltered, NamesIn, Shows}
-use Rattle.forensic_report.proofs.Layouts.{some_granule, granule_sealed, one_layout}
+use Rattle.forensic_report.proofs.Layouts.{some_granule, granule_sealed}
 use Rattle.forensic_report.proofs.Headers.{IsPassed, own_shows, passed_shows}
 
 -- ---- what was found
@@ -51,10 +52,16 @@ changed batches id h s (suc last) (Some first) audit is = (let some = changed_al
 
 module _ (batches : List Batch) (id : ℕ) (h s : History) (n : ℕ) (audit : IsAudit batches id h s n) where
   named : (region : Option ℕ) → BeginsRegion (cums batches s) n region → (g : ℕ) → IsAltered h (Some s) n g
-      → NamesIn Mono (layout h) (Region region) g ⊎ HashClash h (Some s) n
-  named region is g alt = region_has batches id h s n region g audit is alt
+      → NamesIn Mono (layout s) (Region region) g ⊎ HashClash h (Some s) n
+  named None is g alt = region_has batches id h s n None g audit is alt
+  named (Some first) is g alt =
+      let below = (first_bad (cums batches s) n first is).within in
+      elim (region_has batches id h s n (Some first) g audit is alt) [
+        | inl from ↦ inl (subst (λ (begin : ℕ). begin ≤ g) (same_first (layout h) (layout s) n first (omega (arith, below)) audit.places) from)
+        | inr clash ↦ inr clash
+      ]
 
-  unaltered : (region : Option ℕ) → BeginsRegion (cums batches s) n region → is_some_bad (bad_tiles (layout h) n (Region region)) ≡ false
+  unaltered : (region : Option ℕ) → BeginsRegion (cums batches s) n region → is_some_bad (bad_tiles (layout s) n (Region region)) ≡ false
       → (g : ℕ) → IsAltered h (Some s) n g → HashClash h (Some s) n
   unaltered None is none g alt = elim (named None is g alt) [ inl never ↦ absurd never | inr clash ↦ clash ]
   unaltered (Some first) is none g alt =
@@ -66,9 +73,9 @@ module _ (batches : List Batch) (id : ℕ) (h s : History) (n : ℕ) (audit : Is
   begins None is = tt
   begins (Some first) is = begins_altered batches id h s n first audit (first_bad (cums batches s) n first is)
 
-  region_own : (region : Option ℕ) → BeginsRegion (cums batches s) n region → Shows Mono batches h (Some s) n (Found (layout h) n (Region region))
+  region_own : (region : Option ℕ) → BeginsRegion (cums batches s) n region → Shows Mono batches h (Some s) n (Found (layout s) n (Region region))
   region_own region is =
-      own_shows Mono batches id h s n (Region region) audit (λ g alt promised. named region is g alt) (unaltered region is) (begins region is) (changed batches id h s n region audit is) tt
+      own_shows Mono batches id h s (layout s) n (Region region) audit (λ g alt promised. named region is g alt) (unaltered region is) (begins region is) (changed batches id h s n region audit is) tt
 
 -- ---- under any header that is answered the same
 
@@ -80,8 +87,7 @@ all_altered chain h s n (Some first) other is =
 
 region_shows : (batches : List Batch) (id : ℕ) (h s : History) (n : ℕ) (region : Option ℕ) → IsAudit batches id h s n ⊎ IsPassed h s n → BeginsRegion (cums batches s) n region
     → Shows Mono batches h (Some s) n (Found (layout s) n (Region region))
-region_shows batches id h s n region (inl audit) is =
-    subst (λ (l : Layout). Shows Mono batches h (Some s) n (Found l n (Region region))) (one_layout h s audit.header) (region_own batches id h s n audit region is)
+region_shows batches id h s n region (inl audit) is = region_own batches id h s n audit region is
 region_shows batches id h s n region (inr passed) is =
     passed_shows Mono batches h s (layout s) n (Region region) passed (all_altered (cums batches s) h s n region passed.other is) tt
 

@@ -1,5 +1,5 @@
 -- Whatever is filed and stored, an analysis may find something.
-use Rattle.std.proofs.Common.{◌≡◌, ℕ, nat_le, Bool, true, false, List, [], ◌∷◌, length, Option, Some, None, Result, Ok, Err, refl}
+use Rattle.std.proofs.Common.{ℕ, nat_le, Bool, true, false, List, [], ◌∷◌, length, Option, Some, None, Result, Ok, Err, refl}
 use Rattle.history_model.specs.History.{History}
 use Rattle.digest_model.specs.Layout.{Layout, layout, first_granule, max_granules}
 use Rattle.notary_link.specs.declared.answer.Answer.{Answer}
@@ -7,7 +7,6 @@ use Rattle.notary_link.specs.declared.answer.Answer.TheVariants.{Same, Differs, 
 use Rattle.notary_link.specs.declared.name.Name.TheVariants as names
 use Rattle.notary_link.specs.Batches.{Batch}
 use Rattle.audit_model.specs.Notary.{header_answer}
-use Rattle.tiled_forensics.specs.Target.{tile_told}
 use Rattle.a3d_forensics.specs.Descent.{tree_told}
 use Rattle.validator.specs.declared.verdict.Verdict.{Verdict}
 use Rattle.validator.specs.declared.verdict.Verdict.TheVariants as verdicts

@@ -1,8 +1,9 @@
 -- What the answers tell of each tile, where nothing stopped.
-use Rattle.std.proofs.Common.{◌≡◌, ◌⊎◌, inl, inr, ℕ, ◌<◌, true, List, Option, Some, None, Result, Ok, Err, refl, sym, ap, ◌∙◌, arith}
+use Rattle.std.proofs.Common.{◌≡◌, ◌⊎◌, inl, inr, ℕ, ◌<◌, true, List, Option, Some, None, Result, Ok, Err, refl, sym, ap, subst, ◌∙◌, arith}
 use Rattle.std.specs.List.{Contains, range_with_len}
 use Rattle.history_model.specs.History.{History}
-use Rattle.digest_model.specs.Layout.{Layout, layout, exponent, whole}
+use Rattle.digest_model.specs.Layout.{Layout, layout, SameTiles, exponent, whole}
+use Rattle.digest_model.proofs.Layouts.{same_exponent}
 use Rattle.digest_model.proofs.Lists.{in_range, from_range}
 use Rattle.notary_link.specs.declared.answer.Answer.{Answer}
 use Rattle.notary_link.specs.declared.answer.Answer.TheVariants.{Same}
@@ -26,6 +27,16 @@ IsListed l answers targets tile = (target : ℕ) × Contains targets (tile, targ
 pub record AreTargets (l : Layout) (answers : ℕ → ℕ → Answer) (n : ℕ) (targets : List (ℕ × ℕ)) : Type 0 where
   pub each : (tile : ℕ) → tile < n → (answers tile whole ≡ Same) ⊎ IsListed l (answers tile) targets tile
   pub only : (t : ℕ × ℕ) → Contains targets t → (t.0 < n) × IsTarget (exponent l t.0) (answers t.0) t.1
+
+-- the same of tiles that lie alike
+pub alike_targets : (l m : Layout) (answers : ℕ → ℕ → Answer) (n : ℕ) (targets : List (ℕ × ℕ)) → SameTiles n l m → AreTargets m answers n targets → AreTargets l answers n targets
+alike_targets l m answers n targets same are = record {
+  each = λ tile below. elim (are.each tile below) [
+    | inl is ↦ inl is
+    | inr t ↦ inr (t.0, t.1, subst (λ (k : ℕ). IsTarget k (answers tile) t.0) (sym (same_exponent l m tile (same tile below))) t.2)
+  ];
+  only = λ t is. (let o = are.only t is in (o.0, subst (λ (k : ℕ). IsTarget k (answers t.0) t.1) (sym (same_exponent l m t.0 (same t.0 o.0))) o.1));
+}
 
 same_pair : (a b : ℕ × ℕ) → Some a ≡ Some b → a ≡ b
 same_pair a b e = cc

@@ -6,10 +6,11 @@ use Rattle.tuple_bytes.specs.declared.header.Header.{Header}
 use Rattle.tuple_bytes.specs.Spelling.{spell_fields}
 use Rattle.history_model.specs.History.{History}
 use Rattle.digest_model.specs.Layout.{Layout, layout, first_granule, max_granules, tile_of}
+use Rattle.digest_model.proofs.Layouts.{same_begins}
 use Rattle.notary_link.specs.declared.answer.Answer.{Answer}
 use Rattle.notary_link.specs.Batches.{Batch}
 use Rattle.audit_model.specs.Altered.{HasOtherHeader, IsAltered, HashClash}
-use Rattle.audit_model.specs.Laws.{IsAudit}
+use Rattle.audit_model.specs.Laws.{IsAudit, HasTree}
 use Rattle.audit_model.specs.Tree.{IsFound, checks}
 use Rattle.audit_model.proofs.Filed.{each}
 use Rattle.audit_model.proofs.Descent.{found_exact}
@@ -19,7 +20,7 @@ use Rattle.forensic_report.specs.declared.algorithm.Algorithm.TheVariants.{A3d}
 use Rattle.forensic_report.specs.Analysis.{Analysis, Leaves, Found, is_some_bad, bad_tiles}
 use Rattle.forensic_report.specs.Finding.{analysis_by, has_chains}
 use Rattle.forensic_report.specs.Shows.{AreAltered, Shows}
-use Rattle.forensic_report.proofs.Layouts.{tile_has_tree, few_sealed, one_layout}
+use Rattle.forensic_report.proofs.Layouts.{tree_of_audit, few_sealed}
 use Rattle.forensic_report.proofs.Lists.{unstopped, none_bad}
 use Rattle.forensic_report.proofs.Told.{leaves, stop_of_tree, found_in_tree, tree_is}
 use Rattle.forensic_report.proofs.Headers.{IsPassed, own_shows, passed_shows}
@@ -50,24 +51,24 @@ tree_of batches s n a has small is =
 -- ---- under the header that was filed
 
 module _ (batches : List Batch) (id : ℕ) (h s : History) (n : ℕ) (granules : List ℕ) (checks : ℕ)
-    (audit : IsAudit batches id h s n) (has : has_chains A3d (layout h) ≡ true) (are : AreLeaves (layout h) (nodes_of batches s) n granules) where
+    (audit : IsAudit batches id h s n) (has : HasTree h n) (are : AreLeaves (layout h) (nodes_of batches s) n granules) where
   listed : (g : ℕ) → IsAltered h (Some s) n g → Contains granules g ⊎ HashClash h (Some s) n
-  listed g alt = elim (descent_has batches id h s n g audit (λ tile below. tile_has_tree h n tile has below) alt) [
+  listed g alt = elim (descent_has batches id h s n g audit has alt) [
     | inl leaf ↦ inl ((are.exact g).1 leaf)
     | inr clash ↦ inr clash
   ]
 
-  unaltered : is_some_bad (bad_tiles (layout h) n (Leaves granules checks)) ≡ false → (g : ℕ) → IsAltered h (Some s) n g → HashClash h (Some s) n
+  unaltered : is_some_bad (bad_tiles (layout s) n (Leaves granules checks)) ≡ false → (g : ℕ) → IsAltered h (Some s) n g → HashClash h (Some s) n
   unaltered none g alt = elim (listed g alt) [
-    | inl is ↦ absurd (none_bad (tile_of (layout h)) granules g none is)
+    | inl is ↦ absurd (none_bad (tile_of (layout s)) granules g none is)
     | inr clash ↦ clash
   ]
 
   only : AreAltered h s n (Leaves granules checks)
-  only one = each (λ g. IsAltered h (Some s) n g) granules (λ g is. descent_is batches id h s n g audit (λ tile below. tile_has_tree h n tile has below) ((are.exact g).0 is))
+  only one = each (λ g. IsAltered h (Some s) n g) granules (λ g is. descent_is batches id h s n g audit has ((are.exact g).0 is))
 
-  leaves_own : Shows A3d batches h (Some s) n (Found (layout h) n (Leaves granules checks))
-  leaves_own = own_shows A3d batches id h s n (Leaves granules checks) audit (λ g alt promised. listed g alt) unaltered tt only tt
+  leaves_own : Shows A3d batches h (Some s) n (Found (layout s) n (Leaves granules checks))
+  leaves_own = own_shows A3d batches id h s (layout s) n (Leaves granules checks) audit (λ g alt promised. listed g alt) unaltered tt only tt
 
 -- ---- under any header that is answered the same
 
@@ -77,8 +78,9 @@ none_under_other h s n granules checks other one = absurd (other (ap (λ (hd : H
 leaves_show : (batches : List Batch) (id : ℕ) (h s : History) (n : ℕ) (granules : List ℕ) (checks : ℕ) → has_chains A3d (layout s) ≡ true → IsAudit batches id h s n ⊎ IsPassed h s n
     → AreLeaves (layout s) (nodes_of batches s) n granules → Shows A3d batches h (Some s) n (Found (layout s) n (Leaves granules checks))
 leaves_show batches id h s n granules checks has (inl audit) are =
-    subst (λ (l : Layout). Shows A3d batches h (Some s) n (Found l n (Leaves granules checks))) (one_layout h s audit.header)
-    (leaves_own batches id h s n granules checks audit (subst (λ (l : Layout). has_chains A3d l ≡ true) (sym (one_layout h s audit.header)) has) (subst (λ (l : Layout). AreLeaves l (nodes_of batches s) n granules) (sym (one_layout h s audit.header)) are))
+    let ends : first_granule (layout s) n ≡ first_granule (layout h) n = sym (same_begins (layout h) (layout s) n audit.places) in
+    leaves_own batches id h s n granules checks audit (tree_of_audit batches id h s n audit has)
+    (record { exact = λ g. subst (λ (end : ℕ). Contains granules g ↔ IsFound end (nodes_of batches s) g) ends (are.exact g) })
 leaves_show batches id h s n granules checks has (inr passed) are =
     passed_shows A3d batches h s (layout s) n (Leaves granules checks) passed (none_under_other h s n granules checks passed.other) tt
 

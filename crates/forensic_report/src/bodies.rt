@@ -3,6 +3,7 @@
 ghost use Rattle.std.specs.Prelude.{◌≡◌, ◌<◌, ◌≤◌, ◌+◌, ◌^◌, ◌++◌, All, IfErr, OnOk};
 ghost use Rattle.std.specs.List.{flat_map};
 ghost use Rattle.outside_words.specs.Faults.{HasCause};
+ghost use Rattle.outside_words.specs.Shown.{ShowsFaults};
 ghost use Rattle.outside_words.specs.Told.{WhereTold};
 ghost use Rattle.notary_link.specs.Notary.{Unchanged, GoesOn};
 ghost use Rattle.tuple_bytes.specs.Spelling.{FitsHeader};
@@ -10,6 +11,7 @@ ghost use Rattle.digest_model.specs.Layout.{first_granule, max_granules};
 ghost use Rattle.cumulative_chain.specs.Tiles.{layout_of};
 ghost use Rattle.corruption_diagram.specs.CleanMarks.{StandFor};
 ghost use Rattle.forensic_report.specs.declared.fail.AnalyseFail.TheVariants.{NotaryFault};
+ghost use Rattle.forensic_report.specs.Fails.{notary_in_doubt};
 ghost use Rattle.forensic_report.specs.Texts.{kept_of, region_line, target_line, granule_line};
 ghost use Rattle.forensic_report.specs.Reporting.{Begins};
 ghost use Rattle.forensic_report.specs.Values.{IsOfWriting};
@@ -48,6 +50,7 @@ pub(crate) fn put_region_line<N: Notary>(
     ensures asked { (N.state notary.new).asked ≡ (N.state notary.old).asked }
     ensures frame { GoesOn (N.state notary.old) (N.state notary.new) }
     ensures cause { HasCause NotaryFault (N.state notary.old).faults (N.state notary.new).faults result }
+    ensures counted { ShowsFaults notary_in_doubt (N.state notary.old).faults (N.state notary.new).faults result }
 {
     let from = least_from(clean, notary, request.id, first, tiles, request.now)?;
     let span = Span {
@@ -79,6 +82,7 @@ pub(crate) fn put_targets<N: Notary>(
     ensures asked { (N.state notary.new).asked ≡ (N.state notary.old).asked }
     ensures frame { GoesOn (N.state notary.old) (N.state notary.new) }
     ensures cause { HasCause NotaryFault (N.state notary.old).faults (N.state notary.new).faults result }
+    ensures counted { ShowsFaults notary_in_doubt (N.state notary.old).faults (N.state notary.new).faults result }
 {
     for failing in targets {
         let tile = failing.0;
@@ -109,6 +113,7 @@ pub(crate) fn put_granules<N: Notary>(
     ensures asked { (N.state notary.new).asked ≡ (N.state notary.old).asked }
     ensures frame { GoesOn (N.state notary.old) (N.state notary.new) }
     ensures cause { HasCause NotaryFault (N.state notary.old).faults (N.state notary.new).faults result }
+    ensures counted { ShowsFaults notary_in_doubt (N.state notary.old).faults (N.state notary.new).faults result }
 {
     let mut recent = None;
     for granule in granules {

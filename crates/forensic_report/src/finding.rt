@@ -2,6 +2,7 @@
 
 ghost use Rattle.std.specs.Prelude.{◌≡◌, ◌≤◌, ◌+◌, Some, IfOk, IfErr, IfSome, length};
 ghost use Rattle.outside_words.specs.Faults.{HasCause};
+ghost use Rattle.outside_words.specs.Shown.{ShowsFaults};
 ghost use Rattle.outside_words.specs.Told.{WhereTold};
 ghost use Rattle.disk_words.specs.Disk as disks;
 ghost use Rattle.notary_link.specs.Notary.{Unchanged, GoesOn};
@@ -14,6 +15,7 @@ ghost use Rattle.cumulative_chain.specs.Tiles.{layout_of};
 ghost use Rattle.validator.specs.Reading.{as_stored};
 ghost use Rattle.audit_model.specs.Altered.{history_in, history_with};
 ghost use Rattle.forensic_report.specs.declared.fail.AnalyseFail.TheVariants.{DiskFault, NotaryFault};
+ghost use Rattle.forensic_report.specs.Fails.{disk_in_doubt, notary_in_doubt};
 ghost use Rattle.forensic_report.specs.Analysis.{questions};
 ghost use Rattle.forensic_report.specs.Held.{HoldsFiled};
 ghost use Rattle.forensic_report.specs.Finding.{has_chains, IsFoundBy, IsFoundWith, IsFoundOf, IsAnalysis, IsOfAnalysis};
@@ -50,10 +52,12 @@ pub(crate) fn find<D: Disk, N: Notary>(
     ensures same_disk { disks.Unchanged (D.state disk.old) (D.state disk.new) }
     ensures disk_frame { disks.GoesOn (D.state disk.old) (D.state disk.new) }
     ensures disk_cause { HasCause DiskFault (D.state disk.old).faults (D.state disk.new).faults result }
+    ensures disk_counted { ShowsFaults disk_in_doubt (D.state disk.old).faults (D.state disk.new).faults result }
     ensures same { Unchanged (N.state notary.old) (N.state notary.new) }
     ensures asked { IfOk result (λ a. (N.state notary.new).asked ≤ (N.state notary.old).asked + questions (analysis_of a)) }
     ensures frame { GoesOn (N.state notary.old) (N.state notary.new) }
     ensures cause { HasCause NotaryFault (N.state notary.old).faults (N.state notary.new).faults result }
+    ensures counted { ShowsFaults notary_in_doubt (N.state notary.old).faults (N.state notary.new).faults result }
 {
     match notary.count(id)? {
         0 => Ok(Analysis::Unsealed),
@@ -78,10 +82,12 @@ fn find_stored<D: Disk, N: Notary>(
     ensures same_disk { disks.Unchanged (D.state disk.old) (D.state disk.new) }
     ensures disk_frame { disks.GoesOn (D.state disk.old) (D.state disk.new) }
     ensures disk_cause { HasCause DiskFault (D.state disk.old).faults (D.state disk.new).faults result }
+    ensures disk_counted { ShowsFaults disk_in_doubt (D.state disk.old).faults (D.state disk.new).faults result }
     ensures same { Unchanged (N.state notary.old) (N.state notary.new) }
     ensures asked { IfOk result (λ a. (N.state notary.new).asked ≤ (N.state notary.old).asked + questions (analysis_of a)) }
     ensures frame { GoesOn (N.state notary.old) (N.state notary.new) }
     ensures cause { HasCause NotaryFault (N.state notary.old).faults (N.state notary.new).faults result }
+    ensures counted { ShowsFaults notary_in_doubt (N.state notary.old).faults (N.state notary.new).faults result }
 {
     let stored = read_spelled(alloc, disk)?;
     find_in(alloc, &stored, notary, id, algorithm, tiles)
@@ -105,6 +111,7 @@ fn find_in<N: Notary>(
     ensures asked { IfOk result (λ a. (N.state notary.new).asked ≤ (N.state notary.old).asked + questions (analysis_of a)) }
     ensures frame { GoesOn (N.state notary.old) (N.state notary.new) }
     ensures cause { HasCause NotaryFault (N.state notary.old).faults (N.state notary.new).faults result }
+    ensures counted { ShowsFaults notary_in_doubt (N.state notary.old).faults (N.state notary.new).faults result }
 {
     match &stored.header {
         Some(header) => {
@@ -136,6 +143,7 @@ fn find_under<N: Notary>(
     ensures asked { IfOk result (λ a. (N.state notary.new).asked ≤ (N.state notary.old).asked + questions (analysis_of a)) }
     ensures frame { GoesOn (N.state notary.old) (N.state notary.new) }
     ensures cause { HasCause NotaryFault (N.state notary.old).faults (N.state notary.new).faults result }
+    ensures counted { ShowsFaults notary_in_doubt (N.state notary.old).faults (N.state notary.new).faults result }
 {
     let name = Name::Header;
     match notary.ask(header.id, name, &header_digest(header))? {
@@ -174,6 +182,7 @@ fn find_tiles<N: Notary>(
     ensures asked { IfOk result (λ a. (N.state notary.new).asked + 1 ≤ (N.state notary.old).asked + questions (analysis_of a)) }
     ensures frame { GoesOn (N.state notary.old) (N.state notary.new) }
     ensures cause { HasCause NotaryFault (N.state notary.old).faults (N.state notary.new).faults result }
+    ensures counted { ShowsFaults notary_in_doubt (N.state notary.old).faults (N.state notary.new).faults result }
 {
     if !has_chains(algorithm, header) {
         return Err(AnalyseFail::NotSealedSo);
@@ -216,6 +225,7 @@ fn find_examined<N: Notary, L: Ledger>(
     ensures asked { IfOk result (λ a. (N.state notary.new).asked + 1 ≤ (N.state notary.old).asked + questions (analysis_of a)) }
     ensures frame { GoesOn (N.state notary.old) (N.state notary.new) }
     ensures cause { HasCause NotaryFault (N.state notary.old).faults (N.state notary.new).faults result }
+    ensures counted { ShowsFaults notary_in_doubt (N.state notary.old).faults (N.state notary.new).faults result }
 {
     let mut steps = Steps::<L>::new(blank);
     let findings = search(alloc, header, items, notary, algorithm, tiles, &mut steps)?;

@@ -21,6 +21,7 @@
 //! | no other cause refuses | `none_other` |
 //! | the store and the notary are as they were | `same`, `unchanged` |
 //! | a fault is answered only where the disk or the notary counted it | `disk_cause`, `notary_cause` |
+//! | behind Ok neither counted a fault, nor behind a refusal but its own fault and want of memory: no failed call was tried again | `disk_counted`, `notary_counted` |
 //!
 //! | A law | Says |
 //! |---|---|

@@ -2,6 +2,7 @@
 
 ghost use Rattle.std.specs.Prelude.{◌≡◌, ◌≤◌, ◌+◌, ◌*◌, ℕ, IfErr, IfOk, length};
 ghost use Rattle.outside_words.specs.Faults.{HasCause};
+ghost use Rattle.outside_words.specs.Shown.{ShowsFaults};
 ghost use Rattle.outside_words.specs.Told.{WhereTold};
 ghost use Rattle.notary_link.specs.Notary.{Unchanged, GoesOn};
 ghost use Rattle.history_model.specs.History.{history, txns};
@@ -10,6 +11,7 @@ ghost use Rattle.digest_model.specs.Layout.{layout, first_granule, max_granules}
 ghost use Rattle.cumulative_chain.specs.Tiles.{layout_of};
 ghost use Rattle.forensic_report.specs.declared.algorithm.Algorithm.TheVariants.{Mono, Tiled, A3d};
 ghost use Rattle.forensic_report.specs.declared.fail.AnalyseFail.TheVariants.{NotaryFault};
+ghost use Rattle.forensic_report.specs.Fails.{notary_in_doubt};
 ghost use Rattle.forensic_report.specs.Analysis.{asked_by, FitsFindings};
 ghost use Rattle.forensic_report.specs.Finding.{IsFoundBy, hashes_by};
 ghost use Rattle.forensic_report.specs.Values.{findings_of, found_with, OrGivesUp, IsOfFinding};
@@ -49,6 +51,7 @@ pub(crate) fn search<N: Notary, L: Ledger>(
     ensures steps { steps.new ≤ steps.old + hashes_by algorithm * length (txns items.now) }
     ensures frame { GoesOn (N.state notary.old) (N.state notary.new) }
     ensures cause { HasCause NotaryFault (N.state notary.old).faults (N.state notary.new).faults result }
+    ensures counted { ShowsFaults notary_in_doubt (N.state notary.old).faults (N.state notary.new).faults result }
 {
     match algorithm {
         Algorithm::Mono => find_region(alloc, header, items, notary, tiles, steps),
@@ -80,6 +83,7 @@ fn find_region<N: Notary, L: Ledger>(
     ensures steps { steps.new ≤ steps.old + hashes_by Mono * length (txns items.now) }
     ensures frame { GoesOn (N.state notary.old) (N.state notary.new) }
     ensures cause { HasCause NotaryFault (N.state notary.old).faults (N.state notary.new).faults result }
+    ensures counted { ShowsFaults notary_in_doubt (N.state notary.old).faults (N.state notary.new).faults result }
 {
     if tiles == 0 {
         return Ok(Findings::Region { first: None });
@@ -111,6 +115,7 @@ fn find_targets<N: Notary, L: Ledger>(
     ensures steps { steps.new ≤ steps.old + hashes_by Tiled * length (txns items.now) }
     ensures frame { GoesOn (N.state notary.old) (N.state notary.new) }
     ensures cause { HasCause NotaryFault (N.state notary.old).faults (N.state notary.new).faults result }
+    ensures counted { ShowsFaults notary_in_doubt (N.state notary.old).faults (N.state notary.new).faults result }
 {
     let plan = Plan::new(alloc, header, items, tiles, steps)?;
     failing_tiles(alloc, &plan, notary, header.id)
@@ -132,6 +137,7 @@ fn failing_tiles<N: Notary>(
     ensures asked { IfOk result (λ found. (N.state notary.new).asked ≤ (N.state notary.old).asked + asked_by (layout plan.now.history) plan.now.tiles (findings_of found)) }
     ensures frame { GoesOn (N.state notary.old) (N.state notary.new) }
     ensures cause { HasCause NotaryFault (N.state notary.old).faults (N.state notary.new).faults result }
+    ensures counted { ShowsFaults notary_in_doubt (N.state notary.old).faults (N.state notary.new).faults result }
 {
     let mut targets = FailingTiles::new(alloc);
     for tile in 0..plan.tiles() {
@@ -162,6 +168,7 @@ fn find_leaves<N: Notary, L: Ledger>(
     ensures steps { steps.new ≤ steps.old + hashes_by A3d * length (txns items.now) }
     ensures frame { GoesOn (N.state notary.old) (N.state notary.new) }
     ensures cause { HasCause NotaryFault (N.state notary.old).faults (N.state notary.new).faults result }
+    ensures counted { ShowsFaults notary_in_doubt (N.state notary.old).faults (N.state notary.new).faults result }
 {
     let plan = Plan::new(alloc, header, items, tiles, steps)?;
     altered_leaves(alloc, &plan, notary, header.id)
@@ -183,6 +190,7 @@ fn altered_leaves<N: Notary>(
     ensures asked { IfOk result (λ found. (N.state notary.new).asked ≤ (N.state notary.old).asked + asked_by (layout plan.now.history) plan.now.tiles (findings_of found)) }
     ensures frame { GoesOn (N.state notary.old) (N.state notary.new) }
     ensures cause { HasCause NotaryFault (N.state notary.old).faults (N.state notary.new).faults result }
+    ensures counted { ShowsFaults notary_in_doubt (N.state notary.old).faults (N.state notary.new).faults result }
 {
     let found = altered(alloc, plan, notary, id)?;
     Ok(Findings::Leaves { found })

@@ -2,9 +2,11 @@
 
 ghost use Rattle.std.specs.Prelude.{◌≡◌, IfErr, IfOk};
 ghost use Rattle.outside_words.specs.Faults.{HasCause};
+ghost use Rattle.outside_words.specs.Shown.{ShowsFaults};
 ghost use Rattle.outside_words.specs.Told.{WhereTold};
 ghost use Rattle.notary_link.specs.Notary.{Unchanged, GoesOn};
 ghost use Rattle.forensic_report.specs.declared.fail.AnalyseFail.TheVariants.{NotaryFault};
+ghost use Rattle.forensic_report.specs.Fails.{notary_in_doubt};
 ghost use Rattle.forensic_report.specs.Reporting.{Begins};
 ghost use Rattle.forensic_report.specs.Texts.{head_line, report_text, kept_of};
 ghost use Rattle.forensic_report.specs.Values.{analysis_of, FitsAnalysis, IsOfWriting};
@@ -33,6 +35,7 @@ pub(crate) fn write_report<N: Notary>(
     ensures asked { (N.state notary.new).asked ≡ (N.state notary.old).asked }
     ensures frame { GoesOn (N.state notary.old) (N.state notary.new) }
     ensures cause { HasCause NotaryFault (N.state notary.old).faults (N.state notary.new).faults result }
+    ensures counted { ShowsFaults notary_in_doubt (N.state notary.old).faults (N.state notary.new).faults result }
 {
     let mut out = Vec::new(alloc);
     put_report(alloc, &mut out, notary, request, analysis)?;

@@ -1,4 +1,5 @@
 -- How a refusal of a layer below is told by an audit.
+use Rattle.std.specs.Prelude.{Bool, true, false}
 use Rattle.notary_link.specs.declared.fail.NotaryFail.{NotaryFail}
 use Rattle.notary_link.specs.declared.fail.NotaryFail.TheVariants as notary_fails
 use Rattle.notary_link.specs.declared.fail.AskFail.{AskFail}
@@ -30,3 +31,31 @@ of_journal journal_fails.Closed = fails.Closed
 of_journal journal_fails.AlreadyThere = fails.Broken
 of_journal journal_fails.NotAStore = fails.Broken
 of_journal journal_fails.NoMemory = fails.NoMemory
+
+-- a refusal behind which the disk may have failed
+abbrev pub disk_in_doubt : AuditFail → Bool
+disk_in_doubt fails.DiskFault = true
+disk_in_doubt fails.NoMemory = true
+disk_in_doubt fails.NotaryFault = false
+disk_in_doubt (fails.ClockBack last) = false
+disk_in_doubt fails.TooLate = false
+disk_in_doubt fails.StoreFull = false
+disk_in_doubt fails.Full = false
+disk_in_doubt fails.Closed = false
+disk_in_doubt fails.Broken = false
+disk_in_doubt (fails.SealMissing name) = false
+disk_in_doubt (fails.OutOfTurn count) = false
+
+-- a refusal behind which the notary may have failed
+abbrev pub notary_in_doubt : AuditFail → Bool
+notary_in_doubt fails.NotaryFault = true
+notary_in_doubt fails.NoMemory = true
+notary_in_doubt fails.DiskFault = false
+notary_in_doubt (fails.ClockBack last) = false
+notary_in_doubt fails.TooLate = false
+notary_in_doubt fails.StoreFull = false
+notary_in_doubt fails.Full = false
+notary_in_doubt fails.Closed = false
+notary_in_doubt fails.Broken = false
+notary_in_doubt (fails.SealMissing name) = false
+notary_in_doubt (fails.OutOfTurn count) = false

@@ -3,6 +3,7 @@
 ghost use Rattle.std.specs.Prelude.{◌≡◌, ◌≤◌, ◌<◌, ◌+◌, ◌-◌, ◌^◌, suc, false, ℕ, List, All, map, length, IfOk, IfErr};
 ghost use Rattle.std.specs.List.{range_with_len};
 ghost use Rattle.outside_words.specs.Faults.{HasCause};
+ghost use Rattle.outside_words.specs.Shown.{ShowsFaults};
 ghost use Rattle.outside_words.specs.Told.{WhereTold};
 ghost use Rattle.disk_words.specs.Disk as disks;
 ghost use Rattle.tuple_bytes.specs.declared.item.Item.{Item};
@@ -15,10 +16,12 @@ ghost use Rattle.notary_link.specs.Notary as notaries;
 ghost use Rattle.store_engine.specs.Opened.{IsOpenOn};
 ghost use Rattle.validator.specs.Desk.{WhereBothTell, desk};
 ghost use Rattle.validator.specs.declared.fail.AuditFail.TheVariants.{DiskFault, NotaryFault};
+ghost use Rattle.validator.specs.Fails.{disk_in_doubt, notary_in_doubt};
 ghost use Rattle.validator.specs.Reaching.{StaysOpen, Notarizes};
 ghost use Rattle.validator.specs.Tiles.{end_of};
 ghost use Rattle.validator.specs.Steps.{fail_of_frontier, frontier_to, IsOfReaching, IsOfNotary, IsOfFilingAfter, Reaches, batches_from, FilesNext, IsNextPlan, IsChecked};
 
+use crate::ahead::end_at;
 use crate::fail::AuditFail;
 use crate::holding::refusal;
 use disk_model::Disk;
@@ -33,7 +36,7 @@ fn end_of(plan: &Plan, tiles: u32) -> u64
     requires within { first_granule (layout plan.now.history) tiles ≤ max_granules }
     ensures value { result ≡ end_of (layout plan.now.history) plan.now.history.header tiles }
 {
-    plan.eras().first(tiles) * u64::from(plan.header().width)
+    end_at(plan.eras(), plan.header(), tiles)
 }
 
 /// A Frontier's refusal, as it is told here. An open store refuses it only for these three causes.
@@ -62,6 +65,7 @@ fn reach<D: Disk>(
     ensures open { StaysOpen result store.old store.new }
     ensures frame { disks.GoesOn (D.state disk.old) (D.state disk.new) }
     ensures cause { HasCause DiskFault (D.state disk.old).faults (D.state disk.new).faults result }
+    ensures counted { ShowsFaults disk_in_doubt (D.state disk.old).faults (D.state disk.new).faults result }
 {
     match store.frontier(alloc, disk, moment) {
         Ok(()) => Ok(()),
@@ -109,6 +113,7 @@ fn file_batches<N: Notary>(
     ensures asked { (N.state notary.new).asked ≡ (N.state notary.old).asked }
     ensures frame { notaries.GoesOn (N.state notary.old) (N.state notary.new) }
     ensures cause { HasCause NotaryFault (N.state notary.old).faults (N.state notary.new).faults result }
+    ensures counted { ShowsFaults notary_in_doubt (N.state notary.old).faults (N.state notary.new).faults result }
 {
     let id = plan.header().id;
     let batches = seal_batches(alloc, plan, count, ended)?;
@@ -143,7 +148,9 @@ pub(crate) fn file_ended<D: Disk, N: Notary>(
     ensures disk_frame { disks.GoesOn (D.state disk.old) (D.state disk.new) }
     ensures notary_frame { notaries.GoesOn (N.state notary.old) (N.state notary.new) }
     ensures disk_cause { HasCause DiskFault (D.state disk.old).faults (D.state disk.new).faults result }
+    ensures disk_counted { ShowsFaults disk_in_doubt (D.state disk.old).faults (D.state disk.new).faults result }
     ensures notary_cause { HasCause NotaryFault (N.state notary.old).faults (N.state notary.new).faults result }
+    ensures notary_counted { ShowsFaults notary_in_doubt (N.state notary.old).faults (N.state notary.new).faults result }
 {
     let ended = plan.tiles();
     reach(alloc, store, disk, end_of(plan, ended))?;

@@ -2,6 +2,7 @@
 
 ghost use Rattle.std.specs.Prelude.{◌≡◌, ◌≤◌, ◌+◌, Some, IfOk, IfErr, IfSome, length, map};
 ghost use Rattle.outside_words.specs.Faults.{HasCause};
+ghost use Rattle.outside_words.specs.Shown.{ShowsFaults};
 ghost use Rattle.outside_words.specs.Told.{WhereTold};
 ghost use Rattle.notary_link.specs.Notary.{Unchanged, GoesOn};
 ghost use Rattle.std.specs.List.{range_with_len};
@@ -10,6 +11,7 @@ ghost use Rattle.history_model.specs.StoredHistory.{IsHistory};
 ghost use Rattle.digest_model.specs.Digests.{cum};
 ghost use Rattle.digest_model.specs.Layout.{max_granules};
 ghost use Rattle.validator.specs.declared.fail.AuditFail.TheVariants.{NotaryFault};
+ghost use Rattle.validator.specs.Fails.{notary_in_doubt};
 ghost use Rattle.audit_model.specs.Notary.{cums};
 ghost use Rattle.audit_model.specs.Altered.{history_with};
 ghost use Rattle.validator.specs.Reading.{as_stored};
@@ -45,6 +47,7 @@ pub(crate) fn find<N: Notary, L: Ledger>(
     ensures steps { steps.new ≤ steps.old + length (txns stored.now.items) }
     ensures frame { GoesOn (N.state notary.old) (N.state notary.new) }
     ensures cause { HasCause NotaryFault (N.state notary.old).faults (N.state notary.new).faults result }
+    ensures counted { ShowsFaults notary_in_doubt (N.state notary.old).faults (N.state notary.new).faults result }
 {
     match &stored.header {
         Some(header) => {
@@ -76,6 +79,7 @@ fn find_under<N: Notary, L: Ledger>(
     ensures steps { steps.new ≤ steps.old + length (txns items.now) }
     ensures frame { GoesOn (N.state notary.old) (N.state notary.new) }
     ensures cause { HasCause NotaryFault (N.state notary.old).faults (N.state notary.new).faults result }
+    ensures counted { ShowsFaults notary_in_doubt (N.state notary.old).faults (N.state notary.new).faults result }
 {
     let name = Name::Header;
     match notary.ask(header.id, name, &header_digest(header))? {
@@ -103,6 +107,7 @@ fn find_tiles<N: Notary, L: Ledger>(
     ensures steps { steps.new ≤ steps.old + length (txns items.now) }
     ensures frame { GoesOn (N.state notary.old) (N.state notary.new) }
     ensures cause { HasCause NotaryFault (N.state notary.old).faults (N.state notary.new).faults result }
+    ensures counted { ShowsFaults notary_in_doubt (N.state notary.old).faults (N.state notary.new).faults result }
 {
     let eras = items.eras(alloc, header);
     let past = eras.first_past();
@@ -129,6 +134,7 @@ fn search<N: Notary>(links: &[[u8; 32]], notary: &mut N, id: u64) -> Result<Verd
     ensures asked { IfOk result (λ verdict. (N.state notary.new).asked + 1 ≤ (N.state notary.old).asked + questions verdict) }
     ensures frame { GoesOn (N.state notary.old) (N.state notary.new) }
     ensures cause { HasCause NotaryFault (N.state notary.old).faults (N.state notary.new).faults result }
+    ensures counted { ShowsFaults notary_in_doubt (N.state notary.old).faults (N.state notary.new).faults result }
 {
     let tiles = links.len() as u32;
     match first_bad(links, notary, id)? {

@@ -3,6 +3,7 @@
 ghost use Rattle.std.specs.Prelude.{◌≡◌, ◌≢◌, true, false, ◌≤◌, ◌<◌, ◌+◌, ◌*◌, ◌-◌, ℕ, List, length, map, IfOk, IfErr, IfSome, Some};
 ghost use Rattle.std.specs.List.{range_with_len};
 ghost use Rattle.outside_words.specs.Faults.{HasCause};
+ghost use Rattle.outside_words.specs.Shown.{ShowsFaults};
 ghost use Rattle.outside_words.specs.Told.{WhereTold};
 ghost use Rattle.disk_words.specs.Disk as disks;
 ghost use Rattle.tuple_bytes.specs.declared.item.Item.{Item};
@@ -19,7 +20,7 @@ ghost use Rattle.notary_link.specs.Notary as notaries;
 ghost use Rattle.store_engine.specs.Opened.{Stores};
 ghost use Rattle.validator.specs.Desk.{WhereBothTell, desk};
 ghost use Rattle.validator.specs.declared.fail.AuditFail.TheVariants.{DiskFault, NotaryFault};
-ghost use Rattle.validator.specs.Fails.{of_notary};
+ghost use Rattle.validator.specs.Fails.{of_notary, disk_in_doubt, notary_in_doubt};
 ghost use Rattle.validator.specs.Notarizing.{fault_by, filed_fault, IsRefusedBy};
 ghost use Rattle.validator.specs.Steps.{IsReadAs, IsOfReading, IsOfCounting, IsOfAsking, IsOfHolding, header_fault, sealed_fault, IsPast, plan_for, IsPlanFor, Holds};
 
@@ -63,6 +64,7 @@ fn read_anew<D: Disk>(alloc: Global, disk: &mut D, header: &Header) -> Result<Sp
     ensures same { disks.Unchanged (D.state disk.old) (D.state disk.new) }
     ensures frame { disks.GoesOn (D.state disk.old) (D.state disk.new) }
     ensures cause { HasCause DiskFault (D.state disk.old).faults (D.state disk.new).faults result }
+    ensures counted { ShowsFaults disk_in_doubt (D.state disk.old).faults (D.state disk.new).faults result }
 {
     let stored = match read_spelled(alloc, disk) {
         Ok(stored) => stored,
@@ -89,6 +91,7 @@ fn ask_same<N: Notary>(
     ensures asked { (N.state notary.new).asked ≤ (N.state notary.old).asked + 1 }
     ensures frame { notaries.GoesOn (N.state notary.old) (N.state notary.new) }
     ensures cause { HasCause NotaryFault (N.state notary.old).faults (N.state notary.new).faults result }
+    ensures counted { ShowsFaults notary_in_doubt (N.state notary.old).faults (N.state notary.new).faults result }
 {
     match notary.ask(id, name, digest) {
         Ok(Answer::Same) => Ok(()),
@@ -108,6 +111,7 @@ fn hold_header<N: Notary>(notary: &mut N, header: &Header, count: u32) -> Result
     ensures asked { (N.state notary.new).asked ≤ (N.state notary.old).asked + 1 }
     ensures frame { notaries.GoesOn (N.state notary.old) (N.state notary.new) }
     ensures cause { HasCause NotaryFault (N.state notary.old).faults (N.state notary.new).faults result }
+    ensures counted { ShowsFaults notary_in_doubt (N.state notary.old).faults (N.state notary.new).faults result }
 {
     if count == 0 {
         return Ok(());
@@ -158,6 +162,7 @@ fn hold_chain<N: Notary>(
     ensures asked { (N.state notary.new).asked ≤ (N.state notary.old).asked + 1 }
     ensures frame { notaries.GoesOn (N.state notary.old) (N.state notary.new) }
     ensures cause { HasCause NotaryFault (N.state notary.old).faults (N.state notary.new).faults result }
+    ensures counted { ShowsFaults notary_in_doubt (N.state notary.old).faults (N.state notary.new).faults result }
 {
     if count < 2 {
         return Ok(());
@@ -190,6 +195,7 @@ fn hold_filed<N: Notary, L: Ledger>(
     ensures few { tile_of (layout (history header.now items.now)) granule < count → steps.new ≤ steps.old + length (txns items.now) }
     ensures frame { notaries.GoesOn (N.state notary.old) (N.state notary.new) }
     ensures cause { HasCause NotaryFault (N.state notary.old).faults (N.state notary.new).faults result }
+    ensures counted { ShowsFaults notary_in_doubt (N.state notary.old).faults (N.state notary.new).faults result }
 {
     hold_header(notary, header, count)?;
     let eras = items.eras(alloc, header);
@@ -213,6 +219,7 @@ fn count_filed<N: Notary>(notary: &mut N, id: u64) -> Result<u32, AuditFail>
     ensures asked { (N.state notary.new).asked ≡ (N.state notary.old).asked }
     ensures frame { notaries.GoesOn (N.state notary.old) (N.state notary.new) }
     ensures cause { HasCause NotaryFault (N.state notary.old).faults (N.state notary.new).faults result }
+    ensures counted { ShowsFaults notary_in_doubt (N.state notary.old).faults (N.state notary.new).faults result }
 {
     match notary.count(id) {
         Ok(count) => Ok(count),
@@ -245,7 +252,9 @@ pub(crate) fn hold_stored<D: Disk, N: Notary, L: Ledger>(
     ensures disk_frame { disks.GoesOn (D.state disk.old) (D.state disk.new) }
     ensures notary_frame { notaries.GoesOn (N.state notary.old) (N.state notary.new) }
     ensures disk_cause { HasCause DiskFault (D.state disk.old).faults (D.state disk.new).faults result }
+    ensures disk_counted { ShowsFaults disk_in_doubt (D.state disk.old).faults (D.state disk.new).faults result }
     ensures notary_cause { HasCause NotaryFault (N.state notary.old).faults (N.state notary.new).faults result }
+    ensures notary_counted { ShowsFaults notary_in_doubt (N.state notary.old).faults (N.state notary.new).faults result }
 {
     let items = read_anew(alloc, disk, header)?;
     let count = count_filed(notary, header.id)?;

@@ -19,6 +19,7 @@
 //! | the disk is as it was, and a sound store stays sound | `same`, `sound` |
 //! | where a verdict is answered few questions were asked: one for the header, and where a tile is sealed the number of binary digits of the tiles and two more | `asked` |
 //! | a fault is answered only where the disk or the notary counted it | `disk_cause`, `notary_cause` |
+//! | behind Ok neither counted a fault, nor behind a refusal but its own fault and want of memory: no failed call was tried again | `disk_counted`, `notary_counted` |
 //!
 //! [`notarize`] reads the store anew, and holds what is filed already against it. Where a batch is to be filed
 //! and the last moment has not reached the end of the last tile that has ended, it stores a Frontier, and only
@@ -39,6 +40,10 @@
 //! | at most two questions are asked | `asked` |
 //! | only a fault of the disk and want of memory close the store | `open` |
 //! | after these the store is as it was, has reached the end of the last tile, or is closed | `told`: `stands` |
+//! | a fault has its cause, and none is hidden, as with `validate` | `disk_cause`, `notary_cause`, `disk_counted`, `notary_counted` |
+//!
+//! [`frontier_ahead`] tells before which Frontier that will be (`value`), or which of its early refusals comes
+//! (`early`). So a caller knows how many changing calls of the disk come before the first batch.
 //!
 //! [`read_spelled`] reads all that a store holds, once, and keeps each item as its payload in the file.
 //!
@@ -64,6 +69,7 @@
 //! ```
 #![tactic(auto)]
 
+mod ahead;
 mod fail;
 mod filing;
 mod finding;
@@ -76,6 +82,7 @@ mod reading;
 mod validating;
 mod verdict;
 
+pub use ahead::frontier_ahead;
 pub use fail::AuditFail;
 pub use laws::{broken_is_altered, missing_is_clash, sound_is_clean, sound_is_not_refused};
 pub use notarizing::notarize;

@@ -2,10 +2,12 @@
 
 ghost use Rattle.std.specs.Prelude.{◌≡◌, IfOk, IfErr, Ok};
 ghost use Rattle.outside_words.specs.Faults.{HasCause};
+ghost use Rattle.outside_words.specs.Shown.{ShowsFaults};
 ghost use Rattle.outside_words.specs.Told.{WhereTold};
 ghost use Rattle.notary_link.specs.Notary.{GoesOn};
 ghost use Rattle.history_model.specs.declared.stored.Stored.{Stored};
 ghost use Rattle.validator.specs.declared.fail.AuditFail.TheVariants.{NotaryFault};
+ghost use Rattle.validator.specs.Fails.{notary_in_doubt};
 ghost use Rattle.validator.specs.Verdicts.{mark_of, IsFound, Validates, MakesMark, KeepsBatches, IsOfJudging};
 
 use crate::fail::AuditFail;
@@ -47,6 +49,7 @@ pub(crate) fn add_mark<N: Notary>(
     ensures asked { (N.state notary.new).asked ≡ (N.state notary.old).asked }
     ensures frame { GoesOn (N.state notary.old) (N.state notary.new) }
     ensures cause { HasCause NotaryFault (N.state notary.old).faults (N.state notary.new).faults result }
+    ensures counted { ShowsFaults notary_in_doubt (N.state notary.old).faults (N.state notary.new).faults result }
 {
     match mark_of(verdict, now) {
         Some(mark) => {

@@ -2,12 +2,14 @@
 
 ghost use Rattle.std.specs.Prelude.{◌≡◌, ◌≤◌, ◌<◌, ◌+◌, List, Some, IsSome, IfOk, IfErr, MatchResult};
 ghost use Rattle.outside_words.specs.Faults.{HasCause};
+ghost use Rattle.outside_words.specs.Shown.{ShowsFaults};
 ghost use Rattle.disk_words.specs.Disk as disks;
 ghost use Rattle.notary_link.specs.Notary as notaries;
 ghost use Rattle.tuple_bytes.specs.declared.item.Item.{Item};
 ghost use Rattle.store_engine.specs.Opened.{IsOpenOn};
 ghost use Rattle.store_engine.specs.Refusals.{tail_of};
 ghost use Rattle.validator.specs.declared.fail.AuditFail.TheVariants.{DiskFault, NotaryFault};
+ghost use Rattle.validator.specs.Fails.{disk_in_doubt, notary_in_doubt};
 ghost use Rattle.validator.specs.Notarizing.{early_fault, IsEarly};
 ghost use Rattle.validator.specs.Reaching.{Notarizes, IsLeft, StaysOpen, AsksNothing};
 ghost use Rattle.validator.specs.Desk.{KeepsSound, WhereBothTell, desk};
@@ -15,6 +17,7 @@ ghost use Rattle.validator.specs.Steps.{IsTimely, IsOfClock};
 ghost use Rattle.tuple_bytes.specs.Spelling.{FitsHeader};
 ghost use Rattle.digest_model.specs.Layout.{max_granules};
 
+use crate::ahead::granule_at;
 use crate::fail::AuditFail;
 use crate::filing::file_ended;
 use crate::holding::hold_stored;
@@ -24,7 +27,6 @@ use std::alloc::Global;
 use std::marker::Brand;
 use step_count::Blank;
 use store_engine::Store;
-use tuple_bytes::{MAX_GRANULES, granule};
 
 /// Files the digests of each tile that has ended at these clock seconds and isn't filed yet, and
 /// answers how many tiles are sealed then.
@@ -52,7 +54,9 @@ pub fn notarize<D: Disk, N: Notary>(
     ensures disk_frame { disks.GoesOn (D.state disk.old) (D.state disk.new) }
     ensures notary_frame { notaries.GoesOn (N.state notary.old) (N.state notary.new) }
     ensures disk_cause { HasCause DiskFault (D.state disk.old).faults (D.state disk.new).faults result }
+    ensures disk_counted { ShowsFaults disk_in_doubt (D.state disk.old).faults (D.state disk.new).faults result }
     ensures notary_cause { HasCause NotaryFault (N.state notary.old).faults (N.state notary.new).faults result }
+    ensures notary_counted { ShowsFaults notary_in_doubt (N.state notary.old).faults (N.state notary.new).faults result }
 {
     let granule = granule_at(store, now)?;
     let header = store.header();
@@ -68,28 +72,4 @@ pub fn notarize<D: Disk, N: Notary>(
         Some(plan) => file_ended(alloc, store, disk, notary, &plan, count, now),
         None => Ok(count - 1),
     }
-}
-
-/// The granule of these clock seconds, which are a moment of the open store.
-fn granule_at(store: &Store, now: u64) -> Result<u32, AuditFail>
-    ensures value { MatchResult result (IsTimely (tail_of store.now) store.now.at.is_closed now)
-        (λ fail. early_fault (tail_of store.now) store.now.at.is_closed now ≡ Some fail) }
-    ensures within { IfOk result (λ granule. granule < max_granules) }
-    ensures only { IfErr result IsOfClock }
-    ensures fits { FitsHeader store.now.header }
-{
-    let header = store.header();
-    if store.is_closed() {
-        return Err(AuditFail::Closed);
-    }
-    let last = store.last_moment();
-    let moment = match now.checked_sub(header.epoch) {
-        Some(moment) if last <= moment => moment,
-        _ => return Err(AuditFail::ClockBack { last }),
-    };
-    let granule = granule(moment, header.width);
-    if granule >= u64::from(MAX_GRANULES) {
-        return Err(AuditFail::TooLate);
-    }
-    Ok(granule as u32)
 }

@@ -2,6 +2,7 @@
 
 ghost use Rattle.std.specs.Prelude.{◌≡◌, ◌≤◌, ◌+◌, ⊤, IfOk, IfErr, IfSome, length};
 ghost use Rattle.outside_words.specs.Faults.{HasCause};
+ghost use Rattle.outside_words.specs.Shown.{ShowsFaults};
 ghost use Rattle.outside_words.specs.Told.{WhereTold};
 ghost use Rattle.disk_words.specs.Disk as disks;
 ghost use Rattle.notary_link.specs.Notary as notaries;
@@ -10,6 +11,7 @@ ghost use Rattle.history_model.specs.History.{history, txns};
 ghost use Rattle.history_model.specs.Stored.{stored};
 ghost use Rattle.history_model.specs.StoredHistory.{IsHistory};
 ghost use Rattle.validator.specs.declared.fail.AuditFail.TheVariants.{DiskFault, NotaryFault};
+ghost use Rattle.validator.specs.Fails.{disk_in_doubt, notary_in_doubt};
 ghost use Rattle.validator.specs.Reading.{as_stored};
 ghost use Rattle.validator.specs.Verdicts.{Validates, MakesMark, KeepsBatches, IsOfValidation, IsOfJudging, questions};
 ghost use Rattle.validator.specs.Desk.{KeepsSound, desk};
@@ -47,7 +49,9 @@ pub fn validate<D: Disk, N: Notary>(
     ensures disk_frame { disks.GoesOn (D.state disk.old) (D.state disk.new) }
     ensures notary_frame { notaries.GoesOn (N.state notary.old) (N.state notary.new) }
     ensures disk_cause { HasCause DiskFault (D.state disk.old).faults (D.state disk.new).faults result }
+    ensures disk_counted { ShowsFaults disk_in_doubt (D.state disk.old).faults (D.state disk.new).faults result }
     ensures notary_cause { HasCause NotaryFault (N.state notary.old).faults (N.state notary.new).faults result }
+    ensures notary_counted { ShowsFaults notary_in_doubt (N.state notary.old).faults (N.state notary.new).faults result }
 {
     match notary.count(id)? {
         0 => Ok(Verdict::Unsealed),
@@ -81,7 +85,9 @@ fn validate_sealed<D: Disk, N: Notary, L: Ledger>(
     ensures disk_frame { disks.GoesOn (D.state disk.old) (D.state disk.new) }
     ensures notary_frame { notaries.GoesOn (N.state notary.old) (N.state notary.new) }
     ensures disk_cause { HasCause DiskFault (D.state disk.old).faults (D.state disk.new).faults result }
+    ensures disk_counted { ShowsFaults disk_in_doubt (D.state disk.old).faults (D.state disk.new).faults result }
     ensures notary_cause { HasCause NotaryFault (N.state notary.old).faults (N.state notary.new).faults result }
+    ensures notary_counted { ShowsFaults notary_in_doubt (N.state notary.old).faults (N.state notary.new).faults result }
 {
     let stored = read_spelled(alloc, disk)?;
     let mut steps = Steps::<L>::new(blank);
@@ -109,6 +115,7 @@ fn judge<N: Notary, L: Ledger>(
     ensures steps { steps.new ≤ steps.old + length (txns stored.now.items) }
     ensures frame { notaries.GoesOn (N.state notary.old) (N.state notary.new) }
     ensures cause { HasCause NotaryFault (N.state notary.old).faults (N.state notary.new).faults result }
+    ensures counted { ShowsFaults notary_in_doubt (N.state notary.old).faults (N.state notary.new).faults result }
 {
     let verdict = find(alloc, stored, notary, id, tiles, steps)?;
     add_mark(notary, id, verdict, now)

@@ -1,4 +1,4 @@
-use Rattle.std.proofs.Common.{rules, ◌≡◌, ◌+◌, ◌<◌, ◌++◌, Result, Ok, Err, refl, ap, subst, sym, arith, ℕ}
+use Rattle.std.proofs.Common.{rules, ◌≡◌, ◌+◌, ◌<◌, ◌++◌, ◌∙◌, Result, Ok, Err, refl, ap, subst, sym, arith, ℕ}
 use Rattle.outside_words.proofs.Told.{told_same}
 use Rattle.std.proofs.lemmas.List.Elements.{All-nil}
 use Rattle.digest_model.specs.Layout.{layout}
@@ -28,6 +28,7 @@ loop-tile-init g c =
       same = unchanged_same (S c.args.notary.now);
       few = none_asked (layout c.args.plan.now.history) c.new-targets.result (S c.args.notary.now).asked none;
       frame = goes_on_same (S c.args.notary.now);
+      counted = refl;
     }
 
 pub returns-in_err-target-clause-value : goal.returns-in_err-target-clause-value
@@ -63,4 +64,5 @@ loop-tile-preserved g c =
       same = unchanged_then _ _ _ on.frame asked.frame on.same asked.same;
       few = asked_more (layout h) n tile targets c.add.new.self target added _ _ _ on.few asked.asked;
       frame = goes_on_then _ _ _ on.frame asked.frame;
+      counted = asked.counted ∙ on.counted;
     }
