@@ -22,7 +22,7 @@ joined_push [] line rest = refl
 joined_push (l ∷ lines) line rest = ap (λ (x : List ℕ). l ++ feed ∷ x) (joined_push lines line rest)
 
 -- more behind the last feed
-joined_more : (lines : List (List ℕ)) (rest more : List ℕ) → joined lines (rest ++ more) ≡ joined lines rest ++ more
+pub joined_more : (lines : List (List ℕ)) (rest more : List ℕ) → joined lines (rest ++ more) ≡ joined lines rest ++ more
 joined_more [] rest more = refl
 joined_more (l ∷ lines) rest more = ap (λ (x : List ℕ). l ++ feed ∷ x) (joined_more lines rest more) ∙ sym (append_assoc l (feed ∷ joined lines rest) more)
 
@@ -57,7 +57,7 @@ given_line bytes lines old new x a so_far line feedless taken = record {
   given = one_more bytes lines old new x a so_far.given line feedless;
 }
 
-nothing_left : (xs ys : List ℕ) → xs ++ ys ≡ [] → length ys ≡ 0
+pub nothing_left : (xs ys : List ℕ) → xs ++ ys ≡ [] → length ys ≡ 0
 nothing_left xs ys e = omega (arith, length-append xs ys, ap length e)
 
 kept_given : (bytes : List ℕ) (lines : List (List ℕ)) (old new : Reading) (x a : List ℕ) → IsFront bytes lines old x ⊎ IsAll bytes lines old x → new.pending ++ a ≡ old.pending ++ x → new.taken + length a ≡ old.taken + length x → IsFront bytes lines new a ⊎ IsAll bytes lines new a

@@ -10,9 +10,9 @@ use Rattle.line_input.specs.declared.fail.InputFail.{InputFail}
 use Rattle.line_input.specs.declared.gathering.Gathering.{Gathering}
 use Rattle.line_input.specs.Limits.{input_limit, piece_limit}
 use Rattle.line_input.specs.Lines.{feed, has_feed, IsFeedless, lines_of}
-use Rattle.line_input.specs.Piece.{rest_of, IsMoved}
-use Rattle.line_input.specs.Reader.{Reading, Gives, IsLastLine, IsAtEnd, Answers, Tells, Takes, IsAtOnce, GivesMore}
-use Rattle.line_input.specs.Gathering.{reading_of, held_by, Moves, GathersLine, IsUntouched, TakesPiece, TakesNothing}
+use Rattle.line_input.specs.Piece.{rest_of}
+use Rattle.line_input.specs.Reader.{Answers, GivesMore}
+use Rattle.line_input.specs.Gathering.{reading_of, held_by, Moves, GathersLine, TakesPiece}
 use Rattle.line_input.proofs.Lines.{lines_first, lines_last, lines_none}
 
 -- nothing, where it doesn't add up to more

@@ -3,4 +3,5 @@ pub mod Splits
 mod Cuts
 mod Going
 pub mod Giving
+pub mod Front
 mod FirstLine

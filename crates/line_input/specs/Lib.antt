@@ -1,4 +1,5 @@
 pub mod Fail
+pub mod Front
 pub mod Gathering
 pub mod Giving
 pub mod Limits

@@ -3,7 +3,7 @@ use Rattle.std.proofs.Common.{◌≡◌, ℕ, List, [], ◌++◌, ◌+◌, lengt
 use Rattle.std.specs.Prelude.{min}
 use Rattle.std.proofs.lemmas.List.{append-nil, take_all, take_min, take-append-le}
 use Rattle.std.proofs.Math.Seq.{take-append-add}
-use Rattle.outside_io.specs.Sink.{State, appended, IsOut, FrontIsOut}
+use Rattle.outside_io.specs.Sink.{State, appended, IsOut, IsOutBut, FrontIsOut}
 
 pub appended_twice : (held : Option (List ℕ)) (xs ys : List ℕ) → appended (appended held xs) ys ≡ appended held (xs ++ ys)
 appended_twice None xs ys = refl
@@ -29,6 +29,14 @@ out_then xs ys old mid new first next = next ∙ ap (λ (held : Option (List ℕ
 pub out_then_front : (xs ys : List ℕ) (old mid new : State) → IsOut xs old mid → FrontIsOut ys mid new → FrontIsOut (xs ++ ys) old new
 out_then_front xs ys old mid new first next = record {
   len = length xs + next.len;
+  out = out_then xs (take next.len ys) old mid new first next.out ∙ ap (appended old.held) (sym (take-append-add xs ys next.len));
+}
+
+-- and at least the first of them
+pub out_but_end : (xs ys : List ℕ) (old mid new : State) → IsOut xs old mid → FrontIsOut ys mid new → IsOutBut xs (xs ++ ys) old new
+out_but_end xs ys old mid new first next = record {
+  len = length xs + next.len;
+  least = omega arith;
   out = out_then xs (take next.len ys) old mid new first next.out ∙ ap (appended old.held) (sym (take-append-add xs ys next.len));
 }
 

@@ -22,6 +22,12 @@ pub record FrontIsOut (bytes : List ℕ) (old new : State) : Type 0 where
   pub len : ℕ
   pub out : IsOut (take len bytes) old new
 
+-- a front of the bytes is out, and at least all of those before
+pub record IsOutBut (before bytes : List ℕ) (old new : State) : Type 0 where
+  pub len : ℕ
+  pub least : length before ≤ len
+  pub out : IsOut (take len bytes) old new
+
 -- the first n bytes of the piece are out, at least one where it has any
 pub record Writes (piece : List ℕ) (old new : State) (n : ℕ) : Type 0 where
   pub fits : n ≤ length piece
