@@ -36,8 +36,11 @@ use Rattle.drill_core.specs.World.{World, Held, IsIn}
 use Rattle.drill_core.specs.Answers.{refusal, reported, Replies, IsReported}
 use Rattle.drill_core.specs.Parts.{StepsWithout}
 use Rattle.drill_core.specs.Steps.{Step, analysed, algorithm_of, filed_for, history_of}
+use Rattle.drill_core.specs.CallsMade.{MakesLineCalls}
 use Rattle.drill_core.specs.Stepping.{IsReply, Goes, Steps}
-use Rattle.drill_core.proofs.LineKinds.{shown, analyse_step}
+use Rattle.drill_core.proofs.CallsTold.{calls_none}
+use Rattle.drill_core.proofs.Faults.{ends_anyhow}
+use Rattle.drill_core.proofs.LineKinds.{shown, analyse_step, analyse_none}
 use Rattle.drill_core.proofs.Replies.{replied}
 use Rattle.drill_core.proofs.Validating.{history_is, keep, replies_as, told_unchanged}
 
@@ -82,7 +85,8 @@ same_kept lists later id now keeps =
 none_replied : (result : Result Answered LineFail) (fail : LineFail) → result ≡ Err fail → OnOk result ⊥
 none_replied result fail is = subst (λ (r : Result Answered LineFail). OnOk r ⊥) (sym is) tt
 
-module _ (algorithm : LineAlgorithm) (now : ℕ) (old new : State) (same : Unchanged old new) (only_now : (c : List ℕ) → old.was_image (turn old) c → old.is_image c) where
+module _ (algorithm : LineAlgorithm) (now : ℕ) (old new : State) (same : Unchanged old new) (only_now : (c : List ℕ) → old.was_image (turn old) c → old.is_image c)
+    (filed filed_later : notaries.State) (unchanged : notaries.Unchanged filed filed_later) where
   abbrev line : Line
   line = lines.Plain (stmts.Analyse algorithm)
 
@@ -93,28 +97,31 @@ module _ (algorithm : LineAlgorithm) (now : ℕ) (old new : State) (same : Uncha
 
     -- this was found, and is told
     tells : (result : Result Answered LineFail) (f : Result Analysis AnalyseFail) → IsAnalysisIn (algorithm_of algorithm) (filed_for w) (history_of w.store) f → IfOk result (IsReply (analysed w (algorithm_of algorithm) now f))
-        → Steps line now w result held old new bytes (content bytes later)
+        → Steps line now w result held (desk old filed) (desk new filed_later) bytes (content bytes later)
     tells result f is reply = record {
       found = shown f;
       may = is;
       goes = subst (λ (x : Step). Goes w x result held old new bytes (content bytes later)) (sym (analyse_step w now algorithm f)) (keep now w held old new bytes lists later i same only_now (analysed w (algorithm_of algorithm) now f) result (analysed_stays w (algorithm_of algorithm) now f) keeps reply);
+      makes = subst (λ (x : Step). MakesLineCalls w line now (shown f) x result (desk old filed) (desk new filed_later) bytes) (sym (analyse_step w now algorithm f))
+          (calls_none w line now (shown f) (analysed w (algorithm_of algorithm) now f) (ap (λ (x : World). x.store) (analysed_stays w (algorithm_of algorithm) now f)) bytes result old new same.trace filed filed_later (analyse_none w now algorithm f) unchanged.trace);
+      only = ends_anyhow result;
     }
 
     -- a report
     tells_report : (result : Result Answered LineFail) (report : Report) (a : Analysis) → Replies (reported report) result → IsAnalysis (algorithm_of algorithm) w.id (lists.batches w.id) (stored bytes) (Ok a)
-        → report.text ≡ report_text (algorithm_of algorithm) w.id (kept_of lists w.id now) a → Steps line now w result held old new bytes (content bytes later)
+        → report.text ≡ report_text (algorithm_of algorithm) w.id (kept_of lists w.id now) a → Steps line now w result held (desk old filed) (desk new filed_later) bytes (content bytes later)
     tells_report result report a reply is text = tells result (Ok a) (found_in (Ok a) is)
         (replies_as (analysed w (algorithm_of algorithm) now (Ok a)) (reported report) result
         (text ∙ ap (λ (k : Kept). report_text (algorithm_of algorithm) w.id k a) (same_kept w.lists lists w.id now i.lists)) refl (replied (reported report) result reply))
 
     -- a refusal
     tells_refusal : (result : Result Answered LineFail) (fail : AnalyseFail) → Replies (refusal (refusal_text fail)) result → IsAnalysis (algorithm_of algorithm) w.id (lists.batches w.id) (stored bytes) (Err fail)
-        → Steps line now w result held old new bytes (content bytes later)
+        → Steps line now w result held (desk old filed) (desk new filed_later) bytes (content bytes later)
     tells_refusal result fail reply is = tells result (Err fail) (found_in (Err fail) is)
         (replies_as (analysed w (algorithm_of algorithm) now (Err fail)) (refusal (refusal_text fail)) result refl refl (replied (refusal (refusal_text fail)) result reply))
 
     -- a failure
-    tells_none : (result : Result Answered LineFail) → OnOk result ⊥ → Steps line now w result held old new bytes (content bytes later)
+    tells_none : (result : Result Answered LineFail) → OnOk result ⊥ → Steps line now w result held (desk old filed) (desk new filed_later) bytes (content bytes later)
     tells_none (Ok answered) never = absurd never
     tells_none (Err fail) never =
         let some = something_is_analysed (algorithm_of algorithm) (filed_for w) (history_of w.store) in
@@ -122,40 +129,40 @@ module _ (algorithm : LineAlgorithm) (now : ℕ) (old new : State) (same : Uncha
 
   -- ---- whatever store there is
 
-  module _ (id : ℕ) (filed later : notaries.State) (unchanged : notaries.Unchanged filed later) where
+  module _ (id : ℕ) where
     module _ (result : Result Answered LineFail) where
       abbrev At : Held → List ℕ → Lists → Lists → Type 0
-      At held bytes lists later_lists = (w : World) → IsIn w held bytes lists → w.limits ≡ filed.limits → Steps line now w result held old new bytes (content bytes later_lists)
+      At held bytes lists later_lists = (w : World) → IsIn w held bytes lists → w.limits ≡ filed.limits → Steps line now w result held (desk old filed) (desk new filed_later) bytes (content bytes later_lists)
 
       -- where this is told of what is stored and filed
-      from_told : (P : List ℕ → Lists → Type 0) → IfSome old.reads (λ bytes. WhereTold filed.lists later.lists (λ lists later_lists. P bytes lists))
-          → ((held : Held) → held.id ≡ id → (bytes : List ℕ) (lists later_lists : Lists) → Keeps lists later_lists → P bytes lists → At held bytes lists later_lists) → StepsWithout line now result id old new filed later
+      from_told : (P : List ℕ → Lists → Type 0) → IfSome old.reads (λ bytes. WhereTold filed.lists filed_later.lists (λ lists later_lists. P bytes lists))
+          → ((held : Held) → held.id ≡ id → (bytes : List ℕ) (lists later_lists : Lists) → Keeps lists later_lists → P bytes lists → At held bytes lists later_lists) → StepsWithout line now result id old new filed filed_later
       from_told P told f held own =
-          told_unchanged old.reads new.reads _ _ same.reads told (λ bytes at. told_map filed.lists later.lists _ _ (told_both filed.lists later.lists _ _ unchanged.lists at)
+          told_unchanged old.reads new.reads _ _ same.reads told (λ bytes at. told_map filed.lists filed_later.lists _ _ (told_both filed.lists filed_later.lists _ _ unchanged.lists at)
           (λ lists later_lists both. f held own bytes lists later_lists both.0 both.1))
 
-      without_reply : OnOk result ⊥ → StepsWithout line now result id old new filed later
+      without_reply : OnOk result ⊥ → StepsWithout line now result id old new filed filed_later
       without_reply never held own =
-          told_same old.reads new.reads _ same.reads (λ bytes. told_map filed.lists later.lists Keeps _ unchanged.lists (λ lists later_lists keeps w i within. tells_none w held bytes lists later_lists i keeps result never))
+          told_same old.reads new.reads _ same.reads (λ bytes. told_map filed.lists filed_later.lists Keeps _ unchanged.lists (λ lists later_lists keeps w i within. tells_none w held bytes lists later_lists i keeps result never))
 
       refused : (fail : AnalyseFail) → Replies (refusal (refusal_text fail)) result
-          → IfSome old.reads (λ bytes. WhereTold filed.lists later.lists (λ lists later_lists. IsAnalysis (algorithm_of algorithm) id (lists.batches id) (stored bytes) (Err fail))) → StepsWithout line now result id old new filed later
+          → IfSome old.reads (λ bytes. WhereTold filed.lists filed_later.lists (λ lists later_lists. IsAnalysis (algorithm_of algorithm) id (lists.batches id) (stored bytes) (Err fail))) → StepsWithout line now result id old new filed filed_later
       refused fail reply told = from_told (λ bytes lists. IsAnalysis (algorithm_of algorithm) id (lists.batches id) (stored bytes) (Err fail)) told
           (λ held own bytes lists later_lists keeps is w i within. tells_refusal w held bytes lists later_lists i keeps result fail reply
           (subst (λ (n : ℕ). IsAnalysis (algorithm_of algorithm) n (lists.batches n) (stored bytes) (Err fail)) (sym own ∙ i.id) is))
 
     -- by what it came to
-    pub analysed_without : (result : Result Answered LineFail) (answer : Result Report AnalyseFail) → IsReported answer result → Analyses (algorithm_of algorithm) id now old filed later answer → StepsWithout line now result id old new filed later
+    pub analysed_without : (result : Result Answered LineFail) (answer : Result Report AnalyseFail) → IsReported answer result → Analyses (algorithm_of algorithm) id now old filed filed_later answer → StepsWithout line now result id old new filed filed_later
     analysed_without result (Ok report) reply (a, found, is) = from_told result (λ bytes lists. IsAnalysis (algorithm_of algorithm) id (lists.batches id) (stored bytes) (Ok a) × (report.text ≡ report_text (algorithm_of algorithm) id (kept_of lists id now) a))
         (with_text old.reads found)
         (λ held own bytes lists later_lists keeps both w i within.
         let here = subst (λ (n : ℕ). IsAnalysis (algorithm_of algorithm) n (lists.batches n) (stored bytes) (Ok a) × (report.text ≡ report_text (algorithm_of algorithm) n (kept_of lists n now) a)) (sym own ∙ i.id) both in
         tells_report w held bytes lists later_lists i keeps result report a reply here.0 here.1)
       where
-        with_text : (o : Option (List ℕ)) → IfSome o (λ bytes. WhereTold filed.lists later.lists (λ lists later_lists. IsAnalysis (algorithm_of algorithm) id (lists.batches id) (stored bytes) (Ok a)))
-            → IfSome o (λ bytes. WhereTold filed.lists later.lists (λ lists later_lists. IsAnalysis (algorithm_of algorithm) id (lists.batches id) (stored bytes) (Ok a) × (report.text ≡ report_text (algorithm_of algorithm) id (kept_of lists id now) a)))
+        with_text : (o : Option (List ℕ)) → IfSome o (λ bytes. WhereTold filed.lists filed_later.lists (λ lists later_lists. IsAnalysis (algorithm_of algorithm) id (lists.batches id) (stored bytes) (Ok a)))
+            → IfSome o (λ bytes. WhereTold filed.lists filed_later.lists (λ lists later_lists. IsAnalysis (algorithm_of algorithm) id (lists.batches id) (stored bytes) (Ok a) × (report.text ≡ report_text (algorithm_of algorithm) id (kept_of lists id now) a)))
         with_text None told = tt
-        with_text (Some bytes) told = told_both filed.lists later.lists _ _ told is.text
+        with_text (Some bytes) told = told_both filed.lists filed_later.lists _ _ told is.text
     analysed_without result (Err (fails.SealMissing name)) reply is = refused result (fails.SealMissing name) reply is
     analysed_without result (Err fails.NotSealedSo) reply is = refused result fails.NotSealedSo reply is
     analysed_without result (Err (fails.NotaryInconsistent level index)) reply is = refused result (fails.NotaryInconsistent level index) reply is

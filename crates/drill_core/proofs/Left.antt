@@ -1,9 +1,8 @@
 -- A line that leaves the store and its disk as they were.
-use Rattle.std.proofs.Common.{◌≡◌, ℕ, List, Option, Some, None, Result, Ok, Err, OnOk, IfOk, inl, refl, sym, ap, subst, ◌∙◌}
+use Rattle.std.proofs.Common.{◌≡◌, ℕ, List, Option, Some, None, Result, Ok, Err, OnOk, IfOk, inl, sym, subst, ◌∙◌}
 use Rattle.disk_words.specs.Disk.{State, turn, Only, Unchanged}
 use Rattle.disk_model.specs.Moments.{EveryImage}
 use Rattle.disk_model.proofs.Moments.{started, stays}
-use Rattle.history_model.specs.Stored.{stored}
 use Rattle.notary_link.specs.Notary.{Lists, Keeps}
 use Rattle.store_engine.specs.Opened.{Stores}
 use Rattle.statement_core.specs.World as statements

@@ -3,7 +3,6 @@ use Rattle.std.proofs.Common.{◌≡◌, ◌≢◌, ◌⊎◌, ℕ, ◌+◌, ◌
 use Rattle.std.specs.Prelude.{if◌then◌else◌, codes}
 use Rattle.std.proofs.Math.Seq.{take-length}
 use Rattle.std.proofs.lemmas.Bool.{cases_eq, eq-eqb, ne_eqb}
-use Rattle.std.proofs.lemmas.Bool.Decides.{nat_tests}
 use Rattle.std.proofs.lemmas.List.{append-nil, take-take}
 use Rattle.outside_words.specs.Told.{WhereTold}
 use Rattle.outside_words.proofs.Told.{told_map}
@@ -14,17 +13,14 @@ use Rattle.tuple_bytes.specs.declared.header.Header.{Header}
 use Rattle.tuple_bytes.specs.declared.item.Item.{Item}
 use Rattle.tuple_bytes.specs.declared.item.Item.TheVariants as items
 use Rattle.tuple_bytes.specs.Spelling.{spell_frontier}
-use Rattle.history_model.specs.History.{history, txns}
-use Rattle.digest_model.specs.Layout.{layout}
+use Rattle.history_model.specs.History.{txns}
 use Rattle.notary_link.specs.declared.notary.NotaryLimits.{NotaryLimits}
 use Rattle.notary_link.specs.Batches.{Batch}
 use Rattle.notary_link.specs.Filing.{fitting, room_in, FilesAll}
 use Rattle.notary_link.specs.Notary as notaries
 use Rattle.notary_link.specs.Notary.{Lists, Keeps}
-use Rattle.notary_link.proofs.Fitting.{fitting_few}
 use Rattle.notary_link.proofs.InAll.{kept_seals}
 use Rattle.store_engine.specs.Opened.{Opened, Stores, IsOpenOn}
-use Rattle.store_engine.specs.Refusals.{Tail, tail_of}
 use Rattle.store_engine.proofs.Telling.{txns_no_more}
 use Rattle.stmt_text.specs.declared.stmt.Stmt.TheVariants as stmts
 use Rattle.stmt_text.specs.declared.line.Line.TheVariants as lines
@@ -36,21 +32,25 @@ use Rattle.validator.specs.declared.fail.AuditFail.{AuditFail}
 use Rattle.validator.specs.declared.fail.AuditFail.TheVariants as fails
 use Rattle.number_text.specs.Numbered.{numbered}
 use Rattle.validator.specs.Texts.{refusal_text}
-use Rattle.validator.specs.Notarizing.{notarize_fault, next_batches, sealed_after, frontier_for, IsRefusedBy}
+use Rattle.validator.specs.Notarizing.{Intent, IsRefusedBy}
 use Rattle.validator.specs.Filing.{FilesFor, HasFiledMore}
 use Rattle.validator.specs.Reaching as reaching
-use Rattle.validator.specs.Reaching.{Notarizes, IsReached, StoresAround}
+use Rattle.validator.specs.Reaching.{Does, Notarizes, IsReached, StoresAround}
 use Rattle.drill_core.specs.declared.answered.Answered.{Answered}
 use Rattle.drill_core.specs.declared.fail.LineFail.{LineFail}
-use Rattle.drill_core.specs.World.{World, Held, IsIn, StoresOf, StoresWorld, StoresEither, with_store, with_lists, with_batches, AreBetween}
-use Rattle.drill_core.specs.Answers.{said, refusal}
-use Rattle.drill_core.proofs.Replies.{Answers}
+use Rattle.drill_core.specs.World.{World, Held, IsIn, StoresOf, StoresWorld, with_store, AreBetween}
+use Rattle.drill_core.specs.Answers.{said, refusal, IsAnswer}
+use Rattle.drill_core.proofs.Replies.{Answers, replies}
 use Rattle.drill_core.specs.Parts.{alone}
-use Rattle.drill_core.specs.Steps.{Step, says, refuses, filed, filed_for, reached, all_filed, sealed, unless, notarized}
-use Rattle.drill_core.specs.Stepping.{IsReply, Goes, Steps, StepsFor}
+use Rattle.drill_core.specs.CallsMade.{MakesLineCalls}
+use Rattle.drill_core.specs.Steps.{Step, step, intent_in, says, refuses, filed, reached, all_filed, sealed, unless, notarized}
+use Rattle.drill_core.specs.Stepping.{Goes, Steps, StepsFor}
 use Rattle.drill_core.proofs.Between.{kept_between, keeps_then, filed_keeps, filed_between}
 use Rattle.drill_core.proofs.LineKinds.{none_found, notarize_step}
+use Rattle.drill_core.proofs.Intents.{does_in}
+use Rattle.drill_core.proofs.Faults.{ends_anyhow}
 use Rattle.drill_core.proofs.Left.{left}
+use Rattle.drill_core.proofs.NotaryCalls.{notarization_makes}
 use Rattle.drill_core.proofs.Sessions.{stands_still}
 use Rattle.drill_core.proofs.Tables.{HasStore, has_store, never_longer, items_stay}
 use Rattle.drill_core.proofs.Validating.{replies_as, given}
@@ -94,7 +94,7 @@ few_filed id limits batches r lists later files = by r files
     by (Err (fails.OutOfTurn count)) keeps = none keeps
 
 module _ (now : ℕ) (s later_s : Opened) (old new : State) (before after : List ℕ) (lists later : Lists) (limits : NotaryLimits)
-    (is_open : s.at.is_closed ≡ false) (header : later_s.header ≡ s.header) (only_now : (c : List ℕ) → old.was_image (turn old) c → old.is_image c)
+    (header : later_s.header ≡ s.header) (only_now : (c : List ℕ) → old.was_image (turn old) c → old.is_image c)
     (reads : Unchanged old new → after ≡ before) (w : World) (kept_sessions : Machine) (i : IsIn w (alone kept_sessions s) before lists) (within : w.limits ≡ limits) (has : HasStore w kept_sessions s before) where
   abbrev ws : statements.World
   ws = has.world
@@ -102,53 +102,21 @@ module _ (now : ℕ) (s later_s : Opened) (old new : State) (before after : List
   abbrev To : Step → Result Answered LineFail → Type 0
   To next result = Goes w next result (alone kept_sessions later_s) old new before (content after later)
 
-  -- ---- the same, of the world
-
-  tail_is : tail_of s ≡ statements.tail_of_world ws
-  tail_is =
-      let h = has.stands.header in
-      let end = has.stands.end in
-      let count = has.stands.open_on.knows.count in
-      let last = has.stands.open_on.knows.last in
-      cc
-
-  abbrev mine : List Batch
-  mine = lists.batches s.header.id
-
-  mine_is : mine ≡ filed_for w
-  mine_is = ap lists.batches i.id ∙ i.lists.batches w.id
+  -- what is to be done
+  abbrev intent : Intent
+  intent = intent_in w ws now
 
   abbrev fault : Option AuditFail
-  fault = notarize_fault (statements.tail_of_world ws) false now ws.items (filed_for w)
-
-  fault_is : notarize_fault (tail_of s) s.at.is_closed now ws.items mine ≡ fault
-  fault_is =
-      ap (λ (t : Tail). notarize_fault t s.at.is_closed now ws.items mine) tail_is
-      ∙ ap (λ (b : Bool). notarize_fault (statements.tail_of_world ws) b now ws.items mine) is_open
-      ∙ ap (λ (l : List Batch). notarize_fault (statements.tail_of_world ws) false now ws.items l) mine_is
+  fault = intent.fault
 
   abbrev need : Option ℕ
-  need = frontier_for (layout (history ws.header ws.items)) (statements.tail_of_world ws) now (filed_for w)
-
-  need_is : frontier_for (layout (history s.header ws.items)) (tail_of s) now mine ≡ need
-  need_is =
-      ap (λ (h : Header). frontier_for (layout (history h ws.items)) (tail_of s) now mine) has.stands.header
-      ∙ ap (λ (t : Tail). frontier_for (layout (history ws.header ws.items)) t now mine) tail_is
-      ∙ ap (λ (l : List Batch). frontier_for (layout (history ws.header ws.items)) (statements.tail_of_world ws) now l) mine_is
+  need = intent.frontier
 
   abbrev batches : List Batch
-  batches = next_batches (history ws.header ws.items) now (filed_for w)
-
-  batches_are : next_batches (history s.header ws.items) now mine ≡ batches
-  batches_are = ap (λ (h : Header). next_batches (history h ws.items) now mine) has.stands.header ∙ ap (λ (l : List Batch). next_batches (history ws.header ws.items) now l) mine_is
+  batches = intent.batches
 
   abbrev tiles : ℕ
-  tiles = sealed_after (layout (history ws.header ws.items)) ws.header now (filed_for w)
-
-  tiles_are : sealed_after (layout (history s.header ws.items)) s.header now mine ≡ tiles
-  tiles_are =
-      ap (λ (h : Header). sealed_after (layout (history h ws.items)) h now mine) has.stands.header
-      ∙ ap (λ (l : List Batch). sealed_after (layout (history ws.header ws.items)) ws.header now l) mine_is
+  tiles = intent.sealed
 
   abbrev fit : ℕ
   fit = fitting (room_in w.limits w.lists) batches
@@ -325,38 +293,30 @@ module _ (now : ℕ) (s later_s : Opened) (old new : State) (before after : List
 
   -- ---- either way
 
-  module _ (filed_state later_state : notaries.State) (limits_are : filed_state.limits ≡ limits) (r : Result ℕ AuditFail) (result : Result Answered LineFail) (answer : Answers sealed_text r result)
-      (n : Notarizes now ws.items r s later_s (desk old filed_state) (desk new later_state) (content before lists) (content after later)) where
-    by_world : IsRefusedBy fault r
-    by_world = subst (λ (f : Option AuditFail). IsRefusedBy f r) fault_is n.refused
-
+  module _ (filed_state later_state : notaries.State) (limits_are : filed_state.limits ≡ limits) (r : Result ℕ AuditFail) (result : Result Answered LineFail) (answer : IsAnswer sealed_text r result)
+      (n : Does intent ws.items r s later_s (desk old filed_state) (desk new later_state) (content before lists) (content after later)) where
     files_world : FilesFor w.id limits batches r lists later
-    files_world = subst (λ (id : ℕ). FilesFor id limits batches r lists later) i.id
-        (subst (λ (l : NotaryLimits). FilesFor s.header.id l batches r lists later) limits_are
-        (subst (λ (b : List Batch). FilesFor s.header.id filed_state.limits b r lists later) batches_are n.files))
-
-    value_world : IfOk r (λ m. m ≡ tiles)
-    value_world = subst (λ (t : ℕ). IfOk r (λ m. m ≡ t)) tiles_are n.value
-
-    stands_world : reaching.StandsAfter r (IsReached need s later_s ws.items old new before after) (reaching.IsLeft s later_s old new) (later_s.at.is_closed ≡ true)
-    stands_world = subst (λ (o : Option ℕ). reaching.StandsAfter r (IsReached o s later_s ws.items old new before after) (reaching.IsLeft s later_s old new) (later_s.at.is_closed ≡ true)) need_is n.stands
+    files_world = subst (λ (id : ℕ). FilesFor id limits batches r lists later) i.id (subst (λ (l : NotaryLimits). FilesFor s.header.id l batches r lists later) limits_are n.files)
 
     goes_by : (f : Option AuditFail) → fault ≡ f → To (unless f w (sealed w ws now)) result
     goes_by (Some fail) is =
-        let stay = n.free (subst (λ (o : Option AuditFail). IsSome o) (sym (fault_is ∙ is)) refl) in
-        refused fail is stay.0 stay.1 r result answer by_world (IsReached need s later_s ws.items old new before after) (later_s.at.is_closed ≡ true) stands_world
-    goes_by None is = made
-        (λ only. subst (λ (o : Option ℕ). EveryImage old new (StoresAround s.header ws.items o)) need_is (n.images only))
-        (λ only. subst (λ (o : Option ℕ). StoresAround s.header ws.items o after) need_is (n.kept only))
+        let stay = n.free (subst (λ (o : Option AuditFail). IsSome o) (sym is) refl) in
+        refused fail is stay.0 stay.1 r result (replies sealed_text r result answer) n.refused (IsReached need s later_s ws.items old new before after) (later_s.at.is_closed ≡ true) n.stands
+    goes_by None is = made n.images n.kept
         (subst (λ (k : ℕ). FilesFew w.id batches k lists later) fit_is (few_filed w.id limits batches r lists later files_world))
-        (λ more. subst (λ (o : Option ℕ). IsReached o s later_s ws.items old new before after) need_is (n.ordered more))
-        is r result answer by_world value_world files_world (subst (λ (o : Option ℕ). reaching.MakesFor (reaching.frontier_calls s o) r old new) need_is n.trace) (reaching.IsLeft s later_s old new) (later_s.at.is_closed ≡ true) stands_world
+        n.ordered is r result (replies sealed_text r result answer) n.refused n.value files_world n.trace (reaching.IsLeft s later_s old new) (later_s.at.is_closed ≡ true) n.stands
 
-    pub notarizes : Steps (lines.Plain stmts.Notarize) now w result (alone kept_sessions later_s) old new before (content after later)
+    step_is : step w (lines.Plain stmts.Notarize) now none_found ≡ notarized w w.store now
+    step_is = notarize_step w now
+
+    pub notarizes : Steps (lines.Plain stmts.Notarize) now w result (alone kept_sessions later_s) (desk old filed_state) (desk new later_state) before (content after later)
     notarizes = record {
       found = none_found;
       may = tt;
-      goes = subst (λ (x : Step). To x result) (sym (notarize_step w now ∙ ap (λ (o : Option statements.World). notarized w o now) has.is)) (goes_by fault refl);
+      goes = subst (λ (x : Step). To x result) (sym (step_is ∙ ap (λ (o : Option statements.World). notarized w o now) has.is)) (goes_by fault refl);
+      makes = subst (λ (x : Step). MakesLineCalls w (lines.Plain stmts.Notarize) now none_found x result (desk old filed_state) (desk new later_state) before) (sym step_is)
+          (notarization_makes now w ws has.is s before has.stands i.id later_s lists i.lists (content after later) (desk old filed_state) (desk new later_state) (within ∙ sym limits_are) r n sealed_text result answer none_found);
+      only = ends_anyhow result;
     }
 
 told_known : {A : Type 0} (o n : Option A) (P Q : A → A → Type 0) → WhereTold o n P → ((b a : A) → o ≡ Some b → n ≡ Some a → P b a → Q b a) → WhereTold o n Q
@@ -365,23 +325,18 @@ told_known (Some b) None P Q told f = tt
 told_known None n P Q told f = tt
 
 pub notarization : (now : ℕ) (s later_s : Opened) (old new : State) (filed later : notaries.State) → s.at.is_closed ≡ false → later_s.header ≡ s.header
-    → ((c : List ℕ) → old.was_image (turn old) c → old.is_image c) → (r : Result ℕ AuditFail) (result : Result Answered LineFail) → Answers sealed_text r result
+    → ((c : List ℕ) → old.was_image (turn old) c → old.is_image c) → (r : Result ℕ AuditFail) (result : Result Answered LineFail) → IsAnswer sealed_text r result
     → WhereTold old.reads new.reads (λ before after. WhereTold filed.lists later.lists (λ lists later_lists.
     (items : List Item) → IsOpenOn s items before → Notarizes now items r s later_s (desk old filed) (desk new later) (content before lists) (content after later_lists)))
     → (kept_sessions : Machine) → StepsFor (lines.Plain stmts.Notarize) now result (alone kept_sessions s) (alone kept_sessions later_s) (desk old filed) (desk new later)
 notarization now s later_s old new filed later is_open header only_now r result answer told kept_sessions =
-    told_known old.reads new.reads
-    (λ before after. WhereTold filed.lists later.lists (λ lists later_lists. (items : List Item) → IsOpenOn s items before → Notarizes now items r s later_s (desk old filed) (desk new later) (content before lists) (content after later_lists)))
-    (λ before after. WhereTold filed.lists later.lists (λ lists later_lists. (w : World) → IsIn w (alone kept_sessions s) before lists → w.limits ≡ filed.limits → Steps (lines.Plain stmts.Notarize) now w result (alone kept_sessions later_s) old new before (content after later_lists)))
-    told
-    (λ before after was is at. told_map filed.lists later.lists
-    (λ lists later_lists. (items : List Item) → IsOpenOn s items before → Notarizes now items r s later_s (desk old filed) (desk new later) (content before lists) (content after later_lists))
-    (λ lists later_lists. (w : World) → IsIn w (alone kept_sessions s) before lists → w.limits ≡ filed.limits → Steps (lines.Plain stmts.Notarize) now w result (alone kept_sessions later_s) old new before (content after later_lists))
-    at
+    told_known old.reads new.reads _ _ told
+    (λ before after was is at. told_map filed.lists later.lists _ _ at
     (λ lists later_lists does w i within.
     let has = has_store w kept_sessions s before lists i in
-    notarizes now s later_s old new before after lists later_lists filed.limits is_open header only_now (λ same. same_bytes before after (sym is ∙ same.reads ∙ was)) w kept_sessions i within has
-    filed later refl r result answer (does has.world.items has.stands.open_on)))
+    notarizes now s later_s old new before after lists later_lists filed.limits header only_now (λ same. same_bytes before after (sym is ∙ same.reads ∙ was)) w kept_sessions i within has
+    filed later refl r result answer
+    (does_in now w has.world kept_sessions s before lists i has.stands is_open r later_s (desk old filed) (desk new later) (content after later_lists) (does has.world.items has.stands.open_on))))
   where
     same_bytes : (b a : List ℕ) → Some a ≡ Some b → a ≡ b
     same_bytes b a e = cc

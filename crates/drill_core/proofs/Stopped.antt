@@ -19,20 +19,20 @@ held_alone o held is own = ap (λ (n : ℕ). record { id = n; opened = held.open
 
 module _ (line : Line) (now : ℕ) (old new : State) (filed filed_later : notaries.State) where
   abbrev StepsOn : LineFail → Held → Held → List ℕ → List ℕ → notaries.Lists → notaries.Lists → Type 0
-  StepsOn fail held later before after lists later_lists = (w : World) → IsIn w held before lists → w.limits ≡ filed.limits → Steps line now w (Err fail) later old new before (content after later_lists)
+  StepsOn fail held later before after lists later_lists = (w : World) → IsIn w held before lists → w.limits ≡ filed.limits → Steps line now w (Err fail) later (desk old filed) (desk new filed_later) before (content after later_lists)
 
-  anywhere : (fail other_fail : LineFail) (held later other : Held) → StepsFor line now (Err fail) held later (desk old filed) (desk new filed_later) → StepsFor line now (Err other_fail) held other (desk old filed) (desk new filed_later)
-  anywhere fail other_fail held later other told =
-      told_map old.reads new.reads (λ before after. WhereTold filed.lists filed_later.lists (StepsOn fail held later before after)) (λ before after. WhereTold filed.lists filed_later.lists (StepsOn other_fail held other before after)) told
-      (λ before after at. told_map filed.lists filed_later.lists (StepsOn fail held later before after) (StepsOn other_fail held other before after) at
+  anywhere : (fail : LineFail) (held later other : Held) → StepsFor line now (Err fail) held later (desk old filed) (desk new filed_later) → StepsFor line now (Err fail) held other (desk old filed) (desk new filed_later)
+  anywhere fail held later other told =
+      told_map old.reads new.reads (λ before after. WhereTold filed.lists filed_later.lists (StepsOn fail held later before after)) (λ before after. WhereTold filed.lists filed_later.lists (StepsOn fail held other before after)) told
+      (λ before after at. told_map filed.lists filed_later.lists (StepsOn fail held later before after) (StepsOn fail held other before after) at
       (λ lists later_lists steps w i within.
       let s = steps w i within in
-      record { found = s.found; may = s.may; goes = record { reply = tt; stands = tt; settled = λ only. tt; images = s.goes.images; kept = s.goes.kept; between = s.goes.between; ordered = s.goes.ordered; same = λ stays. tt } }))
+      record { found = s.found; may = s.may; goes = record { reply = tt; stands = tt; settled = λ only. tt; images = s.goes.images; kept = s.goes.kept; between = s.goes.between; ordered = s.goes.ordered; same = λ stays. tt }; makes = s.makes; only = s.only }))
 
-  pub stops : (fail other_fail : LineFail) (o : OpenStore) (later held other : Held) → held.opened ≡ Some o → held.id ≡ o.store.header.id
-      → StepsFor line now (Err fail) (alone o.sessions o.store) later (desk old filed) (desk new filed_later) → StepsFor line now (Err other_fail) held other (desk old filed) (desk new filed_later)
-  stops fail other_fail o later held other is own told =
-      subst (λ (h : Held). StepsFor line now (Err other_fail) h other (desk old filed) (desk new filed_later)) (sym (held_alone o held is own)) (anywhere fail other_fail (alone o.sessions o.store) later other told)
+  pub stops : (fail : LineFail) (o : OpenStore) (later held other : Held) → held.opened ≡ Some o → held.id ≡ o.store.header.id
+      → StepsFor line now (Err fail) (alone o.sessions o.store) later (desk old filed) (desk new filed_later) → StepsFor line now (Err fail) held other (desk old filed) (desk new filed_later)
+  stops fail o later held other is own told =
+      subst (λ (h : Held). StepsFor line now (Err fail) h other (desk old filed) (desk new filed_later)) (sym (held_alone o held is own)) (anywhere fail (alone o.sessions o.store) later other told)
 
   -- where the store stays open
   pub stays_open : (result : Result Answered LineFail) (o later : OpenStore) (id : ℕ) (held : Held) → held.opened ≡ Some o → held.id ≡ o.store.header.id → id ≡ later.store.header.id

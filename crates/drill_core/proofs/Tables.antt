@@ -1,5 +1,5 @@
 -- A statement on tables and a line of a session do to the world what they do to the store and its sessions.
-use Rattle.std.proofs.Common.{◌≡◌, ◌⊎◌, ℕ, Bool, List, ◌++◌, ◌∷◌, [], length, length-append, Option, Some, None, Result, Ok, Err, IfOk, inl, inr, refl, sym, ap, subst, ◌∙◌, arith}
+use Rattle.std.proofs.Common.{◌≡◌, ◌≢◌, ℕ, Bool, List, ◌++◌, ◌∷◌, [], length, length-append, Option, Some, None, Result, Ok, Err, IfErr, inl, inr, refl, sym, ap, subst, ◌∙◌, arith}
 use Rattle.outside_words.specs.Told.{WhereTold}
 use Rattle.outside_words.proofs.Told.{told_map, told_same}
 use Rattle.disk_words.specs.Disk as disks
@@ -8,6 +8,7 @@ use Rattle.tuple_bytes.specs.declared.header.Header.{Header}
 use Rattle.notary_link.specs.Notary as notaries
 use Rattle.store_engine.specs.Opened.{Opened}
 use Rattle.stmt_text.specs.declared.line.Line.{Line}
+use Rattle.stmt_text.specs.Kinds.{line_kind}
 use Rattle.statement_core.specs.declared.reply.Reply.{Reply}
 use Rattle.statement_core.specs.declared.statements.StepFail.{StepFail}
 use Rattle.statement_core.specs.declared.statements.StepFail.TheVariants as steps_as
@@ -15,24 +16,35 @@ use Rattle.statement_core.specs.Replies.{reply_text, is_refusal}
 use Rattle.statement_core.specs.World as statements
 use Rattle.statement_core.specs.Steps as statement_steps
 use Rattle.statement_core.specs.Stepping.{MakesFor}
+use Rattle.statement_core.specs.Promises as statement_promises
+use Rattle.txn_journal.specs.Held as journals
 use Rattle.session_model.specs.World as sessions
 use Rattle.session_model.specs.Steps as session_steps
-use Rattle.session_model.specs.Standing.{Machine, IsStatementLine, StepsIn, StepsTo, of_store}
+use Rattle.session_model.specs.Steps.{Answer, Replied, Stopped}
+use Rattle.session_model.specs.Promises as promises
+use Rattle.session_model.proofs.Promising.{steps_keep_promises}
+use Rattle.session_model.specs.Standing.{Machine, IsStatementLine, StepsIn, StepsTo, of_store, reply_of}
 use Rattle.session_model.specs.Standing as standing
 use Rattle.statement_core.specs.declared.reply.Reply.TheVariants as replies
 use Rattle.tuple_bytes.specs.declared.item.Item.{Item}
 use Rattle.tuple_bytes.specs.declared.item.Item.TheVariants as items
-use Rattle.validator.specs.Desk.{content}
+use Rattle.validator.specs.Desk.{content, desk}
 use Rattle.drill_core.specs.declared.answered.Answered.{Answered}
 use Rattle.drill_core.specs.declared.fail.LineFail.{LineFail}
 use Rattle.drill_core.specs.World.{World, IsIn, StoreIsIn, StoresOf, StoresEither}
 use Rattle.drill_core.specs.declared.fail.LineFail.TheVariants as fails
-use Rattle.drill_core.specs.Answers.{replied, fault_of}
+use Rattle.drill_core.specs.Answers.{replied, fault_of, IsReplied}
+use Rattle.drill_core.specs.Found.{Found}
+use Rattle.drill_core.specs.LineCalls.{items_added, appends, end_of_store, notary_calls}
+use Rattle.drill_core.specs.CallsMade.{MakesOfDisk, MakesOfNotary, MakesLineCalls}
+use Rattle.drill_core.specs.Faults.{IsOfStoring, MayEndIn}
 use Rattle.drill_core.specs.Parts.{alone, StepsBeside}
 use Rattle.drill_core.specs.Steps.{Step, on_tables, after_statement}
-use Rattle.drill_core.specs.Stepping.{IsReply, Goes, Steps}
+use Rattle.drill_core.specs.Stepping.{Goes, Steps}
 use Rattle.drill_core.proofs.Between.{kept_between}
-use Rattle.drill_core.proofs.LineKinds.{none_found, table_step, table_may}
+use Rattle.drill_core.proofs.CallsTold.{none_made, statement_calls}
+use Rattle.drill_core.proofs.Faults.{ends_storing}
+use Rattle.drill_core.proofs.LineKinds.{none_found, goes_to_tables}
 
 -- the world of an open store, with its sessions
 pub record HasStore (w : World) (kept : Machine) (s : Opened) (bytes : List ℕ) : Type 0 where
@@ -49,18 +61,7 @@ has_store w kept s bytes lists i = by w.store refl i.store
     by (Some world) is stands = record { world = world; is = is; with_sessions = stands.0; stands = stands.0.store; own = stands.1 }
     by None is stands = absurd stands
 
--- the answer to what was replied
-abbrev pub Answers : Result Reply StepFail → Result Answered LineFail → Type 0
-Answers (Ok reply) result = IfOk result (λ answered. answered ≡ replied reply)
-Answers (Err fail) (Ok answered) = ⊥
-Answers (Err fail) (Err other) = Unit {0}
-
--- a failure answers anything
-pub fails_anyhow : (r : Result Reply StepFail) (fail : LineFail) → Answers r (Err fail)
-fails_anyhow (Ok reply) fail = tt
-fails_anyhow (Err other) fail = tt
-
-pub answered_as : (refused : Bool) (text : List ℕ) (reply : Reply) → refused ≡ is_refusal reply → text ≡ reply_text reply → Answers (Ok reply) (Ok (record { refused = refused; text = text }))
+pub answered_as : (refused : Bool) (text : List ℕ) (reply : Reply) → refused ≡ is_refusal reply → text ≡ reply_text reply → IsReplied (Ok reply) (Ok (record { refused = refused; text = text }))
 answered_as refused text reply is says = ap (λ (b : Bool). record { refused = b; text = text }) is ∙ ap (λ (t : List ℕ). record { refused = is_refusal reply; text = t }) says
 
 pub not_notary : (fail : StepFail) → fault_of fail ≡ fails.NotaryFault → ⊥
@@ -90,6 +91,11 @@ unmoved w next (replies.Scanned rows) s old new makes stays = makes
 unmoved w next (replies.Told versions) s old new makes stays = makes
 unmoved w next (replies.Refused refusal) s old new makes stays = makes
 
+-- what an answer promises is what its reply promises
+of_answer : (w new : statements.World) (answer : Answer) → promises.IsPromised w answer new → statement_promises.IsPromised w (reply_of answer) new
+of_answer w new (Replied reply) is = is
+of_answer w new (Stopped refusal) is = is
+
 module _ (kept later_kept : Machine) (s later : Opened) (header : later.header ≡ s.header) (old new : disks.State) where
   module _ (w : World) (lists : notaries.Lists) (b a : List ℕ) (i : IsIn w (alone kept s) b lists) (has : HasStore w kept s b) where
     abbrev own : sessions.World
@@ -99,7 +105,7 @@ module _ (kept later_kept : Machine) (s later : Opened) (header : later.header �
     either next c (inl stores) = inl (subst (λ (o : Option statements.World). StoresOf w.id o c) (sym has.is) stores)
     either next c (inr stores) = inr stores
 
-    goes : (next : session_steps.Step) (r : Result Reply StepFail) (result : Result Answered LineFail) → StepsIn own next r kept later_kept s later old new b a → Answers r result
+    goes : (next : session_steps.Step) (r : Result Reply StepFail) (result : Result Answered LineFail) → StepsIn own next r kept later_kept s later old new b a → IsReplied r result
         → Goes w (after_statement w next) result (alone later_kept later) old new b (content a lists)
     goes next (Ok reply) (Ok answered) steps is = record {
       reply = record { text = ap (λ (x : Answered). x.text) is ∙ ap (λ (x : Reply). (replied x).text) steps.reply; refused = ap (λ (x : Answered). x.refused) is ∙ ap (λ (x : Reply). (replied x).refused) steps.reply };
@@ -125,23 +131,45 @@ module _ (kept later_kept : Machine) (s later : Opened) (header : later.header �
       ordered = λ id more. absurd (more (i.lists.batches id));
       same = λ stays. tt;
     }
-    goes next (Err fail) (Ok answered) steps is = absurd is
+    goes next (Err fail) (Ok answered) steps is = absurd cc
 
-  module _ (line : Line) (now : ℕ) (on : IsStatementLine line) (r : Result Reply StepFail) (result : Result Answered LineFail) (answers : Answers r result) where
-    steps : (w : World) (lists : notaries.Lists) (b a : List ℕ) → IsIn w (alone kept s) b lists → StepsTo line now r kept later_kept s later old new b a → Steps line now w result (alone later_kept later) old new b (content a lists)
-    steps w lists b a i does =
+    -- in a fault of the disk, only where it stores
+    only : (next : session_steps.Step) (r : Result Reply StepFail) (result : Result Answered LineFail) → StepsIn own next r kept later_kept s later old new b a → IsReplied r result → IfErr result (IsOfStoring (Some next.world.store ≢ w.store))
+    only next r (Ok answered) steps is = tt
+    only next (Ok reply) (Err fails.NoMemory) steps is = tt
+    only next (Ok reply) (Err fails.DiskFault) steps is = absurd is
+    only next (Ok reply) (Err fails.NotaryFault) steps is = absurd is
+    only next (Err steps_as.NoMemory) (Err fail) steps is = subst (λ (x : Result Answered LineFail). IfErr x (IsOfStoring (Some next.world.store ≢ w.store))) (sym is) tt
+    only next (Err steps_as.DiskFault) (Err fail) steps is = subst (λ (x : Result Answered LineFail). IfErr x (IsOfStoring (Some next.world.store ≢ w.store))) (sym is)
+        (λ stays. never_longer has.world.items (items.Txn steps.trace.txn) (sym (ap (λ (x : statement_steps.Step). x.world.items) steps.trace.stores) ∙ items_stay next.world.store has.world (stays ∙ has.is)))
+
+    -- the calls that store what it stores, and none of the notary
+    makes : (line : Line) (now : ℕ) (found : Found) (next : session_steps.Step) (r : Result Reply StepFail) (result : Result Answered LineFail) (filed : notaries.State) → notary_calls w line now found ≡ [] → statement_promises.KeepsPromise has.world (of_store next)
+        → StepsIn own next r kept later_kept s later old new b a → IsReplied r result → MakesLineCalls w line now found (after_statement w next) result (desk old filed) (desk new filed) b
+    makes line now found next r result filed none promised steps is = record {
+      disk = subst (λ (o : Option statements.World). MakesOfDisk (appends (journals.standing (end_of_store o) b) (items_added o (Some next.world.store))) result old new) (sym has.is)
+          (statement_calls has.world s b has.stands w.sessions next kept later_kept later old new a r result is promised steps);
+      notary = subst (λ (cs : List notaries.Call). WhereTold filed.trace filed.trace (MakesOfNotary cs result)) (sym none) (told_same filed.trace filed.trace _ refl (λ was. none_made result was was refl));
+      order = told_same filed.trace filed.trace _ refl (λ was. inl refl);
+    }
+
+  module _ (line : Line) (now : ℕ) (on : IsStatementLine line) (r : Result Reply StepFail) (result : Result Answered LineFail) (answers : IsReplied r result) where
+    steps : (filed : notaries.State) (w : World) (lists : notaries.Lists) (b a : List ℕ) → IsIn w (alone kept s) b lists → StepsTo line now r kept later_kept s later old new b a → Steps line now w result (alone later_kept later) (desk old filed) (desk new filed) b (content a lists)
+    steps filed w lists b a i does =
         let has = has_store w kept s b lists i in
-        let next = session_steps.step (record { store = has.world; sessions = w.sessions }) line now in
+        let goes_on = goes_to_tables line on in
+        let before : sessions.World = record { store = has.world; sessions = w.sessions } in
+        let next = session_steps.step before line now in
+        let is = goes_on.steps w now none_found ∙ ap (λ (o : Option statements.World). on_tables w o line now) has.is in
+        let done = does before has.with_sessions in
         record {
           found = none_found;
-          may = table_may w now line on;
-          goes = subst (λ (x : Step). Goes w x result (alone later_kept later) old new b (content a lists)) (sym (table_step w now line on ∙ ap (λ (o : Option statements.World). on_tables w o line now) has.is))
-              (goes w lists b a i has next r result (does (record { store = has.world; sessions = w.sessions }) has.with_sessions) answers);
+          may = goes_on.may w none_found;
+          goes = subst (λ (x : Step). Goes w x result (alone later_kept later) old new b (content a lists)) (sym is) (goes w lists b a i has next r result done answers);
+          makes = subst (λ (x : Step). MakesLineCalls w line now none_found x result (desk old filed) (desk new filed) b) (sym is)
+              (makes w lists b a i has line now none_found next r result filed (goes_on.calls w now none_found) (of_answer has.world next.world.store next.answer (steps_keep_promises before line now).store) done answers);
+          only = subst (λ (x : Step). IfErr result (MayEndIn (line_kind line) (x.world.store ≢ w.store))) (sym is) (ends_storing (Some next.world.store ≢ w.store) (line_kind line) goes_on.kind result (only w lists b a i has next r result done answers));
         }
 
     pub beside : WhereTold old.reads new.reads (StepsTo line now r kept later_kept s later old new) → StepsBeside line now result (alone kept s) (alone later_kept later) old new
-    beside told filed = told_map old.reads new.reads (StepsTo line now r kept later_kept s later old new)
-        (λ before after. WhereTold filed.lists filed.lists (λ lists later_lists. (w : World) → IsIn w (alone kept s) before lists → w.limits ≡ filed.limits → Steps line now w result (alone later_kept later) old new before (content after later_lists)))
-        told
-        (λ b a does. told_same filed.lists filed.lists (λ lists later_lists. (w : World) → IsIn w (alone kept s) b lists → w.limits ≡ filed.limits → Steps line now w result (alone later_kept later) old new b (content a later_lists)) refl
-        (λ lists w i limits. steps w lists b a i does))
+    beside told filed = told_map old.reads new.reads _ _ told (λ b a does. told_same filed.lists filed.lists _ refl (λ lists w i limits. steps filed w lists b a i does))

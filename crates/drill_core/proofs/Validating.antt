@@ -1,5 +1,5 @@
 -- A validation does to the world what the definition says.
-use Rattle.std.proofs.Common.{◌≡◌, ◌⊎◌, ℕ, ◌<◌, ◌==◌, Bool, true, false, List, Option, Some, None, IfSome, Result, Ok, Err, OnOk, IfOk, inl, inr, refl, sym, ap, subst, ◌∙◌, arith}
+use Rattle.std.proofs.Common.{◌≡◌, ℕ, ◌<◌, Bool, true, false, List, Option, Some, None, IfSome, Result, Ok, Err, OnOk, IfOk, inl, inr, refl, sym, ap, subst, ◌∙◌, arith}
 use Rattle.std.specs.Prelude.{nat_lt, if◌then◌else◌}
 use Rattle.std.proofs.lemmas.Bool.{eq-eqb, ne_eqb}
 use Rattle.std.proofs.lemmas.Bool.Decides.{nat_tests}
@@ -15,7 +15,7 @@ use Rattle.notary_link.specs.declared.mark.Mark.{Mark}
 use Rattle.notary_link.specs.declared.notary.NotaryLimits.{NotaryLimits}
 use Rattle.notary_link.specs.Batches.{Batch}
 use Rattle.notary_link.specs.Notary as notaries
-use Rattle.notary_link.specs.Notary.{Lists, Keeps, Notes, marks_in_all}
+use Rattle.notary_link.specs.Notary.{Call, Lists, Keeps, Notes, marks_in_all}
 use Rattle.notary_link.proofs.InAll.{kept_marks}
 use Rattle.session_model.specs.World.{Session}
 use Rattle.drill_core.specs.declared.open_store.OpenStore.{OpenStore}
@@ -23,24 +23,30 @@ use Rattle.store_engine.specs.Refusals.{IsOfAnother}
 use Rattle.stmt_text.specs.declared.stmt.Stmt.TheVariants as stmts
 use Rattle.stmt_text.specs.declared.line.Line.TheVariants as lines
 use Rattle.statement_core.specs.World as statements
-use Rattle.validator.specs.Desk.{content}
+use Rattle.validator.specs.Desk.{content, desk}
 use Rattle.validator.specs.declared.verdict.Verdict.{Verdict}
 use Rattle.validator.specs.declared.fail.AuditFail.{AuditFail}
 use Rattle.validator.specs.declared.fail.AuditFail.TheVariants as fails
 use Rattle.validator.specs.Texts.{verdict_text, refusal_text}
 use Rattle.audit_model.specs.Altered.{history_with, under_id}
-use Rattle.validator.specs.Verdicts.{IsFound, IsFoundIn, mark_of, IsMarked, IsNotMarked, MayBeMarked, Validates}
+use Rattle.validator.specs.Verdicts.{IsFound, IsFoundIn, mark_of, IsMarked, IsNotMarked, MayBeMarked, MakesNone, MakesMark, Validates}
 use Rattle.drill_core.specs.declared.answered.Answered.{Answered}
 use Rattle.drill_core.specs.declared.fail.LineFail.{LineFail}
-use Rattle.drill_core.specs.World.{World, Held, IsIn, StoreIsIn, with_mark, AreBetween}
-use Rattle.drill_core.specs.Answers.{said, refusal}
-use Rattle.drill_core.proofs.Replies.{Answers}
+use Rattle.drill_core.specs.World.{World, Held, IsIn, StoreIsIn, with_lists, with_mark, AreBetween}
+use Rattle.drill_core.specs.declared.fail.LineFail.TheVariants as line_fails
+use Rattle.drill_core.specs.Answers.{said, refusal, Replies, IsAnswer}
+use Rattle.drill_core.specs.LineCalls.{noting, validate_calls}
+use Rattle.drill_core.specs.CallsMade.{IsAnswered, MakesOfNotary, MakesLineCalls}
 use Rattle.drill_core.specs.Parts.{StepsWithout}
 use Rattle.drill_core.specs.Steps.{Step, says, refuses, marked, validated, filed_for, history_of}
 use Rattle.drill_core.specs.Stepping.{IsReply, Goes, Steps}
 use Rattle.drill_core.proofs.Between.{kept_between, keeps_then, noted_keeps, noted_between, unmarked_yet}
 use Rattle.validator.proofs.SomethingFound.{something_is_found}
-use Rattle.drill_core.proofs.LineKinds.{judged, validate_step}
+use Rattle.drill_core.proofs.LineKinds.{judged, validate_step, validate_notes}
+use Rattle.drill_core.proofs.Replies.{replied}
+use Rattle.drill_core.proofs.CallsTold.{none_made, all_replied, some_made, calls_beside}
+use Rattle.drill_core.proofs.MarkCalls.{was_marked, found_no_room, has_failed}
+use Rattle.drill_core.proofs.Faults.{ends_anyhow}
 use Rattle.drill_core.proofs.Left.{left}
 
 pub replies_as : (next : Step) (x : Answered) (result : Result Answered LineFail) → x.text ≡ next.text → x.refused ≡ next.is_refused → IfOk result (λ answered. answered ≡ x) → IfOk result (IsReply next)
@@ -72,6 +78,20 @@ module _ (id : ℕ) where
   history_is None begun None bytes i = none_of (stored bytes).header (stored bytes) i.0
   history_is (Some ws) begun None bytes i = absurd i
   history_is None begun (Some o) bytes i = absurd i
+
+-- the store and the batches stay
+pub with_validated : (w : World) (now : ℕ) (found : Result Verdict AuditFail) → ((validated w now found).world.store ≡ w.store) × ((id : ℕ) → (validated w now found).world.lists.batches id ≡ w.lists.batches id)
+with_validated w now (Err fail) = (refl, λ id. refl)
+with_validated w now (Ok verdict) = by (mark_of verdict now)
+  where
+    of_room : (mark : Mark) (text : List ℕ) (b : Bool) → ((if b then says (with_lists w (with_mark w.id mark w.lists)) text else refuses w (refusal_text fails.Full)).world.store ≡ w.store)
+        × ((id : ℕ) → (if b then says (with_lists w (with_mark w.id mark w.lists)) text else refuses w (refusal_text fails.Full)).world.lists.batches id ≡ w.lists.batches id)
+    of_room mark text true = (refl, λ id. refl)
+    of_room mark text false = (refl, λ id. refl)
+
+    by : (m : Option Mark) → ((marked w m (verdict_text verdict)).world.store ≡ w.store) × ((id : ℕ) → (marked w m (verdict_text verdict)).world.lists.batches id ≡ w.lists.batches id)
+    by None = (refl, λ id. refl)
+    by (Some mark) = of_room mark (verdict_text verdict) (nat_lt (marks_in_all w.lists) w.limits.marks)
 
 -- ---- the world
 
@@ -115,12 +135,12 @@ module _ (now : ℕ) (w : World) (held : Held) (old new : State) (bytes : List �
     not_marked (Err fail) reply keeps true room = left w held old new bytes lists i same only_now (after_mark true) (Err fail) later refl refl refl tt tt
         (unmarked_yet w.id w.lists lists later i.lists mark keeps)
 
-  module _ (limits : NotaryLimits) (within : w.limits ≡ limits) where
+  module _ (filed filed_later : notaries.State) (within : w.limits ≡ filed.limits) where
     as_many : marks_in_all lists ≡ marks_in_all w.lists
     as_many = kept_marks w.lists lists i.lists
 
     -- a mark was added
-    is_marked : (m : Option Mark) (text : List ℕ) (result : Result Answered LineFail) → IfOk result (λ answered. answered ≡ said text) → IsMarked m w.id limits lists later → To (marked w m text) result
+    is_marked : (m : Option Mark) (text : List ℕ) (result : Result Answered LineFail) → IfOk result (λ answered. answered ≡ said text) → IsMarked m w.id filed.limits lists later → To (marked w m text) result
     is_marked None text result reply keeps = keep (says w text) result refl keeps (replies_as (says w text) (said text) result refl refl reply)
     is_marked (Some mark) text result reply (room, notes) = one_marked mark text result reply notes (nat_lt (marks_in_all w.lists) w.limits.marks) roomy
       where
@@ -131,7 +151,7 @@ module _ (now : ℕ) (w : World) (held : Held) (old new : State) (bytes : List �
         roomy none = grind (arith, nat_tests, none, fits)
 
     -- there was no room for it
-    is_not_marked : (m : Option Mark) (text : List ℕ) (result : Result Answered LineFail) → IfOk result (λ answered. answered ≡ refusal (refusal_text fails.Full)) → IsNotMarked m w.id limits lists later → To (marked w m text) result
+    is_not_marked : (m : Option Mark) (text : List ℕ) (result : Result Answered LineFail) → IfOk result (λ answered. answered ≡ refusal (refusal_text fails.Full)) → IsNotMarked m w.id filed.limits lists later → To (marked w m text) result
     is_not_marked None text result reply never = absurd never
     is_not_marked (Some mark) text result reply (no_room, keeps) = not_marked mark text result reply keeps (nat_lt (marks_in_all w.lists) w.limits.marks) full
       where
@@ -141,12 +161,12 @@ module _ (now : ℕ) (w : World) (held : Held) (old new : State) (bytes : List �
             absurd (no_room (omega (arith, fits, as_many, ap (λ (l : NotaryLimits). l.marks) within)))
 
     -- it may be there
-    may_be_marked : (m : Option Mark) (text : List ℕ) (fail : LineFail) → MayBeMarked m w.id limits lists later → To (marked w m text) (Err fail)
+    may_be_marked : (m : Option Mark) (text : List ℕ) (fail : LineFail) → MayBeMarked m w.id filed.limits lists later → To (marked w m text) (Err fail)
     may_be_marked None text fail keeps = keep (says w text) (Err fail) refl keeps tt
     may_be_marked (Some mark) text fail (inl adds) = is_marked (Some mark) text (Err fail) tt (adds.1, adds.2)
     may_be_marked (Some mark) text fail (inr keeps) = not_marked mark text (Err fail) tt keeps (nat_lt (marks_in_all w.lists) w.limits.marks) (λ some. tt)
 
-    keeps_may : (m : Option Mark) → Keeps lists later → MayBeMarked m w.id limits lists later
+    keeps_may : (m : Option Mark) → Keeps lists later → MayBeMarked m w.id filed.limits lists later
     keeps_may None keeps = keeps
     keeps_may (Some mark) keeps = inr keeps
 
@@ -155,40 +175,72 @@ module _ (now : ℕ) (w : World) (held : Held) (old new : State) (bytes : List �
     fails_so (Ok verdict) fail keeps = may_be_marked (mark_of verdict now) (verdict_text verdict) fail (keeps_may (mark_of verdict now) keeps)
     fails_so (Err other) fail keeps = keep (refuses w (refusal_text other)) (Err fail) refl keeps tt
 
-    steps : (result : Result Answered LineFail) (f : Result Verdict AuditFail) → IsFoundIn (filed_for w) (history_of w.store) f → To (validated w now f) result → Steps (lines.Plain stmts.Validate) now w result held old new bytes (content bytes later)
-    steps result f is goes = record { found = judged f; may = is; goes = subst (λ (x : Step). To x result) (sym (validate_step w now f)) goes }
+    -- the calls of the notary
+    abbrev Makes : List Call → Result Answered LineFail → Type 0
+    Makes calls result = WhereTold filed.trace filed_later.trace (MakesOfNotary calls result)
+
+    abbrev Does : Result Answered LineFail → Type 0
+    Does result = Steps (lines.Plain stmts.Validate) now w result held (desk old filed) (desk new filed_later) bytes (content bytes later)
+
+    steps : (result : Result Answered LineFail) (f : Result Verdict AuditFail) → IsFoundIn (filed_for w) (history_of w.store) f → To (validated w now f) result → Makes (validate_calls w now f) result → Does result
+    steps result f is goes makes = record {
+      found = judged f;
+      may = is;
+      goes = subst (λ (x : Step). To x result) (sym (validate_step w now f)) goes;
+      makes = subst (λ (x : Step). MakesLineCalls w (lines.Plain stmts.Validate) now (judged f) x result (desk old filed) (desk new filed_later) bytes) (sym (validate_step w now f))
+          (calls_beside w (lines.Plain stmts.Validate) now (judged f) (validated w now f) (with_validated w now f).0 bytes result old new same.trace filed filed_later
+          (subst (λ (cs : List Call). Makes cs result) (sym (validate_notes w now f)) makes));
+      only = ends_anyhow result;
+    }
 
     -- before anything is found
-    early : (result : Result Answered LineFail) → OnOk result ⊥ → Keeps lists later → Steps (lines.Plain stmts.Validate) now w result held old new bytes (content bytes later)
-    early (Ok answered) never keeps = absurd never
-    early (Err fail) never keeps =
+    early : (fail : LineFail) → Keeps lists later → ((calls : List Call) → Makes calls (Err fail)) → Does (Err fail)
+    early fail keeps makes =
         let some = something_is_found (filed_for w) (history_of w.store) in
-        steps (Err fail) some.0 some.1 (fails_so some.0 fail keeps)
+        steps (Err fail) some.0 some.1 (fails_so some.0 fail keeps) (makes (validate_calls w now some.0))
 
     -- after that
-    late : (result : Result Answered LineFail) (verdict : Verdict) → OnOk result ⊥ → IsFound w.id (lists.batches w.id) (stored bytes) (Ok verdict) → MayBeMarked (mark_of verdict now) w.id limits lists later → Steps (lines.Plain stmts.Validate) now w result held old new bytes (content bytes later)
-    late (Ok answered) verdict never is may = absurd never
-    late (Err fail) verdict never is may = steps (Err fail) (Ok verdict) (found_in (Ok verdict) is) (may_be_marked (mark_of verdict now) (verdict_text verdict) fail may)
+    late : (fail : LineFail) (verdict : Verdict) → IsFound w.id (lists.batches w.id) (stored bytes) (Ok verdict) → MayBeMarked (mark_of verdict now) w.id filed.limits lists later → Makes (noting w.id (mark_of verdict now)) (Err fail) → Does (Err fail)
+    late fail verdict is may makes = steps (Err fail) (Ok verdict) (found_in (Ok verdict) is) (may_be_marked (mark_of verdict now) (verdict_text verdict) fail may) makes
 
-    pub validates : (v : Result Verdict AuditFail) (result : Result Answered LineFail) → Answers verdict_text v result → (was is : Option (List notaries.Entry)) → Validates w.id now limits (stored bytes) v was is lists later
-        → Steps (lines.Plain stmts.Validate) now w result held old new bytes (content bytes later)
-    validates (Ok verdict) result answer was is (found, made) = steps result (Ok verdict) (found_in (Ok verdict) found) (is_marked (mark_of verdict now) (verdict_text verdict) result answer made)
-    validates (Err (fails.SealMissing name)) result answer was is (found, keeps) =
+    -- a reply, whose call of the notary was answered
+    told : (answer : Answered) (result : Result Answered LineFail) (calls : List Call) → Replies answer result → WhereTold filed.trace filed_later.trace (IsAnswered calls) → Makes calls result
+    told answer result calls reply made = told_map filed.trace filed_later.trace _ _ made (λ b a m. all_replied a calls b answer result reply m)
+
+    made_as : (P Q : List notaries.Entry → List notaries.Entry → Type 0) → WhereTold filed.trace filed_later.trace P → ((b a : List notaries.Entry) → P b a → Q b a) → WhereTold filed.trace filed_later.trace Q
+    made_as P Q made f = told_map filed.trace filed_later.trace P Q made f
+
+    -- memory wanted before any call
+    unmade : WhereTold filed.trace filed_later.trace MakesNone → (calls : List Call) → Makes calls (Err line_fails.NoMemory)
+    unmade none calls = made_as _ _ none (λ b a e. some_made a 0 calls b e)
+
+    by_answer : (result other : Result Answered LineFail) → result ≡ other → Does other → Does result
+    by_answer result other is does = subst Does (sym is) does
+
+    pub validates : (v : Result Verdict AuditFail) (result : Result Answered LineFail) → IsAnswer verdict_text v result → WhereTold filed.trace filed_later.trace (MakesMark w.id now v) → Validates w.id now filed.limits (stored bytes) v filed.trace filed_later.trace lists later → Does result
+    validates (Ok verdict) result answer made (found, marks) =
+        steps result (Ok verdict) (found_in (Ok verdict) found) (is_marked (mark_of verdict now) (verdict_text verdict) result (replied (said (verdict_text verdict)) result answer) marks)
+        (told (said (verdict_text verdict)) result (noting w.id (mark_of verdict now)) answer (made_as _ _ made (λ b a m. was_marked w.id b a (mark_of verdict now) m)))
+    validates (Err (fails.SealMissing name)) result answer made (found, keeps) =
         let next = refuses w (refusal_text (fails.SealMissing name)) in
         steps result (Err (fails.SealMissing name)) (found_in (Err (fails.SealMissing name)) found)
-        (keep next result refl keeps (replies_as next (refusal (refusal_text (fails.SealMissing name))) result refl refl answer))
-    validates (Err fails.Full) result answer was is (verdict, found, none) = steps result (Ok verdict) (found_in (Ok verdict) found) (is_not_marked (mark_of verdict now) (verdict_text verdict) result answer none.0)
-    validates (Err fails.NotaryFault) result answer was is (inl keeps) = early result answer keeps.0
-    validates (Err fails.NotaryFault) result answer was is (inr (verdict, found, may)) = late result verdict answer found may.0
-    validates (Err fails.NoMemory) result answer was is (inl keeps) = early result answer keeps
-    validates (Err fails.NoMemory) result answer was is (inr (verdict, found, may)) = late result verdict answer found may
-    validates (Err fails.DiskFault) result answer was is keeps = early result answer keeps
-    validates (Err (fails.ClockBack last)) result answer was is never = absurd never
-    validates (Err fails.TooLate) result answer was is never = absurd never
-    validates (Err fails.StoreFull) result answer was is never = absurd never
-    validates (Err fails.Closed) result answer was is never = absurd never
-    validates (Err fails.Broken) result answer was is never = absurd never
-    validates (Err (fails.OutOfTurn count)) result answer was is never = absurd never
+        (keep next result refl keeps (replies_as next (refusal (refusal_text (fails.SealMissing name))) result refl refl (replied (refusal (refusal_text (fails.SealMissing name))) result answer)))
+        (made_as _ _ made (λ b a m. none_made result b a m))
+    validates (Err fails.Full) result answer made (verdict, found, none) =
+        steps result (Ok verdict) (found_in (Ok verdict) found) (is_not_marked (mark_of verdict now) (verdict_text verdict) result (replied (refusal (refusal_text fails.Full)) result answer) none.0)
+        (told (refusal (refusal_text fails.Full)) result (noting w.id (mark_of verdict now)) answer (made_as _ _ none.1 (λ b a m. found_no_room w.id b a (mark_of verdict now) m)))
+    validates (Err fails.NotaryFault) result answer made (inl keeps) = by_answer result (Err line_fails.NotaryFault) answer (early line_fails.NotaryFault keeps.0 (λ calls. made_as _ _ keeps.1 (λ b a e. inl e)))
+    validates (Err fails.NotaryFault) result answer made (inr (verdict, found, may)) =
+        by_answer result (Err line_fails.NotaryFault) answer (late line_fails.NotaryFault verdict found may.0 (made_as _ _ may.1 (λ b a m. has_failed w.id b a (mark_of verdict now) m)))
+    validates (Err fails.NoMemory) result answer made (inl keeps) = by_answer result (Err line_fails.NoMemory) answer (early line_fails.NoMemory keeps (unmade made))
+    validates (Err fails.NoMemory) result answer made (inr (verdict, found, may)) = by_answer result (Err line_fails.NoMemory) answer (late line_fails.NoMemory verdict found may (unmade made (noting w.id (mark_of verdict now))))
+    validates (Err fails.DiskFault) result answer made keeps = by_answer result (Err line_fails.DiskFault) answer (early line_fails.DiskFault keeps (λ calls. made))
+    validates (Err (fails.ClockBack last)) result answer made never = absurd never
+    validates (Err fails.TooLate) result answer made never = absurd never
+    validates (Err fails.StoreFull) result answer made never = absurd never
+    validates (Err fails.Closed) result answer made never = absurd never
+    validates (Err fails.Broken) result answer made never = absurd never
+    validates (Err (fails.OutOfTurn count)) result answer made never = absurd never
 
 -- where the disk is unchanged
 pub told_unchanged : {A : Type 0} (o n : Option A) (P : A → Type 0) (Q : A → A → Type 0) → n ≡ o → IfSome o P → ((b : A) → P b → Q b b) → WhereTold o n Q
@@ -199,15 +251,12 @@ told_unchanged {A = A} o n P Q same told f = subst (λ (m : Option A). WhereTold
     at None told = tt
 
 pub without : (id now : ℕ) (old new : State) (filed later : notaries.State) (v : Result Verdict AuditFail) (result : Result Answered LineFail) → Unchanged old new
-    → ((c : List ℕ) → old.was_image (turn old) c → old.is_image c) → Answers verdict_text v result
+    → ((c : List ℕ) → old.was_image (turn old) c → old.is_image c) → IsAnswer verdict_text v result → WhereTold filed.trace later.trace (MakesMark id now v)
     → IfSome old.reads (λ bytes. WhereTold filed.lists later.lists (Validates id now filed.limits (stored bytes) v filed.trace later.trace))
     → StepsWithout (lines.Plain stmts.Validate) now result id old new filed later
-without id now old new filed later v result same only_now answer told held own =
-    told_unchanged old.reads new.reads (λ bytes. WhereTold filed.lists later.lists (Validates id now filed.limits (stored bytes) v filed.trace later.trace))
-    (λ before after. WhereTold filed.lists later.lists (λ lists later_lists. (w : World) → IsIn w held before lists → w.limits ≡ filed.limits → Steps (lines.Plain stmts.Validate) now w result held old new before (content after later_lists)))
-    same.reads told
-    (λ bytes at. told_map filed.lists later.lists (Validates id now filed.limits (stored bytes) v filed.trace later.trace)
-    (λ lists later_lists. (w : World) → IsIn w held bytes lists → w.limits ≡ filed.limits → Steps (lines.Plain stmts.Validate) now w result held old new bytes (content bytes later_lists))
-    at
-    (λ lists later_lists does w i within. validates now w held old new bytes lists later_lists i same only_now filed.limits within v result answer filed.trace later.trace
-    (subst (λ (n : ℕ). Validates n now filed.limits (stored bytes) v filed.trace later.trace lists later_lists) (sym own ∙ i.id) does)))
+without id now old new filed later v result same only_now answer made told held own =
+    told_unchanged old.reads new.reads _ _ same.reads told
+    (λ bytes at. told_map filed.lists later.lists _ _ at
+    (λ lists later_lists does w i within.
+    let here = subst (λ (n : ℕ). WhereTold filed.trace later.trace (MakesMark n now v) × Validates n now filed.limits (stored bytes) v filed.trace later.trace lists later_lists) (sym own ∙ i.id) (made, does) in
+    validates now w held old new bytes lists later_lists i same only_now filed later within v result answer here.0 here.1))

@@ -1,6 +1,9 @@
 pub mod World
 pub mod Found
 pub mod Steps
+pub mod LineCalls
+pub mod CallsMade
+pub mod Faults
 pub mod Stepping
 pub mod Answers
 pub mod Parts

@@ -1,9 +1,10 @@
 -- A line over an open store and a notary: it does to the world that they stand for what the definition says.
-use Rattle.std.specs.Prelude.{◌≡◌, ℕ, List, None, option_map, Result, Ok, Err, OnOk, IfOk}
+use Rattle.std.specs.Prelude.{◌≡◌, ◌≢◌, ℕ, List, None, option_map, Result, Ok, Err, OnOk, IfOk, IfErr}
 use Rattle.disk_words.specs.Disk as disks
 use Rattle.disk_model.specs.Moments.{EveryImage}
 use Rattle.tuple_bytes.specs.declared.header.Header.{Header}
 use Rattle.stmt_text.specs.declared.line.Line.{Line}
+use Rattle.stmt_text.specs.Kinds.{line_kind}
 use Rattle.validator.specs.Desk.{Desk, Content, WhereBothTell}
 use Rattle.validator.specs.Filing.{HasFiledMore}
 use Rattle.drill_core.specs.declared.answered.Answered.{Answered}
@@ -12,6 +13,8 @@ use Rattle.drill_core.specs.declared.open_store.OpenStore.{OpenStore}
 use Rattle.drill_core.specs.World.{World, Held, IsIn, StoresWorld, StoresEither, AreBetween}
 use Rattle.drill_core.specs.Found.{Found}
 use Rattle.drill_core.specs.Steps.{Step, step, MayFind}
+use Rattle.drill_core.specs.CallsMade.{MakesLineCalls}
+use Rattle.drill_core.specs.Faults.{MayEndIn}
 
 -- this was replied
 pub record IsReply (next : Step) (answered : Answered) : Type 0 where
@@ -33,15 +36,18 @@ pub record Goes (w : World) (next : Step) (result : Result Answered LineFail) (l
   pub same : next.world.store ≡ w.store → OnOk result (new.trace ≡ old.trace)
 
 -- what a line does to a world, where this was found
-pub record Steps (line : Line) (now : ℕ) (w : World) (result : Result Answered LineFail) (later : Held) (old new : disks.State) (before : List ℕ) (after : Content) : Type 0 where
+pub record Steps (line : Line) (now : ℕ) (w : World) (result : Result Answered LineFail) (later : Held) (old new : Desk) (before : List ℕ) (after : Content) : Type 0 where
   pub found : Found
   pub may : MayFind w line found
-  pub goes : Goes w (step w line now found) result later old new before after
+  pub goes : Goes w (step w line now found) result later old.disk new.disk before after
+  pub makes : MakesLineCalls w line now found (step w line now found) result old new before
+  -- the fault is of a device that the line uses
+  pub only : IfErr result (MayEndIn (line_kind line) ((step w line now found).world.store ≢ w.store))
 
 -- whatever world they stand for, with these limits
 abbrev pub StepsFor : Line → ℕ → Result Answered LineFail → Held → Held → Desk → Desk → Type 0
 StepsFor line now result held later old new = WhereBothTell old new (λ before after.
-    (w : World) → IsIn w held before.bytes before.lists → w.limits ≡ old.notary.limits → Steps line now w result later old.disk new.disk before.bytes after)
+    (w : World) → IsIn w held before.bytes before.lists → w.limits ≡ old.notary.limits → Steps line now w result later old new before.bytes after)
 
 -- ---- whatever is told
 

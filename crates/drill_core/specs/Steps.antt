@@ -11,8 +11,10 @@ use Rattle.stmt_text.specs.declared.stmt.Stmt.{Stmt}
 use Rattle.stmt_text.specs.declared.stmt.Stmt.TheVariants as stmts
 use Rattle.stmt_text.specs.declared.line.Line.{Line}
 use Rattle.stmt_text.specs.declared.line.Line.TheVariants as lines
+use Rattle.stmt_text.specs.declared.kind.LineKind.{LineKind}
+use Rattle.stmt_text.specs.declared.kind.LineKind.TheVariants as kinds
+use Rattle.stmt_text.specs.Kinds.{stmt_kind, line_kind}
 use Rattle.statement_core.specs.World as statements
-use Rattle.statement_core.specs.Steps as statement_steps
 use Rattle.session_model.specs.Standing.{reply_of}
 use Rattle.session_model.specs.Steps as session_steps
 use Rattle.statement_core.specs.Replies as replies
@@ -158,15 +160,14 @@ MayFind w (lines.Plain stmts.Validate) found = IsFoundIn (filed_for w) (history_
 MayFind w (lines.Plain (stmts.Analyse algorithm)) found = IsAnalysisIn (algorithm_of algorithm) (filed_for w) (history_of w.store) found.analysis
 MayFind w line found = Unit {0}
 
-abbrev pub IsWorldStmt : Stmt → Type 0
-IsWorldStmt stmts.Notarize = Unit {0}
-IsWorldStmt stmts.Validate = Unit {0}
-IsWorldStmt (stmts.Analyse algorithm) = Unit {0}
-IsWorldStmt stmt = statement_steps.IsOnTables stmt
+-- ---- the lines that a world takes: those that one of its parts answers
 
--- the lines that a world takes: statements on tables, `notarize`, `validate` and `analyse`, and all lines of sessions
+abbrev pub IsInWorld : LineKind → Type 0
+IsInWorld (kinds.InWorld part) = Unit {0}
+IsInWorld kind = ⊥
+
+abbrev pub IsWorldStmt : Stmt → Type 0
+IsWorldStmt stmt = IsInWorld (stmt_kind stmt)
+
 abbrev pub IsWorldLine : Line → Type 0
-IsWorldLine (lines.Plain stmt) = IsWorldStmt stmt
-IsWorldLine lines.Blank = ⊥
-IsWorldLine (lines.InSession session stmt) = Unit {0}
-IsWorldLine (lines.Drill event) = ⊥
+IsWorldLine line = IsInWorld (line_kind line)

@@ -1,13 +1,14 @@
 //! Analyses.
 
-ghost use Rattle.std.specs.Prelude.{◌≡◌, ⊤, IsErrOf};
-ghost use Rattle.outside_words.specs.Faults.{HasCause};
+ghost use Rattle.std.specs.Prelude.{◌≡◌, ⊤, false, IfErr, IsErrOf, OnOk};
+ghost use Rattle.outside_words.specs.Faults.{HasCause, HidesNoFault};
 ghost use Rattle.disk_words.specs.Disk as disks;
 ghost use Rattle.notary_link.specs.Notary as notaries;
 ghost use Rattle.stmt_text.specs.declared.line.Line.TheVariants as lines;
 ghost use Rattle.stmt_text.specs.declared.stmt.Stmt.TheVariants as stmts;
 ghost use Rattle.validator.specs.Desk.{KeepsSound, desk};
 ghost use Rattle.forensic_report.specs.declared.fail.AnalyseFail.TheVariants as analyses;
+ghost use Rattle.forensic_report.specs.Fails.{disk_in_doubt, notary_in_doubt};
 ghost use Rattle.drill_core.specs.declared.fail.LineFail.TheVariants.{DiskFault, NotaryFault};
 ghost use Rattle.drill_core.specs.Answers.{IsReported};
 ghost use Rattle.drill_core.specs.Parts.{StepsWithout};
@@ -39,6 +40,8 @@ fn answer_to(alloc: Global, answer: Result<Report, AnalyseFail>) -> Result<Answe
     ensures value { IsReported answer result }
     ensures disk_only { IsErrOf result DiskFault → IsErrOf answer analyses.DiskFault }
     ensures notary_only { IsErrOf result NotaryFault → IsErrOf answer analyses.NotaryFault }
+    ensures disk_sure { OnOk result (IfErr answer (λ fail. disk_in_doubt fail ≡ false)) }
+    ensures notary_sure { OnOk result (IfErr answer (λ fail. notary_in_doubt fail ≡ false)) }
 {
     match answer {
         Ok(report) => Ok(reported(report)),
@@ -67,7 +70,9 @@ pub(crate) fn answer_analysis<D: Disk, N: Notary>(
     ensures disk_frame { disks.GoesOn (D.state disk.old) (D.state disk.new) }
     ensures notary_frame { notaries.GoesOn (N.state notary.old) (N.state notary.new) }
     ensures disk_cause { HasCause DiskFault (D.state disk.old).faults (D.state disk.new).faults result }
+    ensures disk_counted { HidesNoFault (D.state disk.old).faults (D.state disk.new).faults result }
     ensures notary_cause { HasCause NotaryFault (N.state notary.old).faults (N.state notary.new).faults result }
+    ensures notary_counted { HidesNoFault (N.state notary.old).faults (N.state notary.new).faults result }
 {
     reports_show();
     let answer = analyse(alloc, disk, notary, id, algorithm_of(algorithm), now);

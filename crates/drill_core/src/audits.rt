@@ -1,7 +1,7 @@
 //! Notarizations and validations.
 
 ghost use Rattle.std.specs.Prelude.{◌≡◌, ⊤, false, List, OnOk, IsErrOf};
-ghost use Rattle.outside_words.specs.Faults.{HasCause};
+ghost use Rattle.outside_words.specs.Faults.{HasCause, HidesNoFault};
 ghost use Rattle.disk_words.specs.Disk as disks;
 ghost use Rattle.notary_link.specs.Notary as notaries;
 ghost use Rattle.tuple_bytes.specs.declared.item.Item.{Item};
@@ -11,6 +11,7 @@ ghost use Rattle.stmt_text.specs.declared.stmt.Stmt.TheVariants as stmts;
 ghost use Rattle.session_model.specs.Standing.{Machine};
 ghost use Rattle.validator.specs.declared.fail.AuditFail.TheVariants as audits;
 ghost use Rattle.validator.specs.Desk.{KeepsSound, desk};
+ghost use Rattle.validator.specs.Fails.{disk_in_doubt, notary_in_doubt};
 ghost use Rattle.drill_core.specs.declared.fail.LineFail.TheVariants.{DiskFault, NotaryFault};
 ghost use Rattle.drill_core.specs.Answers.{IsAnswerTo};
 ghost use Rattle.drill_core.specs.Stepping.{StepsFor};
@@ -30,6 +31,8 @@ fn answer_to(alloc: Global, fail: AuditFail) -> Result<Answered, LineFail>
     ensures value { IsAnswerTo fail result }
     ensures disk_only { IsErrOf result DiskFault → fail ≡ audits.DiskFault }
     ensures notary_only { IsErrOf result NotaryFault → fail ≡ audits.NotaryFault }
+    ensures disk_sure { OnOk result (disk_in_doubt fail ≡ false) }
+    ensures notary_sure { OnOk result (notary_in_doubt fail ≡ false) }
 {
     match fail {
         AuditFail::DiskFault => Err(LineFail::DiskFault),
@@ -57,7 +60,9 @@ pub(crate) fn answer_notarization<D: Disk, N: Notary>(
     ensures disk_frame { disks.GoesOn (D.state disk.old) (D.state disk.new) }
     ensures notary_frame { notaries.GoesOn (N.state notary.old) (N.state notary.new) }
     ensures disk_cause { HasCause DiskFault (D.state disk.old).faults (D.state disk.new).faults result }
+    ensures disk_counted { HidesNoFault (D.state disk.old).faults (D.state disk.new).faults result }
     ensures notary_cause { HasCause NotaryFault (N.state notary.old).faults (N.state notary.new).faults result }
+    ensures notary_counted { HidesNoFault (N.state notary.old).faults (N.state notary.new).faults result }
 {
     match notarize(alloc, store, disk, notary, now) {
         Ok(tiles) => Ok(sealed(alloc, tiles)?),
@@ -81,7 +86,9 @@ pub(crate) fn answer_validation<D: Disk, N: Notary>(
     ensures disk_frame { disks.GoesOn (D.state disk.old) (D.state disk.new) }
     ensures notary_frame { notaries.GoesOn (N.state notary.old) (N.state notary.new) }
     ensures disk_cause { HasCause DiskFault (D.state disk.old).faults (D.state disk.new).faults result }
+    ensures disk_counted { HidesNoFault (D.state disk.old).faults (D.state disk.new).faults result }
     ensures notary_cause { HasCause NotaryFault (N.state notary.old).faults (N.state notary.new).faults result }
+    ensures notary_counted { HidesNoFault (N.state notary.old).faults (N.state notary.new).faults result }
 {
     match validate(alloc, disk, notary, id, now) {
         Ok(verdict) => Ok(found(alloc, verdict)?),

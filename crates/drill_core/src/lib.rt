@@ -11,7 +11,7 @@
 //! | `notarize` | a Frontier more, where one is needed, and a batch more for each tile that has ended | `sealed N`, the number of sealed tiles |
 //! | `validate` | a mark more, where something was filed | the verdict: `clean N`, `header altered N`, `altered N from M`, `unsealed` |
 //! | `analyse` | as before | the report of `forensic_report` |
-//! | any that is refused | as before; after `Full` with what there was room for | `refused NAME` |
+//! | any other that is refused | as before; after `Full` with what there was room for | `refused NAME` |
 //!
 //! Without a store all but `validate` and `analyse` are `refused NotAStore`. What these two find is no
 //! function of the world in odd cases, where no honest notary made the answers; so `step` is given what
@@ -30,11 +30,13 @@
 //! | a store stays open, of the same header, until a failure; after one there is none, and no session | `store` of `World::line` |
 //! | a store that is opened anew has no session | `sessions` of `World::enter` |
 //! | where nothing is stored, no call changes the disk | `same` of `Goes` |
+//! | the changing calls are those that store what the line adds, and then those that file its batches or note its mark | `makes` of `told`, by `MakesLineCalls` |
 //! | a statement on tables and a line of a session leave the notary | `unasked` of `World::line` |
 //! | where no store is held, whatever is told, all but `validate` and `analyse` are refused and call nothing | `none` of `World::line` |
 //! | a validation goes by the stored bytes and what is filed alone | `bytes` of `World::line` |
 //! | so does an analysis, which leaves the disk and the notary; its report shows what is altered of each history that was filed so | `report` of `World::line` |
-//! | a failure is a fault of the disk or of the notary, or want of memory | `disk_cause` and `notary_cause` |
+//! | a failure is a fault of the disk or of the notary, or want of memory; behind a reply, a refusal too, neither counted a fault | `disk_cause` and `notary_cause`, `disk_counted` and `notary_counted` |
+//! | only a line that the notary answers ends in a fault of the notary; only such a line, or one that stores, in one of the disk | `only` of `World::line` and of `told`, by `MayEndIn` |
 //! | the store of the id is opened, or there is none | `value` of `World::enter` |
 //! | a world whose store is what was filed stays so at every line, and no line tells of an alteration | [`sound_worlds_stay_sound`] |
 //! | a line that is replied `ok N` leaves a store that has the transaction N, and no line takes an item away | [`steps_acknowledge`], [`steps_only_append`] |

@@ -3,11 +3,12 @@
 ghost use Rattle.std.proofs.Props.{props};
 ghost use Rattle.std.specs.Prelude.{◌≡◌, ◌≤◌, ◌+◌, ⊤, None, false, true, IfSome, IsSome, IfOk, IfErr, MatchOption, MatchResult, OnErr, OnOk, is_some, option_map};
 ghost use Rattle.std.specs.Option.{option_copied};
-ghost use Rattle.outside_words.specs.Faults.{HasCause};
+ghost use Rattle.outside_words.specs.Faults.{HasCause, HidesNoFault};
 ghost use Rattle.disk_words.specs.Disk as disks;
 ghost use Rattle.notary_link.specs.Notary as notaries;
 ghost use Rattle.history_model.specs.Stored.{stored};
 ghost use Rattle.stmt_text.specs.Fits.{FitsParts};
+ghost use Rattle.stmt_text.specs.Kinds.{line_kind};
 ghost use Rattle.stmt_text.specs.declared.line.Line.TheVariants as lines;
 ghost use Rattle.stmt_text.specs.declared.stmt.Stmt.TheVariants as stmts;
 ghost use Rattle.session_model.specs.Standing.{IsStatementLine, NoneKept};
@@ -17,6 +18,7 @@ ghost use Rattle.store_engine.specs.Refusals.{IsNoStore, IsOfOpening};
 ghost use Rattle.validator.specs.Desk.{KeepsSound, desk};
 ghost use Rattle.drill_core.specs.declared.fail.LineFail.TheVariants.{DiskFault, NotaryFault};
 ghost use Rattle.drill_core.specs.World.{StandsFor, IsEntered};
+ghost use Rattle.drill_core.specs.Faults.{MayEndIn};
 ghost use Rattle.drill_core.specs.Steps.{IsWorldLine};
 ghost use Rattle.drill_core.specs.Stepping.{StepsFor, KeepsStore};
 ghost use Rattle.drill_core.specs.Unheld.{NeedsStore, IsToldNone, GoesByBytes, AnalysesBy};
@@ -104,6 +106,7 @@ impl World {
         ensures report { AnalysesBy line.now self.old.id now result
             (desk (D.state disk.old) (N.state notary.old)) (desk (D.state disk.new) (N.state notary.new)) }
         ensures unasked { IsStatementLine line.now → N.state notary.new ≡ N.state notary.old }
+        ensures only { IfErr result (MayEndIn (line_kind line.now) ⊤) }
         ensures told { StepsFor line.now now result self.old self.new
             (desk (D.state disk.old) (N.state notary.old)) (desk (D.state disk.new) (N.state notary.new)) }
         ensures sound { KeepsSound (StandsFor self.old)
@@ -111,7 +114,9 @@ impl World {
         ensures disk_frame { disks.GoesOn (D.state disk.old) (D.state disk.new) }
         ensures notary_frame { notaries.GoesOn (N.state notary.old) (N.state notary.new) }
         ensures disk_cause { HasCause DiskFault (D.state disk.old).faults (D.state disk.new).faults result }
+        ensures disk_counted { HidesNoFault (D.state disk.old).faults (D.state disk.new).faults result }
         ensures notary_cause { HasCause NotaryFault (N.state notary.old).faults (N.state notary.new).faults result }
+        ensures notary_counted { HidesNoFault (N.state notary.old).faults (N.state notary.new).faults result }
     {
         match self.opened.take() {
             Some(mut open) => {

@@ -27,7 +27,7 @@ returns-clause-report g c =
 pub returns-clause-told : goal.returns-clause-told
 returns-clause-told g c =
     let told = subst (λ (a : Algorithm). Analyses a c.args.id c.args.now (g.D.Disk.state c.args.disk.now) (g.N.Notary.state c.args.notary.now) (g.N.Notary.state c.analyse-answer.new.notary) c.analyse-answer.result) c.algorithm_of.ensures.value c.analyse-answer.ensures.told in
-    analysed_without c.args.algorithm c.args.now (g.D.Disk.state c.args.disk.now) (g.D.Disk.state c.analyse-answer.new.disk) c.analyse-answer.ensures.same (g.met.D.Disk.only_now c.args.disk.now) c.args.id (g.N.Notary.state c.args.notary.now) (g.N.Notary.state c.analyse-answer.new.notary) c.analyse-answer.ensures.unchanged
+    analysed_without c.args.algorithm c.args.now (g.D.Disk.state c.args.disk.now) (g.D.Disk.state c.analyse-answer.new.disk) c.analyse-answer.ensures.same (g.met.D.Disk.only_now c.args.disk.now) (g.N.Notary.state c.args.notary.now) (g.N.Notary.state c.analyse-answer.new.notary) c.analyse-answer.ensures.unchanged c.args.id
     c.answer_to.result c.analyse-answer.result c.answer_to.ensures.value told
 
 pub returns-clause-sound : goal.returns-clause-sound

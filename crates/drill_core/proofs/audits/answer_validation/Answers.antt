@@ -1,7 +1,6 @@
 use Rattle.std.proofs.Common.{Ok, Err}
 use Rattle.std.proofs.lemmas.Result.{err_from_is_err_and}
-use Rattle.validator.specs.Texts.{verdict_text}
-use Rattle.drill_core.proofs.Replies.{replies}
+use Rattle.drill_core.specs.declared.fail.LineFail.TheVariants.{NoMemory}
 use Rattle.drill_core.proofs.Validating.{without}
 use Rattle.drill_core.proofs.audits.answer_validation.Goals as goal
 
@@ -10,19 +9,19 @@ returns-in_err-found-in-Ok-clause-told g c =
     let S = g.D.Disk.state in
     let N = g.N.Notary.state in
     let p = err_from_is_err_and c.from_residual.result c.from_residual.ensures.1 in
-    rw p.1 (without c.args.id c.args.now (S c.args.disk.now) (S c.validate.new.disk) (N c.args.notary.now) (N c.validate.new.notary) (Ok c.in-Ok.verdict) (Err p.0) c.in-Ok.ensures.same
-    (g.met.D.Disk.only_now c.args.disk.now) tt c.in-Ok.ensures.told)
+    rw (p.1, p.2) (without c.args.id c.args.now (S c.args.disk.now) (S c.validate.new.disk) (N c.args.notary.now) (N c.validate.new.notary) (Ok c.in-Ok.verdict) (Err NoMemory) c.in-Ok.ensures.same
+    (g.met.D.Disk.only_now c.args.disk.now) tt c.in-Ok.ensures.trace c.in-Ok.ensures.told)
 
 pub returns-in_ok-found-in-Ok-clause-told : goal.returns-in_ok-found-in-Ok-clause-told
 returns-in_ok-found-in-Ok-clause-told g c =
     let S = g.D.Disk.state in
     let N = g.N.Notary.state in
     without c.args.id c.args.now (S c.args.disk.now) (S c.validate.new.disk) (N c.args.notary.now) (N c.validate.new.notary) (Ok c.in-Ok.verdict) (Ok c.in_ok-found-in-Ok.field-0) c.in-Ok.ensures.same
-    (g.met.D.Disk.only_now c.args.disk.now) c.in_ok-found-in-Ok.ensures.value c.in-Ok.ensures.told
+    (g.met.D.Disk.only_now c.args.disk.now) c.in_ok-found-in-Ok.ensures.value c.in-Ok.ensures.trace c.in-Ok.ensures.told
 
 pub returns-in-Err-clause-told : goal.returns-in-Err-clause-told
 returns-in-Err-clause-told g c =
     let S = g.D.Disk.state in
     let N = g.N.Notary.state in
     without c.args.id c.args.now (S c.args.disk.now) (S c.validate.new.disk) (N c.args.notary.now) (N c.validate.new.notary) (Err c.in-Err.fail) c.answer_to.result c.in-Err.ensures.same
-    (g.met.D.Disk.only_now c.args.disk.now) (replies verdict_text (Err c.in-Err.fail) c.answer_to.result c.answer_to.ensures.value) c.in-Err.ensures.told
+    (g.met.D.Disk.only_now c.args.disk.now) c.answer_to.ensures.value c.in-Err.ensures.trace c.in-Err.ensures.told
