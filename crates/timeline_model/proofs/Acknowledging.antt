@@ -41,12 +41,13 @@ use Rattle.drill_core.proofs.Texts.{SaysOk, says_ok, reply_ok, notarized_no, val
 use Rattle.drill_core.specs.Steps.{on_tables, notarized, sealed, all_filed, validated, algorithm_of, marked}
 use Rattle.txn_journal.specs.Create.{is_free}
 use Rattle.timeline_model.specs.Scene.{Scene, Crash, nothing_yet, store_in, world_with, world_of, held}
-use Rattle.timeline_model.specs.LineCalls.{notary_calls, items_added}
+use Rattle.drill_core.specs.LineCalls.{notary_calls, items_added}
 use Rattle.timeline_model.specs.Lines.{Act, Next, quiet, says, refuses, over_world, over_store, header_at, makes, brings, act}
 use Rattle.timeline_model.specs.Timeline.{Event, calls_in, stopped, crashed, ended, under, taken, act_on, name_of, step, after, IsReading, IsDrillLine, FitsReading, MayCome}
 use Rattle.timeline_model.specs.Sound.{stored_by, stores, HasAlso}
 use Rattle.timeline_model.specs.Acknowledged.{IsAcknowledged, HasTxn, IsStoredAs, AcknowledgedStaysStored}
-use Rattle.timeline_model.proofs.Doings.{StoreIs, store_is, IsOnTables}
+use Rattle.drill_core.proofs.LineKinds.{GoesToTables, goes_to_tables}
+use Rattle.timeline_model.proofs.Doings.{StoreIs, store_is}
 use Rattle.timeline_model.proofs.Statements.{new_txn, with_begun}
 use Rattle.timeline_model.proofs.Events.{fit_after, nothing_fit}
 use Rattle.timeline_model.proofs.StayBytes.{still_fit}
@@ -154,7 +155,7 @@ tables_acks i t line parts found fits None is s s_is no_calls ok =
     let text : s.text ≡ (refuses t (codes "NotAStore")).text = ap (λ (x : world_steps.Step). x.text) s_is in
     absurd (no_refusal t (codes "NotAStore") (subst SaysOk text ok))
 
-over_tables : (t : Scene) (o : Option ℕ) (line : Line) → FitsParts line → (found : Found) → IsFit t → IsOnTables line → IfOk (stored_by o t (Ok line) found) t (over_store t o line found).next
+over_tables : (t : Scene) (o : Option ℕ) (line : Line) → FitsParts line → (found : Found) → IsFit t → GoesToTables line → IfOk (stored_by o t (Ok line) found) t (over_store t o line found).next
 unfolding world_of
 over_tables t None line parts found fits is = refusal_not [] t t (codes "NotAStore")
 over_tables t (Some i) line parts found fits is = tables_acks i t line parts found fits (store_in i (stored t.bytes)) refl
@@ -199,13 +200,13 @@ unfolding act world_steps.step notary_calls
 stmt_acks t stmts.Notarize found is parts fits ok = absurd (over_notarize t t.id found ok)
 stmt_acks t stmts.Validate found is parts fits ok = absurd (over_validate t t.id found ok)
 stmt_acks t (stmts.Now moment) found is parts fits ok = absurd (says_only_ok t ok)
-stmt_acks t (stmts.Create table columns) found is parts fits ok = over_tables t t.id (lines.Plain (stmts.Create table columns)) parts found fits (record { steps = λ w now f. refl; calls = λ w now f. refl }) ok
-stmt_acks t (stmts.Insert table row) found is parts fits ok = over_tables t t.id (lines.Plain (stmts.Insert table row)) parts found fits (record { steps = λ w now f. refl; calls = λ w now f. refl }) ok
-stmt_acks t (stmts.Update table row) found is parts fits ok = over_tables t t.id (lines.Plain (stmts.Update table row)) parts found fits (record { steps = λ w now f. refl; calls = λ w now f. refl }) ok
-stmt_acks t (stmts.Delete table key) found is parts fits ok = over_tables t t.id (lines.Plain (stmts.Delete table key)) parts found fits (record { steps = λ w now f. refl; calls = λ w now f. refl }) ok
-stmt_acks t (stmts.Get table key moment) found is parts fits ok = over_tables t t.id (lines.Plain (stmts.Get table key moment)) parts found fits (record { steps = λ w now f. refl; calls = λ w now f. refl }) ok
-stmt_acks t (stmts.Scan table filter moment) found is parts fits ok = over_tables t t.id (lines.Plain (stmts.Scan table filter moment)) parts found fits (record { steps = λ w now f. refl; calls = λ w now f. refl }) ok
-stmt_acks t (stmts.History table key) found is parts fits ok = over_tables t t.id (lines.Plain (stmts.History table key)) parts found fits (record { steps = λ w now f. refl; calls = λ w now f. refl }) ok
+stmt_acks t (stmts.Create table columns) found is parts fits ok = over_tables t t.id (lines.Plain (stmts.Create table columns)) parts found fits (goes_to_tables (lines.Plain (stmts.Create table columns)) tt) ok
+stmt_acks t (stmts.Insert table row) found is parts fits ok = over_tables t t.id (lines.Plain (stmts.Insert table row)) parts found fits (goes_to_tables (lines.Plain (stmts.Insert table row)) tt) ok
+stmt_acks t (stmts.Update table row) found is parts fits ok = over_tables t t.id (lines.Plain (stmts.Update table row)) parts found fits (goes_to_tables (lines.Plain (stmts.Update table row)) tt) ok
+stmt_acks t (stmts.Delete table key) found is parts fits ok = over_tables t t.id (lines.Plain (stmts.Delete table key)) parts found fits (goes_to_tables (lines.Plain (stmts.Delete table key)) tt) ok
+stmt_acks t (stmts.Get table key moment) found is parts fits ok = over_tables t t.id (lines.Plain (stmts.Get table key moment)) parts found fits (goes_to_tables (lines.Plain (stmts.Get table key moment)) tt) ok
+stmt_acks t (stmts.Scan table filter moment) found is parts fits ok = over_tables t t.id (lines.Plain (stmts.Scan table filter moment)) parts found fits (goes_to_tables (lines.Plain (stmts.Scan table filter moment)) tt) ok
+stmt_acks t (stmts.History table key) found is parts fits ok = over_tables t t.id (lines.Plain (stmts.History table key)) parts found fits (goes_to_tables (lines.Plain (stmts.History table key)) tt) ok
 stmt_acks t stmts.Begin found is parts fits ok = absurd is
 stmt_acks t stmts.Commit found is parts fits ok = absurd is
 stmt_acks t stmts.Abort found is parts fits ok = absurd is
@@ -219,7 +220,7 @@ line_acks t (lines.Drill (events.Crash calls choice)) found is parts fits ok = a
 line_acks t (lines.Drill (events.Alter place piece)) found is parts fits ok = absurd (changed_not (nat_le (place + length piece) (length t.bytes)) t _ ok)
 line_acks t (lines.Drill (events.Cut n)) found is parts fits ok = absurd (changed_not (nat_le n (length t.bytes)) t _ ok)
 line_acks t lines.Blank found is parts fits ok = absurd is
-line_acks t (lines.InSession session stmt) found is parts fits ok = over_tables t t.id (lines.InSession session stmt) parts found fits (record { steps = λ w now f. refl; calls = λ w now f. refl }) ok
+line_acks t (lines.InSession session stmt) found is parts fits ok = over_tables t t.id (lines.InSession session stmt) parts found fits (goes_to_tables (lines.InSession session stmt) tt) ok
 
 reading_acks : (t : Scene) (l : Result Line ParseFail) (found : Found) → IsReading l → FitsReading l → IsFit t → IfOk (stored_by t.id t l found) t (act_on t l found).next
 reading_acks t (Ok l) found is parts fits = line_acks t l found is parts fits

@@ -35,7 +35,7 @@ use Rattle.audit_model.specs.Notary.{header_answer}
 use Rattle.notary_link.specs.declared.answer.Answer.TheVariants.{Same, Differs}
 
 -- what clashes now clashes at the last event
-clash_at_last : (t : Scene) (es : List Event) (id : ℕ) (h : History) (n : ℕ) → filed t es id ≡ Some h → HashClash h (held (after t es)) n → HasClash t es h n
+pub clash_at_last : (t : Scene) (es : List Event) (id : ℕ) (h : History) (n : ℕ) → filed t es id ≡ Some h → HashClash h (held (after t es)) n → HasClash t es h n
 unfolding filed
 clash_at_last t [] id h n none clash = absurd cc
 clash_at_last t (e ∷ es) id h n some clash = inl (record { tiles = n; within = omega arith; clash = clash })

@@ -37,13 +37,15 @@ use Rattle.drill_core.specs.World.{no_sessions, with_mark}
 use Rattle.drill_core.specs.Steps as world_steps
 use Rattle.drill_core.specs.Steps.{on_tables, notarized, validated, algorithm_of, marked, history_of, MayFind}
 use Rattle.drill_core.proofs.Analysing.{analysed_stays}
+use Rattle.drill_core.proofs.LineKinds.{GoesToTables}
 use Rattle.txn_journal.specs.Create.{is_free}
 use Rattle.timeline_model.specs.Scene.{Scene, Crash, store_under, store_in, world_with, world_of, batches_of}
 use Rattle.txn_journal.specs.Held.{standing}
-use Rattle.timeline_model.specs.LineCalls.{items_added, with_items, appends, end_of_store, notary_calls, validate_calls, noting}
+use Rattle.drill_core.specs.LineCalls.{items_added, with_items, appends, end_of_store, notary_calls, validate_calls, noting}
 use Rattle.timeline_model.specs.Lines.{Act, quiet, says, refuses, over_world, over_store, header_at, makes, inits, altered, shortened, brings}
 use Rattle.timeline_model.specs.Timeline.{with_calls, calls_in, stopped, crashed, ended, under, MayBeFound}
-use Rattle.timeline_model.proofs.Acts.{Acts, acts_dropped, take_none, none_added}
+use Rattle.drill_core.proofs.LineItems.{none_added}
+use Rattle.timeline_model.proofs.Acts.{Acts, acts_dropped, take_none}
 
 -- ---- what leaves the lists
 
@@ -132,12 +134,7 @@ tables_lists : (w : worlds.World) (o : Option statements.World) (line : Line) (n
 tables_lists w None line now = refl
 tables_lists w (Some store) line now = refl
 
--- a line that a world takes as one on its tables
-pub record IsOnTables (line : Line) : Type 0 where
-  pub steps : (w : worlds.World) (now : ℕ) (found : Found) → world_steps.step w line now found ≡ on_tables w w.store line now
-  pub calls : (w : worlds.World) (now : ℕ) (found : Found) → notary_calls w line now found ≡ []
-
-pub tables : (id : ℕ) (t : Scene) (o : Option ℕ) (line : Line) (found : Found) → IsOnTables line → ActsEither id t (over_store t o line found)
+pub tables : (id : ℕ) (t : Scene) (o : Option ℕ) (line : Line) (found : Found) → GoesToTables line → ActsEither id t (over_store t o line found)
 unfolding world_of
 tables id t None line found is = without_notary id t (over_store t None line found) refl refl
 tables id t (Some i) line found is = without_notary id t (over_store t (Some i) line found) (is.calls (world_of t i) t.clock found)

@@ -23,7 +23,7 @@ use Rattle.statement_core.specs.World as statements
 use Rattle.session_model.proofs.Rooms.{no_cause}
 use Rattle.session_model.proofs.Storing.{IsFree, is_free}
 use Rattle.drill_core.specs.Found.{Found}
-use Rattle.timeline_model.specs.LineCalls.{items_added}
+use Rattle.drill_core.specs.LineCalls.{items_added}
 use Rattle.timeline_model.specs.Scene.{Scene, nothing_yet, store_in, world_of}
 use Rattle.timeline_model.specs.Timeline.{FitsReading, after}
 use Rattle.timeline_model.specs.Sound.{stored_by}

@@ -60,13 +60,14 @@ use Rattle.timeline_model.specs.Scene.{Scene, Crash, store_in, world_with, world
 use Rattle.txn_journal.specs.Held.{standing}
 use Rattle.store_engine.specs.Appended.{with_record, Takes}
 use Rattle.store_engine.proofs.Appended.{gate_inside, stores_record}
-use Rattle.timeline_model.specs.LineCalls.{items_added, with_items, appends, notary_calls, filing_calls, unless}
+use Rattle.drill_core.specs.LineCalls.{items_added, with_items, appends, notary_calls, filing_calls, unless}
 use Rattle.timeline_model.specs.Lines.{Act, over_world, over_store}
 use Rattle.timeline_model.specs.Timeline.{with_calls, calls_in, stopped}
-use Rattle.timeline_model.proofs.Acts.{Acts, drop_all}
+use Rattle.drill_core.proofs.LineItems.{drop_all}
+use Rattle.timeline_model.proofs.Acts.{Acts}
 use Rattle.timeline_model.proofs.Bytes.{all_calls, one_last}
 use Rattle.timeline_model.proofs.Doings.{ActsOn, ActsEither, without_notary, spelled_of, StoreIs, store_is}
-use Rattle.digest_model.proofs.Layouts.{header_alike, ascends}
+use Rattle.digest_model.proofs.Layouts.{ascends}
 
 -- ---- calls of the notary, one after the other
 
@@ -155,14 +156,13 @@ frontier_is l t now batches moment e = by (nat_le (length batches) (tiles_at l t
 abbrev chain_by : ℕ → Answer → Layout → Option AuditFail
 chain_by last a l = if nat_le (first_granule l (suc last)) max_granules then fault_by (names.Cum last) a else Some (fails.SealMissing (names.Cum (first_past l)))
 
--- what speaks against a history goes by its transactions
-fault_alike : (batches : List Batch) (h s : History) → h.header ≡ s.header → ((g : ℕ) → rows h g ≡ rows s g) → filed_fault batches h ≡ filed_fault batches s
+-- what speaks against a history goes by its header, its tiles and its transactions
+fault_alike : (batches : List Batch) (h s : History) → h.header ≡ s.header → layout h ≡ layout s → ((g : ℕ) → rows h g ≡ rows s g) → filed_fault batches h ≡ filed_fault batches s
 unfolding digest header_answer
-fault_alike [] h s one same = refl
-fault_alike (first ∷ []) h s one same = ap (λ (header : Header). fault_by names.Header (answer (first ∷ []) names.Header (header_digest header))) one
-fault_alike (first ∷ second ∷ rest) h s one same =
-    let places : layout h ≡ layout s = ap (λ (header : Header). layout (history header [])) one in
-    let chain : cum h (length rest) ≡ cum s (length rest) = follow.cums h s (length rest) (header_alike h s one (length rest + 1)) (record { header = one; rows = λ g below. same g }) in
+fault_alike [] h s one places same = refl
+fault_alike (first ∷ []) h s one places same = ap (λ (header : Header). fault_by names.Header (answer (first ∷ []) names.Header (header_digest header))) one
+fault_alike (first ∷ second ∷ rest) h s one places same =
+    let chain : cum h (length rest) ≡ cum s (length rest) = follow.cums h s (length rest) (λ tile below. record { exponent = ap (λ (l : Layout). l.exponents tile) places; algorithms = ap (λ (l : Layout). l.algorithms tile) places }) (record { header = one; rows = λ g below. same g }) in
     ap (λ (header : Header). else_cause (fault_by names.Header (answer (first ∷ second ∷ rest) names.Header (header_digest header))) (chain_fault (first ∷ second ∷ rest) h (length rest))) one
     ∙ ap (λ (a : Answer). else_cause (fault_by names.Header (answer (first ∷ second ∷ rest) names.Header (header_digest s.header))) (chain_by (length rest) a (layout h))) (ap (answer (first ∷ second ∷ rest) (names.Cum (length rest))) chain)
     ∙ ap (λ (l : Layout). else_cause (fault_by names.Header (answer (first ∷ second ∷ rest) names.Header (header_digest s.header))) (chain_by (length rest) (answers (first ∷ second ∷ rest) s (names.Cum (length rest))) l)) places
@@ -324,7 +324,7 @@ module _ (i : ℕ) (t : Scene) (found : Found) (store : statements.World) (is : 
       batches = subst (λ (x : ℕ). after.lists.batches x ≡ t.lists.batches x ++ take (suc j) next) (sym own) more.here;
       seals = subst (λ (x : ℕ). map (λ (b : Batch). b.seals) (take (suc j) next) ≡ map (batch s) (range_with_len (length (t.lists.batches x)) (length (take (suc j) next)))) (sym own) seals_are;
       within = subst (λ (x : ℕ). first_granule (layout s) (length (t.lists.batches x) + length (take (suc j) next) - 1) ≤ max_granules) (sym own) tiles_within;
-      free = subst (λ (x : ℕ). filed_fault (t.lists.batches x) s ≡ None) (sym own) (sym (fault_alike batches h s refl (around_rows store.header store.items need)) ∙ later_causes.0);
+      free = subst (λ (x : ℕ). filed_fault (t.lists.batches x) s ≡ None) (sym own) (sym (fault_alike batches h s refl refl (around_rows store.header store.items need)) ∙ later_causes.0);
       moments = subst (λ (c : ℕ). All (λ (b : Batch). b.moment ≡ c) (take (suc j) next)) (sym clock_same) moments_are;
       marks = more.marks id;
     }))

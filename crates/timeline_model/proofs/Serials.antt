@@ -45,7 +45,8 @@ use Rattle.timeline_model.specs.Stepping.{IsWhole}
 use Rattle.timeline_model.specs.Sessions.{begun_under, begun_in, told_more, told_under, told, SessionsAreSerial}
 use Rattle.timeline_model.proofs.Events.{fit_after, nothing_fit}
 use Rattle.timeline_model.proofs.Sessions.{IsFit, notarized_rest, validated_rest}
-use Rattle.timeline_model.proofs.Statements.{with_begun, notarized_store, with_validated, step_stores}
+use Rattle.drill_core.proofs.Validating.{with_validated}
+use Rattle.timeline_model.proofs.Statements.{with_begun, notarized_store, step_stores}
 use Rattle.timeline_model.proofs.StayBytes.{still_fit}
 use Rattle.timeline_model.proofs.Stepping.{read_by, take_step}
 

@@ -47,12 +47,12 @@ use Rattle.timeline_model.specs.Scene.{Scene, Crash, store_in, world_with, world
 use Rattle.txn_journal.specs.Held.{standing}
 use Rattle.store_engine.specs.Appended.{with_record, Takes}
 use Rattle.store_engine.proofs.Appended.{gate_inside, stores_record}
-use Rattle.timeline_model.specs.LineCalls.{notary_calls, items_added, with_items, appends}
+use Rattle.drill_core.specs.LineCalls.{notary_calls, items_added, with_items, appends}
 use Rattle.timeline_model.specs.Lines.{Next, Act, quiet, refuses, over_world, over_store, makes, inits}
 use Rattle.timeline_model.specs.Timeline.{calls_in, stopped, crashed, ended, under}
 use Rattle.timeline_model.specs.Sound.{stored_by, HasAlso}
 use Rattle.timeline_model.specs.Crashes.{LeavesOnly}
-use Rattle.timeline_model.proofs.Acts.{drop_all}
+use Rattle.drill_core.proofs.LineItems.{drop_all}
 use Rattle.timeline_model.proofs.Bytes.{all_calls, ItemsLast, none_last, one_last, none_stopped}
 use Rattle.timeline_model.proofs.Calls.{inits_write}
 use Rattle.timeline_model.proofs.Fitting.{takes_txn, follows}
@@ -61,7 +61,8 @@ use Rattle.timeline_model.proofs.Sessions.{AreFit, IsFit, asked_fit}
 use Rattle.timeline_model.proofs.Spellings.{IsFitOp}
 use Rattle.timeline_model.proofs.Statements.{new_txn, with_begun}
 use Rattle.timeline_model.proofs.Stopped.{stopped_stores}
-use Rattle.timeline_model.proofs.Doings.{unstopped, StoreIs, store_is, IsOnTables}
+use Rattle.drill_core.proofs.LineKinds.{GoesToTables}
+use Rattle.timeline_model.proofs.Doings.{unstopped, StoreIs, store_is}
 
 -- ---- a sound scene
 
@@ -325,7 +326,7 @@ tables_by i t line parts found fits None is s s_is no_calls = record {
   lasts = none_last t.bytes 0;
 }
 
-pub tables_sound : (t : Scene) (o : Option ℕ) (line : Line) → FitsParts line → (found : Found) → IsFit t → IsOnTables line → SoundEither (stored_by o t (Ok line) found) t (over_store t o line found)
+pub tables_sound : (t : Scene) (o : Option ℕ) (line : Line) → FitsParts line → (found : Found) → IsFit t → GoesToTables line → SoundEither (stored_by o t (Ok line) found) t (over_store t o line found)
 unfolding world_of
 tables_sound t None line parts found fits is = quiet_sound [] t (refuses t (codes "NotAStore")) refl refl
 tables_sound t (Some i) line parts found fits is = tables_by i t line parts found fits (store_in i (stored t.bytes)) refl

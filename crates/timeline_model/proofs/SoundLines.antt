@@ -51,21 +51,23 @@ use Rattle.drill_core.specs.World as worlds
 use Rattle.drill_core.specs.World.{no_sessions}
 use Rattle.drill_core.specs.Steps as world_steps
 use Rattle.drill_core.specs.Steps.{notarized, validated, analysed, algorithm_of, marked, sealed, reached, history_of, MayFind}
+use Rattle.drill_core.proofs.LineKinds.{goes_to_tables}
 use Rattle.drill_core.proofs.Analysing.{analysed_stays}
 use Rattle.timeline_model.specs.Scene.{Scene, Crash, nothing_yet, store_in, world_with, world_of, held, batches_of}
 use Rattle.txn_journal.specs.Held.{standing}
-use Rattle.timeline_model.specs.LineCalls.{end_of_store, items_added, with_items, appends, notary_calls, validate_calls, noting, filing_calls, unless}
+use Rattle.drill_core.specs.LineCalls.{end_of_store, items_added, with_items, appends, notary_calls, validate_calls, noting, filing_calls, unless}
 use Rattle.timeline_model.specs.Lines.{Act, says, refuses, over_world, over_store, header_at, act}
 use Rattle.timeline_model.specs.Timeline.{Event, step, taken, act_on, name_of, after, with_calls, calls_in, stopped, IsDrillLine, IsReading, FitsReading, IsTimeline, MayCome}
 use Rattle.timeline_model.specs.Sound.{IsFromInside, stored_by, stores, AllFromInside, HasAlso, TimelinesStaySound, EventsKeepItems, NextLinesTellNoAlteration}
-use Rattle.timeline_model.proofs.Acts.{take_none, none_added}
+use Rattle.drill_core.proofs.LineItems.{none_added}
+use Rattle.timeline_model.proofs.Acts.{take_none}
 use Rattle.timeline_model.proofs.Bytes.{all_calls, ItemsLast, none_last, none_stopped}
 use Rattle.timeline_model.proofs.Stopped.{stopped_stores}
 use Rattle.timeline_model.proofs.Doings.{history_same, StoreIs, store_is}
 use Rattle.timeline_model.proofs.Events.{fit_after, nothing_fit}
 use Rattle.timeline_model.proofs.StayBytes.{still_fit}
 use Rattle.timeline_model.proofs.Sessions.{IsFit}
-use Rattle.timeline_model.proofs.Statements.{with_validated}
+use Rattle.drill_core.proofs.Validating.{with_validated}
 use Rattle.timeline_model.proofs.Sealing as sealing
 use Rattle.timeline_model.proofs.Sealing.{HasMore, more_with, calls_file, take_inner, frontier_items}
 use Rattle.timeline_model.proofs.Sound.{IsSoundScene, Extends, IsGood, SoundEither, good_same, under_sound, quiet_sound, init_sound, stored_held, stays, tables_by, tables_sound}
@@ -349,13 +351,13 @@ unfolding act world_steps.step notary_calls
 stmt_sound t stmts.Notarize found is parts fits = notarize_sound t t.id found fits
 stmt_sound t stmts.Validate found is parts fits = validate_sound t t.id found
 stmt_sound t (stmts.Now moment) found is parts fits = quiet_sound (stored_by t.id t (Ok (lines.Plain (stmts.Now moment))) found) t (says (record t { clock = moment }) (codes "ok")) refl refl
-stmt_sound t (stmts.Create table columns) found is parts fits = tables_sound t t.id (lines.Plain (stmts.Create table columns)) parts found fits (record { steps = λ w now f. refl; calls = λ w now f. refl })
-stmt_sound t (stmts.Insert table row) found is parts fits = tables_sound t t.id (lines.Plain (stmts.Insert table row)) parts found fits (record { steps = λ w now f. refl; calls = λ w now f. refl })
-stmt_sound t (stmts.Update table row) found is parts fits = tables_sound t t.id (lines.Plain (stmts.Update table row)) parts found fits (record { steps = λ w now f. refl; calls = λ w now f. refl })
-stmt_sound t (stmts.Delete table key) found is parts fits = tables_sound t t.id (lines.Plain (stmts.Delete table key)) parts found fits (record { steps = λ w now f. refl; calls = λ w now f. refl })
-stmt_sound t (stmts.Get table key moment) found is parts fits = tables_sound t t.id (lines.Plain (stmts.Get table key moment)) parts found fits (record { steps = λ w now f. refl; calls = λ w now f. refl })
-stmt_sound t (stmts.Scan table filter moment) found is parts fits = tables_sound t t.id (lines.Plain (stmts.Scan table filter moment)) parts found fits (record { steps = λ w now f. refl; calls = λ w now f. refl })
-stmt_sound t (stmts.History table key) found is parts fits = tables_sound t t.id (lines.Plain (stmts.History table key)) parts found fits (record { steps = λ w now f. refl; calls = λ w now f. refl })
+stmt_sound t (stmts.Create table columns) found is parts fits = tables_sound t t.id (lines.Plain (stmts.Create table columns)) parts found fits (goes_to_tables (lines.Plain (stmts.Create table columns)) tt)
+stmt_sound t (stmts.Insert table row) found is parts fits = tables_sound t t.id (lines.Plain (stmts.Insert table row)) parts found fits (goes_to_tables (lines.Plain (stmts.Insert table row)) tt)
+stmt_sound t (stmts.Update table row) found is parts fits = tables_sound t t.id (lines.Plain (stmts.Update table row)) parts found fits (goes_to_tables (lines.Plain (stmts.Update table row)) tt)
+stmt_sound t (stmts.Delete table key) found is parts fits = tables_sound t t.id (lines.Plain (stmts.Delete table key)) parts found fits (goes_to_tables (lines.Plain (stmts.Delete table key)) tt)
+stmt_sound t (stmts.Get table key moment) found is parts fits = tables_sound t t.id (lines.Plain (stmts.Get table key moment)) parts found fits (goes_to_tables (lines.Plain (stmts.Get table key moment)) tt)
+stmt_sound t (stmts.Scan table filter moment) found is parts fits = tables_sound t t.id (lines.Plain (stmts.Scan table filter moment)) parts found fits (goes_to_tables (lines.Plain (stmts.Scan table filter moment)) tt)
+stmt_sound t (stmts.History table key) found is parts fits = tables_sound t t.id (lines.Plain (stmts.History table key)) parts found fits (goes_to_tables (lines.Plain (stmts.History table key)) tt)
 stmt_sound t stmts.Begin found is parts fits = absurd is
 stmt_sound t stmts.Commit found is parts fits = absurd is
 stmt_sound t stmts.Abort found is parts fits = absurd is
@@ -369,7 +371,7 @@ line_sound t (lines.Drill (events.Crash after choice)) found is inside parts fit
 line_sound t (lines.Drill (events.Alter place bytes)) found is inside parts fits = absurd inside
 line_sound t (lines.Drill (events.Cut n)) found is inside parts fits = absurd inside
 line_sound t lines.Blank found is inside parts fits = absurd is
-line_sound t (lines.InSession session stmt) found is inside parts fits = tables_sound t t.id (lines.InSession session stmt) parts found fits (record { steps = λ w now f. refl; calls = λ w now f. refl })
+line_sound t (lines.InSession session stmt) found is inside parts fits = tables_sound t t.id (lines.InSession session stmt) parts found fits (goes_to_tables (lines.InSession session stmt) tt)
 
 pub reading_sound : (t : Scene) (l : Result Line ParseFail) (found : Found) → IsReading l → IsFromInside l → FitsReading l → IsFit t → SoundEither (stored_by t.id t l found) t (act_on t l found)
 reading_sound t (Ok l) found is inside parts fits = line_sound t l found is inside parts fits

@@ -1,26 +1,17 @@
 -- What a line stores: nothing, a transaction, or a Frontier.
-use Rattle.std.proofs.Common.{◌≡◌, ◌⊎◌, inl, inr, ℕ, ◌≤◌, Bool, true, false, List, [], ◌∷◌, ◌++◌, length, drop, Option, Some, None, Result, Ok, Err, refl, sym, ap, subst, ◌∙◌}
-use Rattle.std.specs.Prelude.{nat_lt, ◌==◌, if◌then◌else◌, codes}
+use Rattle.std.proofs.Common.{◌≡◌, ◌⊎◌, inl, inr, ℕ, ◌≤◌, false, List, [], ◌∷◌, ◌++◌, length, drop, Option, Some, None, refl, sym, ap, subst, ◌∙◌}
 use Rattle.std.proofs.lemmas.List.{drop_at}
 use Rattle.tuple_bytes.specs.declared.item.Item.{Item}
 use Rattle.tuple_bytes.specs.declared.item.Item.TheVariants as items
 use Rattle.tuple_bytes.specs.declared.item.Txn.{Txn}
 use Rattle.tuple_bytes.specs.declared.op.Op.{Op}
 use Rattle.history_model.specs.History.{history}
-use Rattle.notary_link.specs.declared.mark.Mark.{Mark}
-use Rattle.notary_link.specs.Notary.{marks_in_all}
-use Rattle.notary_link.specs.Filing.{fitting, room_in}
 use Rattle.store_engine.specs.Refusals.{commit_fault, next_txn}
 use Rattle.stmt_text.specs.declared.stmt.Stmt.TheVariants as stmts
 use Rattle.stmt_text.specs.declared.line.Line.{Line}
 use Rattle.stmt_text.specs.declared.line.Line.TheVariants as lines
 use Rattle.validator.specs.declared.fail.AuditFail.{AuditFail}
-use Rattle.validator.specs.declared.fail.AuditFail.TheVariants as fails
-use Rattle.validator.specs.declared.verdict.Verdict.{Verdict}
-use Rattle.validator.specs.Notarizing.{notarize_fault, next_batches, sealed_after, frontier_for}
-use Rattle.validator.specs.Verdicts.{mark_of}
-use Rattle.number_text.specs.Numbered.{numbered}
-use Rattle.validator.specs.Texts.{verdict_text, refusal_text}
+use Rattle.validator.specs.Notarizing.{notarize_fault, frontier_for}
 use Rattle.statement_core.specs.World as statements
 use Rattle.statement_core.specs.World.{tail_of_world, with_txn}
 use Rattle.session_model.specs.World as sessions
@@ -31,8 +22,9 @@ use Rattle.drill_core.specs.Steps as world_steps
 use Rattle.drill_core.specs.Steps.{on_tables, filed_for, notarized, sealed, reached, filed, validated, algorithm_of, marked}
 use Rattle.drill_core.proofs.Acknowledging.{by_line}
 use Rattle.drill_core.proofs.Analysing.{analysed_stays}
-use Rattle.timeline_model.specs.LineCalls.{items_added}
-use Rattle.timeline_model.proofs.Acts.{none_added}
+use Rattle.drill_core.proofs.Validating.{with_validated}
+use Rattle.drill_core.specs.LineCalls.{items_added}
+use Rattle.drill_core.proofs.LineItems.{none_added, sealed_store}
 use Rattle.digest_model.specs.Layout.{layout}
 
 -- ---- a statement on tables, or a line of a session
@@ -52,37 +44,12 @@ pub record GetsFrontier (w : worlds.World) (store : statements.World) (now : ℕ
   pub free : notarize_fault (tail_of_world store) false now store.items (filed_for w) ≡ None
   pub is : s.world.store ≡ Some (reached (frontier_for (layout (history store.header store.items)) (tail_of_world store) now (filed_for w)) store)
 
--- it is sealed with that
-pub sealed_store : (w : worlds.World) (store : statements.World) (now : ℕ) → (sealed w store now).world.store ≡ Some (reached (frontier_for (layout (history store.header store.items)) (tail_of_world store) now (filed_for w)) store)
-sealed_store w store now = ap (λ (x : worlds.World). x.store) (of_room (fitting (room_in w.limits w.lists) (next_batches (history store.header store.items) now (filed_for w)) == length (next_batches (history store.header store.items) now (filed_for w)))
-    (filed (worlds.with_store w (reached (frontier_for (layout (history store.header store.items)) (tail_of_world store) now (filed_for w)) store)) (next_batches (history store.header store.items) now (filed_for w))) (numbered (codes "sealed ") (sealed_after (layout (history store.header store.items)) store.header now (filed_for w))))
-  where
-    of_room : (b : Bool) (new : worlds.World) (text : List ℕ) → (if b then world_steps.says new text else world_steps.refuses new (refusal_text fails.Full)).world ≡ new
-    of_room true new text = refl
-    of_room false new text = refl
-
 pub notarized_store : (w : worlds.World) (store : statements.World) (now : ℕ) → ((notarized w (Some store) now).world.store ≡ w.store) ⊎ GetsFrontier w store now (notarized w (Some store) now)
 notarized_store w store now = by (notarize_fault (tail_of_world store) false now store.items (filed_for w)) refl
   where
     by : (fault : Option AuditFail) → notarize_fault (tail_of_world store) false now store.items (filed_for w) ≡ fault → ((world_steps.unless fault w (sealed w store now)).world.store ≡ w.store) ⊎ GetsFrontier w store now (world_steps.unless fault w (sealed w store now))
     by (Some fail) is = inl refl
     by None is = inr (record { free = is; is = sealed_store w store now })
-
--- ---- a validation
-
--- the store and the batches stay
-pub with_validated : (w : worlds.World) (now : ℕ) (found : Result Verdict AuditFail) → ((validated w now found).world.store ≡ w.store) × ((id : ℕ) → (validated w now found).world.lists.batches id ≡ w.lists.batches id)
-with_validated w now (Err fail) = (refl, λ id. refl)
-with_validated w now (Ok verdict) = by (mark_of verdict now)
-  where
-    of_room : (mark : Mark) (text : List ℕ) (b : Bool) → ((if b then world_steps.says (worlds.with_lists w (worlds.with_mark w.id mark w.lists)) text else world_steps.refuses w (refusal_text fails.Full)).world.store ≡ w.store)
-        × ((id : ℕ) → (if b then world_steps.says (worlds.with_lists w (worlds.with_mark w.id mark w.lists)) text else world_steps.refuses w (refusal_text fails.Full)).world.lists.batches id ≡ w.lists.batches id)
-    of_room mark text true = (refl, λ id. refl)
-    of_room mark text false = (refl, λ id. refl)
-
-    by : (m : Option Mark) → ((marked w m (verdict_text verdict)).world.store ≡ w.store) × ((id : ℕ) → (marked w m (verdict_text verdict)).world.lists.batches id ≡ w.lists.batches id)
-    by None = (refl, λ id. refl)
-    by (Some mark) = of_room mark (verdict_text verdict) (nat_lt (marks_in_all w.lists) w.limits.marks)
 
 -- ---- a line
 

@@ -35,7 +35,7 @@ use Rattle.drill_core.specs.World.{no_sessions}
 use Rattle.drill_core.specs.Steps as world_steps
 use Rattle.drill_core.specs.Steps.{on_tables, notarized, reached}
 use Rattle.timeline_model.specs.Scene.{Scene, Crash, world_of}
-use Rattle.timeline_model.specs.LineCalls.{items_added, with_items, appends, end_of_store}
+use Rattle.drill_core.specs.LineCalls.{items_added, with_items, appends, end_of_store}
 use Rattle.timeline_model.specs.Lines.{Act, Next, quiet, says, refuses, over_world, over_store, header_at, makes, inits, altered, shortened, brings, act}
 use Rattle.timeline_model.specs.Timeline.{calls_in, stopped, crashed, ended, under, taken, act_on, name_of, step, Event as Happening, FitsReading, IsReading, IsDrillLine}
 use Rattle.timeline_model.proofs.Statements.{new_txn, with_begun, Stores, step_stores, same_added, txn_added, frontier_added}

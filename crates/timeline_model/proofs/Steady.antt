@@ -8,7 +8,7 @@ use Rattle.tuple_bytes.specs.declared.header.Header.{Header}
 use Rattle.tuple_bytes.specs.declared.item.Txn.{Txn}
 use Rattle.history_model.specs.Stored.{stored}
 use Rattle.history_model.specs.History.{History, history, rows}
-use Rattle.digest_model.specs.Layout.{layout, first_granule, max_granules}
+use Rattle.digest_model.specs.Layout.{layout, first_granule, max_granules, SameTiles}
 use Rattle.digest_model.specs.Laws.{HasSpelling}
 use Rattle.notary_link.specs.declared.answer.Answer.{Answer}
 use Rattle.notary_link.specs.declared.answer.Answer.TheVariants.{Same, Differs, Absent}
@@ -35,12 +35,12 @@ use Rattle.timeline_model.specs.Scene.{Scene, held, batches_of}
 use Rattle.timeline_model.specs.Timeline.{Event, after, EachEvent}
 use Rattle.timeline_model.specs.Filed.{with_tiles, bare, filed_next, filed}
 use Rattle.timeline_model.specs.Kept.{WasMarked, HasAlteredIn, ShowedFiled, CleanWasClean, AlteredWasAltered, IsKept, HasClash, IsFiledOver, Kept, sealed_in}
-use Rattle.timeline_model.proofs.Rows.{rows_stay, rows_come, with_spelling, bare_spelling, bare_rows, none_more}
+use Rattle.timeline_model.proofs.Rows.{places_stay, rows_stay, rows_come, with_spelling, bare_spelling, bare_places, bare_rows, none_more}
 use Rattle.timeline_model.proofs.Inputs.{clash_follows}
 use Rattle.timeline_model.proofs.Acts.{Leaves, Files, Marks, Acts, no_mark, only_mark, each_weaker}
 use Rattle.timeline_model.proofs.Judged.{mark_is, outcome_of, tiles_of, judged, none_marked, audit, same_below, shown_clean, shown_altered, under_held}
 use Rattle.timeline_model.proofs.Transport.{Bounded, no_length, all_bounded, showed_none, clean_none, altered_none, clash_still, all_showed, all_clean, all_altered}
-use Rattle.digest_model.proofs.Layouts.{ascends, ends_within, same_begins, header_alike}
+use Rattle.digest_model.proofs.Layouts.{ascends, ends_within, fewer, same_begins, header_alike}
 use Rattle.digest_model.proofs.Layouts as layouts
 
 -- ---- what stands between two events
@@ -127,7 +127,7 @@ range_joined {X} f a (suc m) n =
 
 -- ---- a history that has the rows of a store in all its tiles
 
-module _ (h s : History) (n m : ℕ) (le : n ≤ m) (one : h.header ≡ s.header) (ends : EndsAt h n) (alike : (g : ℕ) → g < first_granule (layout h) n → rows h g ≡ rows s g) where
+module _ (h s : History) (n m : ℕ) (le : n ≤ m) (one : h.header ≡ s.header) (places : SameTiles m (layout h) (layout s)) (ends : EndsAt h n) (alike : (g : ℕ) → g < first_granule (layout h) n → rows h g ≡ rows s g) where
   abbrev grown : History
   grown = with_tiles h s n m
 
@@ -146,14 +146,14 @@ module _ (h s : History) (n m : ℕ) (le : n ≤ m) (one : h.header ≡ s.header
   -- the batches of the one are those of the other
   grown_filed : (batches : List Batch) (id : ℕ) → map (λ (b : Batch). b.seals) batches ≡ map (batch s) (range_with_len 0 (m + 1)) → h.header.id ≡ id → first_granule (layout s) m ≤ max_granules → NotaryOf batches id grown m
   grown_filed batches id seals own within = record {
-    seals = seals ∙ sym (same_batches grown s 0 m one (header_alike grown s one (0 + m)) (λ g below. grown_same g (let own : 0 + m ≡ m = omega arith in rw own at below)));
+    seals = seals ∙ sym (same_batches grown s 0 m one (let own : 0 + m ≡ m = omega arith in rw own places) (λ g below. grown_same g (let own : 0 + m ≡ m = omega arith in rw own at below)));
     header = own;
-    within = (let same = same_begins (layout grown) (layout s) m (header_alike grown s one m) in omega (arith, same, within));
+    within = (let same = same_begins (layout grown) (layout s) m places in omega (arith, same, within));
   }
 
   -- the store shows them
-  grown_shown : (tiles g : ℕ) → g < first_granule (layout h) m → view grown (Some s) tiles g ≡ Some (rows grown g)
-  grown_shown tiles g below = same_view grown s tiles g (record { header = one; tiles = header_alike grown s one tiles }) ∙ ap (λ (ts : List Txn). Some ts) (sym (grown_same g below))
+  grown_shown : (tiles g : ℕ) → tiles ≤ m → g < first_granule (layout h) m → view grown (Some s) tiles g ≡ Some (rows grown g)
+  grown_shown tiles g few below = same_view grown s tiles g (record { header = one; tiles = fewer (layout grown) (layout s) m tiles few places }) ∙ ap (λ (ts : List Txn). Some ts) (sym (grown_same g below))
 
 -- ---- what an event files
 
@@ -241,29 +241,29 @@ module _ (t : Scene) (e : Event) (es : List Event) (id : ℕ) (acts : EachEvent 
     counted = ap length f.batches ∙ length-append (batches_of was id) f.new
 
     -- a history that has the store's rows in all tiles that are sealed now
-    module _ (h : History) (n m : ℕ) (le : n ≤ m) (one : h.header ≡ s.header) (ends : EndsAt h n) (alike : (g : ℕ) → g < first_granule (layout h) n → rows h g ≡ rows s g) (spelled : HasSpelling h)
+    module _ (h : History) (n m : ℕ) (le : n ≤ m) (one : h.header ≡ s.header) (places : SameTiles m (layout h) (layout s)) (ends : EndsAt h n) (alike : (g : ℕ) → g < first_granule (layout h) n → rows h g ≡ rows s g) (spelled : HasSpelling h)
         (count : length (batches_of is id) ≡ m + 1) (seals : map (λ (b : Batch). b.seals) (batches_of is id) ≡ map (batch s) (range_with_len 0 (m + 1))) where
       abbrev k : History
-      k = grown h s n m le one ends alike
+      k = grown h s n m le one places ends alike
 
       shown : ShowedFiled k id was is
       shown tile g filed place =
           let below : g < first_granule (layout h) m = (let new = filed.filed in let to = place.to in
           let up = ends_within (layout h) m tile (omega (arith, new, count)) in
           omega (arith, to, up)) in
-          ap (λ (o : Option History). view k o (sealed_in is id) g) f.held_is ∙ grown_shown h s n m le one ends alike (sealed_in is id) g below
+          ap (λ (o : Option History). view k o (sealed_in is id) g) f.held_is ∙ grown_shown h s n m le one places ends alike (sealed_in is id) g (omega (arith, count)) below
 
       holds_grown : EachEvent (ShowedFiled k id) t es → EachEvent (CleanWasClean k id) t es → EachEvent (AlteredWasAltered k id) t es → Holds t (e ∷ es) id k m
       holds_grown filings clean altered = record {
         kept = record {
-          notary = grown_filed h s n m le one ends alike (batches_of is id) id seals (ap (λ (header : Header). header.id) one ∙ f.own)
+          notary = grown_filed h s n m le one places ends alike (batches_of is id) id seals (ap (λ (header : Header). header.id) one ∙ f.own)
               (let last : length (batches_of was id) + length f.new - 1 ≡ m = omega (arith, counted, count) in subst (λ (i : ℕ). first_granule (layout s) i ≤ max_granules) last f.within);
           filings = (shown, filings);
           clean = (unmarked_clean k id was is f.marks, clean);
           altered = (unmarked_altered k id was is f.marks, altered);
         };
         spelled = with_spelling h s n m spelled f.spelled.items;
-        ends = grown_ends h s n m le one ends alike;
+        ends = grown_ends h s n m le one places ends alike;
       }
 
     -- nothing was filed before
@@ -300,7 +300,7 @@ module _ (t : Scene) (e : Event) (es : List Event) (id : ℕ) (acts : EachEvent 
                 filed = filed_more t e es id ∙ next_first (filed t es id) (length (batches_of was id)) (length (batches_of is id)) (held is) s m nothing.filed_none f.held_is count;
                 count = count;
               };
-              holds = inl (holds_grown (bare s) 0 m le refl ends alike (bare_spelling s f.spelled) count seals
+              holds = inl (holds_grown (bare s) 0 m le refl (bare_places s m) ends alike (bare_spelling s f.spelled) count seals
                   (each_weaker (Bounded id 0) (ShowedFiled k id) (λ a b bounded. showed_none k id a b bounded) t es none_before)
                   (each_weaker (Bounded id 0) (CleanWasClean k id) (λ a b bounded. clean_none k id a b bounded) t es none_before)
                   (each_weaker (Bounded id 0) (AlteredWasAltered k id) (λ a b bounded. altered_none k id a b bounded) t es none_before));
@@ -330,38 +330,38 @@ module _ (t : Scene) (e : Event) (es : List Event) (id : ℕ) (acts : EachEvent 
       Later = Holds t (e ∷ es) id later m ⊎ HasClash t (e ∷ es) later m
 
       clash_before : HasClash t es h n → Later
-      clash_before clash = inr (inr (clash_still h later.items n same_rows m le t es clash))
+      clash_before clash = inr (inr (clash_still h later.items n (places_stay h s n m n) same_rows m le t es clash))
 
       clash_filed : HashClash h (Some s) n → Later
       clash_filed clash = inr (inl (record {
         tiles = n;
         within = le;
-        clash = subst (λ (o : Option History). HashClash later o n) (sym f.held_is) (clash_follows h later (Some s) n refl same_rows clash);
+        clash = subst (λ (o : Option History). HashClash later o n) (sym f.held_is) (clash_follows h later (Some s) n (record { header = refl; tiles = places_stay h s n m n }) same_rows clash);
       }))
 
       -- the store has what was filed
-      goes_on_filing : Holds t es id h n → h.header ≡ s.header → ((g : ℕ) → g < first_granule (layout h) n → rows h g ≡ rows s g) → Later
-      goes_on_filing holds one alike =
+      goes_on_filing : Holds t es id h n → h.header ≡ s.header → SameTiles m (layout h) (layout s) → ((g : ℕ) → g < first_granule (layout h) n → rows h g ≡ rows s g) → Later
+      goes_on_filing holds one places alike =
           let bounds : EachEvent (Bounded id (n + 1)) t es = subst (λ (c : ℕ). EachEvent (Bounded id c) t es) over.count bounded in
           let before : map (λ (b : Batch). b.seals) (batches_of was id) ≡ map (batch s) (range_with_len 0 (n + 1)) =
-          holds.kept.notary.seals ∙ same_batches h s 0 n one (header_alike h s one (0 + n)) (λ g below. alike g (let own : 0 + n ≡ n = omega arith in rw own at below)) in
+          holds.kept.notary.seals ∙ same_batches h s 0 n one (fewer (layout h) (layout s) m (0 + n) (omega (arith, le)) places) (λ g below. alike g (let own : 0 + n ≡ n = omega arith in rw own at below)) in
           let seals : map (λ (b : Batch). b.seals) (batches_of is id) ≡ map (batch s) (range_with_len 0 (m + 1)) =
           ap (map (λ (b : Batch). b.seals)) f.batches ∙ map-append (λ (b : Batch). b.seals) (batches_of was id) f.new
           ∙ ap (λ (xs : List (List Seal)). xs ++ map (λ (b : Batch). b.seals) f.new) before
           ∙ ap (λ (xs : List (List Seal)). map (batch s) (range_with_len 0 (n + 1)) ++ xs) (f.seals ∙ (let from : length (batches_of was id) ≡ 0 + (n + 1) = (let c = over.count in omega (arith, c)) in ap (λ (a : ℕ). map (batch s) (range_with_len a (length f.new))) from))
           ∙ range_joined (batch s) 0 (n + 1) (length f.new)
           ∙ (let many : n + 1 + length f.new ≡ m + 1 = omega arith in ap (λ (c : ℕ). map (batch s) (range_with_len 0 c)) many) in
-          inl (holds_grown h n m le one holds.ends alike holds.spelled count seals
-          (all_showed h later.items n same_rows id t es bounds holds.kept.filings)
-          (all_clean h later.items n same_rows id t es bounds holds.kept.clean)
-          (all_altered h later.items n same_rows id t es bounds holds.kept.altered))
+          inl (holds_grown h n m le one places holds.ends alike holds.spelled count seals
+          (all_showed h later.items n (places_stay h s n m n) same_rows id t es bounds holds.kept.filings)
+          (all_clean h later.items n (places_stay h s n m n) same_rows id t es bounds holds.kept.clean)
+          (all_altered h later.items n (places_stay h s n m n) same_rows id t es bounds holds.kept.altered))
 
       holds_more : Holds t es id h n → Later
       holds_more holds =
           let free = free_by (batches_of was id) s n over.count f.free in
           elim (audit (batches_of was id) id n h s holds.kept.notary holds.spelled f.spelled free.header) [
             | inl checked ↦ (elim (same_below (batches_of was id) id n h s checked free.chain) [
-              | inl alike ↦ goes_on_filing holds checked.header alike
+              | inl alike ↦ goes_on_filing holds checked.header (header_alike h s checked.header m) alike
               | inr clash ↦ clash_filed clash
             ])
             | inr clash ↦ clash_filed clash

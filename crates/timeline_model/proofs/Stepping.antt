@@ -26,7 +26,7 @@ use Rattle.drill_core.specs.Steps as world_steps
 use Rattle.drill_core.specs.Steps.{on_tables, notarized, sealed, filed, filed_for, reached, validated, algorithm_of, marked, IsWorldStmt, IsWorldLine}
 use Rattle.store_engine.specs.Appended.{with_record, Takes}
 use Rattle.store_engine.proofs.Appended.{append_adds, append_puts, stores_record}
-use Rattle.timeline_model.specs.LineCalls.{items_added, with_items, end_of_store}
+use Rattle.drill_core.specs.LineCalls.{items_added, with_items, end_of_store}
 use Rattle.timeline_model.specs.Scene.{Scene, Crash, nothing_yet, sessions_over, store_under, store_in, world_of}
 use Rattle.timeline_model.specs.Lines.{Act, Next, over_world, over_store, act}
 use Rattle.timeline_model.specs.Timeline.{Event, calls_in, ended, under, taken, act_on, step, after, FitsReading}
@@ -140,7 +140,7 @@ stmt_act t stmts.Abort found is = absurd is
 stmt_act t (stmts.Analyse algorithm) found is = refl
 stmt_act t (stmts.Now moment) found is = absurd is
 
-line_act : (t : Scene) (line : Line) (found : Found) → IsWorldLine line → act t line found ≡ over_store t t.id line found
+pub line_act : (t : Scene) (line : Line) (found : Found) → IsWorldLine line → act t line found ≡ over_store t t.id line found
 unfolding act
 line_act t (lines.Plain stmt) found is = stmt_act t stmt found is
 line_act t lines.Blank found is = absurd is

@@ -4,12 +4,12 @@ use Rattle.tuple_bytes.specs.declared.item.Item.{Item}
 use Rattle.tuple_bytes.specs.declared.item.Txn.{Txn}
 use Rattle.history_model.specs.Stored.{stored}
 use Rattle.history_model.specs.History.{History, history, rows}
-use Rattle.digest_model.specs.Layout.{layout, first_granule}
+use Rattle.digest_model.specs.Layout.{layout, first_granule, SameTiles}
 use Rattle.notary_link.specs.declared.mark.Mark.{Mark}
 use Rattle.notary_link.specs.Batches.{Batch}
 use Rattle.audit_model.specs.Altered.{IsAltered, history_with}
 use Rattle.audit_model.specs.Notary.{cums}
-use Rattle.digest_model.proofs.Layouts.{ascends, adjoin}
+use Rattle.digest_model.proofs.Layouts.{ascends, adjoin, fewer}
 use Rattle.timeline_model.specs.Scene.{Scene, held, batches_of}
 use Rattle.timeline_model.specs.Timeline.{Event, after, EachEvent}
 use Rattle.timeline_model.specs.Kept.{WasMarked, IsInTile, ShowedFiled, CleanWasClean, AlteredWasAltered, ClashesAt, HasClash}
@@ -81,9 +81,9 @@ module _ (k : History) (id : ℕ) (was is : Scene) (none : Bounded id 0 was is) 
   pub altered_none : AlteredWasAltered k id was is
   altered_none mark tile new outcome = absurd (let few = none.marks mark new in omega (arith, few))
 
--- ---- a history with the same header, and the same rows in the first n tiles
+-- ---- a history with the same header, the first n tiles in the same places, and the same rows in them
 
-module _ (h : History) (more : List Item) (n : ℕ) (same : (g : ℕ) → g < first_granule (layout h) n → rows h g ≡ rows (history h.header more) g) where
+module _ (h : History) (more : List Item) (n : ℕ) (places : SameTiles n (layout h) (layout (history h.header more))) (same : (g : ℕ) → g < first_granule (layout h) n → rows h g ≡ rows (history h.header more) g) where
   abbrev k : History
   k = history h.header more
 
@@ -123,7 +123,7 @@ module _ (h : History) (more : List Item) (n : ℕ) (same : (g : ℕ) → g < fi
   clash_at m le is c = record {
     tiles = c.tiles;
     within = (let few = c.within in omega (arith, few, le));
-    clash = clash_follows h k (held is) c.tiles refl (λ g inside. same g (below c.tiles g c.within inside)) c.clash;
+    clash = clash_follows h k (held is) c.tiles (record { header = refl; tiles = fewer (layout h) (layout k) n c.tiles c.within places }) (λ g inside. same g (below c.tiles g c.within inside)) c.clash;
   }
 
   -- a clash is one still

@@ -20,7 +20,7 @@ use Rattle.session_model.specs.Standing.{NoneKept}
 use Rattle.drill_core.specs.declared.open_store.OpenStore.{OpenStore}
 use Rattle.drill_core.specs.World.{StoreIsIn, IsIn, IsEntered}
 use Rattle.timeline_model.specs.Scene.{Scene, dropped, store_in, world_of}
-use Rattle.timeline_model.specs.LineCalls.{with_items, appends}
+use Rattle.drill_core.specs.LineCalls.{with_items, appends}
 
 -- nothing is on its way to the disk: what reads give was synced
 pub record IsSettledBy (first : List ℕ) (trace : List (Call × Bool)) : Type 0 where

@@ -15,6 +15,7 @@
 //! | `filed t es id` | what was filed under an id, as one history |
 //! | `told t es` | what each session was told since its begin |
 //! | `Kept t es id` | the notary has the batches of that, and each event showed what it filed or marked; or two inputs clash |
+//! | `ReportsAreRight t es` | the report of each analysis line that is not refused names what is altered, and where the clock never goes back its spans hold a change; or two inputs clash |
 //! | `SurvivesCrashes t e es` | all that holds behind an event, stopped or not, where nothing came from outside |
 //!
 //! | Law, from an empty disk, an empty notary and clock 0 | Clause |
@@ -22,6 +23,9 @@
 //! | what was filed and marked is kept, whatever lines and crashes come | `each_timeline_is_kept` |
 //! | at any moment each algorithm names every granule that is altered of what was filed, a3D no other, or two inputs clash; where the header is refused every sealed granule is altered | `analyses_name_altered`, `refused_headers_are_altered` |
 //! | where the clock never goes back, an altered granule was changed in the span of its tile, and the first changed tile in the span of its first change, or two inputs clash | `spans_have_changes`, `first_spans_have_changes` |
+//! | the report of an analysis line is what was replied; it shows, as `reports_show` says, what is altered of what was filed under its id, or two inputs clash; where nothing was filed it says so, and nowhere else | `reports_name_altered` |
+//! | where the clock never goes back, the span that a report prints for an altered granule holds a change of it, and that of its first change one of that tile, or two inputs clash | `reports_have_changes` |
+//! | both hold of each analysis line that is not refused; each granule that its report names has a span, unless it tells another header, and each line with a span stands in its text | `each_report_is_right` |
 //! | after a line that no crash stops the bytes and the sessions are the world that its step gives, and that was replied; a crash behind it drops the sessions | `lines_take_their_step` |
 //! | a session that commits was told what its statements are told alone, over the history just before its commit, whatever came before; what a session is told is replied | `sessions_are_serial` |
 //! | the disk has bytes, and a line stores only what a record can hold | `bytes_stay_bytes`, `lines_store_spellings` |
@@ -37,10 +41,10 @@ mod laws;
 
 pub use laws::{
     acknowledged_stays_stored, analyses_name_altered, appends_write_items, bytes_stay_bytes,
-    calls_are_counted, crashes_are_survived, each_timeline_is_kept, entered_stand_for_worlds,
-    events_keep_items, failed_calls_leave_nothing, first_spans_have_changes,
-    images_go_by_new_calls, inits_leave_half_made, inits_write_headers, lines_store_spellings,
-    lines_take_their_step, next_lines_tell_no_alteration, refused_headers_are_altered,
-    sessions_are_serial, spans_have_changes, timelines_stay_sound, worked_timelines,
-    worlds_go_by_bytes,
+    calls_are_counted, crashes_are_survived, each_report_is_right, each_timeline_is_kept,
+    entered_stand_for_worlds, events_keep_items, failed_calls_leave_nothing,
+    first_spans_have_changes, images_go_by_new_calls, inits_leave_half_made, inits_write_headers,
+    lines_store_spellings, lines_take_their_step, next_lines_tell_no_alteration,
+    refused_headers_are_altered, reports_have_changes, reports_name_altered, sessions_are_serial,
+    spans_have_changes, timelines_stay_sound, worked_timelines, worlds_go_by_bytes,
 };

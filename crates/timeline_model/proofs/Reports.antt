@@ -1,0 +1,354 @@
+-- Each report of a timeline names what is altered, and its spans hold a change.
+use Rattle.std.proofs.Common.{◌≡◌, ◌⊎◌, inl, inr, ℕ, ◌+◌, ◌≤◌, Bool, true, false, List, [], ◌∷◌, length, Option, Some, None, Result, Ok, Err, refl, sym, ap, subst, ◌∙◌, arith}
+use Rattle.std.specs.Prelude.{nat_le, IfSome}
+use Rattle.std.proofs.lemmas.Bool.{le-leb}
+use Rattle.std.specs.Option.{option_map}
+use Rattle.byte_grammar.specs.Reading.{IsBytes}
+use Rattle.tuple_bytes.specs.declared.header.Header.{Header}
+use Rattle.history_model.specs.Stored.{stored}
+use Rattle.history_model.specs.StoredHistory.{IsHistory}
+use Rattle.history_model.specs.History.{History, history}
+use Rattle.history_model.proofs.Stores.{stored_history}
+use Rattle.digest_model.specs.Layout.{Layout, layout}
+use Rattle.digest_model.proofs.Layouts.{tile_within}
+use Rattle.notary_link.specs.declared.notary.NotaryLimits.{NotaryLimits}
+use Rattle.notary_link.specs.Batches.{Batch}
+use Rattle.audit_model.specs.Altered.{history_with, HasPlacesOf, IsAltered, HashClash}
+use Rattle.audit_model.specs.Laws.{IsAudit}
+use Rattle.corruption_diagram.specs.declared.span.Span.{Span}
+use Rattle.stmt_text.specs.declared.error.ParseFail.{ParseFail}
+use Rattle.stmt_text.specs.declared.stmt.LineAlgorithm.{LineAlgorithm}
+use Rattle.stmt_text.specs.declared.stmt.Stmt.TheVariants as stmts
+use Rattle.stmt_text.specs.declared.line.Line.{Line}
+use Rattle.stmt_text.specs.declared.line.Line.TheVariants as lines
+use Rattle.forensic_report.specs.declared.algorithm.Algorithm.{Algorithm}
+use Rattle.forensic_report.specs.declared.fail.AnalyseFail.{AnalyseFail}
+use Rattle.forensic_report.specs.Analysis.{Analysis, Unsealed, HeaderAltered, Found, sealed_tiles}
+use Rattle.forensic_report.specs.Finding.{IsAnalysisIn, IsFoundOf}
+use Rattle.forensic_report.specs.Held.{HoldsHistory}
+use Rattle.forensic_report.specs.Shows.{Shows}
+use Rattle.forensic_report.specs.Texts.{Kept, report_text}
+use Rattle.forensic_report.proofs.Showing.{shows}
+use Rattle.forensic_report.proofs.Layouts.{one_layout}
+use Rattle.drill_core.specs.Found.{Found as FoundOf}
+use Rattle.drill_core.specs.World as worlds
+use Rattle.drill_core.specs.Steps as world_steps
+use Rattle.drill_core.specs.Steps.{history_of, algorithm_of, analysed}
+use Rattle.drill_core.proofs.Analysing.{analysed_stays}
+use Rattle.drill_core.specs.LineCalls.{notary_calls}
+use Rattle.timeline_model.specs.Scene.{Scene, Crash, nothing_yet, store_in, world_of, held, batches_of}
+use Rattle.timeline_model.specs.Lines.{over_world, over_store, act}
+use Rattle.timeline_model.specs.Timeline.{Event, calls_in, under, taken, act_on, step, after, MayBeFound, IsTimeline, SomeEvent}
+use Rattle.timeline_model.specs.Kept.{IsFiledOver, HasAlteredIn, HasClash}
+use Rattle.timeline_model.specs.Changes.{ClockRises, Changed, ChangedTile, begins, ends}
+use Rattle.timeline_model.specs.Stepping.{IsWhole}
+use Rattle.timeline_model.specs.Printed.{Prints, PrintsFirst}
+use Rattle.timeline_model.specs.Reports.{IsReported, kept_in, NamesFiled, PrintsSpans, SpansHoldChanges, IsRightReport, ReportsNameAltered, ReportsHaveChanges, EachReportIsRight}
+use Rattle.drill_core.proofs.LineItems.{none_added}
+use Rattle.timeline_model.proofs.Acts.{some_weaker}
+use Rattle.timeline_model.proofs.Doings.{spelled_of, history_same}
+use Rattle.timeline_model.proofs.Judged.{audit, under_held}
+use Rattle.timeline_model.proofs.Steady.{Holds}
+use Rattle.timeline_model.proofs.Events.{each_kept, fit_after, nothing_fit}
+use Rattle.timeline_model.proofs.Stepping.{take_step}
+use Rattle.timeline_model.proofs.Analyses.{known_of, clash_at_last}
+use Rattle.timeline_model.proofs.Changes.{spans_have, firsts_have}
+use Rattle.timeline_model.proofs.Printing.{same_analysis, IsLookedAt, looked_at, IsSpanOf, in_span, first_altered, spans_named}
+use Rattle.timeline_model.proofs.PrintedLines.{IsTold, unsealed_told, other_told, found_told, line_stands, first_stands, first_span}
+
+-- ---- an analysis makes no changing call
+
+module _ (t : Scene) (id : ℕ) (algorithm : LineAlgorithm) (found : FoundOf) (own : t.id ≡ Some id) where
+  abbrev line : Line
+  line = lines.Plain (stmts.Analyse algorithm)
+
+  none_in_world : (w : worlds.World) → calls_in (over_world t w line found (world_steps.step w line t.clock found)) ≡ 0
+  unfolding world_steps.step notary_calls
+  none_in_world w =
+      ap (λ (x : worlds.World). calls_in (over_world t w line found (record { world = x; text = []; is_refused = false }))) (analysed_stays w (algorithm_of algorithm) t.clock found.analysis)
+      ∙ rw (none_added w.store) refl
+
+  no_calls : calls_in (act t line found) ≡ 0
+  unfolding act
+  no_calls = ap (λ (o : Option ℕ). calls_in (over_store t o line found)) own ∙ none_in_world (world_of t id)
+
+passes : (t : Scene) (e : Event) (crash : Option Crash) → calls_in (act_on (taken t) e.line e.found) ≡ 0 → IfSome crash (λ c. calls_in (act_on (taken t) e.line e.found) ≤ c.after)
+passes t e None none = tt
+passes t e (Some c) none = omega (arith, none)
+
+whole_line : (t : Scene) (e : Event) (id : ℕ) (algorithm : LineAlgorithm) → e.line ≡ Ok (lines.Plain (stmts.Analyse algorithm)) → t.id ≡ Some id → IsWhole t e
+whole_line t e id algorithm line_is own = passes t e t.crash
+    (ap (λ (l : Result Line ParseFail). calls_in (act_on (taken t) l e.found)) line_is ∙ no_calls (taken t) id algorithm e.found own)
+
+-- ---- bytes that were read hold a history
+
+is_history : (bytes : List ℕ) (o : Option Header) → IsBytes bytes → (stored bytes).header ≡ o → IfSome (option_map (λ (h : Header). history h (stored bytes).items) o) IsHistory
+is_history bytes None fits is = tt
+is_history bytes (Some h) fits is = stored_history bytes h fits is
+
+holds_history : (batches : List Batch) (bytes : List ℕ) → IsBytes bytes → HoldsHistory batches bytes
+holds_history [] bytes fits = tt
+holds_history (b ∷ bs) bytes fits = is_history bytes (stored bytes).header fits refl
+
+-- n sealed tiles have a batch each, and the header has one
+found_of : (algorithm : Algorithm) (batches : List Batch) (n : ℕ) (file : Option History) (found : Result Analysis AnalyseFail) → length batches ≡ n + 1
+    → IsAnalysisIn algorithm batches file found → IsFoundOf algorithm batches n file found
+found_of algorithm [] n file found many is = absurd (omega (arith, many))
+found_of algorithm (b ∷ bs) n file found many is = (let same : length bs ≡ n = omega (arith, many) in subst (λ (m : ℕ). IsFoundOf algorithm (b ∷ bs) m file found) same is)
+
+-- ---- a report
+
+module _ (limits : NotaryLimits) (e : Event) (es : List Event) (id : ℕ) (statement : LineAlgorithm) (a : Analysis)
+    (is_timeline : IsTimeline (nothing_yet limits) (e ∷ es)) (reported : IsReported (after (nothing_yet limits) es) e id statement a) where
+  abbrev t : Scene
+  t = nothing_yet limits
+
+  abbrev now : Scene
+  now = after t es
+
+  abbrev algorithm : Algorithm
+  algorithm = algorithm_of statement
+
+  abbrev asked : Line
+  asked = lines.Plain (stmts.Analyse statement)
+
+  abbrev batches : List Batch
+  batches = batches_of now id
+
+  abbrev kept : Kept
+  kept = kept_in now id
+
+  abbrev file : Option History
+  file = history_with id (stored now.bytes)
+
+  bytes : IsBytes now.bytes
+  bytes = (fit_after t es (nothing_fit limits) is_timeline.0).bytes
+
+  may : MayBeFound (Some id) now (Ok asked) e.found
+  may = subst (λ (o : Option ℕ). MayBeFound o now (Ok asked) e.found) reported.own
+      (subst (λ (l : Result Line ParseFail). MayBeFound now.id now l e.found) reported.line is_timeline.1.found)
+
+  found_in_world : IsAnalysisIn algorithm batches (history_of (store_in id (stored now.bytes))) e.found.analysis
+  unfolding world_of
+  found_in_world = may
+
+  found : IsAnalysisIn algorithm batches file (Ok a)
+  found = subst (λ (o : Option History). IsAnalysisIn algorithm batches o (Ok a)) (history_same id (stored now.bytes).header (stored now.bytes))
+      (subst (λ (r : Result Analysis AnalyseFail). IsAnalysisIn algorithm batches (history_of (store_in id (stored now.bytes))) r) reported.found found_in_world)
+
+  -- ---- the reply
+
+  said : (world_steps.step (world_of now id) asked now.clock e.found).text ≡ report_text algorithm id kept a
+  unfolding world_steps.step world_of
+  said = ap (λ (r : Result Analysis AnalyseFail). (analysed (world_of now id) algorithm now.clock r).text) reported.found
+
+  text : (step now e.line e.found).text ≡ report_text algorithm id kept a
+  text = (take_step limits e es id asked is_timeline reported.own reported.line tt (whole_line now e id statement reported.line reported.own)).text ∙ said
+
+  unsealed : batches ≡ [] → a ≡ Unsealed
+  unsealed none = same_analysis a Unsealed (subst (λ (bs : List Batch). IsAnalysisIn algorithm bs file (Ok a)) none found)
+
+  only_unsealed : a ≡ Unsealed → (bs : List Batch) → batches ≡ bs → bs ≡ []
+  only_unsealed none [] is = refl
+  only_unsealed none (b ∷ bs) is = elim (looked_at algorithm (b ∷ bs) (length bs) a file (subst (λ (all : List Batch). IsAnalysisIn algorithm all file (Ok a)) is found)) [
+    | inl other ↦ absurd (let both : Unsealed ≡ HeaderAltered (length bs) = sym none ∙ other in cc)
+    | inr at ↦ absurd (let both : Unsealed ≡ Found (layout at.store) (length bs) at.findings = sym none ∙ at.is in cc)
+  ]
+
+  filed_one : (batches ≡ []) ⊎ ((h : History) × (n : ℕ) × IsFiledOver t es id h n)
+  filed_one = elim (each_kept limits es id is_timeline.0) [ inl none ↦ inl none | inr kept ↦ inr (kept.0, kept.1, kept.2) ]
+
+  -- ---- what is printed
+
+  told : (bs : List Batch) → batches ≡ bs → IsTold a
+  told [] is = unsealed_told (unsealed is)
+  told (b ∷ bs) is = elim (looked_at algorithm (b ∷ bs) (length bs) a file (subst (λ (all : List Batch). IsAnalysisIn algorithm all file (Ok a)) is found)) [
+    | inl other ↦ other_told (length bs) other
+    | inr at ↦ found_told (layout at.store) (length bs) at.findings at.is at.within
+  ]
+
+  printed : PrintsSpans id algorithm kept a
+  printed = record {
+    each = λ g named. spans_named algorithm kept a g named;
+    stands = λ g span line prints. line_stands id algorithm kept a (told batches refl) g span line prints;
+    first_stands = λ tile span line prints. first_stands id algorithm kept a tile span line prints;
+  }
+
+  -- ---- over what was filed
+
+  module _ (h : History) (n : ℕ) (over : IsFiledOver t es id h n) where
+    known : Holds t es id h n ⊎ HasClash t es h n
+    known = known_of limits es id is_timeline.0 h n over
+
+    looked : (a ≡ HeaderAltered n) ⊎ IsLookedAt batches n file a
+    looked = looked_at algorithm batches n a file (found_of algorithm batches n file (Ok a) over.count found)
+
+    tiles : sealed_tiles a ≡ n
+    tiles = elim looked [ inl other ↦ ap sealed_tiles other | inr at ↦ ap sealed_tiles at.is ]
+
+    shown : Holds t es id h n → Shows algorithm batches h (held now) n a
+    shown holds = shows algorithm batches id n h now.bytes a holds.kept.notary holds.spelled (holds_history batches now.bytes bytes) found
+
+    clash_now : HashClash h (held now) n → HasClash t es h n
+    clash_now clash = clash_at_last t es id h n over.filed clash
+
+    shows_filed : Shows algorithm batches h (held now) n a ⊎ HasClash t es h n
+    shows_filed = elim known [ inl holds ↦ inl (shown holds) | inr clash ↦ inr clash ]
+
+    -- ---- a store under the header that was filed
+
+    module _ (at : IsLookedAt batches n file a) where
+      held_is : held now ≡ Some at.store
+      held_is = under_held id (stored now.bytes).header (stored now.bytes) at.store at.stands
+
+      clash_read : HashClash h (Some at.store) n → HasClash t es h n
+      clash_read clash = clash_now (subst (λ (o : Option History). HashClash h o n) (sym held_is) clash)
+
+      checked : Holds t es id h n → IsAudit batches id h at.store n ⊎ HasClash t es h n
+      checked holds = elim (audit batches id n h at.store holds.kept.notary holds.spelled (spelled_of now.bytes at.store bytes held_is) at.header) [
+        | inl is ↦ inl is
+        | inr clash ↦ inr (clash_read clash)
+      ]
+
+      module _ (holds : Holds t es id h n) (is : IsAudit batches id h at.store n) where
+        places : HasPlacesOf h at.store n
+        places = record { header = is.header; tiles = is.places }
+
+        a_is : a ≡ Found (layout h) n at.findings
+        a_is = at.is ∙ ap (λ (l : Layout). Found l n at.findings) (sym (one_layout h at.store is.header))
+
+        shown_here : Shows algorithm batches h (Some at.store) n (Found (layout h) n at.findings)
+        shown_here = subst (λ (x : Analysis). Shows algorithm batches h (Some at.store) n x) a_is (subst (λ (o : Option History). Shows algorithm batches h o n a) held_is (shown holds))
+
+        span_here : (g : ℕ) (span : Span) (line : List ℕ) → IsAltered h (held now) n g → Prints algorithm kept a g span line → IsSpanOf h g kept span
+        span_here g span line altered prints = in_span h n g altered.is_sealed kept algorithm batches at.store at.findings span line shown_here.explained
+            (subst (λ (x : Analysis). Prints algorithm kept x g span line) a_is prints)
+
+        first_here : (tile : ℕ) (span : Span) (line : List ℕ) → PrintsFirst kept a tile span line → HasAlteredIn h (held now) n tile ⊎ HasClash t es h n
+        first_here tile span line prints =
+            let p = subst (λ (x : Analysis). PrintsFirst kept x tile span line) a_is prints in
+            elim (first_altered h at.store n tile p.tiles at.findings places shown_here.begins shown_here.only p.bad_is) [
+              | inl has ↦ inl (subst (λ (o : Option History). HasAlteredIn h o n tile) (sym held_is) has)
+              | inr clash ↦ inr (clash_read clash)
+            ]
+
+    -- ---- in the spans
+
+    span_is : (g : ℕ) (span : Span) (line : List ℕ) → IsAltered h (held now) n g → Prints algorithm kept a g span line → IsSpanOf h g kept span ⊎ HasClash t es h n
+    span_is g span line altered prints = elim known [
+      | inr clash ↦ inr clash
+      | inl holds ↦ (elim looked [
+        | inl other ↦ absurd (subst (λ (x : Analysis). Prints algorithm kept x g span line) other prints)
+        | inr at ↦ (elim (checked at holds) [
+          | inl is ↦ inl (span_here at holds is g span line altered prints)
+          | inr clash ↦ inr clash
+        ])
+      ])
+    ]
+
+    first_is : (tile : ℕ) (span : Span) (line : List ℕ) → PrintsFirst kept a tile span line → HasAlteredIn h (held now) n tile ⊎ HasClash t es h n
+    first_is tile span line prints = elim known [
+      | inr clash ↦ inr clash
+      | inl holds ↦ (elim looked [
+        | inl other ↦ absurd (subst (λ (x : Analysis). PrintsFirst kept x tile span line) other prints)
+        | inr at ↦ (elim (checked at holds) [
+          | inl is ↦ first_here at holds is tile span line prints
+          | inr clash ↦ inr clash
+        ])
+      ])
+    ]
+
+    module _ (rises : ClockRises t es) where
+      -- within the printed span, which is that of the granule's tile or a longer one
+      within : (g : ℕ) (span : Span) → IsAltered h (held now) n g → IsSpanOf h g kept span → SomeEvent (Changed h id span.from span.to g) t es ⊎ HasClash t es h n
+      within g span altered of = elim (spans_have limits es id h n of.tile g is_timeline.0 rises over (tile_within (layout h) n of.tile g of.place.from altered.is_sealed) of.place altered) [
+        | inl some ↦ inl (some_weaker (Changed h id (begins now id of.tile) now.clock g) (Changed h id span.from span.to g)
+            (λ was is c. record {
+              since = (let low = of.from in let from = c.since in omega (arith, low, from));
+              before = (let to = of.to in let until = c.before in omega (arith, to, until));
+              changed = c.changed;
+            }) t es some)
+        | inr clash ↦ inr clash
+      ]
+
+      changed : (g : ℕ) (span : Span) (line : List ℕ) → IsAltered h (held now) n g → Prints algorithm kept a g span line → SomeEvent (Changed h id span.from span.to g) t es ⊎ HasClash t es h n
+      changed g span line altered prints = elim (span_is g span line altered prints) [ inl of ↦ within g span altered of | inr clash ↦ inr clash ]
+
+      first_by : (tile : ℕ) (span : Span) → span ≡ record { from = begins now id tile; to = ends now id tile } → HasAlteredIn h (held now) n tile → SomeEvent (ChangedTile h id span.from span.to tile) t es ⊎ HasClash t es h n
+      first_by tile span is has = subst (λ (x : Span). SomeEvent (ChangedTile h id x.from x.to tile) t es ⊎ HasClash t es h n) (sym is) (firsts_have limits es id h n tile is_timeline.0 rises over has)
+
+  names : NamesFiled t e es id algorithm a
+  names = record {
+    text = text;
+    unsealed = (λ none. only_unsealed none batches refl, unsealed);
+    filed = filed_one;
+    shown = λ h n over. record { tiles = tiles h n over; shows = shows_filed h n over; clash = clash_now h n over };
+  }
+
+  holds_changes : ClockRises t es → SpansHoldChanges t es id algorithm a
+  holds_changes rises = record {
+    changed = λ h n g span line over altered prints. changed h n over rises g span line altered prints;
+    first = λ h n tile span line over prints. elim (first_is h n over tile span line prints) [
+      | inl has ↦ first_by h n over rises tile span (first_span kept a tile span line prints) has
+      | inr clash ↦ inr clash
+    ];
+  }
+
+-- ---- all reports
+
+pub reports_name : ReportsNameAltered
+reports_name limits e es id algorithm a is_timeline reported = names limits e es id algorithm a is_timeline reported
+
+pub reports_have : ReportsHaveChanges
+reports_have limits e es id algorithm a is_timeline reported rises = holds_changes limits e es id algorithm a is_timeline reported rises
+
+-- ---- a line that is not refused was answered by a report
+
+-- without a store's id it is refused
+refused_nowhere : (t : Scene) (algorithm : LineAlgorithm) (found : FoundOf) → t.id ≡ None → (step t (Ok (lines.Plain (stmts.Analyse algorithm))) found).is_refused ≡ true
+unfolding step act
+refused_nowhere t algorithm found none = ap (λ (o : Option ℕ). (under t.crash (taken t) (over_store (taken t) o (lines.Plain (stmts.Analyse algorithm)) found)).is_refused) none ∙ by t.crash
+  where
+    by : (crash : Option Crash) → (under crash (taken t) (over_store (taken t) None (lines.Plain (stmts.Analyse algorithm)) found)).is_refused ≡ true
+    by None = refl
+    by (Some crash) = (let enough : nat_le 0 crash.after ≡ true = le-leb 0 crash.after (omega arith) in rw enough refl)
+
+true_is_not : {A : Type 0} (b : Bool) → b ≡ true → b ≡ false → A
+true_is_not b is not_so = absurd (let both : true ≡ false = sym is ∙ not_so in cc)
+
+module _ (limits : NotaryLimits) (e : Event) (es : List Event) (algorithm : LineAlgorithm) (is_timeline : IsTimeline (nothing_yet limits) (e ∷ es)) (line_is : e.line ≡ Ok (lines.Plain (stmts.Analyse algorithm))) where
+  abbrev empty : Scene
+  empty = nothing_yet limits
+
+  abbrev was : Scene
+  was = after empty es
+
+  right_by : (id : ℕ) (a : Analysis) → IsReported was e id algorithm a → IsRightReport empty e es algorithm
+  right_by id a reported = record {
+    id = id;
+    analysis = a;
+    reported = reported;
+    names = names limits e es id algorithm a is_timeline reported;
+    printed = printed limits e es id algorithm a is_timeline reported;
+    spans = λ rises. holds_changes limits e es id algorithm a is_timeline reported rises;
+  }
+
+  right_found : (id : ℕ) (r : Result Analysis AnalyseFail) → was.id ≡ Some id → e.found.analysis ≡ r → (analysed (world_of was id) (algorithm_of algorithm) was.clock r).is_refused ≡ false → IsRightReport empty e es algorithm
+  right_found id (Ok a) own is told = right_by id a (record { own = own; line = line_is; found = is })
+  right_found id (Err fail) own is told = absurd cc
+
+  refused_as : (id : ℕ) → was.id ≡ Some id → IsWhole was e → (step was e.line e.found).is_refused ≡ (analysed (world_of was id) (algorithm_of algorithm) was.clock e.found.analysis).is_refused
+  unfolding world_steps.step
+  refused_as id own passes = (take_step limits e es id (lines.Plain (stmts.Analyse algorithm)) is_timeline own line_is tt passes).refused
+
+  right_in : (o : Option ℕ) → was.id ≡ o → (step was e.line e.found).is_refused ≡ false → IsRightReport empty e es algorithm
+  right_in None own told = true_is_not (step was e.line e.found).is_refused
+      (ap (λ (l : Result Line ParseFail). (step was l e.found).is_refused) line_is ∙ refused_nowhere was algorithm e.found own) told
+  right_in (Some id) own told = right_found id e.found.analysis own refl (sym (refused_as id own (whole_line was e id algorithm line_is own)) ∙ told)
+
+pub each_right : EachReportIsRight
+each_right limits [] is_timeline = tt
+each_right limits (e ∷ es) is_timeline = (
+  (λ algorithm line_is told. right_in limits e es algorithm is_timeline line_is (after (nothing_yet limits) es).id refl told),
+  each_right limits es is_timeline.0,
+)
