@@ -19,9 +19,10 @@ use Rattle.drill_core.specs.Steps.{step}
 use Rattle.drill_core.specs.Acknowledged.{HasTxn, IsStored, OnlyAppends, ok_text}
 use Rattle.drill_core.proofs.Texts.{SaysOk, says_ok}
 use Rattle.drill_core.proofs.Acknowledging.{appends_none, steps_append, steps_acknowledge}
-use Rattle.dragoon_app.specs.declared.line_kind.LineKind.{LineKind}
-use Rattle.dragoon_app.specs.declared.line_kind.LineKind.TheVariants as kinds
-use Rattle.dragoon_app.specs.Running.{Running, Timed, carry, carried, answered, said_by, kind_of, seconds_of, set_moment, refused_text}
+use Rattle.stmt_text.specs.declared.kind.LineKind.{LineKind}
+use Rattle.stmt_text.specs.declared.kind.LineKind.TheVariants as kinds
+use Rattle.stmt_text.specs.Kinds.{line_kind}
+use Rattle.dragoon_app.specs.Running.{Running, Timed, carry, carried, answered, said_by, seconds_of, set_moment, refused_text}
 use Rattle.dragoon_app.specs.Acknowledged.{IsReplied, StoresMore, AcknowledgedIsStored, RunsOnlyAppend}
 
 -- ---- only items more are stored
@@ -48,12 +49,12 @@ moment_appends false r moment = appends_none r.world.store
 
 said_appends : (kind : LineKind) (scripted : Bool) (now : ℕ) (found : Found) (r : Running) (line : Line) → Appends r (said_by kind scripted now found r line)
 said_appends kinds.Blank scripted now found r line = appends_none r.world.store
-said_appends kinds.InWorld scripted now found r line = steps_append r.world line now found
+said_appends (kinds.InWorld part) scripted now found r line = steps_append r.world line now found
 said_appends (kinds.SetsMoment moment) scripted now found r line = moment_appends scripted r moment
-said_appends kinds.Unbuilt scripted now found r line = appends_none r.world.store
+said_appends kinds.OutsideScripts scripted now found r line = appends_none r.world.store
 
 answer_appends : (scripted : Bool) (now : ℕ) (found : Found) (r : Running) (x : Result Line ParseFail) → Appends r (answered scripted now found r x)
-answer_appends scripted now found r (Ok line) = said_appends (kind_of line) scripted now found r line
+answer_appends scripted now found r (Ok line) = said_appends (line_kind line) scripted now found r line
 answer_appends scripted now found r (Err parses.Syntax) = appends_none r.world.store
 answer_appends scripted now found r (Err parses.NumberTooWide) = appends_none r.world.store
 answer_appends scripted now found r (Err parses.NoMemory) = appends_none r.world.store
@@ -96,12 +97,12 @@ module _ (digits : List ℕ) where
 
   said_acks : (kind : LineKind) (scripted : Bool) (now : ℕ) (found : Found) (r : Running) (line : Line) → Acknowledges digits r (said_by kind scripted now found r line)
   said_acks kinds.Blank scripted now found r line = says_none digits r
-  said_acks kinds.InWorld scripted now found r line = λ is. steps_acknowledge r.world line now found digits (append_cancel_left r.text (step r.world line now found).text (ok_text digits) is)
+  said_acks (kinds.InWorld part) scripted now found r line = λ is. steps_acknowledge r.world line now found digits (append_cancel_left r.text (step r.world line now found).text (ok_text digits) is)
   said_acks (kinds.SetsMoment moment) scripted now found r line = moment_acks scripted r moment
-  said_acks kinds.Unbuilt scripted now found r line = says_else digits r (said_by kinds.Unbuilt scripted now found r line) (refused_text (codes "Syntax")) refl (refusal_no (codes "Syntax"))
+  said_acks kinds.OutsideScripts scripted now found r line = says_else digits r (said_by kinds.OutsideScripts scripted now found r line) (refused_text (codes "Syntax")) refl (refusal_no (codes "Syntax"))
 
   answer_acks : (scripted : Bool) (now : ℕ) (found : Found) (r : Running) (x : Result Line ParseFail) → Acknowledges digits r (answered scripted now found r x)
-  answer_acks scripted now found r (Ok line) = said_acks (kind_of line) scripted now found r line
+  answer_acks scripted now found r (Ok line) = said_acks (line_kind line) scripted now found r line
   answer_acks scripted now found r (Err parses.Syntax) = says_else digits r (answered scripted now found r (Err parses.Syntax)) (refused_text (codes "Syntax")) refl (refusal_no (codes "Syntax"))
   answer_acks scripted now found r (Err parses.NumberTooWide) = says_else digits r (answered scripted now found r (Err parses.NumberTooWide)) (refused_text (codes "NumberTooWide")) refl (refusal_no (codes "NumberTooWide"))
   answer_acks scripted now found r (Err parses.NoMemory) = says_none digits r

@@ -22,6 +22,7 @@ use Rattle.line_input.specs.Lines.{IsFeedless, lines_of}
 use Rattle.line_input.specs.Limits.{input_limit, piece_limit}
 use Rattle.line_input.specs.Reader as readers
 use Rattle.line_input.specs.Reader.{Reading, IsAtEnd, IsAtLimit, Tells}
+use Rattle.line_input.specs.Front.{AreFirst, TakesLittle}
 use Rattle.drill_core.specs.declared.fail.LineFail.{LineFail}
 use Rattle.drill_core.specs.declared.fail.LineFail.TheVariants as lines
 use Rattle.drill_core.specs.World.{StoresWorld, AreBetween}
@@ -30,9 +31,11 @@ use Rattle.dragoon_app.specs.declared.status.Status.TheVariants as statuses
 use Rattle.dragoon_app.specs.declared.run_fail.RunFail.{RunFail}
 use Rattle.dragoon_app.specs.declared.runner.Runner.{Runner}
 use Rattle.dragoon_app.specs.Running.{Running, Timed, carried}
-use Rattle.dragoon_app.specs.Ran.{AreFirst, Ends, IsNext, IsUnderWay, Reads, TakesLittle, TakesNoMore, IsOutBut, lines_in, text_before, Takes}
+use Rattle.dragoon_app.specs.Ran.{Ends, IsNext, IsUnderWay, Reads, TakesNoMore, lines_in, text_before, Takes}
+use Rattle.dragoon_app.specs.Failing.{EndsByUse}
 use Rattle.dragoon_app.specs.Devices.{Devices, content, devices, site}
 use Rattle.dragoon_app.specs.Carrying.{Wherever, IsLineOf, Replies, RepliesFrom, Carries, CarriesFrom, IsWritten, IsBetween, ending, of_line, of_input, of_output}
+use Rattle.dragoon_app.proofs.Faults.{uses_run}
 use Rattle.dragoon_app.proofs.Seconds.{takes_none, takes_then, takes_blank}
 use Rattle.dragoon_app.proofs.Reading.{take_front, take_first, IsRead, read_none, read_more, read_same, first_of, takes_front, takes_little, all_read, ended_at, complete_at}
 use Rattle.dragoon_app.proofs.Written.{before_more}
@@ -187,8 +190,9 @@ pub between_with : (result : Result (Unit {0}) RunFail) (scripted : Bool) (runne
     → (a : Along scripted runner old.desk.notary.limits old.desk.disk now.desk.disk old.clock now.clock old.input now.input reader Written begin before after lists later_lists)
     → WhereTold old.input.rest now.input.rest (Reads (ending result) a.done nothing)
     → ((before text : List ℕ) → Written before text → IsWritten (nothing.line ≡ []) before text result old.out now.out)
+    → ((r : Running) → EndsByUse (ending result) scripted r nothing)
     → Carries scripted result runner old now begin (content before lists) (content after later_lists)
-between_with result scripted runner old now reader Written begin before after lists later_lists clock_frame a read writes =
+between_with result scripted runner old now reader Written begin before after lists later_lists clock_frame a read writes uses =
     let s = a.stands in
     let r : Running = carried scripted begin a.done in
     record {
@@ -198,6 +202,7 @@ between_with result scripted runner old now reader Written begin before after li
       read = read;
       none = λ b. refl;
       found = found_more scripted begin a.done nothing s.found (nothing_found r.world);
+      uses = uses r;
       seconds = takes_then scripted a.done (nothing ∷ []) old.clock now.clock now.clock clock_frame.told a.takes (takes_blank scripted nothing now.clock now.clock blank_nothing refl);
       images = λ only. weaker (s.images only) (front_of_more scripted begin a.done (nothing ∷ []));
       kept = λ only c is. inl (subst (StoresWorld r.world) (sym (s.settled only c is)) (stores_in r runner after old.desk.notary.limits later_lists s.at));
@@ -213,10 +218,11 @@ pub between : (first runner : Runner) (old now : disks.State) (filed later : not
     → IsGoing first runner old now filed later clock ahead input left reader Written
     → ((done : List Timed) (all others : List ℕ) → IsRead (lines_in done) reader all others → Reads (ending result) done nothing all others)
     → ((before text : List ℕ) → Written before text → IsWritten (nothing.line ≡ []) before text result out written)
+    → ((scripted : Bool) (r : Running) → EndsByUse (ending result) scripted r nothing)
     → CarriesFrom result first runner (devices old filed clock input out) (devices now later ahead left written)
-between first runner old now filed later clock ahead input left reader out written Written result g reads writes = wherever_map filed.limits first old now filed later _ _ g.told (λ begin before after lists later_lists at a.
+between first runner old now filed later clock ahead input left reader out written Written result g reads writes uses = wherever_map filed.limits first old now filed later _ _ g.told (λ begin before after lists later_lists at a.
     between_with result first.is_scripted runner (devices old filed clock input out) (devices now later ahead left written) reader Written begin before after lists later_lists g.clock_frame a
-    (told_map input.rest left.rest _ _ a.read (λ all others r. reads a.done all others r)) writes)
+    (told_map input.rest left.rest _ _ a.read (λ all others r. reads a.done all others r)) writes (uses first.is_scripted))
 
 -- the input ended
 pub at_end : {reader : Reading} (before after : List ℕ) → IsAtEnd reader before after → after ≡ before
@@ -240,7 +246,7 @@ ended first runner old now filed later clock ahead input left rest reader next o
     (along_rest runner old now clock ahead input left rest reader next Out first.is_scripted filed.limits begin before after lists later_lists g.input_frame.told same takes a)
     (told_then input.rest left.rest rest.rest _ _ _ g.input_frame.told a.read (told_both left.rest rest.rest _ _ tells takes.as_lost) (λ all others behind so_far n.
     reads_all next behind a.done all (read_same (lines_in a.done) reader next all others behind so_far (at_end (reader.pending ++ others) (next.pending ++ behind) n.0) n.1 takes.within) n.0.end below))
-    (λ before text is. is))
+    (λ before text is. is) (λ r. tt))
 
 -- the input failed
 pub reads_failed : (fail : InputFail) (reader : Reading) (done : List Timed) (all others : List ℕ) → (IsErrOf {T = Bool} (Err fail) inputs.InputLimit → IsAtLimit reader) → (IsErrOf {T = Bool} (Err fail) inputs.ReadFault → IsFeedless reader.pending)
@@ -265,7 +271,7 @@ reads_unwritten streams.Failed reader done all others less r =
 reads_unwritten streams.NoMemory reader done all others less r =
     record { lines = first_of (lines_in done) reader all others r; under_way = inl refl; little = tt; front = takes_front (lines_in done) reader all others r }
 
-pub written_front : (fail : StreamFail) (before text : List ℕ) (out later : sinks.State) → IsOutBut before text out later → IsWritten (nothing.line ≡ []) before text (Err (of_output fail)) out later
+pub written_front : (fail : StreamFail) (before text : List ℕ) (out later : sinks.State) → sinks.IsOutBut before text out later → IsWritten (nothing.line ≡ []) before text (Err (of_output fail)) out later
 written_front streams.Failed before text out later is = (refl, is)
 written_front streams.NoMemory before text out later is = inl (refl, is)
 
@@ -331,6 +337,7 @@ module _ (first runner last : Runner) (old mid new : disks.State) (filed half la
         read = told_map input.rest rest.rest _ _ read (λ all others h. reads_under_way a.done x.timed next.line next all others less h fail x.line_is);
         none = λ between. absurd (not_between fail between);
         found = found_more first.is_scripted begin a.done x.timed s.found x.may;
+        uses = uses_run first.is_scripted r x.timed fail x.only;
         seconds = takes_then first.is_scripted a.done (x.timed ∷ []) clock tick tock g.clock_frame.told a.takes x.seconds;
         images = λ only. images_on first.is_scripted begin a.done x.timed runner last old mid new before here after filed.limits lists here_lists later_lists fail s x.goes only;
         kept = λ only c is. kept_on first.is_scripted begin a.done x.timed runner last old mid new before here after filed.limits lists here_lists later_lists fail counts s x.goes only c is;

@@ -5,8 +5,8 @@ use Rattle.std.proofs.lemmas.Bool.Decides.{nat_tests}
 use Rattle.outside_words.specs.Faults.{Rose}
 use Rattle.outside_words.proofs.Told.{told_map}
 use Rattle.disk_words.specs.Disk as disks
-use Rattle.outside_io.specs.Sink.{State, IsOut, FrontIsOut}
-use Rattle.outside_io.proofs.Out.{out_then}
+use Rattle.outside_io.specs.Sink.{State, IsOut, IsOutBut, FrontIsOut}
+use Rattle.outside_io.proofs.Out.{out_then, out_but_end}
 use Rattle.disk_model.proofs.Moments.{weaker}
 use Rattle.tuple_bytes.specs.declared.header.Header.{Header}
 use Rattle.tuple_bytes.specs.Spelling.{FitsHeader}
@@ -15,6 +15,7 @@ use Rattle.drill_core.specs.World.{StoresWorld}
 use Rattle.drill_core.specs.Acknowledged.{ok_text}
 use Rattle.drill_core.proofs.SoundWorlds.{sound_worlds}
 use Rattle.validator.proofs.Telling.{if_both}
+use Rattle.line_input.specs.Front.{AreFirst}
 use Rattle.dragoon_app.specs.declared.status.Status.{Status}
 use Rattle.dragoon_app.specs.declared.status.Status.TheVariants as statuses
 use Rattle.dragoon_app.specs.declared.run_fail.RunFail.{RunFail}
@@ -23,15 +24,16 @@ use Rattle.dragoon_app.specs.declared.runner.Runner.{Runner}
 use Rattle.dragoon_app.specs.Texts.{fault_line}
 use Rattle.dragoon_app.specs.Outcome.{Said, CutsOff, WriteCause, refused}
 use Rattle.dragoon_app.specs.Running.{Running, Timed, start, carried, world_of}
-use Rattle.dragoon_app.specs.Ran.{AreFirst, IsNext, TakesNoMore, Reads, IsOutBut, CauseOf, IsToTell, IsCutAtEnd, Writes, IsSettled, RunsLines, Runs, KeepsPromises, RunsStore, RunsHeader, RunsOn, opened, lines_in, text_before}
+use Rattle.dragoon_app.specs.Ran.{IsNext, TakesNoMore, Reads, CauseOf, IsToTell, IsCutAtEnd, Writes, IsSettled, RunsLines, Runs, KeepsPromises, RunsStore, RunsHeader, RunsOn, opened, lines_in, text_before}
+use Rattle.dragoon_app.specs.Failing.{EndsByUse}
 use Rattle.dragoon_app.specs.Carrying.{IsReady, Carries, CarriesFrom, IsWritten, IsBetween, ending, EndsWith, RunsFrom, SoundFrom}
 use Rattle.dragoon_app.specs.Devices.{Content, Devices, StaysSound, content, desk, devices, site_of}
+use Rattle.dragoon_app.proofs.Faults.{KeepsUse}
 use Rattle.dragoon_app.proofs.OnStore.{IsHeaderOf, cause_from, only_before, every_image_from, told_from, at_disk, opened_on, telling}
 use Rattle.dragoon_app.proofs.SoundKept.{sound_images}
 use Rattle.dragoon_app.proofs.SoundRuns.{sound_runs, sound_begin}
 use Rattle.dragoon_app.proofs.Acknowledging.{acknowledged_in, appended_in, replied_more}
 use Rattle.dragoon_app.proofs.Wherever.{told_both, wherever_map}
-use Rattle.dragoon_app.proofs.Written.{out_but_end}
 use Rattle.dragoon_app.proofs.Standing.{stores_in}
 
 abbrev Ended : Type 0
@@ -51,9 +53,9 @@ module _ (first last : Runner) (old new : Devices) (written : State) where
   ran : (result : Status) (r : Ended) → ((begin : Running) (before after : Content) (c : Carries first.is_scripted r last old new begin before after)
       → (x : Running) (shown : List ℕ) → (IsBetween r → last.refused ≡ x.refused) → IsWritten (c.next.line ≡ []) shown x.text r old.out new.out → Writes (c.next.line ≡ []) (IsToTell c.done c.next old (at_out written new)) shown x result old.out written)
       → ((done : List Timed) (next : Timed) (all others : List ℕ) → AreFirst (lines_in done) all → Reads (ending r) done next all others → Reads result done next all others)
-      → (IsSettled result old.desk new.desk → IsBetween r)
+      → (IsSettled result old.desk new.desk → IsBetween r) → KeepsUse (ending r) result
       → CarriesFrom r first last old new → End result
-  ran result r writes reads settles told = wherever_map old.desk.notary.limits first old.desk.disk new.desk.disk old.desk.notary new.desk.notary _ _ told (λ begin before after lists later_lists at c silent.
+  ran result r writes reads settles uses told = wherever_map old.desk.notary.limits first old.desk.disk new.desk.disk old.desk.notary new.desk.notary _ _ told (λ begin before after lists later_lists at c silent.
       let x : Running = carried first.is_scripted begin c.done in
       record {
         done = c.done;
@@ -61,6 +63,7 @@ module _ (first last : Runner) (old new : Devices) (written : State) where
         lines = record {
           none = λ s. c.none (settles s);
           found = c.found;
+          uses = uses first.is_scripted x c.next c.uses;
           seconds = c.seconds;
           store = record {
             images = c.images;
@@ -90,12 +93,12 @@ module _ (first last : Runner) (old new : Devices) (written : State) where
   told fail s is c cause whole settles under little result said = ⊎_elim
       (λ (h : (result ≡ s) × IsOut (fault_line s) new.out written). subst End (sym h.0) (ran s (Err fail)
       (λ begin before after c x shown at out. inr (inl (tell c, out_then x.text (fault_line s) old.out new.out written (whole (c.next.line ≡ []) shown x.text out) h.1)))
-      (λ done next all others f e. reads done next all others e) settles.0 c))
+      (λ done next all others f e. reads done next all others e) settles.0 (λ scripted x t used. subst (λ (n : Status). EndsByUse n scripted x t) is used) c))
       (λ (h : CutsOff result × FrontIsOut (fault_line s) new.out written). ⊎_elim
       (λ (e : result ≡ statuses.WriteFault). subst End (sym e) (ran statuses.WriteFault (Err fail) (cut (inl refl) h.1)
-      (λ done next all others f r. record { lines = f; under_way = under done next all others r; little = little done next all others r; front = r.front }) (λ x. settles.1 (x.write refl)) c))
+      (λ done next all others f r. record { lines = f; under_way = under done next all others r; little = little done next all others r; front = r.front }) (λ x. settles.1 (x.write refl)) (λ scripted x t used. tt) c))
       (λ (e : result ≡ statuses.NoMemory). subst End (sym e) (ran statuses.NoMemory (Err fail) (cut (inr refl) h.1)
-      (λ done next all others f r. record { lines = f; under_way = under done next all others r; little = tt; front = r.front }) (λ x. absurd (x.memory refl)) c)) h.0)
+      (λ done next all others f r. record { lines = f; under_way = under done next all others r; little = tt; front = r.front }) (λ x. absurd (x.memory refl)) (λ scripted x t used. tt) c)) h.0)
       said
     where
       reads : FromRead fail (Reads s)
@@ -120,7 +123,7 @@ module _ (first last : Runner) (old new : Devices) (written : State) where
       → (result : Status) → (result ≡ ending (Err fail)) × (written ≡ new.out) → End result
   unsaid fail cuts short settles c result ends = subst End (sym ends.0) (ran (ending (Err fail)) (Err fail)
       (λ begin before after c x shown at out. inr (inr (cuts, cut_short (c.next.line ≡ []) _ shown x.text written (subst (IsShort (c.next.line ≡ []) shown x.text) (sym ends.1) (short (c.next.line ≡ []) shown x.text out)))))
-      (λ done next all others f e. e) settles c)
+      (λ done next all others f e. e) settles (λ scripted x t used. used) c)
 
   -- a failure
   pub ran_failed : (fail : RunFail) (result : Status) → Through fail → (IsErrOf {T = Unit {0}} (Err fail) fails.DiskFault → Rose old.desk.disk.faults new.desk.disk.faults) → (IsErrOf {T = Unit {0}} (Err fail) fails.NotaryFault → Rose old.desk.notary.faults new.desk.notary.faults)
@@ -145,17 +148,17 @@ none_refused n none = grind (arith, nat_tests, none)
 
 -- all lines were carried out
 module _ (first last : Runner) (old new : Devices) where
-  ran_all : (b : Bool) (result : Status) → ((done : List Timed) (next : Timed) (all others : List ℕ) → Reads statuses.Ok done next all others → Reads result done next all others) → (if b then statuses.Refused else statuses.Ok) ≡ result
+  ran_all : (b : Bool) (result : Status) → ((done : List Timed) (next : Timed) (all others : List ℕ) → Reads statuses.Ok done next all others → Reads result done next all others) → KeepsUse statuses.Ok result → (if b then statuses.Refused else statuses.Ok) ≡ result
       → CarriesFrom (Ok tt) first last old new → nat_lt 0 last.refused ≡ b → RunsFrom result first old new
-  ran_all b result reads is c flag = ran first last old new new.out result (Ok tt)
+  ran_all b result reads uses is c flag = ran first last old new new.out result (Ok tt)
       (λ begin before after c x shown at out. inl (sym is ∙ ap (λ (f : Bool). if f then statuses.Refused else statuses.Ok) (sym flag ∙ ap (nat_lt 0) (at tt)), out))
-      (λ done next all others f e. reads done next all others e) (λ s. tt) c
+      (λ done next all others f e. reads done next all others e) (λ s. tt) uses c
 
   pub ran_ok : CarriesFrom (Ok tt) first last old new → nat_lt 0 last.refused ≡ false → RunsFrom statuses.Ok first old new
-  ran_ok c none = ran_all false statuses.Ok (λ done next all others e. e) refl c none
+  ran_ok c none = ran_all false statuses.Ok (λ done next all others e. e) (λ scripted x t used. used) refl c none
 
   pub ran_refused : CarriesFrom (Ok tt) first last old new → nat_lt 0 last.refused ≡ true → RunsFrom statuses.Refused first old new
-  ran_refused c some = ran_all true statuses.Refused (λ done next all others e. record { lines = e.lines; under_way = e.under_way; little = tt; front = e.front }) refl c some
+  ran_refused c some = ran_all true statuses.Refused (λ done next all others e. record { lines = e.lines; under_way = e.under_way; little = tt; front = e.front }) (λ scripted x t used. tt) refl c some
 
 -- what was sound stays so, however the run ends
 pub ran_sound : (r : Ended) (first last : Runner) (old new : Devices) → CarriesFrom r first last old new → SoundFrom first old.desk new.desk
@@ -205,6 +208,7 @@ lines_from scripted begin done next result first old new before after same le li
     record {
       none = λ x. lines.none (settles x);
       found = lines.found;
+      uses = lines.uses;
       seconds = lines.seconds;
       store = record {
         images = λ only. every_image_from first old.desk.disk new.desk.disk _ same (s.images (only_before first old.desk.disk before.bytes same only));

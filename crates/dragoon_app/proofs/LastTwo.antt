@@ -6,9 +6,10 @@ use Rattle.stmt_text.specs.declared.error.ParseFail.TheVariants as parses
 use Rattle.stmt_text.specs.declared.line.Line.{Line}
 use Rattle.stmt_text.specs.Lines.{answer}
 use Rattle.drill_core.specs.Found.{Found}
-use Rattle.dragoon_app.specs.declared.line_kind.LineKind.{LineKind}
-use Rattle.dragoon_app.specs.declared.line_kind.LineKind.TheVariants as kinds
-use Rattle.dragoon_app.specs.Running.{Running, Timed, carry, carried, seconds_of, said_by, answered, kind_of}
+use Rattle.stmt_text.specs.declared.kind.LineKind.{LineKind}
+use Rattle.stmt_text.specs.declared.kind.LineKind.TheVariants as kinds
+use Rattle.stmt_text.specs.Kinds.{line_kind}
+use Rattle.dragoon_app.specs.Running.{Running, Timed, carry, carried, seconds_of, said_by, answered}
 use Rattle.dragoon_app.specs.Made.{silent, reply_to, all_but_two, LastTwoAreTold}
 use Rattle.dragoon_app.proofs.Reading.{take_first}
 use Rattle.dragoon_app.proofs.Standing.{carried_more}
@@ -20,13 +21,13 @@ drop_front (x ∷ xs) ys = drop_front xs ys
 said_text : (kind : LineKind) (now : ℕ) (found : Found) (r : Running) (line : Line)
     → (said_by kind true now found r line).text ≡ r.text ++ (said_by kind true now found (silent r) line).text
 said_text kinds.Blank now found r line = sym (append-nil r.text)
-said_text kinds.InWorld now found r line = refl
+said_text (kinds.InWorld part) now found r line = refl
 said_text (kinds.SetsMoment moment) now found r line = refl
-said_text kinds.Unbuilt now found r line = refl
+said_text kinds.OutsideScripts now found r line = refl
 
 answered_text : (now : ℕ) (found : Found) (r : Running) (x : Result Line ParseFail)
     → (answered true now found r x).text ≡ r.text ++ (answered true now found (silent r) x).text
-answered_text now found r (Ok line) = said_text (kind_of line) now found r line
+answered_text now found r (Ok line) = said_text (line_kind line) now found r line
 answered_text now found r (Err parses.Syntax) = refl
 answered_text now found r (Err parses.NumberTooWide) = refl
 answered_text now found r (Err parses.NoMemory) = sym (append-nil r.text)

@@ -21,6 +21,7 @@ pub mod Worlds
 pub mod SoundRuns
 pub mod Serial
 pub mod Acknowledging
+pub mod Faults
 pub mod Wherever
 pub mod Standing
 pub mod CarriedLines

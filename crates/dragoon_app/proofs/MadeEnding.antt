@@ -28,10 +28,13 @@ use Rattle.dragoon_app.specs.Outcome.{Outcome, Said, CutsOff, refused}
 use Rattle.dragoon_app.specs.Devices.{Desk, Content, Site, Devices, AllIsLeft, content, desk, site_of}
 use Rattle.dragoon_app.specs.Running.{Running, Timed, start, carried, world_of}
 use Rattle.dragoon_app.specs.Ran.{IsSettled, RunsLines, ending_by, opened}
+use Rattle.dragoon_app.specs.Failing.{EndsByUse}
 use Rattle.dragoon_app.specs.Carrying.{IsReady, IsAt, EndsWith, FromWhere, SoundFrom, of_line}
 use Rattle.dragoon_app.specs.Made.{Makes, MakesStore, MakesHeader, MakesOn, Tells, made_line, made_outcome, last_two, all_but_two, txns_in}
 use Rattle.dragoon_app.specs.MakingLines.{AreLastTwo, MakesLines, MakesLinesFrom, MakesFrom, script_for, width_of, stored_in, told_of, line_status}
 use Rattle.dragoon_app.proofs.OnStore.{IsHeaderOf, at_disk, told_from, opened_on, telling, wanting}
+use Rattle.dragoon_app.proofs.Answering.{said_is}
+use Rattle.dragoon_app.proofs.Faults.{KeepsUse}
 use Rattle.dragoon_app.proofs.Wherever.{wherever_map, wherever_same}
 use Rattle.dragoon_app.proofs.LastTwo.{drop_front}
 use Rattle.dragoon_app.proofs.Ending.{lines_from, promises_kept, rose_before}
@@ -72,11 +75,12 @@ module _ (P : Status → Type 0) (ok : P statuses.Ok) (refuses : P statuses.Refu
 -- ---- the ends of the lines
 
 -- the same lines, where fewer ends are settled
-lines_as : (scripted : Bool) (begin : Running) (done : List Timed) (next : Timed) (s t : Status) (old new : Site) (before after : Content) → (IsSettled t old.desk new.desk → IsSettled s old.desk new.desk)
+lines_as : (scripted : Bool) (begin : Running) (done : List Timed) (next : Timed) (s t : Status) (old new : Site) (before after : Content) → (IsSettled t old.desk new.desk → IsSettled s old.desk new.desk) → KeepsUse s t
     → RunsLines scripted begin done next s old new before after → RunsLines scripted begin done next t old new before after
-lines_as scripted begin done next s t old new before after settles l = record {
+lines_as scripted begin done next s t old new before after settles uses l = record {
   none = λ x. l.none (settles x);
   found = l.found;
+  uses = uses scripted (carried scripted begin done) next l.uses;
   seconds = l.seconds;
   store = record {
     images = l.store.images;
@@ -99,18 +103,18 @@ module _ (count : ℕ) (text : List ℕ) (first last : Runner) (old new : Device
   abbrev Lines : Result LastTwo LineFail → Type 0
   Lines r = MakesLinesFrom text r first last (site_of old) (site_of new)
 
-  made : (r : Result LastTwo LineFail) → (IsSettled result old.desk new.desk → IsSettled (line_status r) old.desk new.desk)
+  made : (r : Result LastTwo LineFail) → (IsSettled result old.desk new.desk → IsSettled (line_status r) old.desk new.desk) → KeepsUse (line_status r) result
       → ((begin : Running) (before after : Content) → (m : MakesLines text r last (site_of old) (site_of new) begin before after) → Tells count begin m.done m.next text result old new) → Lines r → Made
-  made r settles tells told = wherever_map old.desk.notary.limits first old.desk.disk new.desk.disk old.desk.notary new.desk.notary _ _ told (λ begin before after lists later_lists at m. record {
+  made r settles uses tells told = wherever_map old.desk.notary.limits first old.desk.disk new.desk.disk old.desk.notary new.desk.notary _ _ told (λ begin before after lists later_lists at m. record {
     done = m.done;
     next = m.next;
-    lines = lines_as true begin m.done m.next (line_status r) result (site_of old) (site_of new) (content before lists) (content after later_lists) settles m.lines;
+    lines = lines_as true begin m.done m.next (line_status r) result (site_of old) (site_of new) (content before lists) (content after later_lists) settles uses m.lines;
     tells = tells begin (content before lists) (content after later_lists) m;
     none_read = unread;
   })
 
   pub made_all : (two : LastTwo) → Lines (Ok two) → Said (told_of count last two) result old.out new.out → Made
-  made_all two told said = made (Ok two) (λ s. ok_settled old.desk new.desk)
+  made_all two told said = made (Ok two) (λ s. ok_settled old.desk new.desk) (λ scripted x t used. let P : Status → Type 0 = λ n. EndsByUse n scripted x t in said_is P (told_of count last two) result old.out new.out (ending_is P tt tt last.refused) tt tt said)
       (λ begin before after m. inl (m.reaches, subst (λ (o : Outcome). Said o result old.out new.out) (sym (outcome_told count begin m.done last two after.bytes old.desk.notary.limits after.lists m.stands m.two)) said)) told
 
   -- a line was under way where a device failed
@@ -124,9 +128,9 @@ module _ (count : ℕ) (text : List ℕ) (first last : Runner) (old new : Device
 
   pub made_failed : (fail : LineFail) → Lines (Err fail) → (IsErrOf {T = LastTwo} (Err fail) lines.DiskFault → Rose old.desk.disk.faults new.desk.disk.faults) → (IsErrOf {T = LastTwo} (Err fail) lines.NotaryFault → Rose old.desk.notary.faults new.desk.notary.faults)
       → EndsWith (of_line fail) result old.out new.out → Made
-  made_failed lines.DiskFault told disk notary said = made (Err lines.DiskFault) (λ s. absurd (unsettled_disk (disk refl) said s)) (λ begin before after m. inr (inl (m.reaches, inl (disk refl, said)))) told
-  made_failed lines.NotaryFault told disk notary said = made (Err lines.NotaryFault) (λ s. absurd (unsettled_notary (notary refl) said s)) (λ begin before after m. inr (inl (m.reaches, inr (notary refl, said)))) told
-  made_failed lines.NoMemory told disk notary said = made (Err lines.NoMemory) (λ s. absurd (s.memory said.0))
+  made_failed lines.DiskFault told disk notary said = made (Err lines.DiskFault) (λ s. absurd (unsettled_disk (disk refl) said s)) (λ scripted x t used. said_is (λ n. EndsByUse n scripted x t) (refused statuses.DiskFault) result old.out new.out used tt tt said) (λ begin before after m. inr (inl (m.reaches, inl (disk refl, said)))) told
+  made_failed lines.NotaryFault told disk notary said = made (Err lines.NotaryFault) (λ s. absurd (unsettled_notary (notary refl) said s)) (λ scripted x t used. said_is (λ n. EndsByUse n scripted x t) (refused statuses.NotaryFault) result old.out new.out used tt tt said) (λ begin before after m. inr (inl (m.reaches, inr (notary refl, said)))) told
+  made_failed lines.NoMemory told disk notary said = made (Err lines.NoMemory) (λ s. absurd (s.memory said.0)) (λ scripted x t used. subst (λ (n : Status). EndsByUse n scripted x t) (sym said.0) tt)
       (λ begin before after m. inr (inr (m.reaches, (said.0, ap (λ (x : State). x.held) said.1)))) told
 
 -- ---- the store was opened before

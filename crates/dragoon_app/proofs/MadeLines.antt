@@ -9,6 +9,7 @@ use Rattle.disk_words.proofs.Frame as disk_frames
 use Rattle.disk_model.proofs.Moments.{weaker}
 use Rattle.outside_io.specs.Clock as clocks
 use Rattle.line_input.specs.Lines.{lines_of}
+use Rattle.line_input.specs.Front.{AreFirst}
 use Rattle.line_input.proofs.Lines.{lines_none}
 use Rattle.drill_core.specs.declared.fail.LineFail.{LineFail}
 use Rattle.drill_core.specs.declared.fail.LineFail.TheVariants as lines
@@ -17,11 +18,12 @@ use Rattle.dragoon_app.specs.declared.make.LastTwo.{LastTwo}
 use Rattle.dragoon_app.specs.declared.runner.Runner.{Runner}
 use Rattle.dragoon_app.specs.Devices.{content, desk, site}
 use Rattle.dragoon_app.specs.Running.{Running, Timed, carried}
-use Rattle.dragoon_app.specs.Ran.{AreFirst, IsSettled, lines_in, text_before, Takes}
+use Rattle.dragoon_app.specs.Ran.{IsSettled, lines_in, text_before, Takes}
 use Rattle.dragoon_app.specs.Carrying.{Wherever, IsLineOf, Replies, RepliesFrom, SoundFrom}
 use Rattle.dragoon_app.specs.Made.{all_but_two}
 use Rattle.dragoon_app.specs.MakingLines.{AreLastTwo, Reaches, MakesLinesFrom, line_status}
 use Rattle.dragoon_app.proofs.Reading.{take_first}
+use Rattle.dragoon_app.proofs.Faults.{uses_made}
 use Rattle.dragoon_app.proofs.Seconds.{takes_none, takes_then, takes_blank}
 use Rattle.dragoon_app.proofs.Written.{before_more}
 use Rattle.dragoon_app.proofs.Nothing.{nothing, blank_nothing, nothing_found}
@@ -154,6 +156,7 @@ module _ (start runner last : Runner) (old mid new : disks.State) (filed half la
         lines = record {
           none = λ settled. absurd (unsettled fail settled);
           found = found_more true begin a.done x.timed a.stands.found x.may;
+          uses = uses_made true (carried true begin a.done) x.timed LastTwo fail x.only;
           seconds = takes_then true a.done (x.timed ∷ []) clock tick tock g.clock_frame.told a.takes x.seconds;
           store = record {
             images = λ only. images_on true begin a.done x.timed runner last old mid new before here after filed.limits lists here_lists later_lists fail a.stands x.goes only;
@@ -192,6 +195,7 @@ module _ (start runner : Runner) (old now : disks.State) (filed later : notaries
         lines = record {
           none = λ settled. refl;
           found = found_more true begin a.done nothing s.found (nothing_found r.world);
+          uses = tt;
           seconds = takes_then true a.done (nothing ∷ []) clock ahead ahead g.clock_frame.told a.takes (takes_blank true nothing ahead ahead blank_nothing refl);
           store = record {
             images = λ only. weaker (s.images only) (front_of_more true begin a.done (nothing ∷ []));

@@ -1,6 +1,6 @@
 -- A line is carried out and replied to.
 use Rattle.std.proofs.Common.{◌≡◌, ◌∙◌, ◌+◌, ℕ, Bool, true, false, List, [], ◌∷◌, ◌++◌, refl, sym, ap, subst, inl, inr, Result, Ok, Err}
-use Rattle.std.specs.Prelude.{min, codes}
+use Rattle.std.specs.Prelude.{min, codes, IfErr}
 use Rattle.std.proofs.lemmas.List.{append-nil}
 use Rattle.outside_words.proofs.Told.{told_map}
 use Rattle.disk_words.specs.Disk.{State}
@@ -19,16 +19,22 @@ use Rattle.drill_core.specs.declared.answered.Answered.{Answered}
 use Rattle.drill_core.specs.declared.fail.LineFail.{LineFail}
 use Rattle.drill_core.specs.declared.fail.LineFail.TheVariants as line_fails
 use Rattle.drill_core.specs.World.{World, Held, IsIn, StandsFor}
-use Rattle.drill_core.specs.Steps.{step, MayFind, IsWorldLine}
+use Rattle.drill_core.specs.Steps.{step, MayFind, IsInWorld, IsWorldLine}
 use Rattle.drill_core.specs.Stepping.{StepsFor}
+use Rattle.drill_core.specs.Faults.{MayEndIn}
 use Rattle.dragoon_app.specs.declared.runner.Runner.{Runner}
-use Rattle.dragoon_app.specs.declared.line_kind.LineKind.{LineKind}
-use Rattle.dragoon_app.specs.declared.line_kind.LineKind.TheVariants as kinds
+use Rattle.stmt_text.specs.declared.kind.LineKind.{LineKind}
+use Rattle.stmt_text.specs.declared.kind.LineKind.TheVariants as kinds
+use Rattle.stmt_text.specs.declared.kind.WorldPart.{WorldPart}
+use Rattle.stmt_text.specs.declared.kind.WorldPart.TheVariants as parts
+use Rattle.stmt_text.specs.Kinds.{stmt_kind, line_kind}
 use Rattle.stmt_text.specs.Numbers.{max_u64}
-use Rattle.dragoon_app.specs.Running.{Running, Timed, carry, counted, answered, said_by, stmt_kind, kind_of, seconds_of, stepped, set_moment, refused_line, refused_text, MayFindBy}
+use Rattle.dragoon_app.specs.Running.{Running, Timed, carry, counted, answered, said_by, seconds_of, stepped, set_moment, refused_line, refused_text, MayFindBy}
+use Rattle.dragoon_app.specs.Failing.{HasStored, MayEndBy}
 use Rattle.dragoon_app.specs.Ran.{Takes}
 use Rattle.dragoon_app.specs.Devices.{content, desk, site}
 use Rattle.dragoon_app.specs.Carrying.{Wherever, Goes, GoesTo, StepsFrom, LineFrom, RepliesFrom, IsLineOf, TakesFor, GivesSeconds, refusing, SetsMoment}
+use Rattle.dragoon_app.proofs.Faults.{ends_wanting, ends_refused}
 use Rattle.dragoon_app.proofs.Seconds.{takes_blank, takes_second}
 use Rattle.dragoon_app.proofs.Nothing.{no_finding, nothing, blank_nothing, blank_answer, carry_is, carry_nothing, nothing_found}
 use Rattle.dragoon_app.proofs.Worlds.{step_limits, stands_of}
@@ -105,6 +111,7 @@ module _ (line : Line) (now : ℕ) (runner last : Runner) (old new : State) (fil
           ordered = s.goes.ordered;
           sound = λ id only was. p.1 id (stands_of r.world.id r.world.store r.world.sessions runner.world before at.stands.store) only was;
         };
+        only = tt;
       }))
 
   pub steps_off : (fail : LineFail) → StepsFor line now (Err fail) runner.world last.world (desk old filed) (desk new later) → KeepsSound (StandsFor runner.world) (desk old filed) (desk new later) → StepsFrom line now (Err fail) runner last (desk old filed) (desk new later)
@@ -123,6 +130,7 @@ module _ (line : Line) (now : ℕ) (runner last : Runner) (old new : State) (fil
           ordered = s.goes.ordered;
           sound = λ id only was. p.1 id (stands_of r.world.id r.world.store r.world.sessions runner.world before at.stands.store) only was;
         };
+        only = s.only;
       }))
 
 -- ---- by what the line asks for
@@ -135,15 +143,15 @@ seconds_are false r runner epoch_is moment_is now clock ahead gives = refl
 
 pub takes_for : (kind : LineKind) (scripted : Bool) (runner : Runner) (now : ℕ) (clock ahead : clocks.State) → (kind ≡ kinds.Blank → ⊥) → GivesSeconds scripted runner now clock ahead → TakesFor kind scripted now clock ahead
 takes_for kinds.Blank scripted runner now clock ahead ne gives = absurd (ne refl)
-takes_for kinds.InWorld true runner now clock ahead ne gives = gives.1
-takes_for kinds.InWorld false runner now clock ahead ne gives = gives
+takes_for (kinds.InWorld part) true runner now clock ahead ne gives = gives.1
+takes_for (kinds.InWorld part) false runner now clock ahead ne gives = gives
 takes_for (kinds.SetsMoment m) true runner now clock ahead ne gives = gives.1
 takes_for (kinds.SetsMoment m) false runner now clock ahead ne gives = gives
-takes_for kinds.Unbuilt true runner now clock ahead ne gives = gives.1
-takes_for kinds.Unbuilt false runner now clock ahead ne gives = gives
+takes_for kinds.OutsideScripts true runner now clock ahead ne gives = gives.1
+takes_for kinds.OutsideScripts false runner now clock ahead ne gives = gives
 
 -- a line that isn't of the world finds nothing
-finds_nothing : (line : Line) → (kind_of line ≡ kinds.InWorld → ⊥) → (w : World) → MayFind w line no_finding
+finds_nothing : (line : Line) → ((part : WorldPart) → line_kind line ≡ kinds.InWorld part → ⊥) → (w : World) → MayFind w line no_finding
 finds_nothing lines.Blank ne w = tt
 finds_nothing (lines.Plain (stmts.Create table columns)) ne w = tt
 finds_nothing (lines.Plain (stmts.Insert table row)) ne w = tt
@@ -156,57 +164,44 @@ finds_nothing (lines.Plain stmts.Begin) ne w = tt
 finds_nothing (lines.Plain stmts.Commit) ne w = tt
 finds_nothing (lines.Plain stmts.Abort) ne w = tt
 finds_nothing (lines.Plain stmts.Notarize) ne w = tt
-finds_nothing (lines.Plain stmts.Validate) ne w = absurd (ne refl)
-finds_nothing (lines.Plain (stmts.Analyse algorithm)) ne w = absurd (ne refl)
+finds_nothing (lines.Plain stmts.Validate) ne w = absurd (ne parts.Notary refl)
+finds_nothing (lines.Plain (stmts.Analyse algorithm)) ne w = absurd (ne parts.Notary refl)
 finds_nothing (lines.Plain (stmts.Now moment)) ne w = tt
 finds_nothing (lines.InSession n stmt) ne w = tt
 finds_nothing (lines.Drill event) ne w = tt
 
 pub goes_by : (line : Line) (kind : LineKind) (second : ℕ) (result : Result (List ℕ) LineFail) (runner last : Runner) (old new : State) (filed later : notaries.State) (clock ahead : clocks.State)
-    → kind_of line ≡ kind → (kind ≡ kinds.InWorld → ⊥) → TakesFor kind runner.is_scripted second clock ahead
+    → line_kind line ≡ kind → ((part : WorldPart) → kind ≡ kinds.InWorld part → ⊥) → TakesFor kind runner.is_scripted second clock ahead → IfErr result (λ fail. fail ≡ line_fails.NoMemory)
     → Wherever filed.limits runner old new filed later (GoesTo (λ r. said_by kind runner.is_scripted (seconds_of runner.is_scripted r second) no_finding r line) result last old new)
     → LineFrom line result runner last (site old filed clock) (site new later ahead)
-goes_by line kind second result runner last old new filed later clock ahead is ne takes told = wherever_map filed.limits runner old new filed later _ _ told (λ r before after lists later_lists at goes. record {
+goes_by line kind second result runner last old new filed later clock ahead is ne takes wants told = wherever_map filed.limits runner old new filed later _ _ told (λ r before after lists later_lists at goes. record {
   second = second;
   found = no_finding;
   seconds = subst (λ (k : LineKind). TakesFor k runner.is_scripted second clock ahead) (sym is) takes;
-  may = finds_nothing line (λ e. ne (sym is ∙ e)) r.world;
+  may = finds_nothing line (λ part e. ne part (sym is ∙ e)) r.world;
   goes = subst (λ (k : LineKind). Goes r (said_by k runner.is_scripted (seconds_of runner.is_scripted r second) no_finding r line) result last old new (content before lists) (content after later_lists)) (sym is) goes;
+  only = ends_wanting (HasStored r (said_by (line_kind line) runner.is_scripted (seconds_of runner.is_scripted r second) no_finding r line)) (line_kind line) result wants;
 })
 
 -- a step at the seconds that were given
-pub steps_by : (line : Line) (now : ℕ) (result : Result (List ℕ) LineFail) (runner last : Runner) (old new : State) (filed later : notaries.State) (clock ahead : clocks.State)
-    → kind_of line ≡ kinds.InWorld → GivesSeconds runner.is_scripted runner now clock ahead → StepsFrom line now result runner last (desk old filed) (desk new later) → LineFrom line result runner last (site old filed clock) (site new later ahead)
-steps_by line now result runner last old new filed later clock ahead is gives told = wherever_map filed.limits runner old new filed later _ _ told (λ r before after lists later_lists at s.
+pub steps_by : (line : Line) (part : WorldPart) (now : ℕ) (result : Result (List ℕ) LineFail) (runner last : Runner) (old new : State) (filed later : notaries.State) (clock ahead : clocks.State)
+    → line_kind line ≡ kinds.InWorld part → GivesSeconds runner.is_scripted runner now clock ahead → StepsFrom line now result runner last (desk old filed) (desk new later) → LineFrom line result runner last (site old filed clock) (site new later ahead)
+steps_by line part now result runner last old new filed later clock ahead is gives told = wherever_map filed.limits runner old new filed later _ _ told (λ r before after lists later_lists at s.
     let seconds = seconds_are runner.is_scripted r runner at.epoch at.moment now clock ahead gives in
     record {
       second = now;
       found = s.found;
-      seconds = subst (λ (k : LineKind). TakesFor k runner.is_scripted now clock ahead) (sym is) (takes_for kinds.InWorld runner.is_scripted runner now clock ahead (λ e. cc) gives);
+      seconds = subst (λ (k : LineKind). TakesFor k runner.is_scripted now clock ahead) (sym is) (takes_for (kinds.InWorld part) runner.is_scripted runner now clock ahead (λ e. cc) gives);
       may = s.may;
       goes = subst (λ (k : LineKind). Goes r (said_by k runner.is_scripted (seconds_of runner.is_scripted r now) s.found r line) result last old new (content before lists) (content after later_lists)) (sym is)
           (subst (λ (n : ℕ). Goes r (stepped r (step r.world line n s.found)) result last old new (content before lists) (content after later_lists)) (sym seconds) s.goes);
+      only = subst (λ (k : LineKind). IfErr result (MayEndIn (line_kind line) (HasStored r (said_by k runner.is_scripted (seconds_of runner.is_scripted r now) s.found r line)))) (sym is)
+          (subst (λ (n : ℕ). IfErr result (MayEndIn (line_kind line) (HasStored r (stepped r (step r.world line n s.found))))) (sym seconds) s.only);
     })
 
 -- a line of the world
-pub world_line : (line : Line) → kind_of line ≡ kinds.InWorld → IsWorldLine line
-world_line lines.Blank e = absurd cc
-world_line (lines.Plain (stmts.Create table columns)) e = tt
-world_line (lines.Plain (stmts.Insert table row)) e = tt
-world_line (lines.Plain (stmts.Update table row)) e = tt
-world_line (lines.Plain (stmts.Delete table key)) e = tt
-world_line (lines.Plain (stmts.Get table key moment)) e = tt
-world_line (lines.Plain (stmts.Scan table filter moment)) e = tt
-world_line (lines.Plain (stmts.History table key)) e = tt
-world_line (lines.Plain stmts.Begin) e = absurd cc
-world_line (lines.Plain stmts.Commit) e = absurd cc
-world_line (lines.Plain stmts.Abort) e = absurd cc
-world_line (lines.Plain stmts.Notarize) e = tt
-world_line (lines.Plain stmts.Validate) e = tt
-world_line (lines.Plain (stmts.Analyse algorithm)) e = tt
-world_line (lines.Plain (stmts.Now moment)) e = absurd cc
-world_line (lines.InSession n stmt) e = tt
-world_line (lines.Drill event) e = absurd cc
+pub world_line : (line : Line) (part : WorldPart) → line_kind line ≡ kinds.InWorld part → IsWorldLine line
+world_line line part e = subst IsInWorld (sym e) tt
 
 -- ---- as bytes
 
@@ -228,18 +223,18 @@ filled_stmt (stmts.Now moment) e = cc
 
 takes_filled : (kind : LineKind) (scripted : Bool) (t : Timed) (clock ahead : clocks.State) → (kind ≡ kinds.Blank → ⊥) → is_blank (without_return t.line) ≡ false → TakesFor kind scripted t.second clock ahead → Takes scripted (t ∷ []) clock ahead
 takes_filled kinds.Blank scripted t clock ahead ne filled takes = absurd (ne refl)
-takes_filled kinds.InWorld true t clock ahead ne filled takes = takes
-takes_filled kinds.InWorld false t clock ahead ne filled takes = takes_second t clock ahead filled takes
+takes_filled (kinds.InWorld part) true t clock ahead ne filled takes = takes
+takes_filled (kinds.InWorld part) false t clock ahead ne filled takes = takes_second t clock ahead filled takes
 takes_filled (kinds.SetsMoment m) true t clock ahead ne filled takes = takes
 takes_filled (kinds.SetsMoment m) false t clock ahead ne filled takes = takes_second t clock ahead filled takes
-takes_filled kinds.Unbuilt true t clock ahead ne filled takes = takes
-takes_filled kinds.Unbuilt false t clock ahead ne filled takes = takes_second t clock ahead filled takes
+takes_filled kinds.OutsideScripts true t clock ahead ne filled takes = takes
+takes_filled kinds.OutsideScripts false t clock ahead ne filled takes = takes_second t clock ahead filled takes
 
-takes_line : (scripted : Bool) (t : Timed) (l : Line) (clock ahead : clocks.State) → SaysLine in_range t.line l → TakesFor (kind_of l) scripted t.second clock ahead → Takes scripted (t ∷ []) clock ahead
+takes_line : (scripted : Bool) (t : Timed) (l : Line) (clock ahead : clocks.State) → SaysLine in_range t.line l → TakesFor (line_kind l) scripted t.second clock ahead → Takes scripted (t ∷ []) clock ahead
 takes_line scripted t lines.Blank clock ahead said takes = takes_blank scripted t clock ahead said takes
 takes_line scripted t (lines.Plain stmt) clock ahead said takes = takes_filled (stmt_kind stmt) scripted t clock ahead (filled_stmt stmt) said.filled takes
-takes_line scripted t (lines.InSession n stmt) clock ahead said takes = takes_filled kinds.Unbuilt scripted t clock ahead (λ e. cc) said.filled takes
-takes_line scripted t (lines.Drill event) clock ahead said takes = takes_filled kinds.Unbuilt scripted t clock ahead (λ e. cc) said.filled takes
+takes_line scripted t (lines.InSession n stmt) clock ahead said takes = takes_filled (kinds.InWorld parts.Sessions) scripted t clock ahead (λ e. cc) said.filled takes
+takes_line scripted t (lines.Drill event) clock ahead said takes = takes_filled kinds.OutsideScripts scripted t clock ahead (λ e. cc) said.filled takes
 
 line_of : (bytes : List ℕ) (result : Result (List ℕ) LineFail) → IsLineOf bytes result bytes
 line_of bytes (Ok text) = refl
@@ -258,6 +253,8 @@ replies_by bytes l result runner last old new filed later clock ahead is said to
       seconds = takes_line runner.is_scripted t l clock ahead said g.seconds;
       may = subst (λ (x : Result Line ParseFail). MayFindBy r.world x g.found) (sym is) g.may;
       goes = subst (λ (n : Running). Goes r n result last old new (content before lists) (content after later_lists)) (sym (carry_is runner.is_scripted r t (Ok l) is)) g.goes;
+      only = subst (λ (x : Result Line ParseFail). IfErr result (MayEndBy x (HasStored r (carry runner.is_scripted r t)))) (sym is)
+          (subst (λ (n : Running). IfErr result (MayEndBy (Ok l) (HasStored r n))) (sym (carry_is runner.is_scripted r t (Ok l) is)) g.only);
     })
 
 filled_answer : (bytes : List ℕ) (b : Bool) (fail : ParseFail) → is_blank (without_return bytes) ≡ b → answer bytes ≡ Err fail → is_blank (without_return bytes) ≡ false
@@ -266,16 +263,17 @@ filled_answer bytes false fail e is = e
 
 -- one that is refused
 pub replies_refused : (bytes name : List ℕ) (fail : ParseFail) (second : ℕ) (result : Result (List ℕ) LineFail) (runner last : Runner) (s : State) (filed : notaries.State) (clock ahead : clocks.State) → answer bytes ≡ Err fail
-    → ((scripted : Bool) (now : ℕ) (r : Running) → answered scripted now no_finding r (Err fail) ≡ refused_line r name) → GivesSeconds runner.is_scripted runner second clock ahead
+    → ((scripted : Bool) (now : ℕ) (r : Running) → answered scripted now no_finding r (Err fail) ≡ refused_line r name) → GivesSeconds runner.is_scripted runner second clock ahead → IfErr result (λ fail. fail ≡ line_fails.NoMemory)
     → Wherever filed.limits runner s s filed filed (GoesTo (λ r. refused_line r name) result last s s) → RepliesFrom bytes result runner last (site s filed clock) (site s filed ahead)
-replies_refused bytes name fail second result runner last s filed clock ahead is names gives told = wherever_map filed.limits runner s s filed filed _ _ told (λ r before after lists later_lists at goes.
+replies_refused bytes name fail second result runner last s filed clock ahead is names gives wants told = wherever_map filed.limits runner s s filed filed _ _ told (λ r before after lists later_lists at goes.
     let t : Timed = record { line = bytes; second = second; found = no_finding } in
     record {
       timed = t;
       line_is = line_of bytes result;
-      seconds = takes_filled kinds.Unbuilt runner.is_scripted t clock ahead (λ e. cc) (filled_answer bytes (is_blank (without_return bytes)) fail refl is) (takes_for kinds.Unbuilt runner.is_scripted runner second clock ahead (λ e. cc) gives);
+      seconds = takes_filled kinds.OutsideScripts runner.is_scripted t clock ahead (λ e. cc) (filled_answer bytes (is_blank (without_return bytes)) fail refl is) (takes_for kinds.OutsideScripts runner.is_scripted runner second clock ahead (λ e. cc) gives);
       may = subst (λ (x : Result Line ParseFail). MayFindBy r.world x no_finding) (sym is) tt;
       goes = subst (λ (n : Running). Goes r n result last s s (content before lists) (content after later_lists)) (sym (carry_is runner.is_scripted r t (Err fail) is ∙ names runner.is_scripted (seconds_of runner.is_scripted r second) r)) goes;
+      only = subst (λ (x : Result Line ParseFail). IfErr result (MayEndBy x (HasStored r (carry runner.is_scripted r t)))) (sym is) (ends_refused (HasStored r (carry runner.is_scripted r t)) result wants);
     })
 
 -- none was begun
@@ -286,4 +284,5 @@ replies_none bytes runner last s filed clock still = wherever_same filed.limits 
   seconds = takes_blank runner.is_scripted nothing clock clock blank_nothing refl;
   may = nothing_found r.world;
   goes = goes_still r (carry runner.is_scripted r nothing) (Err line_fails.NoMemory) runner last s all filed.limits lists still at (ap (λ (x : Running). x.world) (carry_nothing runner.is_scripted r)) tt tt;
+  only = subst (λ (x : Result Line ParseFail). MayEndBy x (HasStored r (carry runner.is_scripted r nothing)) line_fails.NoMemory) (sym (blank_answer [] blank_nothing)) tt;
 })

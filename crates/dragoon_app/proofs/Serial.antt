@@ -1,14 +1,13 @@
 -- Every run is serial: along its lines, what a session was told is what its statements are told alone over each later history
 -- that leaves what it read.
 use Rattle.std.proofs.Common.{◌≡◌, ◌∙◌, ℕ, Bool, true, false, eqb, List, [], ◌∷◌, ◌++◌, length, map, Option, Some, None, Result, Ok, Err, refl, sym, ap, subst, arith}
-use Rattle.std.specs.Prelude.{if◌then◌else◌, ◌&&◌, nat_lt, nat_le, ◌==◌, IsSome, codes}
+use Rattle.std.specs.Prelude.{if◌then◌else◌, ◌&&◌, nat_lt, nat_le, ◌==◌, IsSome}
 use Rattle.std.proofs.lemmas.Bool.Decides.{nat_tests}
 use Rattle.std.proofs.lemmas.List.{map-append}
 use Rattle.tuple_bytes.specs.declared.op.Op.{Op}
 use Rattle.history_model.specs.History.{history, last_moment}
 use Rattle.digest_model.specs.Layout.{layout}
 use Rattle.notary_link.specs.declared.mark.Mark.{Mark}
-use Rattle.notary_link.specs.Batches.{Batch}
 use Rattle.notary_link.specs.Filing.{fitting, room_in}
 use Rattle.notary_link.specs.Notary.{marks_in_all}
 use Rattle.stmt_text.specs.declared.error.ParseFail.{ParseFail}
@@ -39,12 +38,13 @@ use Rattle.validator.specs.Verdicts.{mark_of}
 use Rattle.validator.specs.Texts.{verdict_text}
 use Rattle.drill_core.specs.World.{World}
 use Rattle.drill_core.specs.Found.{Found}
-use Rattle.drill_core.specs.Steps.{Step, step, on_tables, after_statement, notarized, unless, sealed, intent_in, reached, validated, marked, analysed, algorithm_of}
+use Rattle.drill_core.specs.Steps.{Step, step, on_tables, after_statement, notarized, unless, sealed, intent_in, reached, validated, marked, algorithm_of}
 use Rattle.drill_core.proofs.Acknowledging.{by_line}
 use Rattle.drill_core.proofs.Analysing.{analysed_stays}
-use Rattle.dragoon_app.specs.declared.line_kind.LineKind.{LineKind}
-use Rattle.dragoon_app.specs.declared.line_kind.LineKind.TheVariants as kinds
-use Rattle.dragoon_app.specs.Running.{Running, Timed, carry, carried, answered, said_by, stmt_kind, kind_of, seconds_of, set_moment}
+use Rattle.stmt_text.specs.declared.kind.LineKind.{LineKind}
+use Rattle.stmt_text.specs.declared.kind.LineKind.TheVariants as kinds
+use Rattle.stmt_text.specs.Kinds.{stmt_kind, line_kind}
+use Rattle.dragoon_app.specs.Running.{Running, Timed, carry, carried, answered, said_by, seconds_of, set_moment}
 use Rattle.dragoon_app.specs.Serial.{Told, Logs, no_logs, logged, logged_in, logged_by, logs_after, alone_as, stored_alone, CommitsAlone, IsFresh, RunsAreSerial}
 use Rattle.dragoon_app.proofs.Nothing.{carry_is}
 
@@ -200,15 +200,15 @@ module _ (scripted : Bool) where
   moment_stays true r moment logs s = s
   moment_stays false r moment logs s = s
 
-  said_stays : (line : Line) (now : ℕ) (found : Found) (r : Running) (logs : Logs) → Stays r.world logs → Stays (said_by (kind_of line) scripted now found r line).world (logged_by r.world now found (Ok line) logs)
+  said_stays : (line : Line) (now : ℕ) (found : Found) (r : Running) (logs : Logs) → Stays r.world logs → Stays (said_by (line_kind line) scripted now found r line).world (logged_by r.world now found (Ok line) logs)
   said_stays lines.Blank now found r logs s = s
   said_stays (lines.Plain stmt) now found r logs s = by (stmt_kind stmt)
     where
       by : (kind : LineKind) → Stays (said_by kind scripted now found r (lines.Plain stmt)).world logs
       by kinds.Blank = s
-      by kinds.InWorld = step_stays r.world logs s (lines.Plain stmt) now found
+      by (kinds.InWorld part) = step_stays r.world logs s (lines.Plain stmt) now found
       by (kinds.SetsMoment moment) = moment_stays scripted r moment logs s
-      by kinds.Unbuilt = s
+      by kinds.OutsideScripts = s
   said_stays (lines.InSession n stmt) now found r logs s = step_stays r.world logs s (lines.InSession n stmt) now found
   said_stays (lines.Drill event) now found r logs s = s
 

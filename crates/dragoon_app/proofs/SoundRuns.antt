@@ -16,9 +16,10 @@ use Rattle.drill_core.specs.Found.{Found}
 use Rattle.drill_core.specs.World.{World}
 use Rattle.drill_core.specs.Steps.{MayFind}
 use Rattle.drill_core.specs.Laws.{HoldsFiled, IsSoundWorld, HasFitHeader, SoundWorldsStaySound}
-use Rattle.dragoon_app.specs.declared.line_kind.LineKind.{LineKind}
-use Rattle.dragoon_app.specs.declared.line_kind.LineKind.TheVariants as kinds
-use Rattle.dragoon_app.specs.Running.{Running, Timed, start, world_of, carry, carried, answered, said_by, kind_of, seconds_of, set_moment, MayFindBy, AllMayFind}
+use Rattle.stmt_text.specs.declared.kind.LineKind.{LineKind}
+use Rattle.stmt_text.specs.declared.kind.LineKind.TheVariants as kinds
+use Rattle.stmt_text.specs.Kinds.{line_kind}
+use Rattle.dragoon_app.specs.Running.{Running, Timed, start, world_of, carry, carried, answered, said_by, seconds_of, set_moment, MayFindBy, AllMayFind}
 use Rattle.dragoon_app.specs.Laws.{TellsNoneBy, AllTellNone, SoundRunsAreUnaltered, SoundBytesBeginSound}
 use Rattle.dragoon_app.proofs.Nothing.{carry_is}
 
@@ -32,14 +33,14 @@ module _ (law : SoundWorldsStaySound) (scripted : Bool) where
 
   said_good : (kind : LineKind) (now : ℕ) (found : Found) (r : Running) (line : Line) → IsGood r.world → MayFind r.world line found → IsGood (said_by kind scripted now found r line).world
   said_good kinds.Blank now found r line good may = good
-  said_good kinds.InWorld now found r line good may =
+  said_good (kinds.InWorld part) now found r line good may =
       let stays = law r.world line now found good.0 good.1 may in
       (stays.1, stays.0)
   said_good (kinds.SetsMoment moment) now found r line good may = moment_good scripted r moment good
-  said_good kinds.Unbuilt now found r line good may = good
+  said_good kinds.OutsideScripts now found r line good may = good
 
   answered_good : (x : Result Line ParseFail) (now : ℕ) (found : Found) (r : Running) → IsGood r.world → MayFindBy r.world x found → TellsNoneBy r.world x found × IsGood (answered scripted now found r x).world
-  answered_good (Ok line) now found r good may = ((law r.world line now found good.0 good.1 may).2, said_good (kind_of line) now found r line good may)
+  answered_good (Ok line) now found r good may = ((law r.world line now found good.0 good.1 may).2, said_good (line_kind line) now found r line good may)
   answered_good (Err fails.Syntax) now found r good may = (tt, good)
   answered_good (Err fails.NumberTooWide) now found r good may = (tt, good)
   answered_good (Err fails.NoMemory) now found r good may = (tt, good)

@@ -1,5 +1,5 @@
 -- The worlds of a run: the store and the lists that stand for them, and their limits, which no line changes.
-use Rattle.std.proofs.Common.{◌≡◌, ◌∙◌, ℕ, Bool, true, false, List, length, Option, Some, None, Result, Ok, Err, refl, sym, ap, subst, arith}
+use Rattle.std.proofs.Common.{◌≡◌, ◌∙◌, ℕ, Bool, true, false, List, length, Option, Some, None, Result, Ok, Err, refl, sym, ap, arith}
 use Rattle.std.specs.Prelude.{if◌then◌else◌, IfSome, nat_lt, ◌==◌}
 use Rattle.std.proofs.lemmas.List.{take_all}
 use Rattle.notary_link.specs.declared.mark.Mark.{Mark}

@@ -1,5 +1,5 @@
 -- How the parts of `run` carry lines out: where a runner stands, and what one line and all lines leave.
-use Rattle.std.specs.Prelude.{◌≡◌, ◌⊎◌, ◌+◌, ℕ, min, Bool, true, false, List, [], ◌∷◌, ◌++◌, codes, Some, Result, Ok, Err, OnOk, IfOk}
+use Rattle.std.specs.Prelude.{◌≡◌, ◌⊎◌, ◌+◌, ℕ, min, Bool, true, false, List, [], ◌∷◌, ◌++◌, codes, Some, Result, Ok, Err, OnOk, IfOk, IfErr}
 use Rattle.outside_words.specs.Told.{WhereTold}
 use Rattle.disk_words.specs.Disk as disks
 use Rattle.disk_model.specs.Moments.{EveryImage}
@@ -11,6 +11,7 @@ use Rattle.notary_link.specs.declared.notary.NotaryLimits.{NotaryLimits}
 use Rattle.notary_link.specs.Notary as notaries
 use Rattle.line_input.specs.declared.fail.InputFail.{InputFail}
 use Rattle.line_input.specs.declared.fail.InputFail.TheVariants as inputs
+use Rattle.line_input.specs.Front.{AreFirst}
 use Rattle.tuple_bytes.specs.declared.header.Header.{Header}
 use Rattle.tuple_bytes.specs.Spelling.{FitsHeader}
 use Rattle.history_model.specs.Stored.{stored}
@@ -18,23 +19,28 @@ use Rattle.audit_model.specs.Sound.{IsSound}
 use Rattle.stmt_text.specs.declared.line.Line.{Line}
 use Rattle.stmt_text.specs.Lines.{answer}
 use Rattle.validator.specs.Filing.{HasFiledMore}
+use Rattle.drill_run.specs.declared.fail.DrillFail.{DrillFail}
+use Rattle.drill_run.specs.declared.fail.DrillFail.TheVariants as drills
 use Rattle.drill_core.specs.Found.{Found}
 use Rattle.drill_core.specs.declared.fail.LineFail.{LineFail}
 use Rattle.drill_core.specs.declared.fail.LineFail.TheVariants as lines
 use Rattle.drill_core.specs.World.{IsIn, StoresWorld, StoresEither, AreBetween}
 use Rattle.drill_core.specs.Steps.{step, MayFind}
+use Rattle.drill_core.specs.Faults.{MayEndIn}
 use Rattle.dragoon_app.specs.declared.status.Status.{Status}
 use Rattle.dragoon_app.specs.declared.status.Status.TheVariants as statuses
 use Rattle.dragoon_app.specs.declared.run_fail.RunFail.{RunFail}
 use Rattle.dragoon_app.specs.declared.run_fail.RunFail.TheVariants as fails
 use Rattle.dragoon_app.specs.declared.runner.Runner.{Runner}
-use Rattle.dragoon_app.specs.declared.line_kind.LineKind.{LineKind}
-use Rattle.dragoon_app.specs.declared.line_kind.LineKind.TheVariants as kinds
+use Rattle.stmt_text.specs.declared.kind.LineKind.{LineKind}
+use Rattle.stmt_text.specs.declared.kind.LineKind.TheVariants as kinds
+use Rattle.stmt_text.specs.Kinds.{line_kind}
 use Rattle.stmt_text.specs.Numbers.{max_u64}
 use Rattle.dragoon_app.specs.Outcome.{Said, refused}
 use Rattle.dragoon_app.specs.Devices.{Desk, Content, Site, Devices, content}
-use Rattle.dragoon_app.specs.Running.{Running, Timed, start, carry, carried, counted, stepped, world_of, seconds_of, said_by, kind_of, refused_text, MayFindBy, AllMayFind}
-use Rattle.dragoon_app.specs.Ran.{Runs, Reads, AreFirst, IsOutBut, lines_in, text_before, StoresFront, Takes}
+use Rattle.dragoon_app.specs.Running.{Running, Timed, start, carry, carried, counted, stepped, world_of, seconds_of, said_by, refused_text, MayFindBy, AllMayFind}
+use Rattle.dragoon_app.specs.Failing.{HasStored, MayEnd, EndsByUse}
+use Rattle.dragoon_app.specs.Ran.{Runs, Reads, lines_in, text_before, StoresFront, Takes}
 
 -- ---- failures
 
@@ -51,6 +57,12 @@ of_input inputs.NoMemory = fails.NoMemory
 abbrev pub of_output : StreamFail → RunFail
 of_output streams.Failed = fails.WriteFault
 of_output streams.NoMemory = fails.NoMemory
+
+abbrev pub of_drill : DrillFail → RunFail
+of_drill drills.ReadFault = fails.ReadFault
+of_drill drills.WriteFault = fails.WriteFault
+of_drill drills.InputLimit = fails.InputLimit
+of_drill drills.NoMemory = fails.NoMemory
 
 -- how a run ends that stops so, where its last line is out
 abbrev pub status_of : RunFail → Status
@@ -160,6 +172,7 @@ pub record Steps (line : Line) (now : ℕ) (result : Result (List ℕ) LineFail)
   pub found : Found
   pub may : MayFind r.world line found
   pub goes : Goes r (stepped r (step r.world line now found)) result last old new before after
+  pub only : IfErr result (MayEndIn (line_kind line) (HasStored r (stepped r (step r.world line now found))))
 
 abbrev pub StepsFrom : Line → ℕ → Result (List ℕ) LineFail → Runner → Runner → Desk → Desk → Type 0
 StepsFrom line now result runner last old new = FromWhere runner old new (Steps line now result last old.disk new.disk)
@@ -174,9 +187,10 @@ TakesFor kind false second clock ahead = clocks.Tells second clock ahead
 pub record GoesBy (line : Line) (scripted : Bool) (result : Result (List ℕ) LineFail) (last : Runner) (old new : Site) (r : Running) (before after : Content) : Type 0 where
   pub second : ℕ
   pub found : Found
-  pub seconds : TakesFor (kind_of line) scripted second old.clock new.clock
+  pub seconds : TakesFor (line_kind line) scripted second old.clock new.clock
   pub may : MayFind r.world line found
-  pub goes : Goes r (said_by (kind_of line) scripted (seconds_of scripted r second) found r line) result last old.desk.disk new.desk.disk before after
+  pub goes : Goes r (said_by (line_kind line) scripted (seconds_of scripted r second) found r line) result last old.desk.disk new.desk.disk before after
+  pub only : IfErr result (MayEndIn (line_kind line) (HasStored r (said_by (line_kind line) scripted (seconds_of scripted r second) found r line)))
 
 abbrev pub LineFrom : Line → Result (List ℕ) LineFail → Runner → Runner → Site → Site → Type 0
 LineFrom line result runner last old new = FromWhere runner old.desk new.desk (GoesBy line runner.is_scripted result last old new)
@@ -195,6 +209,7 @@ pub record Replies (line : List ℕ) (scripted : Bool) (result : Result (List �
   pub seconds : Takes scripted (timed ∷ []) old.clock new.clock
   pub may : MayFindBy r.world (answer timed.line) timed.found
   pub goes : Goes r (carry scripted r timed) result last old.desk.disk new.desk.disk before after
+  pub only : IfErr result (MayEnd scripted r timed)
 
 abbrev pub RepliesFrom : List ℕ → Result (List ℕ) LineFail → Runner → Runner → Site → Site → Type 0
 RepliesFrom line result runner last old new = FromWhere runner old.desk new.desk (Replies line runner.is_scripted result last old new)
@@ -209,8 +224,8 @@ ending (Err fail) = status_of fail
 -- What was written before the fault line: all replies. The last is cut short where the output failed or memory was wanting, and
 -- no line was begun behind it then.
 abbrev pub IsWritten : Type 0 → List ℕ → List ℕ → Result (Unit {0}) RunFail → sinks.State → sinks.State → Type 0
-IsWritten Idle before text (Err fails.WriteFault) out written = Idle × IsOutBut before text out written
-IsWritten Idle before text (Err fails.NoMemory) out written = (Idle × IsOutBut before text out written) ⊎ sinks.IsOut text out written
+IsWritten Idle before text (Err fails.WriteFault) out written = Idle × sinks.IsOutBut before text out written
+IsWritten Idle before text (Err fails.NoMemory) out written = (Idle × sinks.IsOutBut before text out written) ⊎ sinks.IsOut text out written
 IsWritten Idle before text result out written = sinks.IsOut text out written
 
 -- no line was under way
@@ -229,6 +244,7 @@ pub record Carries (scripted : Bool) (result : Result (Unit {0}) RunFail) (last 
   pub read : WhereTold old.input.rest new.input.rest (Reads (ending result) done next)
   pub none : IsBetween result → next.line ≡ []
   pub found : AllMayFind scripted begin (done ++ next ∷ [])
+  pub uses : EndsByUse (ending result) scripted (carried scripted begin done) next
   pub seconds : Takes scripted (done ++ next ∷ []) old.clock new.clock
   pub images : disks.Only before.bytes old.desk.disk → EveryImage old.desk.disk new.desk.disk (StoresFront scripted begin (done ++ next ∷ []))
   pub kept : disks.Only before.bytes old.desk.disk → (c : List ℕ) → new.desk.disk.is_image c → StoresWorld (carried scripted begin done).world c ⊎ StoresWorld (carried scripted begin (done ++ next ∷ [])).world c

@@ -6,6 +6,7 @@ pub mod Commands
 pub mod Init
 pub mod Linked
 pub mod Running
+pub mod Failing
 pub mod Ran
 pub mod Laws
 pub mod Serial
@@ -15,4 +16,5 @@ pub mod Analysed
 pub mod Carrying
 pub mod Made
 pub mod MakingLines
+pub mod Drilled
 pub mod Top

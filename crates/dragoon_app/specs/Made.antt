@@ -3,6 +3,7 @@ use Rattle.std.specs.Prelude.{◌≡◌, ◌⊎◌, ◌-◌, ℕ, true, List, []
 use Rattle.outside_words.specs.Faults.{Rose}
 use Rattle.outside_io.specs.Sink as sinks
 use Rattle.line_input.specs.Lines.{lines_of}
+use Rattle.line_input.specs.Front.{AreFirst}
 use Rattle.tuple_bytes.specs.declared.header.Header.{Header}
 use Rattle.history_model.specs.Stored.{stored}
 use Rattle.history_model.specs.History.{txns, last_moment}
@@ -14,7 +15,7 @@ use Rattle.dragoon_app.specs.Devices.{Content, Devices, Effect, WhereBothTell, s
 use Rattle.dragoon_app.specs.Outcome.{Outcome, Said, refused}
 use Rattle.dragoon_app.specs.Commands.{OnStore}
 use Rattle.dragoon_app.specs.Running.{Running, Timed, carry, carried}
-use Rattle.dragoon_app.specs.Ran.{AreFirst, IsNext, RunsLines, KeepsPromises, ending_of, lines_in, opened}
+use Rattle.dragoon_app.specs.Ran.{IsNext, RunsLines, KeepsPromises, ending_of, lines_in, opened}
 
 -- ---- the summary
 

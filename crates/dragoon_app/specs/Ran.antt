@@ -1,13 +1,12 @@
 -- What `run` leaves: what it wrote, what its store holds at every moment, and what it took from its input and the clock.
-use Rattle.std.specs.Prelude.{if◌then◌else◌, ◌≡◌, ◌≢◌, ◌⊎◌, ◌<◌, ◌≤◌, ◌+◌, ◌-◌, nat_lt, ℕ, Bool, true, false, List, [], ◌∷◌, ◌++◌, length, take, drop, map, slice_index}
+use Rattle.std.specs.Prelude.{if◌then◌else◌, ◌≡◌, ◌≢◌, ◌⊎◌, ◌<◌, ◌+◌, ◌-◌, nat_lt, ℕ, Bool, true, false, List, [], ◌∷◌, ◌++◌, length, take, map, slice_index}
 use Rattle.outside_words.specs.Told.{WhereTold}
 use Rattle.outside_words.specs.Faults.{Rose}
 use Rattle.disk_words.specs.Disk as disks
 use Rattle.disk_model.specs.Moments.{EveryImage}
 use Rattle.outside_io.specs.Sink as sinks
 use Rattle.outside_io.specs.Clock as clocks
-use Rattle.line_input.specs.Lines.{lines_of, complete_lines, joined}
-use Rattle.line_input.specs.Limits.{input_limit, piece_limit}
+use Rattle.line_input.specs.Front.{AreFirst, AreAll, AreWithinLimit, AreEnded, TakesLittle, TakesFront}
 use Rattle.tuple_bytes.specs.declared.header.Header.{Header}
 use Rattle.notary_link.specs.Notary as notaries
 use Rattle.history_model.specs.Stored.{stored}
@@ -22,34 +21,19 @@ use Rattle.dragoon_app.specs.Outcome.{CutsOff}
 use Rattle.dragoon_app.specs.Commands.{OnStore}
 use Rattle.dragoon_app.specs.Texts.{fault_line}
 use Rattle.dragoon_app.specs.Running.{Running, Timed, start, carried, world_of, seconds_taken, AllMayFind}
+use Rattle.dragoon_app.specs.Failing.{EndsByUse}
 use Rattle.dragoon_app.specs.Laws.{AllTellNone}
 use Rattle.dragoon_app.specs.Acknowledged.{IsReplied, StoresMore}
 
 -- ---- which lines were carried out, of an input that told its bytes before and after
 
--- the bytes that were taken
-abbrev pub taken_of : List ℕ → List ℕ → List ℕ
-taken_of input left = take (length input - length left) input
-
--- the lines whose end was read
-abbrev pub AreComplete : List (List ℕ) → List ℕ → List ℕ → Type 0
-AreComplete done input left = done ≡ complete_lines (taken_of input left)
-
--- the lines whose end was read, and the last one where the end of the input was
-abbrev pub AreEnded : List (List ℕ) → List ℕ → List ℕ → Type 0
-AreEnded done input left = AreComplete done input left ⊎ ((done ≡ lines_of input) × (left ≡ []))
-
--- the lines are the first of the input
-abbrev pub AreFirst : List (List ℕ) → List ℕ → Type 0
-AreFirst done input = done ≡ take (length done) (lines_of input)
-
 -- All lines were carried out of an input that was read to its end, and that is shorter than a run takes. After a fault
 -- of the source, and at the limit, those whose end was read were. Else some first ones.
 abbrev pub Ends : List (List ℕ) → Status → List ℕ → List ℕ → Type 0
-Ends done statuses.Ok input left = (done ≡ lines_of input) × (left ≡ []) × (length input < input_limit)
-Ends done statuses.Refused input left = (done ≡ lines_of input) × (left ≡ []) × (length input < input_limit)
+Ends done statuses.Ok input left = AreAll done input left
+Ends done statuses.Refused input left = AreAll done input left
 Ends done statuses.ReadFault input left = AreEnded done input left
-Ends done statuses.InputLimit input left = AreComplete done input left × (length input ≡ length left + input_limit)
+Ends done statuses.InputLimit input left = AreWithinLimit done input left
 Ends done s input left = AreFirst done input
 
 abbrev pub lines_in : List Timed → List (List ℕ)
@@ -65,21 +49,12 @@ IsUnderWay statuses.DiskFault done next input = IsNext done next input
 IsUnderWay statuses.NotaryFault done next input = IsNext done next input
 IsUnderWay s done next input = (next.line ≡ []) ⊎ IsNext done next input
 
--- less than a piece was taken beyond these lines, or no line more whose end was taken
-abbrev pub TakesLittle : List (List ℕ) → List ℕ → List ℕ → Type 0
-TakesLittle begun input left = AreEnded begun input left ⊎ (length (taken_of input left) < length (joined begun []) + piece_limit)
-
 -- At a fault of the disk, the notary or the output little was taken beyond the lines that were begun.
 abbrev pub TakesNoMore : Status → List Timed → Timed → List ℕ → List ℕ → Type 0
 TakesNoMore statuses.DiskFault done next input left = TakesLittle (lines_in (done ++ next ∷ [])) input left
 TakesNoMore statuses.NotaryFault done next input left = TakesLittle (lines_in (done ++ next ∷ [])) input left
 TakesNoMore statuses.WriteFault done next input left = TakesLittle (lines_in done) input left ⊎ TakesLittle (lines_in (done ++ next ∷ [])) input left
 TakesNoMore s done next input left = Unit {0}
-
--- no more was taken than a run takes, from the front on
-pub record TakesFront (input left : List ℕ) : Type 0 where
-  pub within : length input ≤ length left + input_limit
-  pub front : left ≡ drop (length input - length left) input
 
 -- What was read of an input, where these lines were carried out and this one was perhaps under way.
 pub record Reads (result : Status) (done : List Timed) (next : Timed) (input left : List ℕ) : Type 0 where
@@ -89,12 +64,6 @@ pub record Reads (result : Status) (done : List Timed) (next : Timed) (input lef
   pub front : TakesFront input left
 
 -- ---- what was written
-
--- a front of this text is out, and at least all of the text before
-pub record IsOutBut (before text : List ℕ) (old new : sinks.State) : Type 0 where
-  pub len : ℕ
-  pub least : length before ≤ len
-  pub out : sinks.IsOut (take len text) old new
 
 -- the replies to all lines but the last
 abbrev pub text_before : Bool → Running → List Timed → List ℕ
@@ -116,9 +85,9 @@ pub record IsToTell (done : List Timed) (next : Timed) (old new : Devices) (s : 
 -- The last reply is cut short, and no line was begun behind it; or all replies are out; or a fault line behind them is cut short.
 abbrev pub IsCutAtEnd : Type 0 → (Status → Type 0) → List ℕ → List ℕ → sinks.State → sinks.State → Type 0
 IsCutAtEnd Idle Told before text old new =
-    (Idle × IsOutBut before text old new)
+    (Idle × sinks.IsOutBut before text old new)
     ⊎ sinks.IsOut text old new
-    ⊎ ((s : Status) × Told s × IsOutBut text (text ++ fault_line s) old new)
+    ⊎ ((s : Status) × Told s × sinks.IsOutBut text (text ++ fault_line s) old new)
 
 -- how a run ends whose lines were all carried out: by whether some reply is a refusal
 abbrev pub ending_by : ℕ → Status
@@ -179,6 +148,8 @@ pub record RunsLines (scripted : Bool) (begin : Running) (done : List Timed) (ne
   pub none : IsSettled result old.desk new.desk → next.line ≡ []
   -- each validation and each analysis found what its world allows
   pub found : AllMayFind scripted begin (done ++ next ∷ [])
+  -- a fault is of a device that the line under way uses
+  pub uses : EndsByUse result scripted (carried scripted begin done) next
   pub seconds : Takes scripted (done ++ next ∷ []) old.clock new.clock
   pub store : RunsOver scripted begin done next result old.desk new.desk before after
 

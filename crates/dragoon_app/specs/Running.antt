@@ -6,9 +6,6 @@ use Rattle.tuple_bytes.specs.declared.header.Header.{Header}
 use Rattle.stmt_text.specs.declared.error.ParseFail.{ParseFail}
 use Rattle.stmt_text.specs.declared.error.ParseFail.TheVariants as fails
 use Rattle.stmt_text.specs.declared.line.Line.{Line}
-use Rattle.stmt_text.specs.declared.line.Line.TheVariants as lines
-use Rattle.stmt_text.specs.declared.stmt.Stmt.{Stmt}
-use Rattle.stmt_text.specs.declared.stmt.Stmt.TheVariants as stmts
 use Rattle.stmt_text.specs.Lines.{answer, is_blank, without_return}
 use Rattle.notary_link.specs.declared.notary.NotaryLimits.{NotaryLimits}
 use Rattle.notary_link.specs.Notary.{Lists}
@@ -16,8 +13,9 @@ use Rattle.statement_core.specs.World as statements
 use Rattle.drill_core.specs.Found.{Found}
 use Rattle.drill_core.specs.World.{World, no_sessions}
 use Rattle.drill_core.specs.Steps.{Step, step, MayFind}
-use Rattle.dragoon_app.specs.declared.line_kind.LineKind.{LineKind}
-use Rattle.dragoon_app.specs.declared.line_kind.LineKind.TheVariants as kinds
+use Rattle.stmt_text.specs.declared.kind.LineKind.{LineKind}
+use Rattle.stmt_text.specs.declared.kind.LineKind.TheVariants as kinds
+use Rattle.stmt_text.specs.Kinds.{line_kind}
 use Rattle.stmt_text.specs.Numbers.{max_u64}
 
 -- where a run stands
@@ -84,39 +82,15 @@ abbrev pub set_moment : Bool → Running → ℕ → Running
 set_moment true r moment = record { world = r.world; epoch = r.epoch; moment = moment; text = r.text ++ codes "ok\n"; refused = r.refused }
 set_moment false r moment = refused_line r (codes "NotScripted")
 
--- what a statement outside sessions asks for
-abbrev pub stmt_kind : Stmt → LineKind
-stmt_kind (stmts.Create table columns) = kinds.InWorld
-stmt_kind (stmts.Insert table row) = kinds.InWorld
-stmt_kind (stmts.Update table row) = kinds.InWorld
-stmt_kind (stmts.Delete table key) = kinds.InWorld
-stmt_kind (stmts.Get table key moment) = kinds.InWorld
-stmt_kind (stmts.Scan table filter moment) = kinds.InWorld
-stmt_kind (stmts.History table key) = kinds.InWorld
-stmt_kind stmts.Begin = kinds.Unbuilt
-stmt_kind stmts.Commit = kinds.Unbuilt
-stmt_kind stmts.Abort = kinds.Unbuilt
-stmt_kind stmts.Notarize = kinds.InWorld
-stmt_kind stmts.Validate = kinds.InWorld
-stmt_kind (stmts.Analyse algorithm) = kinds.InWorld
-stmt_kind (stmts.Now moment) = kinds.SetsMoment moment
-
--- what a line asks for; drills are no lines of a run
-abbrev pub kind_of : Line → LineKind
-kind_of lines.Blank = kinds.Blank
-kind_of (lines.Plain stmt) = stmt_kind stmt
-kind_of (lines.InSession n stmt) = kinds.InWorld
-kind_of (lines.Drill event) = kinds.Unbuilt
-
--- a blank line is nothing, and what no run carries out is no line
+-- a blank line is nothing, and what stands outside scripts is no line of a run
 abbrev pub said_by : LineKind → Bool → ℕ → Found → Running → Line → Running
 said_by kinds.Blank scripted now found r line = r
-said_by kinds.InWorld scripted now found r line = stepped r (step r.world line now found)
+said_by (kinds.InWorld part) scripted now found r line = stepped r (step r.world line now found)
 said_by (kinds.SetsMoment moment) scripted now found r line = set_moment scripted r moment
-said_by kinds.Unbuilt scripted now found r line = refused_line r (codes "Syntax")
+said_by kinds.OutsideScripts scripted now found r line = refused_line r (codes "Syntax")
 
 abbrev pub answered : Bool → ℕ → Found → Running → Result Line ParseFail → Running
-answered scripted now found r (Ok line) = said_by (kind_of line) scripted now found r line
+answered scripted now found r (Ok line) = said_by (line_kind line) scripted now found r line
 answered scripted now found r (Err fails.Syntax) = refused_line r (codes "Syntax")
 answered scripted now found r (Err fails.NumberTooWide) = refused_line r (codes "NumberTooWide")
 answered scripted now found r (Err fails.NoMemory) = r

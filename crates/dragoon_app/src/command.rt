@@ -4,7 +4,7 @@ ghost use Rattle.std.specs.Prelude.{◌≡◌, ◌≤◌, ◌<◌, map, Some, If
 ghost use Rattle.std.specs.String.{string_bytes};
 ghost use Rattle.dragoon_app.specs.Init.{FitsStore};
 ghost use Rattle.dragoon_app.specs.Top.{FitsCommand};
-ghost use Rattle.dragoon_app.specs.Words.{new_store_of, link_of, init_of};
+ghost use Rattle.dragoon_app.specs.Words.{new_store_of, bare, init_of};
 ghost use Rattle.dragoon_app.specs.Words.{scripted_of, run_of, id_of, algorithm_of, analyse_of, make_of, command_of};
 
 use forensic_report::Algorithm;
@@ -54,6 +54,9 @@ pub enum Command {
 
     /// A generated history of so many steps, stored, filed and validated.
     Make { id: u64, seed: u64, count: u32 },
+
+    /// The lines of the input, over a store, a notary and a clock of their own.
+    Drill,
 }
 
 /// What the four words behind `init` say.
@@ -74,12 +77,14 @@ fn new_store_of(id: &[u8], width: &[u8], k: &[u8], algs: &[u8]) -> Option<NewSto
     })
 }
 
-fn link_of(words: &[String]) -> Option<Command>
-    ensures value { result ≡ link_of (map string_bytes words.now) }
+/// The command, where nothing stands behind its word.
+fn bare(command: Command, words: &[String]) -> Option<Command>
+    requires { FitsCommand command }
+    ensures value { result ≡ bare command (map string_bytes words.now) }
     ensures fits { IfSome result FitsCommand }
 {
     match words {
-        [] => Some(Command::Link),
+        [] => Some(command),
         _ => None,
     }
 }
@@ -205,7 +210,7 @@ pub fn command_of(words: &[String]) -> Option<Command>
 {
     let (word, words) = words.split_first()?;
     if word.as_bytes() == b"link".as_slice() {
-        link_of(words)
+        bare(Command::Link, words)
     } else if word.as_bytes() == b"init".as_slice() {
         init_of(words)
     } else if word.as_bytes() == b"run".as_slice() {
@@ -220,6 +225,8 @@ pub fn command_of(words: &[String]) -> Option<Command>
         analyse_of(words)
     } else if word.as_bytes() == b"make".as_slice() {
         make_of(words)
+    } else if word.as_bytes() == b"drill".as_slice() {
+        bare(Command::Drill, words)
     } else {
         None
     }

@@ -10,6 +10,7 @@
 //! | `validate ID` | `validate` | `validate_outcome` of what the validation answers: its verdict |
 //! | `analyse ID ALG` | `analyse` | `analyse_outcome` of what the analysis answers: its report |
 //! | `make ID SEED N` | `make` | `made_outcome` of the lines of a generated script: how many replies are refusals, how many transactions then, and the last two replies |
+//! | `drill` | `drill` | `replies` of a timeline for the lines of the input: the reply of each line, with crashes, alterations and cuts |
 //!
 //! | The layer above may rely on | Clause of `dragoon` |
 //! |---|---|
@@ -20,7 +21,7 @@
 //! | where the store's disk is settled: a sound store, one whose every image is what is filed, stays sound under each id, whatever is answered | `sound` |
 //! | of a sound store neither `notarize`, `validate` nor `analyse` says that it is altered; of the lines of a run see below | `unaltered` |
 //! | after any replacement of the store's bytes, of a history whose batches the notary holds: a report names each altered granule that its algorithm promises, or two inputs in two finite lists share a digest (`Shows`) | `leaves`: `shows` of `Reports` |
-//! | `link` leaves all devices but the output as they were, `init` the input and the notary, `notarize` and `validate` the input, and `analyse` all that the store and the notary hold | `leaves` |
+//! | `link` leaves all devices but the output as they were, `init` the input and the notary, `notarize` and `validate` the input, and `analyse` all that the store and the notary hold; `drill` takes none but the input and the output | `leaves` |
 //! | after `init` answered `Ok` the store has 65 bytes: the header of the words and the clock's second, and no item; and it is durable | `made`, `stores`, `durable` of `MakesStore` in `leaves` |
 //! | a taken device, and each device where it is too late, is left as it was | `kept`, `late` there |
 //! | on a settled device a crash during `init` leaves no item, and no header but the new one or one whose bytes stood there | `images` there |
@@ -37,6 +38,7 @@
 //! | at one of these or of the output less than a piece was taken beyond the lines that were begun, or no line end more | `little` of `read` |
 //! | a scripted run asks no clock, and others take one second for each line that isn't blank, the one under way too; none is under way unless the disk or the notary failed or memory was wanting | `seconds`, `none` of `lines` |
 //! | a validation or an analysis tells what is found in the world that its line finds | `found` there |
+//! | a fault of the notary comes only by a line that asks it, and one of the disk by such a line or one that stores something | `uses` there |
 //! | on a settled store a crash at any moment leaves what stood there after some first lines | `images` of `store` there |
 //! | on a settled store every image of now has what the lines say that were carried out, or those and the one under way | `kept` there |
 //! | the notary holds all that the lines filed and marked, and no more unless a line was under way | `between`, `holds` there |
@@ -69,6 +71,11 @@
 //! of a fault that has its cause, or a front of one of them; or nothing where memory was wanting. The summary ends with
 //! the replies to the last two lines (`last_two_are_told`).
 //!
+//! `drill` is `DrillsBeside` in `leaves`. There is a timeline, from an empty disk, an empty notary and clock 0 on, for the
+//! lines of the input that aren't blank. What is out is its replies (`drills` of `DrillsInput`), and behind them the line
+//! of a fault of the input, or of its limit (`ends`). `Refused` comes exactly where the input was read to its end and some
+//! reply is a refusal. What holds of every timeline, `timeline_model` says.
+//!
 //! `leading` says how many words in front of the command name devices. A further device is one more
 //! prefix there, one more parameter of `dragoon` and one more field of `Devices`. A further command is a case of
 //! `command_of`, of `Leaves` and of the call, and a module with its function, its definition (an `Effect`, mostly by
@@ -87,10 +94,10 @@
 mod analyse;
 mod audit_fail;
 mod command;
+mod drill;
 mod init;
 mod laws;
 mod leading_words;
-mod line_kind;
 mod link;
 mod make;
 mod notarize;

@@ -1,13 +1,14 @@
 //! Why a run stopped before the end of its input.
 
 ghost use Rattle.std.specs.Prelude.{◌≡◌, ◌≢◌};
-ghost use Rattle.dragoon_app.specs.Carrying.{of_line, of_input, of_output, EndsWith};
+ghost use Rattle.dragoon_app.specs.Carrying.{of_line, of_input, of_output, of_drill, EndsWith};
 ghost use Rattle.dragoon_app.specs.Outcome.{WriteCause};
 ghost use Rattle.outside_io.specs.Sink.{GoesOn};
 
 use crate::Status;
 use crate::saying::refuse;
 use drill_core::LineFail;
+use drill_run::DrillFail;
 use line_input::InputFail;
 use outside_io::{Sink, StreamFail};
 
@@ -53,6 +54,19 @@ impl From<StreamFail> for RunFail {
         match fail {
             StreamFail::Failed => RunFail::WriteFault,
             StreamFail::NoMemory => RunFail::NoMemory,
+        }
+    }
+}
+
+impl From<DrillFail> for RunFail {
+    ghost from_gives = { λ d e. e ≡ of_drill d };
+
+    fn from(fail: DrillFail) -> Self {
+        match fail {
+            DrillFail::ReadFault => RunFail::ReadFault,
+            DrillFail::WriteFault => RunFail::WriteFault,
+            DrillFail::InputLimit => RunFail::InputLimit,
+            DrillFail::NoMemory => RunFail::NoMemory,
         }
     }
 }

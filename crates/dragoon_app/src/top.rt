@@ -9,6 +9,7 @@ ghost use Rattle.dragoon_app.specs.Top.{Leaves, SoundIsUnaltered};
 use crate::Status;
 use crate::analyse::run_analyse;
 use crate::command::{Command, command_of};
+use crate::drill::run_drill;
 use crate::init::run_init;
 use crate::link::run_link;
 use crate::make::run_make;
@@ -70,6 +71,7 @@ pub fn dragoon<D: Disk, N: Notary, C: Clock, I: Source, O: Sink>(
         Some(Command::Make { id, seed, count }) => {
             run_make(alloc, id, seed, count, store, notary, clock, out)
         }
+        Some(Command::Drill) => run_drill(alloc, input, out),
         None => refuse(out, Status::Usage),
     }
 }

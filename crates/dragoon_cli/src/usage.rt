@@ -10,12 +10,12 @@ usage: dragoon [store=FILE] [notary=FILE] COMMAND
 Make and fill
   init ID W K ALGS  makes a store that begins now, and prints `ready ID`
                     ID    the number by which a notary knows it
-                    W     the seconds of a granule, 1 to 86400
-                    K     the tile exponent, 0 to 10: a tile has 2^K granules
+                    W, K  a granule has W seconds, 1 to 86400, and a tile 2^K granules, K being 0 to 10
                     ALGS  the algorithms: `m`, `t`, `a` or `ta`
   run ID            carries out standard input, one statement a line, and answers each line in turn
   run ID scripted   does the same at the moments that lines `now M` set, and asks no clock
   make ID SEED N    carries out N generated steps, 1 to 100000, the same for each SEED, and prints a summary
+  drill             carries out standard input over a store in memory, with crashes, alterations and cuts
 
 Ask
   run ID            takes `get`, `scan` and `history` too, of now or `as of` a moment

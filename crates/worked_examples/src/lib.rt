@@ -13,6 +13,8 @@ mod crashes;
 #[cfg(test)]
 mod desk;
 #[cfg(test)]
+mod drills;
+#[cfg(test)]
 mod limits;
 #[cfg(test)]
 mod makes;

@@ -3,12 +3,12 @@ use Rattle.disk_words.proofs.Frame as disk_frames
 use Rattle.notary_link.proofs.Frame as notary_frames
 use Rattle.outside_io.specs.Sink as sinks
 use Rattle.outside_io.proofs.Frame as sink_frames
-use Rattle.outside_io.proofs.Out.{out_then}
+use Rattle.outside_io.proofs.Out.{out_then, out_but_end}
 use Rattle.dragoon_app.specs.Devices.{site}
 use Rattle.dragoon_app.specs.Carrying.{RepliesFrom, of_input, of_output, of_line}
-use Rattle.dragoon_app.specs.Ran.{IsOutBut}
+use Rattle.dragoon_app.proofs.Nothing.{nothing}
+use Rattle.dragoon_app.proofs.Faults.{uses_input, uses_output}
 use Rattle.dragoon_app.proofs.CarriedLines.{begins, goes_on, goes_no_further, between, under_way, ended, reads_failed, reads_unwritten, written_failed, written_front}
-use Rattle.dragoon_app.proofs.Written.{out_but_end}
 use Rattle.dragoon_app.proofs.run.carry_lines.Goals as goal
 
 pub lines-init : goal.lines-init
@@ -55,7 +55,7 @@ returns-in_err-read_line-clause-told g c =
     rw same (between c.args.runner.now c.lines.runner (D c.args.disk.now) (D c.lines.disk) (N c.args.notary.now) (N c.lines.notary) (C c.args.clock.now) (C c.lines.clock) (I c.args.input.now) (I c.read_line.new.input) c.read_line.new.self (O c.args.out.now) (O c.lines.out)
     (λ before xs. sinks.IsOut xs (O c.args.out.now) (O c.lines.out)) (Err (of_input fail)) going
     (λ done all others r. reads_failed fail c.read_line.new.self done all others c.in_err-read_line.ensures.input_limit c.in_err-read_line.ensures.read_fault r)
-    (λ before text is. written_failed fail before text (O c.args.out.now) (O c.lines.out) is))
+    (λ before text is. written_failed fail before text (O c.args.out.now) (O c.lines.out) is) (λ scripted r. uses_input scripted r nothing fail))
 
 pub returns-in_err-text-clause-told : goal.returns-in_err-text-clause-told
 returns-in_err-text-clause-told g c =
@@ -83,14 +83,14 @@ returns-in_err-write_whole-clause-told g c =
     let replies = subst (λ (l : List ℕ). RepliesFrom l (Ok text) c.lines.runner c.reply.new.self (site (D c.lines.disk) (N c.lines.notary) (C c.lines.clock)) (site (D c.reply.new.disk) (N c.reply.new.notary) (C c.reply.new.clock))) c.line.ensures.value c.in_ok-text.ensures.told in
     let front : sinks.FrontIsOut text (O c.lines.out) (O c.write_whole.new.out) = subst (λ (l : List ℕ). sinks.FrontIsOut l (O c.lines.out) (O c.write_whole.new.out)) c.as_slice.ensures.value c.in_err-write_whole.ensures.err in
     let going = goes_on c.args.runner.now c.lines.runner c.reply.new.self (D c.args.disk.now) (D c.lines.disk) (D c.reply.new.disk) (N c.args.notary.now) (N c.lines.notary) (N c.reply.new.notary) (C c.args.clock.now) (C c.lines.clock) (C c.reply.new.clock) (I c.args.input.now) (I c.lines.input) (I c.read_line.new.input) c.lines.reader c.read_line.new.self text
-    (λ before xs. sinks.IsOut xs (O c.args.out.now) (O c.lines.out)) (λ before xs. IsOutBut before xs (O c.args.out.now) (O c.write_whole.new.out))
+    (λ before xs. sinks.IsOut xs (O c.args.out.now) (O c.lines.out)) (λ before xs. sinks.IsOutBut before xs (O c.args.out.now) (O c.write_whole.new.out))
     c.lines.invariant.going (rw c.if-branch.true at c.in_ok-read_line.ensures.told) c.read_line.ensures.feedless c.read_line.ensures.taken c.read_line.ensures.frame
     replies c.reply.ensures.scripted c.reply.ensures.disk_frame c.reply.ensures.notary_frame c.reply.ensures.clock_frame
     (λ before xs out. out_but_end xs text (O c.args.out.now) (O c.lines.out) (O c.write_whole.new.out) out front) in
     rw same (between c.args.runner.now c.reply.new.self (D c.args.disk.now) (D c.reply.new.disk) (N c.args.notary.now) (N c.reply.new.notary) (C c.args.clock.now) (C c.reply.new.clock) (I c.args.input.now) (I c.read_line.new.input) c.read_line.new.self (O c.args.out.now) (O c.write_whole.new.out)
-    (λ before xs. IsOutBut before xs (O c.args.out.now) (O c.write_whole.new.out)) (Err (of_output fail)) going
+    (λ before xs. sinks.IsOutBut before xs (O c.args.out.now) (O c.write_whole.new.out)) (Err (of_output fail)) going
     (λ done all others r. reads_unwritten fail c.read_line.new.self done all others c.in_ok-read_line.ensures.at_once.little_more r)
-    (λ before text is. written_front fail before text (O c.args.out.now) (O c.write_whole.new.out) is))
+    (λ before text is. written_front fail before text (O c.args.out.now) (O c.write_whole.new.out) is) (λ scripted r. uses_output scripted r nothing fail))
 
 pub returns-clause-told : goal.returns-clause-told
 returns-clause-told g c =

@@ -1,8 +1,12 @@
-use Rattle.std.proofs.Common.{Some, None, sym, ap, ◌∙◌}
+use Rattle.std.proofs.Common.{Some, None, refl, sym, ap, subst, ◌∙◌}
+use Rattle.std.specs.Prelude.{⊤}
 use Rattle.disk_words.proofs.Frame.{goes_on_same as disk_same}
+use Rattle.notary_link.proofs.Frame.{goes_on_same as notary_same}
 use Rattle.dragoon_app.specs.declared.command.Command.{Command}
 use Rattle.dragoon_app.specs.declared.command.Command.TheVariants as commands
 use Rattle.dragoon_app.proofs.Behaving.{all_left, goes_on_beside, unchanged_same}
+use Rattle.dragoon_app.specs.Drilled.{IsOfDrill}
+use Rattle.dragoon_app.proofs.SoundKept.{sound_same}
 use Rattle.dragoon_app.proofs.Defined.{leaves_at, unaltered_at}
 use Rattle.dragoon_app.proofs.top.dragoon.Goals as goal
 
@@ -59,6 +63,36 @@ returns-in-Some-Analyse-clause-goes_on g c = c.run_analyse.ensures.goes_on (g.I.
 
 pub returns-in-Some-Make-clause-goes_on : goal.returns-in-Some-Make-clause-goes_on
 returns-in-Some-Make-clause-goes_on g c = c.run_make.ensures.goes_on (g.I.Source.state c.args.input.now)
+
+pub returns-in-Some-Drill-clause-usage : goal.returns-in-Some-Drill-clause-usage
+returns-in-Some-Drill-clause-usage g c = λ e. absurd (subst IsOfDrill e c.run_drill.ensures.none_other)
+
+pub returns-in-Some-Drill-clause-leaves : goal.returns-in-Some-Drill-clause-leaves
+returns-in-Some-Drill-clause-leaves g c = leaves_at _ (Some commands.Drill) c.run_drill.result _ _ (sym (c.in-Some-Drill.is ∙ ap (λ (x : Command). Some x) c.in-Some-Drill.field-0-is) ∙ c.command_of.ensures.value)
+    (record { drills = c.run_drill.ensures.leaves; desk = record { disk = unchanged_same _; notary = refl }; unread = refl; clock = refl })
+
+pub returns-in-Some-Drill-clause-sound : goal.returns-in-Some-Drill-clause-sound
+returns-in-Some-Drill-clause-sound g c = sound_same (λ before. ⊤) (g.D.Disk.state c.args.store.now) (g.N.Notary.state c.args.notary.now)
+
+pub returns-in-Some-Drill-clause-unaltered : goal.returns-in-Some-Drill-clause-unaltered
+returns-in-Some-Drill-clause-unaltered g c = unaltered_at _ (Some commands.Drill) c.run_drill.result _ _ (sym (c.in-Some-Drill.is ∙ ap (λ (x : Command). Some x) c.in-Some-Drill.field-0-is) ∙ c.command_of.ensures.value) tt
+
+pub returns-in-Some-Drill-clause-causes : goal.returns-in-Some-Drill-clause-causes
+returns-in-Some-Drill-clause-causes g c = record {
+  disk = λ e. absurd (subst IsOfDrill e c.run_drill.ensures.none_other);
+  notary = λ e. absurd (subst IsOfDrill e c.run_drill.ensures.none_other);
+  read = c.run_drill.ensures.read_cause;
+  write = c.run_drill.ensures.write_cause;
+}
+
+pub returns-in-Some-Drill-clause-goes_on : goal.returns-in-Some-Drill-clause-goes_on
+returns-in-Some-Drill-clause-goes_on g c = record {
+  disk = disk_same _;
+  notary = notary_same _;
+  clock = record { told = refl };
+  out = c.run_drill.ensures.out_frame;
+  input = c.run_drill.ensures.input_frame;
+}
 
 pub returns-in-None-clause-leaves : goal.returns-in-None-clause-leaves
 returns-in-None-clause-leaves g c = leaves_at _ None c.refuse.result _ _ (sym c.in-None.is ∙ c.command_of.ensures.value) (record { said = c.refuse.ensures.said; left = all_left _ _ _ _ _ (unchanged_same _) })

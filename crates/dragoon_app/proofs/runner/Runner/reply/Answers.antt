@@ -49,26 +49,26 @@ pub returns-in_ok-refuse-in-Err-Syntax-clause-told : goal.returns-in_ok-refuse-i
 returns-in_ok-refuse-in-Err-Syntax-clause-told g c =
     let text = c.in_ok-refuse-in-Err-Syntax.field-0 in
     replies_refused c.args.line.now (codes "Syntax") parses.Syntax c.seconds.result (Ok text) c.args.self.now c.refuse.new.self (g.D.Disk.state c.args.disk.now) (g.N.Notary.state c.args.notary.now) (g.C.Clock.state c.args.clock.now) (g.C.Clock.state c.seconds.new.clock)
-    (rw c.in-Err-Syntax.field-0-is at c.in-Err-Syntax.ensures.value) (λ s n r. refl) c.seconds.ensures.value
+    (rw c.in-Err-Syntax.field-0-is at c.in-Err-Syntax.ensures.value) (λ s n r. refl) c.seconds.ensures.value tt
     (refuses_goes c.args.self.now c.refuse.new.self (g.D.Disk.state c.args.disk.now) (g.N.Notary.state c.args.notary.now) (g.met.D.Disk.only_now c.args.disk.now) (codes "Syntax") text c.in_ok-refuse-in-Err-Syntax.ensures.value c.in_ok-refuse-in-Err-Syntax.ensures.change)
 
 pub returns-in_ok-refuse-in-Err-NumberTooWide-clause-told : goal.returns-in_ok-refuse-in-Err-NumberTooWide-clause-told
 returns-in_ok-refuse-in-Err-NumberTooWide-clause-told g c =
     let text = c.in_ok-refuse-in-Err-NumberTooWide.field-0 in
     replies_refused c.args.line.now (codes "NumberTooWide") parses.NumberTooWide c.seconds-in-Err-NumberTooWide.result (Ok text) c.args.self.now c.refuse-in-Err-NumberTooWide.new.self (g.D.Disk.state c.args.disk.now) (g.N.Notary.state c.args.notary.now) (g.C.Clock.state c.args.clock.now) (g.C.Clock.state c.seconds-in-Err-NumberTooWide.new.clock)
-    (rw c.in-Err-NumberTooWide.field-0-is at c.in-Err-NumberTooWide.ensures.value) (λ s n r. refl) c.seconds-in-Err-NumberTooWide.ensures.value
+    (rw c.in-Err-NumberTooWide.field-0-is at c.in-Err-NumberTooWide.ensures.value) (λ s n r. refl) c.seconds-in-Err-NumberTooWide.ensures.value tt
     (refuses_goes c.args.self.now c.refuse-in-Err-NumberTooWide.new.self (g.D.Disk.state c.args.disk.now) (g.N.Notary.state c.args.notary.now) (g.met.D.Disk.only_now c.args.disk.now) (codes "NumberTooWide") text c.in_ok-refuse-in-Err-NumberTooWide.ensures.value c.in_ok-refuse-in-Err-NumberTooWide.ensures.change)
 
 pub returns-in_err-refuse-in-Err-Syntax-clause-told : goal.returns-in_err-refuse-in-Err-Syntax-clause-told
 returns-in_err-refuse-in-Err-Syntax-clause-told g c =
     let same : c.from_residual.result ≡ Err lines.NoMemory = search rules in
     rw same (replies_refused c.args.line.now (codes "Syntax") parses.Syntax c.seconds.result (Err lines.NoMemory) c.args.self.now c.refuse.new.self (g.D.Disk.state c.args.disk.now) (g.N.Notary.state c.args.notary.now) (g.C.Clock.state c.args.clock.now) (g.C.Clock.state c.seconds.new.clock)
-    (rw c.in-Err-Syntax.field-0-is at c.in-Err-Syntax.ensures.value) (λ s n r. refl) c.seconds.ensures.value
+    (rw c.in-Err-Syntax.field-0-is at c.in-Err-Syntax.ensures.value) (λ s n r. refl) c.seconds.ensures.value refl
     (fails_goes c.args.self.now c.refuse.new.self (g.D.Disk.state c.args.disk.now) (g.N.Notary.state c.args.notary.now) (g.met.D.Disk.only_now c.args.disk.now) (λ r. refused_line r (codes "Syntax")) lines.NoMemory (λ r. refl)))
 
 pub returns-in_err-refuse-in-Err-NumberTooWide-clause-told : goal.returns-in_err-refuse-in-Err-NumberTooWide-clause-told
 returns-in_err-refuse-in-Err-NumberTooWide-clause-told g c =
     let same : c.from_residual-in_err-refuse-in-Err-NumberTooWide.result ≡ Err lines.NoMemory = search rules in
     rw same (replies_refused c.args.line.now (codes "NumberTooWide") parses.NumberTooWide c.seconds-in-Err-NumberTooWide.result (Err lines.NoMemory) c.args.self.now c.refuse-in-Err-NumberTooWide.new.self (g.D.Disk.state c.args.disk.now) (g.N.Notary.state c.args.notary.now) (g.C.Clock.state c.args.clock.now) (g.C.Clock.state c.seconds-in-Err-NumberTooWide.new.clock)
-    (rw c.in-Err-NumberTooWide.field-0-is at c.in-Err-NumberTooWide.ensures.value) (λ s n r. refl) c.seconds-in-Err-NumberTooWide.ensures.value
+    (rw c.in-Err-NumberTooWide.field-0-is at c.in-Err-NumberTooWide.ensures.value) (λ s n r. refl) c.seconds-in-Err-NumberTooWide.ensures.value refl
     (fails_goes c.args.self.now c.refuse-in-Err-NumberTooWide.new.self (g.D.Disk.state c.args.disk.now) (g.N.Notary.state c.args.notary.now) (g.met.D.Disk.only_now c.args.disk.now) (λ r. refused_line r (codes "NumberTooWide")) lines.NoMemory (λ r. refl)))
