@@ -88,4 +88,5 @@ mod skipping;
 mod writing;
 
 pub use book::Book;
+pub use limits::BOOK_LIMITS;
 pub use shape::BookShape;

@@ -55,10 +55,18 @@ pub record IsNextMoment (t : Tail) (now moment : ℕ) : Type 0 where
   pub not_back : is_back t now ≡ false
   pub follows : t.last ≤ moment
 
+-- no record has room for a payload of these bytes
+abbrev pub is_too_long : List ℕ → Bool
+is_too_long payload = nat_lt max_payload (length payload)
+
+-- no transaction has so many operations
+abbrev pub are_too_many : List Op → Bool
+are_too_many ops = nat_lt max_ops (length ops)
+
 -- why an item is not stored
 abbrev pub item_fault : Tail → Bool → Item → Option StoreFail
 item_fault t is_closed item =
-    where_true (nat_lt max_payload (length (spell_item item))) fails.TooLong
+    where_true (is_too_long (spell_item item)) fails.TooLong
     (where_true is_closed fails.Closed
     (where_true (is_full t.end (length (spell_item item))) fails.StoreFull None))
 
@@ -67,7 +75,7 @@ abbrev pub commit_fault : Tail → Bool → List Op → ℕ → Option StoreFail
 commit_fault t is_closed ops now =
     where_true (is_back t now) (fails.ClockBack t.last)
     (where_true (is_late t now) fails.TooLate
-    (where_true (nat_lt max_ops (length ops)) fails.TooManyOps
+    (where_true (are_too_many ops) fails.TooManyOps
     (item_fault t is_closed (items.Txn (next_txn t ops now)))))
 
 -- why no Frontier is stored; where the last moment is not before it, none is asked for

@@ -2,7 +2,8 @@
 
 use disk_model::{Disk, MemDisk};
 use dragoon_app::dragoon;
-use notary_link::{MemNotary, Notary, NotaryLimits};
+use notary_book::BOOK_LIMITS;
+use notary_link::{MemNotary, Notary};
 use outside_io::{MemClock, MemSink, MemSource};
 use std::alloc::{AllocError, Global};
 
@@ -48,13 +49,7 @@ pub fn audit<D: Disk, N: Notary>(
 
 /// An empty notary that holds as much as the program's.
 pub fn notary(alloc: Global) -> MemNotary {
-    MemNotary::new(
-        alloc,
-        NotaryLimits {
-            seals: 16_777_216,
-            marks: 65_536,
-        },
-    )
+    MemNotary::new(alloc, BOOK_LIMITS)
 }
 
 /// The same beside a notary to which nothing was filed.
