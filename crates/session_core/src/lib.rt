@@ -9,7 +9,7 @@
 //! statement spells its own operation alone, however many are pending. Beside them stands an index: at
 //! each place that was touched since the first of them began, the numbers of the transactions that
 //! touched it. A commit looks up the places that its session has read, each by its logarithm, and never
-//! goes over the store.
+//! goes over the store. With the last session the index goes, and without one nothing is noted.
 //!
 //! A line outside sessions is carried out as if there were none. It and a line in a session use the same
 //! statements and the same commit: those of `statement_core`.
@@ -31,6 +31,7 @@
 //! | a step does to the store, its bytes and the sessions, and replies, what the definition says | `told` of `Sessions::step`, by `StepsTo` |
 //! | after a failure no session is begun; the store is closed, or as it was | `dropped`, `kept` |
 //! | no line changes another session | `others` |
+//! | where no session is kept the index has no places | `index` |
 //! | a reply that stores nothing leaves the store and its disk as they were | `same` |
 //! | a failure is the disk's own, or want of memory; behind a reply, a refusal too, the disk counted no fault | `cause`, `counted` |
 //! | every run is serial in the order of its commits | `runs_are_serial` of `session_model` |

@@ -16,7 +16,7 @@ ghost use Rattle.statement_core.specs.Steps.{commit};
 ghost use Rattle.session_model.specs.Keeping.{GoesAlong};
 ghost use Rattle.session_model.specs.Standing.{IsStatementLine, NoneKept, OnlyOwnKept, StepsTo, found_conflict, kept_at};
 ghost use Rattle.session_core.specs.Speaking.{Speaks};
-ghost use Rattle.session_core.specs.Answering.{AnswersUnless, Begins, ClearsIndex, IsGone, NotesFor, StartsIndex, conclusion, kept_after, kept_in, none_kept};
+ghost use Rattle.session_core.specs.Answering.{AnswersUnless, Begins, IsGone, NotesFor, NotesWhileKept, StartsIndex, conclusion, kept_after, kept_in, none_kept};
 
 use crate::committing::{commit_noted, write_or_read_noted};
 use crate::session::Session;
@@ -40,11 +40,14 @@ pub struct Sessions {
 }
 
 impl Model for Sessions {
+    ghost use Rattle.std.specs.Prelude.{◌≡◌, []};
     ghost use Rattle.session_model.specs.Standing.{Machine};
 
     ghost Value = { Machine };
 
     ghost view = { λ s. record { sessions = s.open.entries; touched = record { from = s.from; places = s.touched } } };
+
+    ghost invariant = { λ s. s.open.entries ≡ [] → s.touched ≡ [] };
 }
 
 impl Sessions {
@@ -63,17 +66,14 @@ impl Sessions {
     pub fn forget(&mut self, alloc: Global)
         ensures value { self.new ≡ none_kept }
     {
-        self.open = BTreeMap::new(alloc);
-        self.touched = Touched::new(alloc);
-        self.from = 0;
+        *self = Sessions::new(alloc);
     }
 
     // With no session begun the index begins now.
-    fn start_index(&mut self, alloc: Global, store: &Store)
+    fn start_index(&mut self, store: &Store)
         ensures value { StartsIndex store.now self.old self.new }
     {
         if self.open.is_empty() {
-            self.touched = Touched::new(alloc);
             self.from = store.txn_count();
         }
     }
@@ -81,26 +81,20 @@ impl Sessions {
     fn begin(&mut self, alloc: Global, store: &Store, session: u8) -> Result<(), AllocError>
         ensures value { OnOk result (Begins session store.now self.old self.new) }
     {
-        self.start_index(alloc, store);
+        self.start_index(store);
         let new = Session::new(alloc, store.txn_count());
         self.open.insert(session, new)?;
         Ok(())
     }
 
     // With the last session the index goes.
-    fn clear_index(&mut self, alloc: Global)
-        ensures value { ClearsIndex self.old self.new }
-    {
-        if self.open.is_empty() {
-            self.touched = Touched::new(alloc);
-        }
-    }
-
     fn end(&mut self, alloc: Global, session: u8)
         ensures value { IsGone session self.old self.new }
     {
         let _ended = self.open.remove(&session);
-        self.clear_index(alloc);
+        if self.open.is_empty() {
+            self.touched = Touched::new(alloc);
+        }
     }
 
     fn speak(
@@ -224,6 +218,7 @@ impl Sessions {
         now: u64,
     ) -> Result<Reply, StepFail>
         requires open { store.old.at.is_closed ≡ false }
+        requires has { IsSome (kept_at self.old session) }
         requires some { IfSome (kept_at self.old session) (λ k. 0 < length k.pending) }
         ensures open { OnOk result (store.new.at.is_closed ≡ false) }
         ensures header { store.new.header ≡ store.old.header }
@@ -362,6 +357,7 @@ impl Sessions {
         ensures kept { OnErr result (StaysOrCloses store.old store.new) }
         ensures dropped { OnErr result (NoneKept self.new) }
         ensures others { OnOk result (OnlyOwnKept line.now self.old self.new) }
+        ensures index { NotesWhileKept self.new }
         ensures same { LeavesBoth result store.old store.new (D.state disk.old) (D.state disk.new) }
         ensures told { WhereTold (D.state disk.old).reads (D.state disk.new).reads
             (StepsTo line.now now result self.old self.new store.old store.new (D.state disk.old) (D.state disk.new)) }
@@ -370,7 +366,11 @@ impl Sessions {
         ensures counted { HidesNoFault (D.state disk.old).faults (D.state disk.new).faults result }
     {
         match self.try_step(alloc, store, disk, line, now) {
-            Ok(reply) => Ok(reply),
+            Ok(reply) => {
+                // That they may be looked at says that the index went with the last of them.
+                let _sessions = &self.open;
+                Ok(reply)
+            }
             Err(fail) => {
                 self.forget(alloc);
                 Err(fail)

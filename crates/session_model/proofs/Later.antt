@@ -10,7 +10,7 @@ use Rattle.tuple_bytes.specs.declared.item.Item.{Item}
 use Rattle.tuple_bytes.specs.declared.item.Item.TheVariants as kinds
 use Rattle.tuple_bytes.specs.declared.item.Txn.{Txn}
 use Rattle.history_model.specs.Glance.{IsOrdered}
-use Rattle.history_model.specs.History.{txn_in, txns, moment_in, last_moment}
+use Rattle.history_model.specs.History.{txn_in, txns, moment_in, after_last, last_moment, MayFollow}
 use Rattle.history_model.specs.State.{State, after_op, after_txns, state}
 use Rattle.history_model.proofs.Histories.{NoneAfter, none_at, state_before, state_after}
 use Rattle.statement_core.specs.World as stores
@@ -21,8 +21,8 @@ use Rattle.session_model.proofs.Untouched.{ordered_state, kept_ops}
 
 -- ---- one item more
 
-pub last_more : (items : List Item) (item : Item) → last_moment (items ++ item ∷ []) ≡ max (last_moment items) (moment_in item)
-last_more items item = fold-append (λ m i. max m (moment_in i)) 0 items (item ∷ [])
+pub last_more : (items : List Item) (item : Item) → last_moment (items ++ item ∷ []) ≡ after_last (last_moment items) item
+last_more items item = fold-append after_last 0 items (item ∷ [])
 
 pub last_is : (items : List Item) (item : Item) → last_moment items ≤ moment_in item → last_moment (items ++ item ∷ []) ≡ moment_in item
 last_is items item le = let e = last_more items item in omega (arith, e)
@@ -85,11 +85,11 @@ module _ {A : Type 0} (places : List Place) (F : State → A) (kept : (op : Op) 
         ∙ txn_at t.moment ∙ ap F (state_stays (txns items) (last_moment items) (none_after items) t.moment le)
 
   -- at a moment, and now
-  pub quiet_at : (m : ℕ) (items : List Item) (item : Item) → last_moment items ≤ moment_in item → IsQuiet places item → F (state (txns (items ++ item ∷ [])) m) ≡ F (state (txns items) m)
+  pub quiet_at : (m : ℕ) (items : List Item) (item : Item) → MayFollow (last_moment items) item → IsQuiet places item → F (state (txns (items ++ item ∷ [])) m) ≡ F (state (txns items) m)
   quiet_at m items (kinds.Txn t) le quiet = txn_at items t le quiet m
   quiet_at m items (kinds.Frontier moment) le quiet = ap (λ h. F (state h m)) (txns_no_more items moment)
 
-  pub quiet_now : (items : List Item) (item : Item) → last_moment items ≤ moment_in item → IsQuiet places item → F (now_of (items ++ item ∷ [])) ≡ F (now_of items)
+  pub quiet_now : (items : List Item) (item : Item) → MayFollow (last_moment items) item → IsQuiet places item → F (now_of (items ++ item ∷ [])) ≡ F (now_of items)
   quiet_now items (kinds.Txn t) le quiet = txn_now items t le quiet
   quiet_now items (kinds.Frontier moment) le quiet =
       ap (λ m. F (state (txns (items ++ kinds.Frontier moment ∷ [])) m)) (last_is items (kinds.Frontier moment) le)
@@ -98,11 +98,11 @@ module _ {A : Type 0} (places : List Place) (F : State → A) (kept : (op : Op) 
 
 -- ---- items more
 
-module _ {A : Type 0} (places : List Place) (G : List Item → A) (one : (items : List Item) (item : Item) → last_moment items ≤ moment_in item → IsQuiet places item → G (items ++ item ∷ []) ≡ G items) where
+module _ {A : Type 0} (places : List Place) (G : List Item → A) (one : (items : List Item) (item : Item) → MayFollow (last_moment items) item → IsQuiet places item → G (items ++ item ∷ []) ≡ G items) where
   next : (items : List Item) (item : Item) (more : List Item) → Rise (last_moment items) (item ∷ more) → IsQuiet places item
       → (Rise (last_moment (items ++ item ∷ [])) more → G ((items ++ item ∷ []) ++ more) ≡ G (items ++ item ∷ [])) → G (items ++ item ∷ more) ≡ G items
   next items item more rise quiet rest =
-      ap G (sym (append_assoc items (item ∷ []) more)) ∙ rest (subst (λ m. Rise m more) (sym (last_is items item rise.0)) rise.1) ∙ one items item rise.0 quiet
+      ap G (sym (append_assoc items (item ∷ []) more)) ∙ rest (subst (λ m. Rise m more) (sym (last_more items item)) rise.1) ∙ one items item rise.0 quiet
 
   pub all_quiet : (more items : List Item) → Rise (last_moment items) more → NoneTouches places (txns more) → G (items ++ more) ≡ G items
   all_quiet [] items rise quiet = ap G (append-nil items)
@@ -114,7 +114,7 @@ module _ {A : Type 0} (places : List Place) (G : List Item → A) (one : (items 
 rise_on : (xs items ys : List Item) → Rise (last_moment items) xs → Rise (last_moment (items ++ xs)) ys → Rise (last_moment items) (xs ++ ys)
 rise_on [] items ys rise more = subst (λ l. Rise (last_moment l) ys) (append-nil items) more
 rise_on (x ∷ xs) items ys rise more =
-    let e : last_moment (items ++ x ∷ []) ≡ moment_in x = last_is items x rise.0 in
+    let e : last_moment (items ++ x ∷ []) ≡ after_last (last_moment items) x = last_more items x in
     (rise.0, subst (λ m. Rise m (xs ++ ys)) e (rise_on xs (items ++ x ∷ []) ys (subst (λ m. Rise m xs) (sym e) rise.1) (subst (λ l. Rise (last_moment l) ys) (sym (append_assoc items (x ∷ []) xs)) more)))
 
 pub later_same : (w : stores.World) → IsLater w w

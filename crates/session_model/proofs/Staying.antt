@@ -1,5 +1,5 @@
 -- A statement is replied as before, where nothing touched what it reads.
-use Rattle.std.proofs.Common.{◌≡◌, ℕ, ◌≤◌, Bool, if◌then◌else◌, Option, Some, None, is_some, Result, Ok, Err, List, [], ◌∷◌, ◌++◌, refl, sym, ap, ◌∙◌}
+use Rattle.std.proofs.Common.{◌≡◌, ℕ, Bool, if◌then◌else◌, Option, Some, None, is_some, Result, Ok, Err, List, [], ◌∷◌, ◌++◌, refl, sym, ap, ◌∙◌}
 use Rattle.std.specs.Option.{option_map}
 use Rattle.tuple_bytes.specs.declared.value.Value.{Value}
 use Rattle.tuple_bytes.specs.declared.value.Value.TheVariants.{Null}
@@ -13,7 +13,7 @@ use Rattle.history_model.specs.declared.change.Write.{Write}
 use Rattle.history_model.specs.declared.change.Write.TheVariants as writes
 use Rattle.history_model.specs.Answers.{unless_fault, key_fault, row_seen, row_at, fault_seen, write_name, write_key, op_of, prepared}
 use Rattle.history_model.specs.Glance.{Glance, glance, glance_of, after_glances, IsOrdered}
-use Rattle.history_model.specs.History.{txns, moment_in, last_moment}
+use Rattle.history_model.specs.History.{txns, last_moment, MayFollow}
 use Rattle.history_model.specs.State.{Table, State, table_of, after_ops, state}
 use Rattle.history_model.proofs.Pending.{glance_ops}
 use Rattle.tt_table.specs.declared.version.Version.{Version}
@@ -68,7 +68,7 @@ told_by key versions (Some t) = refl
 -- ---- it stays
 
 module _ (w later : stores.World) (more : IsLater w later) where
-  module _ {A : Type 0} (places : List Place) (G : List Item → A) (one : (items : List Item) (item : Item) → last_moment items ≤ moment_in item → IsQuiet places item → G (items ++ item ∷ []) ≡ G items) where
+  module _ {A : Type 0} (places : List Place) (G : List Item → A) (one : (items : List Item) (item : Item) → MayFollow (last_moment items) item → IsQuiet places item → G (items ++ item ∷ []) ≡ G items) where
     stays : NoneTouches places (txns more.items) → G later.items ≡ G w.items
     stays quiet = ap G more.behind ∙ all_quiet places G one more.items w.items more.rise quiet
 

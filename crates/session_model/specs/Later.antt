@@ -1,17 +1,17 @@
 -- A later history, and the statements that it does not change.
-use Rattle.std.specs.Prelude.{◌≡◌, ℕ, ◌≤◌, List, [], ◌∷◌, ◌++◌}
+use Rattle.std.specs.Prelude.{◌≡◌, ℕ, List, [], ◌∷◌, ◌++◌}
 use Rattle.tuple_bytes.specs.declared.op.Op.{Op}
 use Rattle.tuple_bytes.specs.declared.item.Item.{Item}
-use Rattle.history_model.specs.History.{txns, moment_in, last_moment}
+use Rattle.history_model.specs.History.{txns, after_last, last_moment, MayFollow}
 use Rattle.stmt_text.specs.declared.stmt.Stmt.{Stmt}
 use Rattle.statement_core.specs.World as stores
 use Rattle.session_model.specs.Places.{reads_of, NoneTouches}
 use Rattle.session_model.specs.Statements.{say}
 
--- items whose moments do not fall, and none is before this one
+-- each of these items may come behind those before it, of which this is the last moment
 abbrev pub Rise : ℕ → List Item → Type 0
 Rise last [] = Unit {0}
-Rise last (item ∷ items) = (last ≤ moment_in item) × Rise (moment_in item) items
+Rise last (item ∷ items) = MayFollow last item × Rise (after_last last item) items
 
 -- the same history, with items more that no clock set back
 pub record IsLater (w later : stores.World) : Type 0 where
