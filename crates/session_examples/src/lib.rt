@@ -1,10 +1,8 @@
-//! Worked examples of sessions: sixteen of them at once, beside a plain program that keeps lists.
+//! Worked examples of sessions: sixteen of them at once, beside the plain program.
 //!
-//! Random lines go to `Sessions::step` and to the plain program, which goes over all transactions for each answer. Both are to
-//! reply the same, line by line; and a session that commits was to be told the same alone.
+//! Random lines go to `Sessions::step` and to the plain program, whose steps are those of the definitions. Both are
+//! to reply the same, line by line.
 #![tactic(auto)]
 
-#[cfg(test)]
-mod plain;
 #[cfg(test)]
 mod random;

@@ -1,13 +1,14 @@
-//! Sixteen sessions at once, line by line beside a plain program.
+//! Sixteen sessions at once, line by line beside the plain program.
 
 ghost use Rattle.stmt_text.specs.Fits.{FitsParts};
+ghost use Rattle.tuple_bytes.specs.Spelling.{FitsHeader};
 
-use crate::plain::{Action, Plain, Said, Speech, Stmt};
 use disk_model::MemDisk;
 use rand_core::utils::NextWord;
 use rand_pcg::Lcg64Xsh32;
 use session_core::{Sessions, is_statement_line};
-use statement_core::{Reply, print_reply};
+use session_plain::Plain;
+use statement_core::{Refusal, Reply, print_reply};
 use std::alloc::{AllocError, Global};
 use std::process::Abort;
 use std::test::Fail;
@@ -15,184 +16,144 @@ use stmt_text::{Line, parse_line};
 use store_engine::Store;
 use tuple_bytes::{Header, encode_header};
 
-fn some_action(words: &mut Lcg64Xsh32) -> Action {
-    match words.next_word() % 32 {
-        0 | 1 => Action::Create,
-        2..=12 => Action::Insert,
-        13..=18 => Action::Update,
-        19..=21 => Action::Delete,
-        22 => Action::Scan,
-        _ => Action::Get,
-    }
-}
-
-fn some_moment(words: &mut Lcg64Xsh32, action: Action, clock: u64) -> Option<u64> {
-    match action {
-        Action::Get | Action::Scan if words.next_word() % 4 == 0 => {
-            Some(clock.saturating_sub(u64::from(words.next_word() % 8)))
-        }
-        _ => None,
-    }
-}
-
-fn some_stmt(words: &mut Lcg64Xsh32, clock: u64) -> Stmt {
-    let action = some_action(words);
-    let is_other = words.next_word() % 4 == 0;
-    Stmt {
-        action,
-        table: if is_other { "u" } else { "t" },
-        key: i64::from(words.next_word() % 8),
-        value: i64::from(words.next_word() % 100),
-        moment: some_moment(words, action, clock),
-    }
-}
-
-/// One of sixteen sessions speaks, or none.
-fn some_line(words: &mut Lcg64Xsh32, clock: u64) -> Said {
-    let session = words.next_word() % 17;
-    if session == 16 {
-        return Said {
-            session: None,
-            speech: Speech::Stmt(some_stmt(words, clock)),
-        };
-    }
-    let speech = match words.next_word() % 16 {
-        0..=3 => Speech::Begin,
-        4..=6 => Speech::Commit,
-        7 => Speech::Abort,
-        _ => Speech::Stmt(some_stmt(words, clock)),
-    };
-    Said {
-        session: Some(session),
-        speech,
-    }
-}
-
-fn new_disk(alloc: Global) -> Result<MemDisk, AllocError> {
-    let header = Header {
+fn header() -> Header
+    ensures fits { FitsHeader result }
+{
+    Header {
         id: 7,
         epoch: 0,
         width: 60,
         k: 3,
         algs: 3,
-    };
-    let mut bytes = encode_header(&header).to_vec(alloc)?;
+    }
+}
+
+fn new_disk(alloc: Global) -> Result<MemDisk, AllocError> {
+    let mut bytes = encode_header(&header()).to_vec(alloc)?;
     bytes.push(0)?;
     Ok(MemDisk::holding(alloc, bytes))
 }
 
-/// What the sessions reply to a line that is one of theirs.
-fn answer(
-    alloc: Global,
-    sessions: &mut Sessions,
-    store: &mut Store,
-    disk: &mut MemDisk,
-    line: &Line,
-    now: u64,
-) -> Result<Option<Reply>, AllocError>
-    requires fits { FitsParts line.now }
-{
-    if !is_statement_line(line) || store.is_closed() {
-        return Ok(None);
-    }
-    match sessions.step(alloc, store, disk, line, now) {
-        Ok(reply) => Ok(Some(reply)),
-        Err(_) => Err(AllocError),
-    }
-}
-
-/// The text of a reply, and nothing where there is none.
-fn text_of(alloc: Global, reply: &Option<Reply>) -> Result<Vec<u8>, AllocError> {
-    match reply {
-        Some(reply) => print_reply(alloc, reply)?.as_slice().to_vec(alloc),
-        None => Ok(Vec::new(alloc)),
+fn some_statement(alloc: Global, words: &mut Lcg64Xsh32, clock: u64) -> Result<String, AllocError> {
+    let table = if words.next_word() % 4 == 0 { "u" } else { "t" };
+    let key = words.next_word() % 8;
+    let value = words.next_word() % 100;
+    let past = clock.saturating_sub(u64::from(words.next_word() % 8));
+    match words.next_word() % 32 {
+        0 | 1 => format!(in alloc; "create {table} k int v int"),
+        2..=10 => format!(in alloc; "insert {table} {key} {value}"),
+        11..=16 => format!(in alloc; "update {table} {key} {value}"),
+        17..=19 => format!(in alloc; "delete {table} {key}"),
+        20 => format!(in alloc; "scan {table}"),
+        21 => format!(in alloc; "scan {table} v < {value}"),
+        22 => format!(in alloc; "scan {table} as of {past}"),
+        23 | 24 => format!(in alloc; "get {table} {key} as of {past}"),
+        25 => format!(in alloc; "history {table} {key}"),
+        _ => format!(in alloc; "get {table} {key}"),
     }
 }
 
-/// What the sessions reply to the text of a line.
-fn replied(
-    alloc: Global,
-    sessions: &mut Sessions,
-    store: &mut Store,
-    disk: &mut MemDisk,
-    text: &str,
-    now: u64,
-) -> Result<Vec<u8>, AllocError> {
-    match parse_line(alloc, text.as_bytes()) {
-        Ok(line) => {
-            let reply = answer(alloc, sessions, store, disk, &line, now)?;
-            text_of(alloc, &reply)
-        }
-        Err(_) => Ok(Vec::new(alloc)),
+/// One of sixteen sessions speaks, or none.
+fn some_line(alloc: Global, words: &mut Lcg64Xsh32, clock: u64) -> Result<String, AllocError> {
+    let session = words.next_word() % 17;
+    let statement = some_statement(alloc, words, clock)?;
+    if session == 16 {
+        return Ok(statement);
+    }
+    match words.next_word() % 16 {
+        0..=3 => format!(in alloc; "s{session} begin"),
+        4..=6 => format!(in alloc; "s{session} commit"),
+        7 => format!(in alloc; "s{session} abort"),
+        _ => format!(in alloc; "s{session} {statement}"),
     }
 }
 
-/// Whether a session would be told the same alone, now that it is to commit.
-fn is_serial(alloc: Global, plain: &Plain, said: &Said) -> Result<bool, AllocError> {
-    match (said.session, said.speech) {
-        (Some(session), Speech::Commit) => plain.is_as_alone(alloc, session),
-        _ => Ok(true),
-    }
-}
-
-/// How many sessions stored something, and how many were in conflict.
+/// The sessions over their store, the plain program beside them, and how often something was replied.
 #[derive(Drop)]
-struct Ends {
+struct Pair {
+    disk: MemDisk,
+    store: Store,
+    sessions: Sessions,
+    plain: Plain,
     stored: u32,
     conflicts: u32,
 }
 
-fn count(ends: &mut Ends, said: &Said, told: &str) {
-    if matches!(said.speech, Speech::Commit) && told.starts_with("ok ") {
-        ends.stored = ends.stored.saturating_add(1);
+fn new_pair(alloc: Global) -> Result<Pair, Fail> {
+    let mut disk = new_disk(alloc)?;
+    let Ok(store) = Store::open_store(alloc, &mut disk, 7) else {
+        return Err(Fail::from("no store"));
+    };
+    Ok(Pair {
+        disk,
+        store,
+        sessions: Sessions::new(alloc),
+        plain: Plain::new(alloc, header()),
+        stored: 0,
+        conflicts: 0,
+    })
+}
+
+impl Pair {
+    fn count(&mut self, reply: &Reply) {
+        match reply {
+            Reply::Committed { .. } => self.stored = self.stored.saturating_add(1),
+            Reply::Refused {
+                refusal: Refusal::Conflict { .. },
+            } => self.conflicts = self.conflicts.saturating_add(1),
+            _ => {}
+        }
     }
-    if told.starts_with("refused Conflict") {
-        ends.conflicts = ends.conflicts.saturating_add(1);
+
+    /// Whether both reply the same to a line that is one of theirs.
+    fn agrees_on(&mut self, alloc: Global, line: &Line, now: u64) -> Result<bool, Fail>
+        requires fits { FitsParts line.now }
+    {
+        if !is_statement_line(line) || self.store.is_closed() {
+            return Err(Fail::from("no line of a session"));
+        }
+        let told = self.plain.step(alloc, line, now)?;
+        let Ok(reply) = self
+            .sessions
+            .step(alloc, &mut self.store, &mut self.disk, line, now)
+        else {
+            return Err(Fail::from("the sessions failed"));
+        };
+        self.count(&reply);
+        Ok(is_same(alloc, &reply, &told)?)
+    }
+
+    /// Whether both reply the same to the text of a line.
+    fn agrees(&mut self, alloc: Global, text: &str, now: u64) -> Result<bool, Fail> {
+        match parse_line(alloc, text.as_bytes()) {
+            Ok(line) => self.agrees_on(alloc, &line, now),
+            Err(_) => Err(Fail::from("no line")),
+        }
     }
 }
 
-/// A thousand lines, each beside the plain program. The clock goes on slowly, and is set back now and then.
-fn compare(rt: &impl Abort, alloc: Global, seed: u64, ends: &mut Ends) -> Result<(), Fail> {
-    let mut words = Lcg64Xsh32::new(seed, 0);
-    let mut disk = new_disk(alloc)?;
-    let Ok(mut store) = Store::open_store(alloc, &mut disk, 7) else {
-        return Err(Fail::from("no store"));
-    };
-    let mut sessions = Sessions::new(alloc);
-    let mut plain = Plain::new(alloc);
+/// Whether two replies have the same text.
+fn is_same(alloc: Global, one: &Reply, other: &Reply) -> Result<bool, AllocError> {
+    Ok(print_reply(alloc, one)?.as_slice() == print_reply(alloc, other)?.as_slice())
+}
+
+/// Lines of one seed. The clock goes on slowly, and is set back now and then.
+fn compare(rt: &impl Abort, alloc: Global, lines: u32, pair: &mut Pair) -> Result<(), Fail> {
+    let mut words = Lcg64Xsh32::new(1, 0);
     let mut clock: u64 = 10;
-    for number in 0..1_000u32 {
+    for number in 0..lines {
         clock = clock.saturating_add(u64::from(words.next_word() % 4 / 3));
         let now = clock.saturating_sub(u64::from(words.next_word() % 16 / 15));
-        let said = some_line(&mut words, clock);
-        let text = said.text(alloc)?;
-        let is_serial = is_serial(alloc, &plain, &said)?;
-        let mut told = plain.hear(alloc, &said, now)?;
-        told.push_str("\n")?;
-        let reply = replied(alloc, &mut sessions, &mut store, &mut disk, &text, now)?;
-        assert_eq!(rt;
-            reply.as_slice(),
-            told.as_bytes(),
-            "{seed}, line {number}: {text}"
-        );
-        assert!(rt;
-            is_serial || !told.starts_with("ok"),
-            "{seed}, line {number}: {text}"
-        );
-        count(ends, &said, &told);
+        let text = some_line(alloc, &mut words, clock)?;
+        assert!(rt; pair.agrees(alloc, &text, now)?, "line {number}: {text}");
     }
     Ok(())
 }
 
 #[test]
 fn sixteen_sessions_are_told_what_the_plain_program_tells(rt: HostRuntime) -> Result<(), Fail> {
-    let mut ends = Ends {
-        stored: 0,
-        conflicts: 0,
-    };
-    for seed in 1..4u64 {
-        compare(&rt, rt.alloc(), seed, &mut ends)?;
-    }
-    assert!(rt; ends.stored >= 10 && ends.conflicts >= 10);
+    let mut pair = new_pair(rt.alloc())?;
+    compare(&rt, rt.alloc(), 1_000, &mut pair)?;
+    assert!(rt; pair.stored >= 10 && pair.conflicts >= 10);
     Ok(())
 }
