@@ -2,6 +2,7 @@ pub mod Forks
 pub mod Consistent
 pub mod Ending
 pub mod Filed
+pub mod Notarized
 pub mod Fails
 pub mod Going
 pub mod Finding

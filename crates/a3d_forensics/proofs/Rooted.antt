@@ -17,7 +17,7 @@ use Rattle.audit_model.specs.Tree.{is_different, found_from, forks_from, found, 
 use Rattle.ask_words.specs.Asked.{IsTold, stop_at, or_stop, first_stop, unless_stopped}
 use Rattle.a3d_forensics.specs.declared.found.A3dFound.{A3dFound}
 use Rattle.a3d_forensics.specs.Asking.{node_told, Compares}
-use Rattle.a3d_forensics.specs.Descent.{nodes_of, stop_from, stop_of, descent, tree_told}
+use Rattle.a3d_forensics.specs.Descent.{nodes_of, stop_from, stop_of, descent, tree_found, tree_checks, tree_stop, tree_told}
 use Rattle.a3d_forensics.specs.Going.{stop_under, more_from, gone_from, left_by, GoesFrom}
 use Rattle.a3d_forensics.specs.Rooted.{root_at_level, roots_below, more_over, gone_over, GoesOver}
 use Rattle.ask_words.proofs.Stops.{ended, stops_whole, or_none, first_stop-append}
@@ -136,4 +136,5 @@ module _ (granules : ℕ) (nodes : ℕ → ℕ → Answer) where
 -- the sealed granules of a history with a tree
 pub of_tree : (batches : List Batch) (s : History) (tiles granules : ℕ) (result : Result A3dFound AskFail) → has_tree (layout s) 0 ≡ true → granules ≡ first_granule (layout s) tiles
     → IsTold (descent granules (nodes_of batches s)) result → IsTold (tree_told batches s tiles) result
+unfolding tree_found tree_checks tree_stop
 of_tree batches s tiles granules result has e told = rw has (subst (λ (n : ℕ). IsTold (descent n (nodes_of batches s)) result) e told)

@@ -1,9 +1,12 @@
 //! What stops a descent, and how many nodes it asks, each law the contract of a function that does nothing.
 
-ghost use Rattle.a3d_forensics.specs.Laws.{EndedIsConsistent, AuditEnds, NotaryIsConsistent, ChecksCountForks};
+ghost use Rattle.a3d_forensics.specs.Laws.{EndedIsConsistent, AuditEnds, NotaryIsConsistent, LeavesAreAltered, NotarizedHasNone, ChecksCountForks};
 ghost use Rattle.a3d_forensics.specs.Examples.{WorkedDescents};
 
-use audit_model::{answers_compare, nodes_are_consistent, tree_is_consistent};
+use audit_model::{
+    answers_compare, descent_has_altered, descent_is_altered, nodes_are_consistent,
+    tree_is_consistent,
+};
 
 /// Where nothing stops a descent, a child differs below each node that differs.
 pub fn ended_is_consistent()
@@ -24,6 +27,19 @@ pub fn notary_is_consistent()
 {
     nodes_are_consistent();
 }
+
+/// The leaves that are found are the altered granules, unless two inputs clash.
+pub fn leaves_are_altered()
+    ensures { LeavesAreAltered }
+{
+    descent_has_altered();
+    descent_is_altered();
+}
+
+/// Of a notarized history nothing is found.
+pub fn notarized_has_none()
+    ensures { NotarizedHasNone }
+{}
 
 /// Two checks are made for each node above the leaves that is reached and differs.
 pub fn checks_count_forks()

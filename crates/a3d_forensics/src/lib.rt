@@ -28,12 +28,11 @@
 //! | `checks_count_forks` | `checks` is the roots, and two for each node of level 1 or more that is reached and differs |
 //! | `audit_ends` | nothing stops the descent over a history under the notarized header |
 //! | `notary_is_consistent` | a notary that holds the batches of a history is not inconsistent |
+//! | `leaves_are_altered` | under the notarized header each altered granule is found, unless two inputs clash, and each that is found is altered |
+//! | `notarized_has_none` | of a notarized history nothing is found, and nothing stops the descent |
 //!
 //! Only the list of what is found takes memory. Only tested, in `forensic_examples`: that want of it isn't
 //! answered where there is some.
-//!
-//! That each altered granule is found, unless two inputs clash, and that each found one is altered, are
-//! `descent_has_altered` and `descent_is_altered` of `audit_model`.
 //!
 //! ```text
 //! let found = altered(alloc, &plan, &mut notary, id)?;
@@ -54,5 +53,6 @@ pub use descent::altered;
 pub use found::A3dFound;
 pub use granulars::Granulars;
 pub use laws::{
-    audit_ends, checks_count_forks, ended_is_consistent, notary_is_consistent, worked_descents,
+    audit_ends, checks_count_forks, ended_is_consistent, leaves_are_altered, notarized_has_none,
+    notary_is_consistent, worked_descents,
 };

@@ -88,15 +88,15 @@ module _ (algorithm : Algorithm) (id n : ℕ) (s : History) (a : Answer) (ours :
 pub few_granules : (s : History) (n : ℕ) → n ≤ first_past (layout s) → first_granule (layout s) n ≤ max_granules
 few_granules s n few = (let past = tile_begins (layout s) max_granules in let up = ascends (layout s) n (first_past (layout s)) few in omega (arith, past, up))
 
-module _ (algorithm : Algorithm) (batches : List Batch) (n : ℕ) (s : History) (has : has_chains algorithm (layout s) ≡ true) (few : n ≤ first_past (layout s)) where
+module _ (algorithm : Algorithm) (batches : List Batch) (n : ℕ) (s : History) (has : has_chains algorithm (layout s) n ≡ true) (few : n ≤ first_past (layout s)) where
   within : nat_le (first_granule (layout s) n) max_granules ≡ true
   within = (let most = few_granules s n few in grind (arith, nat_tests, most))
 
-  tested : (found : Result Analysis AnalyseFail) → IsFoundBy algorithm batches n s found → IsFoundWith (has_chains algorithm (layout s)) algorithm batches n s found
+  tested : (found : Result Analysis AnalyseFail) → IsFoundBy algorithm batches n s found → IsFoundWith (has_chains algorithm (layout s) n) algorithm batches n s found
   tested found is = rw (has, within) is
 
-  pub found_with_chains : (r : Result Analysis AnalyseFail) → OrGivesUp (IsFoundBy algorithm batches n s) r → OrGivesUp (IsFoundWith (has_chains algorithm (layout s)) algorithm batches n s) r
-  found_with_chains r is = or_gives_up (IsFoundBy algorithm batches n s) (IsFoundWith (has_chains algorithm (layout s)) algorithm batches n s) r tested is
+  pub found_with_chains : (r : Result Analysis AnalyseFail) → OrGivesUp (IsFoundBy algorithm batches n s) r → OrGivesUp (IsFoundWith (has_chains algorithm (layout s) n) algorithm batches n s) r
+  found_with_chains r is = or_gives_up (IsFoundBy algorithm batches n s) (IsFoundWith (has_chains algorithm (layout s) n) algorithm batches n s) r tested is
 
 past_last : (s : History) (n : ℕ) → first_past (layout s) < n → nat_le (first_granule (layout s) n) max_granules ≡ false
 past_last s n past =
@@ -109,6 +109,6 @@ abbrev missing : ℕ → Result Analysis AnalyseFail
 missing tile = Err (fails.SealMissing (names.Cum tile))
 
 -- tiles that end behind the last granule
-pub found_past : (algorithm : Algorithm) (batches : List Batch) (n past : ℕ) (s : History) → has_chains algorithm (layout s) ≡ true → past ≡ first_past (layout s) → past < n
-    → OrGivesUp (IsFoundWith (has_chains algorithm (layout s)) algorithm batches n s) (Err (fails.SealMissing (names.Cum past)))
+pub found_past : (algorithm : Algorithm) (batches : List Batch) (n past : ℕ) (s : History) → has_chains algorithm (layout s) n ≡ true → past ≡ first_past (layout s) → past < n
+    → OrGivesUp (IsFoundWith (has_chains algorithm (layout s) n) algorithm batches n s) (Err (fails.SealMissing (names.Cum past)))
 found_past algorithm batches n past s has is less = (let behind = past_last s n (omega (arith, is, less)) in rw (has, behind) (ap missing is))

@@ -14,7 +14,6 @@ pub mod Inconsistent
 pub mod Refusals
 pub mod Sound
 pub mod SomethingFound
-pub mod OneEra
 pub mod Searched
 pub mod FailingTiles
 pub mod Fitting

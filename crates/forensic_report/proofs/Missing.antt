@@ -1,11 +1,11 @@
 -- Under the header that was filed nothing is refused.
-use Rattle.std.proofs.Common.{◌≡◌, ◌⊎◌, inl, inr, ℕ, zero, suc, ◌+◌, ◌<◌, ◌≤◌, true, false, List, Some, None, Err, refl, ap, subst, ◌∙◌, arith}
+use Rattle.std.proofs.Common.{◌≡◌, ◌⊎◌, inl, inr, ℕ, zero, suc, ◌+◌, ◌<◌, true, false, List, Some, None, Err, refl, ap, ◌∙◌, arith}
 use Rattle.std.specs.Prelude.{nat_le}
 use Rattle.std.specs.List.{Contains, find, range_with_len}
 use Rattle.std.specs.Option.{option_map}
 use Rattle.history_model.specs.History.{History}
 use Rattle.digest_model.specs.Layout.{layout, exponent, first_granule, max_granules, whole}
-use Rattle.digest_model.proofs.Layouts.{same_exponent, same_begins}
+use Rattle.digest_model.proofs.Layouts.{same_exponent}
 use Rattle.digest_model.specs.Laws.{HasSpelling}
 use Rattle.digest_model.proofs.Lists.{from_range}
 use Rattle.notary_link.specs.declared.answer.Answer.{Answer}
@@ -23,17 +23,16 @@ use Rattle.audit_model.proofs.Planned.{cum_planned, part_planned}
 use Rattle.audit_model.proofs.Exact.{consistent}
 use Rattle.ask_words.specs.Asked.{is_absent}
 use Rattle.tiled_forensics.specs.Target.{parts, missing_chain, target_by}
-use Rattle.a3d_forensics.specs.Descent.{nodes_of, stop_of, tree_told}
-use Rattle.a3d_forensics.proofs.Ending.{ends}
-use Rattle.a3d_forensics.proofs.Filed.{node_filed}
+use Rattle.a3d_forensics.specs.Descent.{tree_stop, tree_told}
+use Rattle.a3d_forensics.proofs.Notarized.{audited_ends}
 use Rattle.forensic_report.specs.declared.algorithm.Algorithm.{Algorithm}
 use Rattle.forensic_report.specs.declared.algorithm.Algorithm.TheVariants.{Mono, Tiled, TiledExactly, A3d}
 use Rattle.forensic_report.specs.declared.fail.AnalyseFail.{AnalyseFail}
 use Rattle.forensic_report.specs.declared.fail.AnalyseFail.TheVariants as fails
 use Rattle.forensic_report.specs.Analysis.{Targets}
 use Rattle.forensic_report.specs.Finding.{IsRegion, stop_told, analysis_by, targets_told, has_chains, IsFoundBy}
-use Rattle.forensic_report.proofs.Layouts.{chains_of_audit, tree_of_audit, same_has}
-use Rattle.forensic_report.proofs.Told.{leaves, stop_at_tile, stop_of_tiles, failing_tiles, tile_is, stop_of_tree, found_in_tree, tree_is}
+use Rattle.forensic_report.proofs.Layouts.{ends_within, chains_of_audit, tree_of_audit, same_has}
+use Rattle.forensic_report.proofs.Told.{leaves, stop_at_tile, stop_of_tiles, failing_tiles, tile_is, found_in_tree, tree_is}
 use Rattle.forensic_report.proofs.Filed.{is_there, not_absent, header_not_absent}
 use Rattle.ask_words.proofs.Stops.{no_stop}
 use Rattle.forensic_report.proofs.Lists.{ended}
@@ -63,26 +62,25 @@ module _ (batches : List Batch) (id n : ℕ) (h s : History) (audit : IsAudit ba
   there : (name : Name) → Contains (planned (layout h) n) name → is_absent (answers batches s name) ≡ false
   there name is = is_there batches id n h s audit.filed name is
 
-  tile_goes_on : has_chains Tiled (layout s) ≡ true → (tile : ℕ) → tile < n → stop_at_tile batches s n tile ≡ None
+  tile_goes_on : has_chains Tiled (layout s) n ≡ true → (tile : ℕ) → tile < n → stop_at_tile batches s n tile ≡ None
   tile_goes_on has tile below =
       let own = chains_of_audit batches id h s n audit has tile below in
       let alike = same_exponent (layout h) (layout s) tile (audit.places tile below) in
-      ap stop_told (tile_is batches s n tile has below)
+      ap stop_told (tile_is batches s n tile (ends_within batches id h s n audit) has below)
       ∙ none_stops_at (parts batches s tile whole) (parts batches s tile) (exponent (layout s) tile) tile
       (there (names.Tile tile whole) (part_planned (layout h) n tile whole own below (inl refl)))
       (no_chain_missing (parts batches s tile) (exponent (layout s) tile) tile
       (λ bit low. there (names.Tile tile bit) (part_planned (layout h) n tile bit own below (inr (omega (arith, low, alike))))))
 
-  tiled_ends : (fail : AnalyseFail) → has_chains Tiled (layout s) ≡ true → Err fail ≡ analysis_by Targets (layout s) n (targets_told batches s n) → ⊥
+  tiled_ends : (fail : AnalyseFail) → has_chains Tiled (layout s) n ≡ true → Err fail ≡ analysis_by Targets (layout s) n (targets_told batches s n) → ⊥
   tiled_ends fail has is = ended Targets (layout s) n (stop_of_tiles batches s n) (failing_tiles batches s n) fail
       (no_stop (stop_at_tile batches s n) (range_with_len 0 n) (λ tile place. let r = from_range 0 n tile place in tile_goes_on has tile (omega (arith, r)))) is
 
-  tree_ends : (fail : AnalyseFail) → has_chains A3d (layout s) ≡ true → Err fail ≡ analysis_by leaves (layout s) n (tree_told batches s n) → ⊥
+  tree_ends : (fail : AnalyseFail) → has_chains A3d (layout s) n ≡ true → Err fail ≡ analysis_by leaves (layout s) n (tree_told batches s n) → ⊥
   tree_ends fail has is =
       let own = tree_of_audit batches id h s n audit has in
-      let none = ends (first_granule (layout h) n) (nodes_of batches s) (consistent batches id h s n audit own) (node_filed compare batches id h s n audit own) in
-      ended leaves (layout s) n (stop_of_tree batches s n) (found_in_tree batches s n) fail
-      (subst (λ (end : ℕ). stop_of end (nodes_of batches s) ≡ None) (same_begins (layout h) (layout s) n audit.places) none) (is ∙ ap (analysis_by leaves (layout s) n) (tree_is batches s n has))
+      ended leaves (layout s) n (tree_stop batches s n) (found_in_tree batches s n) fail (audited_ends batches id h s n audit compare consistent own)
+      (is ∙ ap (analysis_by leaves (layout s) n) (tree_is batches s n has))
 
   region_ends : (fail : AnalyseFail) → IsRegion (cums batches s) (layout s) n (Err fail) → ⊥
   region_ends (fails.SealMissing name) is = not_absent batches id n h s audit.filed (names.Cum is.0) (cum_planned (layout h) n is.0 is.1) is.3
@@ -92,7 +90,7 @@ module _ (batches : List Batch) (id n : ℕ) (h s : History) (audit : IsAudit ba
   region_ends (fails.NotaryInconsistent level index) is = is
   region_ends fails.NoMemory is = is
 
-  none_refused : (algorithm : Algorithm) (fail : AnalyseFail) → has_chains algorithm (layout s) ≡ true → IsFoundBy algorithm batches n s (Err fail) → ⊥
+  none_refused : (algorithm : Algorithm) (fail : AnalyseFail) → has_chains algorithm (layout s) n ≡ true → IsFoundBy algorithm batches n s (Err fail) → ⊥
   none_refused Mono fail has is = region_ends fail is
   none_refused Tiled fail has is = tiled_ends fail has is
   none_refused (TiledExactly kappa) fail has is = tiled_ends fail has is
@@ -100,7 +98,7 @@ module _ (batches : List Batch) (id n : ℕ) (h s : History) (audit : IsAudit ba
 
   -- nor do the tiles end behind the last granule
   none_past : nat_le (first_granule (layout s) n) max_granules ≡ false → ⊥
-  none_past test = not_past (first_granule (layout s) n) (subst (λ (end : ℕ). end ≤ max_granules) (same_begins (layout h) (layout s) n audit.places) audit.filed.within) test
+  none_past test = not_past (first_granule (layout s) n) (ends_within batches id h s n audit) test
 
 -- ---- so it is refused under another one
 
@@ -118,13 +116,13 @@ module _ (batches : List Batch) (id n : ℕ) (h s : History) (filed : NotaryOf b
   missing_by algorithm name (past same test is) = clash_unless same (λ audit. none_past batches id n h s audit test)
   missing_by algorithm name (asked same has small is) = clash_unless same (λ audit. none_refused batches id n h s audit algorithm (fails.SealMissing name) has is)
 
-  -- chains are lacking in h's header, or in another one
-  pub lacking_by : (algorithm : Algorithm) → Way algorithm batches n s (Err fails.NotSealedSo) → (has_chains algorithm (layout h) ≡ false) ⊎ HashClash h (Some s) n
+  -- a tile of h's range lacks the chains, or it has another header
+  pub lacking_by : (algorithm : Algorithm) → Way algorithm batches n s (Err fails.NotSealedSo) → (has_chains algorithm (layout h) n ≡ false) ⊎ HashClash h (Some s) n
   lacking_by algorithm (unfiled absent is) = absurd cc
   lacking_by algorithm (refused differs is) = absurd cc
   lacking_by algorithm (past same test is) = absurd cc
   lacking_by algorithm (asked same has small is) = inr (clash_unless same (λ audit. none_refused batches id n h s audit algorithm fails.NotSealedSo has is))
   lacking_by algorithm (chainless same lacks is) = elim (decided batches id h s n filed ours theirs same) [
-    | inl audit ↦ inl (same_has algorithm h s audit.header ∙ lacks)
+    | inl audit ↦ inl (same_has batches id h s n audit algorithm ∙ lacks)
     | inr passed ↦ inr passed.clash
   ]

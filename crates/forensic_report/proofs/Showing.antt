@@ -24,12 +24,12 @@ use Rattle.forensic_report.proofs.Tiled.{tiled_shows, exactly_shows}
 use Rattle.forensic_report.proofs.Tree.{tree_shows}
 
 by_algorithm : (algorithm : Algorithm) (batches : List Batch) (id n : ℕ) (h s : History) (a : Analysis) → IsAudit batches id h s n ⊎ IsPassed h s n
-    → has_chains algorithm (layout s) ≡ true → first_granule (layout s) n ≤ max_granules → IsFoundBy algorithm batches n s (Ok a)
+    → has_chains algorithm (layout s) n ≡ true → first_granule (layout s) n ≤ max_granules → IsFoundBy algorithm batches n s (Ok a)
     → Shows algorithm batches h (Some s) n a
 by_algorithm Mono batches id n h s a header has small is = mono_shows batches id h s n a header is
-by_algorithm Tiled batches id n h s a header has small is = tiled_shows batches id h s n a has header is
-by_algorithm (TiledExactly kappa) batches id n h s a header has small is = exactly_shows batches id h s n a has header is kappa
-by_algorithm A3d batches id n h s a header has small is = tree_shows batches id h s n a has small header is
+by_algorithm Tiled batches id n h s a header has small is = tiled_shows batches id h s n a small has header is
+by_algorithm (TiledExactly kappa) batches id n h s a header has small is = exactly_shows batches id h s n a small has header is kappa
+by_algorithm A3d batches id n h s a header has small is = tree_shows batches id h s n a has header is
 
 abbrev reported : Analysis → Result Analysis AnalyseFail
 reported a = Ok a

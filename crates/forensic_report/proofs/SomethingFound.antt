@@ -62,7 +62,7 @@ module _ (batches : List Batch) (n : ℕ) (s : History) where
   by_chains false algorithm v is = (Err fails.NotSealedSo, refl)
 
   by_header : (a : Answer) (algorithm : Algorithm) (v : Result Verdict AuditFail) → verdicts_found.IsFoundAt a batches n s v → Some_is (IsFoundAt a algorithm batches n s)
-  by_header Same algorithm v is = by_chains (has_chains algorithm (layout s)) algorithm v is
+  by_header Same algorithm v is = by_chains (has_chains algorithm (layout s) n) algorithm v is
   by_header Differs algorithm v is = (Ok (HeaderAltered n), refl)
   by_header Absent algorithm v is = (Err (fails.SealMissing names.Header), refl)
 

@@ -1,13 +1,10 @@
 -- What a sound store is answered.
 use Rattle.std.proofs.Common.{◌≡◌, ℕ, zero, suc, ◌<◌, true, false, List, [], ◌∷◌, length, Option, Some, None, Result, Ok, Err, refl, sym, ap, subst, ◌∙◌, inl, inr, arith}
-use Rattle.std.specs.List.{Contains, flat_map, range_with_len}
+use Rattle.std.specs.List.{Contains, range_with_len}
 use Rattle.history_model.specs.Stored.{stored}
 use Rattle.history_model.specs.History.{History}
 use Rattle.history_model.specs.declared.stored.Stored.{Stored}
 use Rattle.digest_model.specs.Layout.{Layout, layout, exponent, first_granule, whole}
-use Rattle.digest_model.specs.Roots.{roots_of}
-use Rattle.digest_model.proofs.Roots.{is_root}
-use Rattle.digest_model.proofs.Members.{here, there}
 use Rattle.digest_model.proofs.Lists.{from_range}
 use Rattle.notary_link.specs.declared.answer.Answer.{Answer}
 use Rattle.notary_link.specs.declared.answer.Answer.TheVariants.{Same, Differs, Absent}
@@ -18,13 +15,12 @@ use Rattle.audit_model.specs.Notary.{NotaryOf, answers, header_answer, cums}
 use Rattle.audit_model.specs.Mono.{BeginsRegion}
 use Rattle.audit_model.specs.Altered.{history_in}
 use Rattle.audit_model.specs.Sound.{HoldsNotarized}
-use Rattle.audit_model.specs.Tree.{as_root, found_from, found, checks}
 use Rattle.audit_model.proofs.Compare.{own_same, counted}
 use Rattle.audit_model.proofs.Planned.{cum_planned, part_planned}
-use Rattle.audit_model.proofs.TreeAudit.{node_planned, reached_within}
 use Rattle.audit_model.specs.Names.{planned}
 use Rattle.tiled_forensics.specs.Target.{tile_told, target_by, parts}
-use Rattle.a3d_forensics.specs.Descent.{nodes_of, stop_from, stop_of, descent, tree_told}
+use Rattle.a3d_forensics.specs.Descent.{tree_checks, tree_told}
+use Rattle.a3d_forensics.proofs.Notarized.{none_found, none_stops}
 use Rattle.forensic_report.specs.declared.algorithm.Algorithm.{Algorithm}
 use Rattle.forensic_report.specs.declared.algorithm.Algorithm.TheVariants.{Mono, Tiled, TiledExactly, A3d}
 use Rattle.forensic_report.specs.declared.fail.AnalyseFail.{AnalyseFail}
@@ -63,70 +59,45 @@ region_none chain l n same (Err fails.NotSealedSo) is = inr refl
 region_none chain l n same (Err (fails.NotaryInconsistent level index)) is = absurd is
 region_none chain l n same (Err fails.NoMemory) is = absurd is
 
--- ---- the trees
-
-no_leaf : (f : ℕ × ℕ → List ℕ) (roots : List (ℕ × ℕ)) → ((root : ℕ × ℕ) → Contains roots root → f root ≡ []) → flat_map f roots ≡ []
-no_leaf f [] each = refl
-no_leaf f (root ∷ roots) each =
-    let first = each root (here root roots) in
-    let rest = no_leaf f roots (λ r is. each r (there root r roots is)) in
-    rw (first, rest) refl
-
-same_from : (nodes : ℕ → ℕ → Answer) (root : ℕ × ℕ) → nodes root.0 root.1 ≡ Same → stop_from nodes root ≡ None
-same_from nodes root e = rw e refl
-
-same_leaf : (nodes : ℕ → ℕ → Answer) (level index : ℕ) → nodes level index ≡ Same → found_from nodes level index ≡ []
-unfolding found_from
-same_leaf nodes zero index e = rw e refl
-same_leaf nodes (suc level) index e = rw e refl
-
-roots_same : (granules : ℕ) (nodes : ℕ → ℕ → Answer) → ((root : ℕ × ℕ) → Contains (roots_of granules) root → nodes root.0 root.1 ≡ Same) → descent granules nodes ≡ Ok (record { granules = []; checks = checks granules nodes })
-unfolding found
-roots_same granules nodes each =
-    let stops : stop_of granules nodes ≡ None = no_stop (stop_from nodes) (roots_of granules) (λ root is. same_from nodes root (each root is)) in
-    let leaves : flat_map (λ root. found_from nodes root.0 root.1) (roots_of granules) ≡ [] = no_leaf (λ root. found_from nodes root.0 root.1) (roots_of granules) (λ root is. same_leaf nodes root.0 root.1 (each root is)) in
-    rw (stops, leaves) refl
-
 -- ---- by the algorithm
 
 module _ (batches : List Batch) (id n : ℕ) (h : History) (filed : NotaryOf batches id h n) where
   same : (name : Name) → Contains (planned (layout h) n) name → answers batches h name ≡ Same
   same name is = own_same batches id h n name filed is
 
-  tile_same : has_chains Tiled (layout h) ≡ true → (tile : ℕ) → Contains (range_with_len 0 n) tile → tile_told batches h tile ≡ Ok None
+  tile_same : has_chains Tiled (layout h) n ≡ true → (tile : ℕ) → Contains (range_with_len 0 n) tile → tile_told batches h tile ≡ Ok None
   tile_same has tile place =
       let below : tile < n = (let r = from_range 0 n tile place in omega (arith, r)) in
-      tile_is batches h n tile has below
+      tile_is batches h n tile filed.within has below
       ∙ ap (λ (a : Answer). target_by a (parts batches h tile) (exponent (layout h) tile) tile)
-      (same (names.Tile tile whole) (part_planned (layout h) n tile whole (tile_has_chains h n tile has below) below (inl refl)))
+      (same (names.Tile tile whole) (part_planned (layout h) n tile whole (tile_has_chains h n filed.within has tile below) below (inl refl)))
 
-  tiled_same : has_chains Tiled (layout h) ≡ true → targets_told batches h n ≡ Ok []
+  tiled_same : has_chains Tiled (layout h) n ≡ true → targets_told batches h n ≡ Ok []
   tiled_same has =
       let stops = no_stop (stop_at_tile batches h n) (range_with_len 0 n) (λ tile place. ap stop_told (tile_same has tile place)) in
       let none = none_mapped (failing_tile batches h n) (range_with_len 0 n) (λ tile place. ap (failing tile) (tile_same has tile place)) in
       rw (stops, none) refl
 
-  node_same : has_chains A3d (layout h) ≡ true → (root : ℕ × ℕ) → Contains (roots_of (first_granule (layout h) n)) root → nodes_of batches h root.0 root.1 ≡ Same
-  node_same has root is =
-      let within = reached_within (first_granule (layout h) n) (nodes_of batches h) root.0 root.1 (as_root (is_root (first_granule (layout h) n) root is)) in
-      same (names.Node root.0 root.1) (node_planned (layout h) n root.0 root.1 (λ tile below. tile_has_tree h n tile has below) within filed.within)
+  tree_same : has_chains A3d (layout h) n ≡ true → tree_told batches h n ≡ Ok (record { granules = []; checks = tree_checks batches h n })
+  tree_same has =
+      let own = tile_has_tree h n filed.within has in
+      let none = none_found batches id n h filed own in
+      let stops = none_stops batches id n h filed own in
+      tree_is batches h n has ∙ (rw (stops, none) refl)
 
-  tree_same : has_chains A3d (layout h) ≡ true → tree_told batches h n ≡ Ok (record { granules = []; checks = checks (first_granule (layout h) n) (nodes_of batches h) })
-  tree_same has = tree_is batches h n has ∙ roots_same (first_granule (layout h) n) (nodes_of batches h) (node_same has)
-
-  tiled_found : (found : Result Analysis AnalyseFail) → has_chains Tiled (layout h) ≡ true → found ≡ analysis_by Targets (layout h) n (targets_told batches h n) → TellsNoAlteration found
+  tiled_found : (found : Result Analysis AnalyseFail) → has_chains Tiled (layout h) n ≡ true → found ≡ analysis_by Targets (layout h) n (targets_told batches h n) → TellsNoAlteration found
   tiled_found found has is = told found (Found (layout h) n (Targets [])) (is ∙ ap (analysis_by Targets (layout h) n) (tiled_same has)) refl
 
   header_same : header_answer batches h n ≡ Same
   unfolding header_answer
   header_same = same names.Header (header_planned (layout h) n)
 
-  by_algorithm : (algorithm : Algorithm) (found : Result Analysis AnalyseFail) → has_chains algorithm (layout h) ≡ true → IsFoundBy algorithm batches n h found → TellsNoAlteration found
+  by_algorithm : (algorithm : Algorithm) (found : Result Analysis AnalyseFail) → has_chains algorithm (layout h) n ≡ true → IsFoundBy algorithm batches n h found → TellsNoAlteration found
   by_algorithm Mono found has is = region_none (cums batches h) (layout h) n (λ tile below. same (names.Cum tile) (cum_planned (layout h) n tile below)) found is
   by_algorithm Tiled found has is = tiled_found found has is
   by_algorithm (TiledExactly kappa) found has is = tiled_found found has is
   by_algorithm A3d found has is =
-      told found (Found (layout h) n (Leaves [] (checks (first_granule (layout h) n) (nodes_of batches h)))) (is ∙ ap (analysis_by leaves (layout h) n) (tree_same has)) refl
+      told found (Found (layout h) n (Leaves [] (tree_checks batches h n))) (is ∙ ap (analysis_by leaves (layout h) n) (tree_same has)) refl
 
   by_way : (algorithm : Algorithm) (found : Result Analysis AnalyseFail) → Way algorithm batches n h found → TellsNoAlteration found
   by_way algorithm found (unfiled absent is) = absurd (let header = header_same in let both : Same ≡ Absent = sym header ∙ absent in cc)

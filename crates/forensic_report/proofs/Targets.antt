@@ -1,8 +1,8 @@
 -- What the answers tell of each tile, where nothing stopped.
-use Rattle.std.proofs.Common.{◌≡◌, ◌⊎◌, inl, inr, ℕ, ◌<◌, true, List, Option, Some, None, Result, Ok, Err, refl, sym, ap, subst, ◌∙◌, arith}
+use Rattle.std.proofs.Common.{◌≡◌, ◌⊎◌, inl, inr, ℕ, ◌<◌, ◌≤◌, true, List, Option, Some, None, Result, Ok, Err, refl, sym, ap, subst, ◌∙◌, arith}
 use Rattle.std.specs.List.{Contains, range_with_len}
 use Rattle.history_model.specs.History.{History}
-use Rattle.digest_model.specs.Layout.{Layout, layout, SameTiles, exponent, whole}
+use Rattle.digest_model.specs.Layout.{Layout, layout, SameTiles, exponent, first_granule, max_granules, whole}
 use Rattle.digest_model.proofs.Layouts.{same_exponent}
 use Rattle.digest_model.proofs.Lists.{in_range, from_range}
 use Rattle.notary_link.specs.declared.answer.Answer.{Answer}
@@ -49,16 +49,16 @@ failed tile (Ok (Some target)) t e =
 failed tile (Ok None) t e = absurd cc
 failed tile (Err fail) t e = absurd cc
 
-module _ (batches : List Batch) (s : History) (n : ℕ) (has : has_chains Tiled (layout s) ≡ true) where
+module _ (batches : List Batch) (s : History) (n : ℕ) (small : first_granule (layout s) n ≤ max_granules) (has : has_chains Tiled (layout s) n ≡ true) where
   target_is : (tile target : ℕ) → tile < n → tile_told batches s tile ≡ Ok (Some target) → IsTarget (exponent (layout s) tile) (parts batches s tile) target
   target_is tile target below is =
-      is_target (parts batches s tile whole) (parts batches s tile) (exponent (layout s) tile) tile target refl (sym (tile_is batches s n tile has below) ∙ is)
+      is_target (parts batches s tile whole) (parts batches s tile) (exponent (layout s) tile) tile target refl (sym (tile_is batches s n tile small has below) ∙ is)
 
   listed_by : (tile : ℕ) (told : Result (Option ℕ) AskFail) → tile_told batches s tile ≡ told → stop_told told ≡ None → tile < n
       → (parts batches s tile whole ≡ Same) ⊎ IsListed (layout s) (parts batches s tile) (failing_tiles batches s n) tile
   listed_by tile (Err fail) is none below = absurd cc
   listed_by tile (Ok None) is none below =
-      inl (is_same (parts batches s tile whole) (parts batches s tile) (exponent (layout s) tile) tile (sym (tile_is batches s n tile has below) ∙ is))
+      inl (is_same (parts batches s tile whole) (parts batches s tile) (exponent (layout s) tile) tile (sym (tile_is batches s n tile small has below) ∙ is))
   listed_by tile (Ok (Some target)) is none below =
       let among = in_mapped (failing_tile batches s n) (range_with_len 0 n) tile (tile, target) (in_range 0 n tile (omega arith) (omega arith)) (ap (failing tile) is) in
       inr (target, among, target_is tile target below is)

@@ -1,9 +1,9 @@
 -- What targets show.
-use Rattle.std.proofs.Common.{◌≡◌, ◌⊎◌, inl, inr, ℕ, ◌+◌, ◌<◌, true, false, List, map, Some, Ok, sym, ap, subst, ◌∙◌, arith}
+use Rattle.std.proofs.Common.{◌≡◌, ◌⊎◌, inl, inr, ℕ, ◌+◌, ◌<◌, ◌≤◌, true, false, List, map, Some, Ok, sym, ap, subst, ◌∙◌, arith}
 use Rattle.std.specs.Prelude.{◌↔◌}
 use Rattle.std.specs.List.{Contains}
 use Rattle.history_model.specs.History.{History}
-use Rattle.digest_model.specs.Layout.{Layout, layout, SameTiles, exponent, first_granule, tile_of}
+use Rattle.digest_model.specs.Layout.{Layout, layout, SameTiles, exponent, first_granule, tile_of, max_granules}
 use Rattle.digest_model.proofs.Layouts.{same_exponent, same_first}
 use Rattle.digest_model.proofs.Members.{Contains-map}
 use Rattle.notary_link.specs.Batches.{Batch}
@@ -132,18 +132,18 @@ module _ (algorithm : Algorithm) (batches : List Batch) (id : ℕ) (h s : Histor
       own_shows algorithm batches id h s (layout s) n (Targets targets) audit (named_so audit has own) (unaltered batches id h s n targets audit has own) tt
       (only batches id h s n targets audit has own) (explained_so (layout s) are)
 
-  targets_show : IsAudit batches id h s n ⊎ IsPassed h s n → has_chains Tiled (layout s) ≡ true → AreTargets (layout s) (parts batches s) n targets
+  targets_show : IsAudit batches id h s n ⊎ IsPassed h s n → has_chains Tiled (layout s) n ≡ true → AreTargets (layout s) (parts batches s) n targets
       → Shows algorithm batches h (Some s) n (Found (layout s) n (Targets targets))
   targets_show (inl audit) has are =
       targets_own audit (chains_of_audit batches id h s n audit has) (alike_targets (layout h) (layout s) (parts batches s) n targets audit.places are) are
   targets_show (inr passed) has are =
       passed_shows algorithm batches h s (layout s) n (Targets targets) passed (all_altered batches h s n targets passed.other are) (explained_so (layout s) are)
 
-module _ (batches : List Batch) (id : ℕ) (h s : History) (n : ℕ) (a : Analysis) (has : has_chains Tiled (layout s) ≡ true)
+module _ (batches : List Batch) (id : ℕ) (h s : History) (n : ℕ) (a : Analysis) (small : first_granule (layout s) n ≤ max_granules) (has : has_chains Tiled (layout s) n ≡ true)
     (header : IsAudit batches id h s n ⊎ IsPassed h s n) (is : Ok a ≡ analysis_by Targets (layout s) n (targets_told batches s n)) where
   pub tiled_shows : Shows Tiled batches h (Some s) n a
   tiled_shows =
-      let told = told_of batches s n has a is in
+      let told = told_of batches s n small has a is in
       subst (λ (x : Analysis). Shows Tiled batches h (Some s) n x) (sym told.is)
       (targets_show Tiled batches id h s n told.targets
       (λ audit own are g alt promised. named batches id h s n told.targets audit own are g alt)
@@ -151,7 +151,7 @@ module _ (batches : List Batch) (id : ℕ) (h s : History) (n : ℕ) (a : Analys
 
   pub exactly_shows : (kappa : ℕ) → Shows (TiledExactly kappa) batches h (Some s) n a
   exactly_shows kappa =
-      let told = told_of batches s n has a is in
+      let told = told_of batches s n small has a is in
       subst (λ (x : Analysis). Shows (TiledExactly kappa) batches h (Some s) n x) (sym told.is)
       (targets_show (TiledExactly kappa) batches id h s n told.targets
       (λ audit own are g alt promised. named_among batches id h s n told.targets audit own are kappa g alt promised)

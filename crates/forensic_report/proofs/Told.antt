@@ -1,21 +1,20 @@
 -- What is told where the tiles have the chains.
-use Rattle.std.proofs.Common.{◌≡◌, ℕ, ◌<◌, Bool, true, List, map, Option, Err, ap}
+use Rattle.std.proofs.Common.{◌≡◌, ℕ, ◌<◌, ◌≤◌, Bool, true, List, map, Option, Err, ap}
 use Rattle.std.specs.Prelude.{if◌then◌else◌}
 use Rattle.std.specs.List.{filter_map, range_with_len}
 use Rattle.history_model.specs.History.{History}
-use Rattle.digest_model.specs.Layout.{layout, exponent, first_granule}
+use Rattle.digest_model.specs.Layout.{layout, exponent, first_granule, max_granules}
 use Rattle.notary_link.specs.declared.fail.AskFail.{AskFail}
 use Rattle.notary_link.specs.declared.fail.AskFail.TheVariants.{NotSealedSo}
 use Rattle.notary_link.specs.Batches.{Batch}
-use Rattle.audit_model.specs.Tree.{found, checks}
-use Rattle.ask_words.specs.Asked.{first_stop}
+use Rattle.ask_words.specs.Asked.{first_stop, unless_stopped}
 use Rattle.tiled_forensics.specs.Target.{parts, target_of, tile_told}
 use Rattle.a3d_forensics.specs.declared.found.A3dFound.{A3dFound}
-use Rattle.a3d_forensics.specs.Descent.{nodes_of, stop_of, descent, tree_told}
+use Rattle.a3d_forensics.specs.Descent.{tree_found, tree_checks, tree_stop, tree_told}
 use Rattle.forensic_report.specs.declared.algorithm.Algorithm.TheVariants.{Tiled, A3d}
 use Rattle.forensic_report.specs.Analysis.{Findings, Leaves}
 use Rattle.forensic_report.specs.Finding.{stop_told, failing, has_chains}
-use Rattle.forensic_report.proofs.Layouts.{tile_has_chains}
+use Rattle.forensic_report.proofs.Layouts.{tile_has_chains, first_has_tree}
 
 abbrev pub leaves : A3dFound → Findings
 leaves f = Leaves f.granules f.checks
@@ -34,15 +33,12 @@ module _ (batches : List Batch) (s : History) (n : ℕ) where
   abbrev pub failing_tiles : List (ℕ × ℕ)
   failing_tiles = filter_map failing_tile (range_with_len 0 n)
 
-  pub tile_is : (tile : ℕ) → has_chains Tiled (layout s) ≡ true → tile < n → tile_told batches s tile ≡ target_of (parts batches s tile) (exponent (layout s) tile) tile
-  tile_is tile has below = ap (λ (b : Bool). if b then target_of (parts batches s tile) (exponent (layout s) tile) tile else Err NotSealedSo) (tile_has_chains s n tile has below)
+  pub tile_is : (tile : ℕ) → first_granule (layout s) n ≤ max_granules → has_chains Tiled (layout s) n ≡ true → tile < n → tile_told batches s tile ≡ target_of (parts batches s tile) (exponent (layout s) tile) tile
+  tile_is tile small has below = ap (λ (b : Bool). if b then target_of (parts batches s tile) (exponent (layout s) tile) tile else Err NotSealedSo) (tile_has_chains s n small has tile below)
 
-  -- what stops the descent, and what it finds
-  abbrev pub stop_of_tree : Option AskFail
-  stop_of_tree = stop_of (first_granule (layout s) n) (nodes_of batches s)
-
+  -- what the descent finds
   abbrev pub found_in_tree : A3dFound
-  found_in_tree = record { granules = found (first_granule (layout s) n) (nodes_of batches s); checks = checks (first_granule (layout s) n) (nodes_of batches s) }
+  found_in_tree = record { granules = tree_found batches s n; checks = tree_checks batches s n }
 
-  pub tree_is : has_chains A3d (layout s) ≡ true → tree_told batches s n ≡ descent (first_granule (layout s) n) (nodes_of batches s)
-  tree_is has = ap (λ (b : Bool). if b then descent (first_granule (layout s) n) (nodes_of batches s) else Err NotSealedSo) has
+  pub tree_is : has_chains A3d (layout s) n ≡ true → tree_told batches s n ≡ unless_stopped (tree_stop batches s n) found_in_tree
+  tree_is has = ap (λ (b : Bool). if b then unless_stopped (tree_stop batches s n) found_in_tree else Err NotSealedSo) (first_has_tree s n has)

@@ -32,9 +32,9 @@ use Rattle.forensic_report.specs.Finding.{has_chains, IsFoundBy, IsFoundWithin, 
 pub data Way (algorithm : Algorithm) (batches : List Batch) (n : ℕ) (s : History) (found : Result Analysis AnalyseFail) : Type 0 where
   unfiled : header_answer batches s n ≡ Absent → found ≡ Err (fails.SealMissing names.Header) → Way algorithm batches n s found
   refused : header_answer batches s n ≡ Differs → found ≡ Ok (HeaderAltered n) → Way algorithm batches n s found
-  chainless : header_answer batches s n ≡ Same → has_chains algorithm (layout s) ≡ false → found ≡ Err fails.NotSealedSo → Way algorithm batches n s found
+  chainless : header_answer batches s n ≡ Same → has_chains algorithm (layout s) n ≡ false → found ≡ Err fails.NotSealedSo → Way algorithm batches n s found
   past : header_answer batches s n ≡ Same → nat_le (first_granule (layout s) n) max_granules ≡ false → found ≡ Err (fails.SealMissing (names.Cum (first_past (layout s)))) → Way algorithm batches n s found
-  asked : header_answer batches s n ≡ Same → has_chains algorithm (layout s) ≡ true → first_granule (layout s) n ≤ max_granules → IsFoundBy algorithm batches n s found → Way algorithm batches n s found
+  asked : header_answer batches s n ≡ Same → has_chains algorithm (layout s) n ≡ true → first_granule (layout s) n ≤ max_granules → IsFoundBy algorithm batches n s found → Way algorithm batches n s found
 
 -- the file has no history of the id, or has one
 pub data WayIn (algorithm : Algorithm) (batches : List Batch) (id n : ℕ) (file : Option History) (found : Result Analysis AnalyseFail) : Type 0 where
@@ -50,17 +50,17 @@ pub not_past : (m : ℕ) → m ≤ max_granules → nat_le m max_granules ≡ fa
 not_past m most test = (let yes_it : nat_le m max_granules ≡ true = grind (arith, nat_tests) in let both : true ≡ false = sym yes_it ∙ test in cc)
 
 module _ (algorithm : Algorithm) (batches : List Batch) (n : ℕ) (s : History) (found : Result Analysis AnalyseFail) where
-  by_bound : header_answer batches s n ≡ Same → has_chains algorithm (layout s) ≡ true
+  by_bound : header_answer batches s n ≡ Same → has_chains algorithm (layout s) n ≡ true
       → (b : Bool) → nat_le (first_granule (layout s) n) max_granules ≡ b → IsFoundWithin b algorithm batches n s found → Way algorithm batches n s found
   by_bound same has true test is = asked same has (within (first_granule (layout s) n) test) is
   by_bound same has false test is = past same test is
 
-  by_chains : header_answer batches s n ≡ Same → (b : Bool) → has_chains algorithm (layout s) ≡ b → IsFoundWith b algorithm batches n s found → Way algorithm batches n s found
+  by_chains : header_answer batches s n ≡ Same → (b : Bool) → has_chains algorithm (layout s) n ≡ b → IsFoundWith b algorithm batches n s found → Way algorithm batches n s found
   by_chains same true has is = by_bound same has (nat_le (first_granule (layout s) n) max_granules) refl is
   by_chains same false has is = chainless same has is
 
   pub by_answer : (a : Answer) → header_answer batches s n ≡ a → IsFoundAt a algorithm batches n s found → Way algorithm batches n s found
-  by_answer Same header is = by_chains header (has_chains algorithm (layout s)) refl is
+  by_answer Same header is = by_chains header (has_chains algorithm (layout s) n) refl is
   by_answer Differs header is = refused header is
   by_answer Absent header is = unfiled header is
 

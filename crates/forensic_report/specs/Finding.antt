@@ -1,6 +1,6 @@
 -- What an analysis finds by the answers for what is stored.
-use Rattle.std.specs.Prelude.{◌≡◌, ◌≢◌, ◌<◌, ℕ, ◌-◌, nat_le, Bool, true, false, List, [], ◌∷◌, length, map, Option, Some, None, Result, Ok, Err}
-use Rattle.std.specs.List.{filter_map, range_with_len}
+use Rattle.std.specs.Prelude.{◌≡◌, ◌≢◌, ◌<◌, ℕ, ◌-◌, min, max, nat_le, Bool, true, false, List, [], ◌∷◌, length, map, Option, Some, None, Result, Ok, Err}
+use Rattle.std.specs.List.{filter_map, list_all, range_with_len}
 use Rattle.history_model.specs.declared.stored.Stored.{Stored}
 use Rattle.history_model.specs.History.{History}
 use Rattle.digest_model.specs.Layout.{Layout, layout, first_granule, max_granules, has_tile_chains, has_tree}
@@ -65,12 +65,21 @@ hashes_by algorithm = 2
 
 -- ---- before the algorithm is run
 
--- the tiles have the chains that it asks for; all have the same
-abbrev pub has_chains : Algorithm → Layout → Bool
-has_chains Mono l = true
-has_chains Tiled l = has_tile_chains l 0
-has_chains (TiledExactly kappa) l = has_tile_chains l 0
-has_chains A3d l = has_tree l 0
+-- The range of an analysis: the sealed tiles, and where none is sealed the first tile, which is that of the header. No tile of
+-- it ends behind the last granule, however many were filed.
+unfoldable pub range_of : Layout → ℕ → List ℕ
+range_of l n = range_with_len 0 (max 1 (min n (first_past l)))
+
+-- a tile has the chains that the algorithm asks for
+abbrev pub tile_has : Algorithm → Layout → ℕ → Bool
+tile_has Mono l tile = true
+tile_has Tiled l tile = has_tile_chains l tile
+tile_has (TiledExactly kappa) l tile = has_tile_chains l tile
+tile_has A3d l tile = has_tree l tile
+
+-- so does each tile of the range
+abbrev pub has_chains : Algorithm → Layout → ℕ → Bool
+has_chains algorithm l n = list_all (tile_has algorithm l) (range_of l n)
 
 -- tiles that end behind the last granule were never filed by this program
 abbrev pub IsFoundWithin : Bool → Algorithm → List Batch → ℕ → History → Result Analysis AnalyseFail → Type 0
@@ -83,7 +92,7 @@ IsFoundWith false algorithm batches n s found = found ≡ Err fails.NotSealedSo
 
 -- by the answer for the header
 abbrev pub IsFoundAt : Answer → Algorithm → List Batch → ℕ → History → Result Analysis AnalyseFail → Type 0
-IsFoundAt Same algorithm batches n s found = IsFoundWith (has_chains algorithm (layout s)) algorithm batches n s found
+IsFoundAt Same algorithm batches n s found = IsFoundWith (has_chains algorithm (layout s) n) algorithm batches n s found
 IsFoundAt Differs algorithm batches n s found = found ≡ Ok (HeaderAltered n)
 IsFoundAt Absent algorithm batches n s found = found ≡ Err (fails.SealMissing names.Header)
 

@@ -1,23 +1,20 @@
 //! Which tiles are bad, one after the other.
 
 ghost use Rattle.std.specs.Prelude.{◌≡◌, ◌≤◌, ◌<◌, [], ◌∷◌, ◌++◌, ℕ, List, All, map, length, slice_get, IfOk};
-ghost use Rattle.tuple_bytes.specs.Spelling.{FitsHeader};
 ghost use Rattle.digest_model.specs.Layout.{first_granule, max_granules, tile_of};
-ghost use Rattle.cumulative_chain.specs.Tiles.{layout_of};
+ghost use Rattle.policy_eras.specs.Policy.{layout_by};
 ghost use Rattle.forensic_report.specs.Analysis.{bad_tiles, FitsFindings};
 ghost use Rattle.forensic_report.specs.Values.{findings_of};
 ghost use Rattle.forensic_report.specs.Texts.{bad_row, region_tiles};
 
 use crate::found::Findings;
-use crate::places::tile_at;
+use policy_eras::Eras;
 use std::alloc::{AllocError, Global};
-use tuple_bytes::Header;
 
 /// The first one.
-pub(crate) fn first_bad(findings: &Findings, header: &Header, tiles: u32) -> Option<u32>
-    requires fits { FitsHeader header.now }
-    requires found { FitsFindings (layout_of header.now) tiles (findings_of findings.now) }
-    ensures value { result ≡ slice_get (bad_tiles (layout_of header.now) tiles (findings_of findings.now)) 0 }
+pub(crate) fn first_bad(findings: &Findings, eras: &Eras, tiles: u32) -> Option<u32>
+    requires found { FitsFindings (layout_by eras.now) tiles (findings_of findings.now) }
+    ensures value { result ≡ slice_get (bad_tiles (layout_by eras.now) tiles (findings_of findings.now)) 0 }
 {
     match findings {
         Findings::Region { first } => *first,
@@ -27,7 +24,7 @@ pub(crate) fn first_bad(findings: &Findings, header: &Header, tiles: u32) -> Opt
         }
         Findings::Leaves { found } => {
             let granule = *found.granules.as_slice().first()?;
-            Some(tile_at(header, granule))
+            Some(eras.tiles(granule))
         }
     }
 }
@@ -64,29 +61,27 @@ fn mark_failing(bad: &mut [bool], targets: &[(u32, u16)])
 }
 
 /// Those in which granules lie.
-fn mark_granules(bad: &mut [bool], header: &Header, granules: &[u32])
-    requires fits { FitsHeader header.now }
+fn mark_granules(bad: &mut [bool], eras: &Eras, granules: &[u32])
     requires none { bad.old ≡ bad_row [] (length bad.old) }
-    requires within { All (λ g. tile_of (layout_of header.now) g < length bad.old) granules.now }
-    ensures value { bad.new ≡ bad_row (map (tile_of (layout_of header.now)) granules.now) (length bad.old) }
+    requires within { All (λ g. tile_of (layout_by eras.now) g < length bad.old) granules.now }
+    ensures value { bad.new ≡ bad_row (map (tile_of (layout_by eras.now)) granules.now) (length bad.old) }
 {
     for granule in granules {
-        mark(bad, tile_at(header, *granule));
+        mark(bad, eras.tiles(*granule));
     }
 }
 
 /// Those with a candidate.
-fn mark_found(bad: &mut [bool], findings: &Findings, header: &Header, tiles: u32)
-    requires fits { FitsHeader header.now }
+fn mark_found(bad: &mut [bool], findings: &Findings, eras: &Eras, tiles: u32)
     requires size { length bad.old ≡ tiles }
     requires none { bad.old ≡ bad_row [] tiles }
-    requires found { FitsFindings (layout_of header.now) tiles (findings_of findings.now) }
-    ensures value { bad.new ≡ bad_row (bad_tiles (layout_of header.now) tiles (findings_of findings.now)) tiles }
+    requires found { FitsFindings (layout_by eras.now) tiles (findings_of findings.now) }
+    ensures value { bad.new ≡ bad_row (bad_tiles (layout_by eras.now) tiles (findings_of findings.now)) tiles }
 {
     match findings {
         Findings::Region { first } => mark_from(bad, first.unwrap_or(tiles), tiles),
         Findings::Targets { targets } => mark_failing(bad, targets.as_slice()),
-        Findings::Leaves { found } => mark_granules(bad, header, found.granules.as_slice()),
+        Findings::Leaves { found } => mark_granules(bad, eras, found.granules.as_slice()),
     }
 }
 
@@ -94,14 +89,13 @@ fn mark_found(bad: &mut [bool], findings: &Findings, header: &Header, tiles: u32
 pub(crate) fn bad_row(
     alloc: Global,
     findings: &Findings,
-    header: &Header,
+    eras: &Eras,
     tiles: u32,
 ) -> Result<Vec<bool>, AllocError>
-    requires fits { FitsHeader header.now }
-    requires found { FitsFindings (layout_of header.now) tiles (findings_of findings.now) }
-    ensures value { IfOk result (λ bad. bad.items ≡ bad_row (bad_tiles (layout_of header.now) tiles (findings_of findings.now)) tiles) }
+    requires found { FitsFindings (layout_by eras.now) tiles (findings_of findings.now) }
+    ensures value { IfOk result (λ bad. bad.items ≡ bad_row (bad_tiles (layout_by eras.now) tiles (findings_of findings.now)) tiles) }
 {
     let mut bad = vec![in alloc; false; tiles as usize]?;
-    mark_found(&mut bad, findings, header, tiles);
+    mark_found(&mut bad, findings, eras, tiles);
     Ok(bad)
 }

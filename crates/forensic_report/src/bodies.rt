@@ -6,9 +6,8 @@ ghost use Rattle.outside_words.specs.Faults.{HasCause};
 ghost use Rattle.outside_words.specs.Shown.{ShowsFaults};
 ghost use Rattle.outside_words.specs.Told.{WhereTold};
 ghost use Rattle.notary_link.specs.Notary.{Unchanged, GoesOn};
-ghost use Rattle.tuple_bytes.specs.Spelling.{FitsHeader};
 ghost use Rattle.digest_model.specs.Layout.{first_granule, max_granules};
-ghost use Rattle.cumulative_chain.specs.Tiles.{layout_of};
+ghost use Rattle.policy_eras.specs.Policy.{layout_by};
 ghost use Rattle.corruption_diagram.specs.CleanMarks.{StandFor};
 ghost use Rattle.forensic_report.specs.declared.fail.AnalyseFail.TheVariants.{NotaryFault};
 ghost use Rattle.forensic_report.specs.Fails.{notary_in_doubt};
@@ -21,11 +20,10 @@ use crate::algorithm::Request;
 use crate::asking::{Recent, least_from, span_after};
 use crate::fail::AnalyseFail;
 use crate::lines::{put_granule, put_region, put_target};
-use crate::places::tile_at;
 use corruption_diagram::{CleanMarks, Span, when_by};
 use notary_link::Notary;
+use policy_eras::Eras;
 use std::alloc::Global;
-use tuple_bytes::Header;
 
 /// The line of a region.
 pub(crate) fn put_region_line<N: Notary>(
@@ -34,16 +32,15 @@ pub(crate) fn put_region_line<N: Notary>(
     clean: &CleanMarks,
     notary: &mut N,
     request: Request,
-    header: &Header,
+    eras: &Eras,
     tiles: u32,
     first: u32,
 ) -> Result<(), AnalyseFail>
-    requires fits { FitsHeader header.now }
     requires some { first < tiles }
-    requires within { first_granule (layout_of header.now) tiles ≤ max_granules }
+    requires within { first_granule (layout_by eras.now) tiles ≤ max_granules }
     ensures value { WhereTold (N.state notary.old).lists (N.state notary.new).lists (λ before after.
         StandFor (before.marks request.id) clean.now
-        → OnOk result (out.new.items ≡ out.old.items ++ region_line (layout_of header.now) tiles (kept_of before request.id request.now) first)) }
+        → OnOk result (out.new.items ≡ out.old.items ++ region_line (layout_by eras.now) tiles (kept_of before request.id request.now) first)) }
     ensures more { OnOk result (Begins out.old.items out.new.items) }
     ensures only { IfErr result IsOfWriting }
     ensures same { Unchanged (N.state notary.old) (N.state notary.new) }
@@ -57,7 +54,7 @@ pub(crate) fn put_region_line<N: Notary>(
         from,
         to: request.now,
     };
-    put_region(alloc, out, header, tiles, first, span)?;
+    put_region(alloc, out, eras, tiles, first, span)?;
     Ok(())
 }
 
@@ -68,14 +65,13 @@ pub(crate) fn put_targets<N: Notary>(
     clean: &CleanMarks,
     notary: &mut N,
     request: Request,
-    header: &Header,
+    eras: &Eras,
     targets: &[(u32, u16)],
 ) -> Result<(), AnalyseFail>
-    requires fits { FitsHeader header.now }
-    requires failing { All (IsFailing (layout_of header.now)) targets.now }
+    requires failing { All (IsFailing (layout_by eras.now)) targets.now }
     ensures value { WhereTold (N.state notary.old).lists (N.state notary.new).lists (λ before after.
         StandFor (before.marks request.id) clean.now
-        → OnOk result (out.new.items ≡ out.old.items ++ flat_map (target_line request.algorithm (layout_of header.now) (kept_of before request.id request.now)) targets.now)) }
+        → OnOk result (out.new.items ≡ out.old.items ++ flat_map (target_line request.algorithm (layout_by eras.now) (kept_of before request.id request.now)) targets.now)) }
     ensures more { OnOk result (Begins out.old.items out.new.items) }
     ensures only { IfErr result IsOfWriting }
     ensures same { Unchanged (N.state notary.old) (N.state notary.new) }
@@ -87,7 +83,7 @@ pub(crate) fn put_targets<N: Notary>(
     for failing in targets {
         let tile = failing.0;
         let span = when_by(clean, notary, request.id, tile, request.now)?;
-        put_target(alloc, out, request.algorithm, header, tile, failing.1, span)?;
+        put_target(alloc, out, request.algorithm, eras, tile, failing.1, span)?;
     }
     Ok(())
 }
@@ -99,14 +95,13 @@ pub(crate) fn put_granules<N: Notary>(
     clean: &CleanMarks,
     notary: &mut N,
     request: Request,
-    header: &Header,
+    eras: &Eras,
     granules: &[u32],
 ) -> Result<(), AnalyseFail>
-    requires fits { FitsHeader header.now }
     requires within { All (λ g. g < max_granules) granules.now }
     ensures value { WhereTold (N.state notary.old).lists (N.state notary.new).lists (λ before after.
         StandFor (before.marks request.id) clean.now
-        → OnOk result (out.new.items ≡ out.old.items ++ flat_map (granule_line (layout_of header.now) (kept_of before request.id request.now)) granules.now)) }
+        → OnOk result (out.new.items ≡ out.old.items ++ flat_map (granule_line (layout_by eras.now) (kept_of before request.id request.now)) granules.now)) }
     ensures more { OnOk result (Begins out.old.items out.new.items) }
     ensures only { IfErr result IsOfWriting }
     ensures same { Unchanged (N.state notary.old) (N.state notary.new) }
@@ -118,7 +113,7 @@ pub(crate) fn put_granules<N: Notary>(
     let mut recent = None;
     for granule in granules {
         let granule = *granule;
-        let tile = tile_at(header, granule);
+        let tile = eras.tiles(granule);
         let span = span_after(recent, clean, notary, request.id, tile, request.now)?;
         recent = Some(Recent { tile, span });
         put_granule(alloc, out, granule, span)?;

@@ -11,7 +11,7 @@ ghost use Rattle.history_model.specs.History.{history};
 ghost use Rattle.history_model.specs.Stored.{stored};
 ghost use Rattle.history_model.specs.StoredHistory.{IsHistory};
 ghost use Rattle.digest_model.specs.Layout.{layout, first_granule, max_granules};
-ghost use Rattle.cumulative_chain.specs.Tiles.{layout_of};
+ghost use Rattle.policy_eras.specs.Policy.{policy_of};
 ghost use Rattle.validator.specs.Reading.{as_stored};
 ghost use Rattle.audit_model.specs.Altered.{history_in, history_with};
 ghost use Rattle.forensic_report.specs.declared.fail.AnalyseFail.TheVariants.{DiskFault, NotaryFault};
@@ -24,11 +24,12 @@ ghost use Rattle.forensic_report.specs.Values.{analysis_of, found_as, OrGivesUp,
 use crate::algorithm::Algorithm;
 use crate::fail::AnalyseFail;
 use crate::found::{Analysis, Examined};
-use crate::places::{have_tile_chains, have_tree};
+use crate::range::has_chains;
 use crate::searching::search;
 use cumulative_chain::header_digest;
 use disk_model::Disk;
 use notary_link::{Answer, Name, Notary};
+use policy_eras::Eras;
 use seal_plan::Spelled;
 use std::alloc::Global;
 use std::marker::Brand;
@@ -153,17 +154,6 @@ fn find_under<N: Notary>(
     }
 }
 
-/// Whether the tiles have the chains that an algorithm asks for.
-fn has_chains(algorithm: Algorithm, header: &Header) -> bool
-    ensures value { result ≡ has_chains algorithm (layout_of header.now) }
-{
-    match algorithm {
-        Algorithm::Mono => true,
-        Algorithm::Tiled | Algorithm::TiledExactly { .. } => have_tile_chains(header),
-        Algorithm::A3d => have_tree(header),
-    }
-}
-
 /// The same under the header that was filed. Tiles behind the last granule were never filed.
 fn find_tiles<N: Notary>(
     alloc: Global,
@@ -175,7 +165,7 @@ fn find_tiles<N: Notary>(
 ) -> Result<Analysis, AnalyseFail>
     requires history { IsHistory (history header.now items.now) }
     ensures value { WhereTold (N.state notary.old).lists (N.state notary.new).lists (λ before after.
-        OrGivesUp (IsFoundWith (has_chains algorithm (layout_of header.now)) algorithm (before.batches header.now.id) tiles (history header.now items.now)) (found_as result)) }
+        OrGivesUp (IsFoundWith (has_chains algorithm (layout (history header.now items.now)) tiles) algorithm (before.batches header.now.id) tiles (history header.now items.now)) (found_as result)) }
     ensures fits { IfOk result FitsAnalysis }
     ensures none_other { IfErr result (IsOfFinding algorithm) }
     ensures same { Unchanged (N.state notary.old) (N.state notary.new) }
@@ -184,10 +174,10 @@ fn find_tiles<N: Notary>(
     ensures cause { HasCause NotaryFault (N.state notary.old).faults (N.state notary.new).faults result }
     ensures counted { ShowsFaults notary_in_doubt (N.state notary.old).faults (N.state notary.new).faults result }
 {
-    if !has_chains(algorithm, header) {
+    let eras = items.eras(alloc, header);
+    if !has_chains(algorithm, &eras, tiles) {
         return Err(AnalyseFail::NotSealedSo);
     }
-    let eras = items.eras(alloc, header);
     let past = eras.first_past();
     if tiles > past {
         let name = Name::Cum { tile: past };
@@ -196,6 +186,7 @@ fn find_tiles<N: Notary>(
     find_examined::<N, Brand>(
         alloc,
         header,
+        eras,
         items,
         notary,
         algorithm,
@@ -208,6 +199,7 @@ fn find_tiles<N: Notary>(
 fn find_examined<N: Notary, L: Ledger>(
     alloc: Global,
     header: &Header,
+    eras: Eras,
     items: &Spelled,
     notary: &mut N,
     algorithm: Algorithm,
@@ -216,7 +208,8 @@ fn find_examined<N: Notary, L: Ledger>(
 ) -> Result<Analysis, AnalyseFail>
     requires blank { IsBlankOf L.name L.parts blank }
     requires history { IsHistory (history header.now items.now) }
-    requires within { first_granule (layout_of header.now) tiles ≤ max_granules }
+    requires eras { eras ≡ policy_of (history header.now items.now) }
+    requires within { first_granule (layout (history header.now items.now)) tiles ≤ max_granules }
     ensures value { WhereTold (N.state notary.old).lists (N.state notary.new).lists (λ before after.
         OrGivesUp (IsFoundBy algorithm (before.batches header.now.id) tiles (history header.now items.now)) (found_as result)) }
     ensures fits { IfOk result FitsAnalysis }
@@ -230,7 +223,7 @@ fn find_examined<N: Notary, L: Ledger>(
     let mut steps = Steps::<L>::new(blank);
     let findings = search(alloc, header, items, notary, algorithm, tiles, &mut steps)?;
     let examined = Examined {
-        header: *header,
+        eras,
         tiles,
         findings,
     };

@@ -7,7 +7,7 @@ ghost use Rattle.forensic_report.specs.Values.{findings_of, analysis_of, FitsAna
 
 use crate::failing::FailingTiles;
 use a3d_forensics::A3dFound;
-use tuple_bytes::Header;
+use policy_eras::Eras;
 
 /// What an algorithm finds.
 #[derive(Drop)]
@@ -35,10 +35,10 @@ pub(crate) enum Analysis {
     Found { examined: Examined },
 }
 
-/// Under which header, how many tiles were examined, and what was found of them.
+/// Where the tiles lie, how many were examined, and what was found of them.
 #[derive(Drop)]
 pub(crate) struct Examined {
-    pub header: Header,
+    pub eras: Eras,
     pub tiles: u32,
     pub findings: Findings,
 }

@@ -27,7 +27,7 @@
 //! |---|---|
 //! | `reports_show` | of a history whose batches the notary holds: unless two inputs clash, each altered granule that the algorithm promises is named; where an alteration is told there is one, or another header, the tree's granules are altered, and each tile that fails has one that is, without exception (`Shows`) |
 //! | `sound_is_unaltered` | of a sound store no report tells of an alteration |
-//! | `refusals_are_clashes` | a notary that holds a history's batches has each seal that is asked for, or two inputs clash; chains are lacking only where that history's header has none, or two inputs clash |
+//! | `refusals_are_clashes` | a notary that holds a history's batches has each seal that is asked for, or two inputs clash; chains are lacking only where a tile of that history's range has none, or two inputs clash |
 //!
 //! Only tested, in `forensic_examples`: that calls succeed where there is memory.
 //!
@@ -50,8 +50,8 @@ mod finding;
 mod found;
 mod laws;
 mod lines;
-mod places;
 mod printing;
+mod range;
 mod report;
 mod searching;
 mod text;

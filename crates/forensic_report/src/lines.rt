@@ -2,18 +2,16 @@
 
 ghost use Rattle.std.specs.Prelude.{◌≡◌, ◌≤◌, ◌<◌, ◌^◌, ◌+◌, ◌++◌, map, OnOk};
 ghost use Rattle.digest_model.specs.Layout.{exponent, first_granule, max_granules};
-ghost use Rattle.tuple_bytes.specs.Spelling.{FitsHeader};
-ghost use Rattle.cumulative_chain.specs.Tiles.{layout_of};
+ghost use Rattle.policy_eras.specs.Policy.{layout_by};
 ghost use Rattle.number_text.specs.Numbered.{numbered};
 ghost use Rattle.forensic_report.specs.Texts.{algorithm_word, head_words, when_text, region_line_in, bits_text, list_text, candidates_by, target_line_in, granule_line_in, checks_line, first_line_in, every_granule};
 
 use crate::algorithm::Algorithm;
-use crate::places::{bits_of, first_of};
 use corruption_diagram::Span;
 use number_text::put_numbered;
+use policy_eras::Eras;
 use std::alloc::{AllocError, Global};
 use tiled_forensics::{Candidates, candidates, exactly};
-use tuple_bytes::Header;
 
 /// The word of an algorithm.
 fn put_algorithm(out: &mut Vec<u8>, algorithm: Algorithm) -> Result<(), AllocError>
@@ -80,25 +78,19 @@ fn put_when(alloc: Global, out: &mut Vec<u8>, span: Span) -> Result<(), AllocErr
 pub(crate) fn put_region(
     alloc: Global,
     out: &mut Vec<u8>,
-    header: &Header,
+    eras: &Eras,
     tiles: u32,
     first: u32,
     span: Span,
 ) -> Result<(), AllocError>
-    requires fits { FitsHeader header.now }
     requires some { first < tiles }
-    requires within { first_granule (layout_of header.now) tiles ≤ max_granules }
-    ensures ok { OnOk result (out.new.items ≡ out.old.items ++ region_line_in (layout_of header.now) tiles first span) }
+    requires within { first_granule (layout_by eras.now) tiles ≤ max_granules }
+    ensures ok { OnOk result (out.new.items ≡ out.old.items ++ region_line_in (layout_by eras.now) tiles first span) }
 {
     put_numbered(alloc, out, b"tiles ", u64::from(first))?;
     put_numbered(alloc, out, b" to ", u64::from(tiles - 1))?;
-    put_numbered(
-        alloc,
-        out,
-        b" granules ",
-        u64::from(first_of(header, first)),
-    )?;
-    put_numbered(alloc, out, b" to ", u64::from(first_of(header, tiles) - 1))?;
+    put_numbered(alloc, out, b" granules ", eras.first(first))?;
+    put_numbered(alloc, out, b" to ", eras.first(tiles) - 1)?;
     put_when(alloc, out, span)?;
     out.push(b'\n')?;
     Ok(())
@@ -125,7 +117,7 @@ fn put_bits(out: &mut Vec<u8>, count: u8, target: u16) -> Result<(), AllocError>
 fn put_candidates(
     alloc: Global,
     out: &mut Vec<u8>,
-    first: u32,
+    first: u64,
     candidates: Candidates,
 ) -> Result<(), AllocError>
     requires within { first ≤ max_granules }
@@ -133,7 +125,7 @@ fn put_candidates(
 {
     let mut none = true;
     for number in candidates {
-        put_numbered(alloc, out, b" ", u64::from(first + u32::from(number)))?;
+        put_numbered(alloc, out, b" ", first + u64::from(number))?;
         none = false;
     }
     if none {
@@ -159,25 +151,24 @@ pub(crate) fn put_target(
     alloc: Global,
     out: &mut Vec<u8>,
     algorithm: Algorithm,
-    header: &Header,
+    eras: &Eras,
     tile: u32,
     target: u16,
     span: Span,
 ) -> Result<(), AllocError>
-    requires fits { FitsHeader header.now }
-    requires below { first_granule (layout_of header.now) tile ≤ max_granules }
-    requires within { target < 2 ^ exponent (layout_of header.now) tile }
-    ensures ok { OnOk result (out.new.items ≡ out.old.items ++ target_line_in algorithm (layout_of header.now) (tile, target) span) }
+    requires below { first_granule (layout_by eras.now) tile ≤ max_granules }
+    requires within { target < 2 ^ exponent (layout_by eras.now) tile }
+    ensures ok { OnOk result (out.new.items ≡ out.old.items ++ target_line_in algorithm (layout_by eras.now) (tile, target) span) }
 {
     put_numbered(alloc, out, b"tile ", u64::from(tile))?;
     out.extend_from_slice(b" target ")?;
-    let bits = bits_of(header, tile);
+    let bits = eras.exponent(tile);
     put_bits(out, bits, target)?;
     out.extend_from_slice(b" candidates")?;
     put_candidates(
         alloc,
         out,
-        first_of(header, tile),
+        eras.first(tile),
         candidates_by(algorithm, target, bits),
     )?;
     put_when(alloc, out, span)?;

@@ -8,7 +8,6 @@ ghost use Rattle.notary_link.specs.Notary.{Unchanged, GoesOn};
 ghost use Rattle.history_model.specs.History.{history, txns};
 ghost use Rattle.history_model.specs.StoredHistory.{IsHistory};
 ghost use Rattle.digest_model.specs.Layout.{layout, first_granule, max_granules};
-ghost use Rattle.cumulative_chain.specs.Tiles.{layout_of};
 ghost use Rattle.forensic_report.specs.declared.algorithm.Algorithm.TheVariants.{Mono, Tiled, A3d};
 ghost use Rattle.forensic_report.specs.declared.fail.AnalyseFail.TheVariants.{NotaryFault};
 ghost use Rattle.forensic_report.specs.Fails.{notary_in_doubt};
@@ -40,14 +39,14 @@ pub(crate) fn search<N: Notary, L: Ledger>(
     steps: &mut Steps<L>,
 ) -> Result<Findings, AnalyseFail>
     requires history { IsHistory (history header.now items.now) }
-    requires within { first_granule (layout_of header.now) tiles ≤ max_granules }
+    requires within { first_granule (layout (history header.now items.now)) tiles ≤ max_granules }
     ensures value { WhereTold (N.state notary.old).lists (N.state notary.new).lists (λ before after.
         OrGivesUp (IsFoundBy algorithm (before.batches header.now.id) tiles (history header.now items.now))
-        (found_with (layout_of header.now) tiles result)) }
-    ensures fits { IfOk result (λ found. FitsFindings (layout_of header.now) tiles (findings_of found)) }
+        (found_with (layout (history header.now items.now)) tiles result)) }
+    ensures fits { IfOk result (λ found. FitsFindings (layout (history header.now items.now)) tiles (findings_of found)) }
     ensures none_other { IfErr result (IsOfFinding algorithm) }
     ensures same { Unchanged (N.state notary.old) (N.state notary.new) }
-    ensures asked { IfOk result (λ found. (N.state notary.new).asked ≤ (N.state notary.old).asked + asked_by (layout_of header.now) tiles (findings_of found)) }
+    ensures asked { IfOk result (λ found. (N.state notary.new).asked ≤ (N.state notary.old).asked + asked_by (layout (history header.now items.now)) tiles (findings_of found)) }
     ensures steps { steps.new ≤ steps.old + hashes_by algorithm * length (txns items.now) }
     ensures frame { GoesOn (N.state notary.old) (N.state notary.new) }
     ensures cause { HasCause NotaryFault (N.state notary.old).faults (N.state notary.new).faults result }
@@ -72,14 +71,14 @@ fn find_region<N: Notary, L: Ledger>(
     steps: &mut Steps<L>,
 ) -> Result<Findings, AnalyseFail>
     requires history { IsHistory (history header.now items.now) }
-    requires within { first_granule (layout_of header.now) tiles ≤ max_granules }
+    requires within { first_granule (layout (history header.now items.now)) tiles ≤ max_granules }
     ensures value { WhereTold (N.state notary.old).lists (N.state notary.new).lists (λ before after.
         OrGivesUp (IsFoundBy Mono (before.batches header.now.id) tiles (history header.now items.now))
-        (found_with (layout_of header.now) tiles result)) }
-    ensures fits { IfOk result (λ found. FitsFindings (layout_of header.now) tiles (findings_of found)) }
+        (found_with (layout (history header.now items.now)) tiles result)) }
+    ensures fits { IfOk result (λ found. FitsFindings (layout (history header.now items.now)) tiles (findings_of found)) }
     ensures none_other { IfErr result (IsOfFinding Mono) }
     ensures same { Unchanged (N.state notary.old) (N.state notary.new) }
-    ensures asked { IfOk result (λ found. (N.state notary.new).asked ≤ (N.state notary.old).asked + asked_by (layout_of header.now) tiles (findings_of found)) }
+    ensures asked { IfOk result (λ found. (N.state notary.new).asked ≤ (N.state notary.old).asked + asked_by (layout (history header.now items.now)) tiles (findings_of found)) }
     ensures steps { steps.new ≤ steps.old + hashes_by Mono * length (txns items.now) }
     ensures frame { GoesOn (N.state notary.old) (N.state notary.new) }
     ensures cause { HasCause NotaryFault (N.state notary.old).faults (N.state notary.new).faults result }
@@ -104,14 +103,14 @@ fn find_targets<N: Notary, L: Ledger>(
     steps: &mut Steps<L>,
 ) -> Result<Findings, AnalyseFail>
     requires history { IsHistory (history header.now items.now) }
-    requires within { first_granule (layout_of header.now) tiles ≤ max_granules }
+    requires within { first_granule (layout (history header.now items.now)) tiles ≤ max_granules }
     ensures value { WhereTold (N.state notary.old).lists (N.state notary.new).lists (λ before after.
         OrGivesUp (IsFoundBy Tiled (before.batches header.now.id) tiles (history header.now items.now))
-        (found_with (layout_of header.now) tiles result)) }
-    ensures fits { IfOk result (λ found. FitsFindings (layout_of header.now) tiles (findings_of found)) }
+        (found_with (layout (history header.now items.now)) tiles result)) }
+    ensures fits { IfOk result (λ found. FitsFindings (layout (history header.now items.now)) tiles (findings_of found)) }
     ensures none_other { IfErr result (IsOfFinding Tiled) }
     ensures same { Unchanged (N.state notary.old) (N.state notary.new) }
-    ensures asked { IfOk result (λ found. (N.state notary.new).asked ≤ (N.state notary.old).asked + asked_by (layout_of header.now) tiles (findings_of found)) }
+    ensures asked { IfOk result (λ found. (N.state notary.new).asked ≤ (N.state notary.old).asked + asked_by (layout (history header.now items.now)) tiles (findings_of found)) }
     ensures steps { steps.new ≤ steps.old + hashes_by Tiled * length (txns items.now) }
     ensures frame { GoesOn (N.state notary.old) (N.state notary.new) }
     ensures cause { HasCause NotaryFault (N.state notary.old).faults (N.state notary.new).faults result }
@@ -157,14 +156,14 @@ fn find_leaves<N: Notary, L: Ledger>(
     steps: &mut Steps<L>,
 ) -> Result<Findings, AnalyseFail>
     requires history { IsHistory (history header.now items.now) }
-    requires within { first_granule (layout_of header.now) tiles ≤ max_granules }
+    requires within { first_granule (layout (history header.now items.now)) tiles ≤ max_granules }
     ensures value { WhereTold (N.state notary.old).lists (N.state notary.new).lists (λ before after.
         OrGivesUp (IsFoundBy A3d (before.batches header.now.id) tiles (history header.now items.now))
-        (found_with (layout_of header.now) tiles result)) }
-    ensures fits { IfOk result (λ found. FitsFindings (layout_of header.now) tiles (findings_of found)) }
+        (found_with (layout (history header.now items.now)) tiles result)) }
+    ensures fits { IfOk result (λ found. FitsFindings (layout (history header.now items.now)) tiles (findings_of found)) }
     ensures none_other { IfErr result (IsOfFinding A3d) }
     ensures same { Unchanged (N.state notary.old) (N.state notary.new) }
-    ensures asked { IfOk result (λ found. (N.state notary.new).asked ≤ (N.state notary.old).asked + asked_by (layout_of header.now) tiles (findings_of found)) }
+    ensures asked { IfOk result (λ found. (N.state notary.new).asked ≤ (N.state notary.old).asked + asked_by (layout (history header.now items.now)) tiles (findings_of found)) }
     ensures steps { steps.new ≤ steps.old + hashes_by A3d * length (txns items.now) }
     ensures frame { GoesOn (N.state notary.old) (N.state notary.new) }
     ensures cause { HasCause NotaryFault (N.state notary.old).faults (N.state notary.new).faults result }

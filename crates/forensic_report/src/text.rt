@@ -5,7 +5,7 @@ ghost use Rattle.outside_words.specs.Faults.{HasCause};
 ghost use Rattle.outside_words.specs.Shown.{ShowsFaults};
 ghost use Rattle.outside_words.specs.Told.{WhereTold};
 ghost use Rattle.notary_link.specs.Notary.{Unchanged, GoesOn};
-ghost use Rattle.cumulative_chain.specs.Tiles.{layout_of};
+ghost use Rattle.policy_eras.specs.Policy.{layout_by};
 ghost use Rattle.corruption_diagram.specs.CleanMarks.{StandFor};
 ghost use Rattle.forensic_report.specs.declared.fail.AnalyseFail.TheVariants.{NotaryFault};
 ghost use Rattle.forensic_report.specs.Fails.{notary_in_doubt};
@@ -65,7 +65,7 @@ fn put_findings<N: Notary>(
     requires fits { FitsExamined examined.now }
     ensures value { WhereTold (N.state notary.old).lists (N.state notary.new).lists (λ before after.
         StandFor (before.marks request.id) clean.now
-        → OnOk result (out.new.items ≡ out.old.items ++ findings_text request.algorithm (layout_of examined.now.header) examined.now.tiles (kept_of before request.id request.now) (findings_of examined.now.findings))) }
+        → OnOk result (out.new.items ≡ out.old.items ++ findings_text request.algorithm (layout_by examined.now.eras) examined.now.tiles (kept_of before request.id request.now) (findings_of examined.now.findings))) }
     ensures more { OnOk result (Begins out.old.items out.new.items) }
     ensures only { IfErr result IsOfWriting }
     ensures same { Unchanged (N.state notary.old) (N.state notary.new) }
@@ -74,21 +74,21 @@ fn put_findings<N: Notary>(
     ensures cause { HasCause NotaryFault (N.state notary.old).faults (N.state notary.new).faults result }
     ensures counted { ShowsFaults notary_in_doubt (N.state notary.old).faults (N.state notary.new).faults result }
 {
-    let header = &examined.header;
+    let eras = &examined.eras;
     match &examined.findings {
         Findings::Region { first: None } => Ok(()),
         Findings::Region { first: Some(first) } => {
             let tiles = examined.tiles;
             let first = *first;
-            put_region_line(alloc, out, clean, notary, request, header, tiles, first)
+            put_region_line(alloc, out, clean, notary, request, eras, tiles, first)
         }
         Findings::Targets { targets } => {
             let targets = targets.as_slice();
-            put_targets(alloc, out, clean, notary, request, header, targets)
+            put_targets(alloc, out, clean, notary, request, eras, targets)
         }
         Findings::Leaves { found } => {
             let granules = found.granules.as_slice();
-            put_granules(alloc, out, clean, notary, request, header, granules)?;
+            put_granules(alloc, out, clean, notary, request, eras, granules)?;
             put_checks(alloc, out, found.checks)?;
             Ok(())
         }
@@ -105,7 +105,7 @@ fn put_altered<N: Notary>(
     tile: u32,
 ) -> Result<(), AnalyseFail>
     requires fits { FitsExamined examined.now }
-    requires first { slice_get (bad_tiles (layout_of examined.now.header) examined.now.tiles (findings_of examined.now.findings)) 0 ≡ Some tile }
+    requires first { slice_get (bad_tiles (layout_by examined.now.eras) examined.now.tiles (findings_of examined.now.findings)) 0 ≡ Some tile }
     ensures value { WhereTold (N.state notary.old).lists (N.state notary.new).lists (λ before after.
         OnOk result (out.new.items ≡ out.old.items ++ body_text request.algorithm (kept_of before request.id request.now) (found_of examined.now))) }
     ensures more { OnOk result (Begins out.old.items out.new.items) }
@@ -143,7 +143,7 @@ fn put_found<N: Notary>(
     ensures counted { ShowsFaults notary_in_doubt (N.state notary.old).faults (N.state notary.new).faults result }
 {
     let tiles = examined.tiles;
-    match first_bad(&examined.findings, &examined.header, tiles) {
+    match first_bad(&examined.findings, &examined.eras, tiles) {
         None => {
             put_head(alloc, out, request.algorithm, request.id, tiles, b"clean")?;
             Ok(())

@@ -3,7 +3,7 @@ use Rattle.outside_words.proofs.Told.{told_same, told_map}
 use Rattle.notary_link.specs.Notary.{Lists}
 use Rattle.notary_link.proofs.Frame.{goes_on_same, goes_on_then}
 use Rattle.notary_link.proofs.Unchanged.{unchanged_same, unchanged_then}
-use Rattle.cumulative_chain.specs.Tiles.{layout_of}
+use Rattle.policy_eras.specs.Policy.{layout_by}
 use Rattle.corruption_diagram.proofs.Reading.{told_both}
 use Rattle.digest_model.proofs.Layouts.{counts}
 use Rattle.forensic_report.specs.Texts.{target_line, target_line_in}
@@ -13,7 +13,7 @@ use Rattle.forensic_report.proofs.bodies.put_targets.Goals as goal
 pub loop-failing-init : goal.loop-failing-init
 loop-failing-init g c =
     let s = g.N.Notary.state c.args.notary.now in
-    let line = target_line c.args.request.algorithm (layout_of c.args.header.now) in record {
+    let line = target_line c.args.request.algorithm (layout_by c.args.eras.now) in record {
       told = told_same s.lists s.lists (λ before after. LinesAre line c.args.targets.now 0 c.args.clean.now c.args.request.now c.args.out.now.items c.args.out.now.items (before.batches c.args.request.id) (before.marks c.args.request.id)) refl (λ lists stand. refl);
       more = begins_same c.args.out.now.items;
       same = unchanged_same s;
@@ -29,7 +29,7 @@ loop-failing-preserved g c =
     let put = c.in_ok-put_target.ensures.ok in
     let i = c.loop-failing.failing-index in
     let t = get_or c.args.targets.now c.loop-failing.failing-index (0, 0) in
-    let l = layout_of c.args.header.now in
+    let l = layout_by c.args.eras.now in
     let line = target_line c.args.request.algorithm l in
     let old = c.args.out.now.items in
     let out = c.loop-failing.out.items in
@@ -51,7 +51,7 @@ loop-failing-preserved g c =
 
 pub returns-clause-value : goal.returns-clause-value
 returns-clause-value g c =
-    let line = target_line c.args.request.algorithm (layout_of c.args.header.now) in
+    let line = target_line c.args.request.algorithm (layout_by c.args.eras.now) in
     told_map _ _
     (λ (before after : Lists). LinesAre line c.args.targets.now c.loop-failing.failing-index c.args.clean.now c.args.request.now c.args.out.now.items c.loop-failing.out.items (before.batches c.args.request.id) (before.marks c.args.request.id))
     _ c.loop-failing.invariant.told
@@ -63,4 +63,4 @@ put_target-requires-clause-below g c = (c.requires.failing c.loop-failing.failin
 pub when_by-requires : goal.when_by-requires
 when_by-requires g c =
     let t = get_or c.args.targets.now c.loop-failing.failing-index (0, 0) in
-    record { small = omega (arith, counts (layout_of c.args.header.now) t.0, (c.requires.failing c.loop-failing.failing-index (0, 0) (omega arith)).0) }
+    record { small = omega (arith, counts (layout_by c.args.eras.now) t.0, (c.requires.failing c.loop-failing.failing-index (0, 0) (omega arith)).0) }

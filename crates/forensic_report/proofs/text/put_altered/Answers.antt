@@ -1,7 +1,7 @@
 use Rattle.std.proofs.Common.{◌≡◌, ◌++◌, List, arith}
 use Rattle.notary_link.specs.declared.mark.Mark.{Mark}
 use Rattle.notary_link.specs.Batches.{Batch}
-use Rattle.cumulative_chain.specs.Tiles.{layout_of}
+use Rattle.policy_eras.specs.Policy.{layout_by}
 use Rattle.corruption_diagram.specs.CleanMarks.{StandFor}
 use Rattle.corruption_diagram.proofs.Reading.{told_both}
 use Rattle.forensic_report.specs.Analysis.{Found, bad_tiles}
@@ -14,13 +14,13 @@ use Rattle.forensic_report.proofs.text.put_altered.Goals as goal
 
 pub put_first_change-requires : goal.put_first_change-requires
 put_first_change-requires g c = record {
-  small = omega (arith, first_within (layout_of c.args.examined.now.header) c.args.examined.now.tiles c.args.tile (findings_of c.args.examined.now.findings) c.requires.fits.each c.requires.first, few_tiles (layout_of c.args.examined.now.header) c.args.examined.now.tiles c.requires.fits.within);
+  small = omega (arith, first_within (layout_by c.args.examined.now.eras) c.args.examined.now.tiles c.args.tile (findings_of c.args.examined.now.findings) c.requires.fits.each c.requires.first, few_tiles (layout_by c.args.examined.now.eras) c.args.examined.now.tiles c.requires.fits.within);
 }
 
 pub returns-clause-value : goal.returns-clause-value
 returns-clause-value g c =
     let S = g.N.Notary.state in
-    let l = layout_of c.args.examined.now.header in
+    let l = layout_by c.args.examined.now.eras in
     let n = c.args.examined.now.tiles in
     let tile = c.args.tile in
     let findings = findings_of c.args.examined.now.findings in

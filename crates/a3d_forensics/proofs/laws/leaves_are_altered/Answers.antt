@@ -1,0 +1,8 @@
+use Rattle.a3d_forensics.proofs.Notarized.{all_listed, only_listed}
+use Rattle.a3d_forensics.proofs.laws.leaves_are_altered.Goals as goal
+
+pub returns : goal.returns
+returns c = record {
+  all = λ batches id h s n g audit has alt. all_listed batches id h s n audit c.descent_has_altered.ensures has g alt;
+  only = λ batches id h s n g audit has among. only_listed batches id h s n audit c.descent_is_altered.ensures has g among;
+}
