@@ -39,7 +39,7 @@ use Rattle.drill_core.specs.Steps.{Step, analysed, algorithm_of, filed_for, hist
 use Rattle.drill_core.specs.CallsMade.{MakesLineCalls}
 use Rattle.drill_core.specs.Stepping.{IsReply, Goes, Steps}
 use Rattle.drill_core.proofs.CallsTold.{calls_none}
-use Rattle.drill_core.proofs.Faults.{ends_anyhow}
+use Rattle.drill_core.proofs.Faults.{ends_anyhow, ends_any_time}
 use Rattle.drill_core.proofs.LineKinds.{shown, analyse_step, analyse_none}
 use Rattle.drill_core.proofs.Replies.{replied}
 use Rattle.drill_core.proofs.Validating.{history_is, keep, replies_as, told_unchanged}
@@ -105,6 +105,7 @@ module _ (algorithm : LineAlgorithm) (now : ℕ) (old new : State) (same : Uncha
       makes = subst (λ (x : Step). MakesLineCalls w line now (shown f) x result (desk old filed) (desk new filed_later) bytes) (sym (analyse_step w now algorithm f))
           (calls_none w line now (shown f) (analysed w (algorithm_of algorithm) now f) (ap (λ (x : World). x.store) (analysed_stays w (algorithm_of algorithm) now f)) bytes result old new same.trace filed filed_later (analyse_none w now algorithm f) unchanged.trace);
       only = ends_anyhow result;
+      timely = ends_any_time None refl result;
     }
 
     -- a report

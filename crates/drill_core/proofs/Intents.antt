@@ -8,7 +8,7 @@ use Rattle.store_engine.specs.Refusals.{Tail, tail_of}
 use Rattle.statement_core.specs.World as statements
 use Rattle.validator.specs.Desk.{Desk, Content, content}
 use Rattle.validator.specs.declared.fail.AuditFail.{AuditFail}
-use Rattle.validator.specs.Notarizing.{Intent, intent_of}
+use Rattle.validator.specs.Notarizing.{Intent, intent_of, early_fault}
 use Rattle.validator.specs.Reaching.{Does, Notarizes}
 use Rattle.drill_core.specs.World.{World, IsIn}
 use Rattle.drill_core.specs.Parts.{alone}
@@ -29,6 +29,10 @@ module _ (now : ℕ) (w : World) (ws : statements.World) (kept : Machine) (s : O
       ap (λ (t : Tail). intent_of t s.at.is_closed now ws.items (lists.batches s.header.id)) tail_is
       ∙ ap (λ (b : Bool). intent_of (statements.tail_of_world ws) b now ws.items (lists.batches s.header.id)) is_open
       ∙ ap (λ (l : List Batch). intent_of (statements.tail_of_world ws) false now ws.items l) (ap lists.batches i.id ∙ i.lists.batches w.id)
+
+  -- what speaks early against it
+  pub early_in : early_fault (tail_of s) s.at.is_closed now ≡ early_fault (statements.tail_of_world ws) false now
+  early_in = ap (λ (t : Tail). early_fault t s.at.is_closed now) tail_is ∙ ap (λ (b : Bool). early_fault (statements.tail_of_world ws) b now) is_open
 
   pub does_in : (r : Result ℕ AuditFail) (later : Opened) (old new : Desk) (after : Content) → Notarizes now ws.items r s later old new (content before lists) after → Does (intent_in w ws now) ws.items r s later old new (content before lists) after
   does_in r later old new after n = subst (λ (x : Intent). Does x ws.items r s later old new (content before lists) after) intent_is n

@@ -16,6 +16,7 @@ use Rattle.stmt_text.specs.Kinds.{line_kind}
 use Rattle.drill_core.specs.World.{World}
 use Rattle.drill_core.specs.Found.{Found}
 use Rattle.drill_core.specs.LineCalls.{notarize_calls, validate_calls, notary_calls}
+use Rattle.drill_core.specs.Faults.{early_of}
 use Rattle.drill_core.specs.Steps.{step, on_tables, notarized, validated, analysed, algorithm_of, MayFind}
 
 -- what stands for a find where nothing is looked for
@@ -29,22 +30,23 @@ judged verdict = record { verdict = verdict; analysis = Ok Unsealed }
 abbrev pub shown : Result Analysis AnalyseFail → Found
 shown analysis = record { verdict = Ok verdicts.Unsealed; analysis = analysis }
 
--- it goes to the tables or to a session, finds nothing, and calls no notary
+-- it goes to the tables or to a session, finds nothing, calls no notary, and nothing speaks early against it
 pub record GoesToTables (line : Line) : Type 0 where
   pub steps : (w : World) (now : ℕ) (found : Found) → step w line now found ≡ on_tables w w.store line now
   pub may : (w : World) (found : Found) → MayFind w line found
   pub calls : (w : World) (now : ℕ) (found : Found) → notary_calls w line now found ≡ []
+  pub early : (w : World) (now : ℕ) → early_of w line now ≡ None
   pub kind : IsOfStore (line_kind line)
 
 stmt_goes : (stmt : Stmt) → IsStatementLine (lines.Plain stmt) → GoesToTables (lines.Plain stmt)
 unfolding step notary_calls
-stmt_goes (stmts.Create table columns) on = record { steps = λ w now found. refl; may = λ w found. tt; calls = λ w now found. refl; kind = tt }
-stmt_goes (stmts.Insert table row) on = record { steps = λ w now found. refl; may = λ w found. tt; calls = λ w now found. refl; kind = tt }
-stmt_goes (stmts.Update table row) on = record { steps = λ w now found. refl; may = λ w found. tt; calls = λ w now found. refl; kind = tt }
-stmt_goes (stmts.Delete table key) on = record { steps = λ w now found. refl; may = λ w found. tt; calls = λ w now found. refl; kind = tt }
-stmt_goes (stmts.Get table key moment) on = record { steps = λ w now found. refl; may = λ w found. tt; calls = λ w now found. refl; kind = tt }
-stmt_goes (stmts.Scan table filter moment) on = record { steps = λ w now found. refl; may = λ w found. tt; calls = λ w now found. refl; kind = tt }
-stmt_goes (stmts.History table key) on = record { steps = λ w now found. refl; may = λ w found. tt; calls = λ w now found. refl; kind = tt }
+stmt_goes (stmts.Create table columns) on = record { steps = λ w now found. refl; may = λ w found. tt; calls = λ w now found. refl; early = λ w now. refl; kind = tt }
+stmt_goes (stmts.Insert table row) on = record { steps = λ w now found. refl; may = λ w found. tt; calls = λ w now found. refl; early = λ w now. refl; kind = tt }
+stmt_goes (stmts.Update table row) on = record { steps = λ w now found. refl; may = λ w found. tt; calls = λ w now found. refl; early = λ w now. refl; kind = tt }
+stmt_goes (stmts.Delete table key) on = record { steps = λ w now found. refl; may = λ w found. tt; calls = λ w now found. refl; early = λ w now. refl; kind = tt }
+stmt_goes (stmts.Get table key moment) on = record { steps = λ w now found. refl; may = λ w found. tt; calls = λ w now found. refl; early = λ w now. refl; kind = tt }
+stmt_goes (stmts.Scan table filter moment) on = record { steps = λ w now found. refl; may = λ w found. tt; calls = λ w now found. refl; early = λ w now. refl; kind = tt }
+stmt_goes (stmts.History table key) on = record { steps = λ w now found. refl; may = λ w found. tt; calls = λ w now found. refl; early = λ w now. refl; kind = tt }
 stmt_goes stmts.Begin on = absurd on
 stmt_goes stmts.Commit on = absurd on
 stmt_goes stmts.Abort on = absurd on
@@ -57,7 +59,7 @@ pub goes_to_tables : (line : Line) → IsStatementLine line → GoesToTables lin
 unfolding step notary_calls
 goes_to_tables (lines.Plain stmt) on = stmt_goes stmt on
 goes_to_tables lines.Blank on = absurd on
-goes_to_tables (lines.InSession session stmt) on = record { steps = λ w now found. refl; may = λ w found. tt; calls = λ w now found. refl; kind = tt }
+goes_to_tables (lines.InSession session stmt) on = record { steps = λ w now found. refl; may = λ w found. tt; calls = λ w now found. refl; early = λ w now. refl; kind = tt }
 goes_to_tables (lines.Drill event) on = absurd on
 
 -- ---- the other lines of a world

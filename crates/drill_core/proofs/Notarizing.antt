@@ -1,5 +1,5 @@
 -- A notarization does to the world what the definition says.
-use Rattle.std.proofs.Common.{◌≡◌, ◌≢◌, ◌⊎◌, ℕ, ◌+◌, ◌-◌, ◌≤◌, ◌<◌, ◌==◌, Bool, true, false, List, [], ◌∷◌, ◌++◌, length, take, Option, Some, None, IsSome, Result, Ok, Err, OnOk, IfOk, inl, inr, refl, sym, ap, subst, ◌∙◌, arith}
+use Rattle.std.proofs.Common.{◌≡◌, ◌≢◌, ◌⊎◌, ℕ, ◌+◌, ◌-◌, ◌≤◌, ◌<◌, ◌==◌, Bool, true, false, List, [], ◌∷◌, ◌++◌, length, take, Option, Some, None, IsSome, Result, Ok, Err, OnOk, IfOk, IfErr, inl, inr, refl, sym, ap, subst, ◌∙◌, arith}
 use Rattle.std.specs.Prelude.{if◌then◌else◌, codes}
 use Rattle.std.proofs.Math.Seq.{take-length}
 use Rattle.std.proofs.lemmas.Bool.{cases_eq, eq-eqb, ne_eqb}
@@ -32,7 +32,7 @@ use Rattle.validator.specs.declared.fail.AuditFail.{AuditFail}
 use Rattle.validator.specs.declared.fail.AuditFail.TheVariants as fails
 use Rattle.number_text.specs.Numbered.{numbered}
 use Rattle.validator.specs.Texts.{refusal_text}
-use Rattle.validator.specs.Notarizing.{Intent, IsRefusedBy}
+use Rattle.validator.specs.Notarizing.{Intent, early_fault, IsEarly, IsRefusedBy}
 use Rattle.validator.specs.Filing.{FilesFor, HasFiledMore}
 use Rattle.validator.specs.Reaching as reaching
 use Rattle.validator.specs.Reaching.{Does, Notarizes, IsReached, StoresAround}
@@ -40,6 +40,8 @@ use Rattle.drill_core.specs.declared.answered.Answered.{Answered}
 use Rattle.drill_core.specs.declared.fail.LineFail.{LineFail}
 use Rattle.drill_core.specs.World.{World, Held, IsIn, StoresOf, StoresWorld, with_store, AreBetween}
 use Rattle.drill_core.specs.Answers.{said, refusal, IsAnswer}
+use Rattle.drill_core.specs.Faults.{early_over, EndsTimely}
+use Rattle.store_engine.specs.Refusals.{tail_of}
 use Rattle.drill_core.proofs.Replies.{Answers, replies}
 use Rattle.drill_core.specs.Parts.{alone}
 use Rattle.drill_core.specs.CallsMade.{MakesLineCalls}
@@ -47,8 +49,8 @@ use Rattle.drill_core.specs.Steps.{Step, step, intent_in, says, refuses, filed, 
 use Rattle.drill_core.specs.Stepping.{Goes, Steps, StepsFor}
 use Rattle.drill_core.proofs.Between.{kept_between, keeps_then, filed_keeps, filed_between}
 use Rattle.drill_core.proofs.LineKinds.{none_found, notarize_step}
-use Rattle.drill_core.proofs.Intents.{does_in}
-use Rattle.drill_core.proofs.Faults.{ends_anyhow}
+use Rattle.drill_core.proofs.Intents.{does_in, early_in}
+use Rattle.drill_core.proofs.Faults.{ends_anyhow, ends_timely}
 use Rattle.drill_core.proofs.Left.{left}
 use Rattle.drill_core.proofs.NotaryCalls.{notarization_makes}
 use Rattle.drill_core.proofs.Sessions.{stands_still}
@@ -294,6 +296,7 @@ module _ (now : ℕ) (s later_s : Opened) (old new : State) (before after : List
   -- ---- either way
 
   module _ (filed_state later_state : notaries.State) (limits_are : filed_state.limits ≡ limits) (r : Result ℕ AuditFail) (result : Result Answered LineFail) (answer : IsAnswer sealed_text r result)
+      (early : IsEarly (early_fault (tail_of s) s.at.is_closed now) r) (early_is : early_fault (tail_of s) s.at.is_closed now ≡ early_fault (statements.tail_of_world ws) false now)
       (n : Does intent ws.items r s later_s (desk old filed_state) (desk new later_state) (content before lists) (content after later)) where
     files_world : FilesFor w.id limits batches r lists later
     files_world = subst (λ (id : ℕ). FilesFor id limits batches r lists later) i.id (subst (λ (l : NotaryLimits). FilesFor s.header.id l batches r lists later) limits_are n.files)
@@ -317,6 +320,7 @@ module _ (now : ℕ) (s later_s : Opened) (old new : State) (before after : List
       makes = subst (λ (x : Step). MakesLineCalls w (lines.Plain stmts.Notarize) now none_found x result (desk old filed_state) (desk new later_state) before) (sym step_is)
           (notarization_makes now w ws has.is s before has.stands i.id later_s lists i.lists (content after later) (desk old filed_state) (desk new later_state) (within ∙ sym limits_are) r n sealed_text result answer none_found);
       only = ends_anyhow result;
+      timely = subst (λ (e : Option AuditFail). IfErr result (EndsTimely e)) (sym (ap (λ (o : Option statements.World). early_over o now) has.is)) (subst (λ (e : Option AuditFail). IfErr result (EndsTimely e)) early_is (ends_timely sealed_text (tail_of s) s.at.is_closed now r result answer early));
     }
 
 told_known : {A : Type 0} (o n : Option A) (P Q : A → A → Type 0) → WhereTold o n P → ((b a : A) → o ≡ Some b → n ≡ Some a → P b a → Q b a) → WhereTold o n Q
@@ -326,16 +330,17 @@ told_known None n P Q told f = tt
 
 pub notarization : (now : ℕ) (s later_s : Opened) (old new : State) (filed later : notaries.State) → s.at.is_closed ≡ false → later_s.header ≡ s.header
     → ((c : List ℕ) → old.was_image (turn old) c → old.is_image c) → (r : Result ℕ AuditFail) (result : Result Answered LineFail) → IsAnswer sealed_text r result
+    → IsEarly (early_fault (tail_of s) s.at.is_closed now) r
     → WhereTold old.reads new.reads (λ before after. WhereTold filed.lists later.lists (λ lists later_lists.
     (items : List Item) → IsOpenOn s items before → Notarizes now items r s later_s (desk old filed) (desk new later) (content before lists) (content after later_lists)))
     → (kept_sessions : Machine) → StepsFor (lines.Plain stmts.Notarize) now result (alone kept_sessions s) (alone kept_sessions later_s) (desk old filed) (desk new later)
-notarization now s later_s old new filed later is_open header only_now r result answer told kept_sessions =
+notarization now s later_s old new filed later is_open header only_now r result answer early told kept_sessions =
     told_known old.reads new.reads _ _ told
     (λ before after was is at. told_map filed.lists later.lists _ _ at
     (λ lists later_lists does w i within.
     let has = has_store w kept_sessions s before lists i in
     notarizes now s later_s old new before after lists later_lists filed.limits header only_now (λ same. same_bytes before after (sym is ∙ same.reads ∙ was)) w kept_sessions i within has
-    filed later refl r result answer
+    filed later refl r result answer early (early_in now w has.world kept_sessions s before lists i has.stands is_open)
     (does_in now w has.world kept_sessions s before lists i has.stands is_open r later_s (desk old filed) (desk new later) (content after later_lists) (does has.world.items has.stands.open_on))))
   where
     same_bytes : (b a : List ℕ) → Some a ≡ Some b → a ≡ b

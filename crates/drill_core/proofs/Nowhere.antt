@@ -16,6 +16,7 @@ use Rattle.drill_core.specs.declared.fail.LineFail.{LineFail}
 use Rattle.drill_core.specs.declared.fail.LineFail.TheVariants as fails
 use Rattle.drill_core.specs.World.{World, IsIn, StoreIsIn}
 use Rattle.drill_core.specs.Answers.{refusal}
+use Rattle.drill_core.specs.Faults.{early_of}
 use Rattle.drill_core.specs.Parts.{no_store}
 use Rattle.drill_core.specs.Unheld.{NeedsStore}
 use Rattle.drill_core.specs.Steps.{Step, step, has_no_store, on_tables, notarized, MayFind}
@@ -24,7 +25,7 @@ use Rattle.drill_core.specs.CallsMade.{MakesLineCalls}
 use Rattle.drill_core.specs.Stepping.{Goes, StepsFor}
 use Rattle.drill_core.proofs.Between.{kept_between}
 use Rattle.drill_core.proofs.CallsTold.{calls_none}
-use Rattle.drill_core.proofs.Faults.{ends_wanting}
+use Rattle.drill_core.proofs.Faults.{ends_wanting, ends_wanting_early}
 use Rattle.drill_core.proofs.LineKinds.{none_found, GoesToTables, goes_to_tables, notarize_step, notarize_none}
 use Rattle.drill_core.proofs.Left.{left}
 use Rattle.drill_core.proofs.Validating.{replies_as, given}
@@ -90,4 +91,5 @@ nowhere line needs id now old only_now filed result reply only_memory =
       makes = subst (λ (x : Step). MakesLineCalls w line now none_found x result (desk old filed) (desk old filed) bytes) (sym r.step_is)
           (calls_none w line now none_found (has_no_store w) refl bytes result old old refl filed filed r.calls (told_same filed.trace filed.trace _ refl (λ was. refl)));
       only = ends_wanting ((step w line now none_found).world.store ≢ w.store) (line_kind line) result only_memory;
+      timely = ends_wanting_early (early_of w line now) result only_memory;
     }))

@@ -14,7 +14,7 @@ use Rattle.drill_core.specs.Parts.{alone}
 use Rattle.drill_core.specs.Stepping.{Steps, StepsFor}
 
 -- what is held is this open store under its id
-held_alone : (o : OpenStore) (held : Held) → held.opened ≡ Some o → held.id ≡ o.store.header.id → held ≡ alone o.sessions o.store
+pub held_alone : (o : OpenStore) (held : Held) → held.opened ≡ Some o → held.id ≡ o.store.header.id → held ≡ alone o.sessions o.store
 held_alone o held is own = ap (λ (n : ℕ). record { id = n; opened = held.opened }) own ∙ ap (λ (s : Option OpenStore). record { id = o.store.header.id; opened = s }) is
 
 module _ (line : Line) (now : ℕ) (old new : State) (filed filed_later : notaries.State) where
@@ -27,7 +27,7 @@ module _ (line : Line) (now : ℕ) (old new : State) (filed filed_later : notari
       (λ before after at. told_map filed.lists filed_later.lists (StepsOn fail held later before after) (StepsOn fail held other before after) at
       (λ lists later_lists steps w i within.
       let s = steps w i within in
-      record { found = s.found; may = s.may; goes = record { reply = tt; stands = tt; settled = λ only. tt; images = s.goes.images; kept = s.goes.kept; between = s.goes.between; ordered = s.goes.ordered; same = λ stays. tt }; makes = s.makes; only = s.only }))
+      record { found = s.found; may = s.may; goes = record { reply = tt; stands = tt; settled = λ only. tt; images = s.goes.images; kept = s.goes.kept; between = s.goes.between; ordered = s.goes.ordered; same = λ stays. tt }; makes = s.makes; only = s.only; timely = s.timely }))
 
   pub stops : (fail : LineFail) (o : OpenStore) (later held other : Held) → held.opened ≡ Some o → held.id ≡ o.store.header.id
       → StepsFor line now (Err fail) (alone o.sessions o.store) later (desk old filed) (desk new filed_later) → StepsFor line now (Err fail) held other (desk old filed) (desk new filed_later)

@@ -37,13 +37,13 @@ use Rattle.drill_core.specs.Answers.{replied, fault_of, IsReplied}
 use Rattle.drill_core.specs.Found.{Found}
 use Rattle.drill_core.specs.LineCalls.{items_added, appends, end_of_store, notary_calls}
 use Rattle.drill_core.specs.CallsMade.{MakesOfDisk, MakesOfNotary, MakesLineCalls}
-use Rattle.drill_core.specs.Faults.{IsOfStoring, MayEndIn}
+use Rattle.drill_core.specs.Faults.{IsOfStoring, MayEndIn, early_of}
 use Rattle.drill_core.specs.Parts.{alone, StepsBeside}
 use Rattle.drill_core.specs.Steps.{Step, on_tables, after_statement}
 use Rattle.drill_core.specs.Stepping.{Goes, Steps}
 use Rattle.drill_core.proofs.Between.{kept_between}
 use Rattle.drill_core.proofs.CallsTold.{none_made, statement_calls}
-use Rattle.drill_core.proofs.Faults.{ends_storing}
+use Rattle.drill_core.proofs.Faults.{ends_storing, ends_any_time}
 use Rattle.drill_core.proofs.LineKinds.{none_found, goes_to_tables}
 
 -- the world of an open store, with its sessions
@@ -169,6 +169,7 @@ module _ (kept later_kept : Machine) (s later : Opened) (header : later.header �
           makes = subst (λ (x : Step). MakesLineCalls w line now none_found x result (desk old filed) (desk new filed) b) (sym is)
               (makes w lists b a i has line now none_found next r result filed (goes_on.calls w now none_found) (of_answer has.world next.world.store next.answer (steps_keep_promises before line now).store) done answers);
           only = subst (λ (x : Step). IfErr result (MayEndIn (line_kind line) (x.world.store ≢ w.store))) (sym is) (ends_storing (Some next.world.store ≢ w.store) (line_kind line) goes_on.kind result (only w lists b a i has next r result done answers));
+          timely = ends_any_time (early_of w line now) (goes_on.early w now) result;
         }
 
     pub beside : WhereTold old.reads new.reads (StepsTo line now r kept later_kept s later old new) → StepsBeside line now result (alone kept s) (alone later_kept later) old new

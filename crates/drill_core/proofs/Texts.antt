@@ -1,5 +1,5 @@
 -- Only the reply that acknowledges a transaction begins as `ok` and a number.
-use Rattle.std.proofs.Common.{◌≡◌, ℕ, Bool, true, false, List, [], ◌∷◌, Option, Some, None, Result, Ok, Err, refl, arith}
+use Rattle.std.proofs.Common.{◌≡◌, ℕ, Bool, true, false, List, [], ◌∷◌, ◌++◌, Option, Some, None, Result, Ok, Err, refl, arith}
 use Rattle.std.specs.Prelude.{slice_index, if◌then◌else◌, nat_lt, codes}
 use Rattle.notary_link.specs.declared.mark.Mark.{Mark}
 use Rattle.notary_link.specs.Notary.{marks_in_all}
@@ -62,24 +62,28 @@ notarized_no w (Some store) now ok = by (intent_in w store now).fault ok
     by (Some fail) ok = (let first = ok.first in omega (arith, first))
     by None ok = of_room _ _ _ ok
 
-verdict_no : (verdict : Verdict) (w : World) → SaysOk (says w (verdict_text verdict)).text → ⊥
+pub verdict_no : (verdict : Verdict) → SaysOk (verdict_text verdict ++ 10 ∷ []) → ⊥
 unfolding verdict_text
-verdict_no verdicts.Unsealed w ok = (let first = ok.first in omega (arith, first))
-verdict_no (verdicts.Clean tiles) w ok = (let first = ok.first in omega (arith, first))
-verdict_no (verdicts.HeaderAltered tiles) w ok = (let first = ok.first in omega (arith, first))
-verdict_no (verdicts.Altered tiles bad) w ok = (let first = ok.first in omega (arith, first))
+verdict_no verdicts.Unsealed ok = (let first = ok.first in omega (arith, first))
+verdict_no (verdicts.Clean tiles) ok = (let first = ok.first in omega (arith, first))
+verdict_no (verdicts.HeaderAltered tiles) ok = (let first = ok.first in omega (arith, first))
+verdict_no (verdicts.Altered tiles bad) ok = (let first = ok.first in omega (arith, first))
 
 pub validated_no : (w : World) (now : ℕ) (found : Result Verdict AuditFail) → SaysOk (validated w now found).text → ⊥
 validated_no w now (Err fail) ok = (let first = ok.first in omega (arith, first))
 validated_no w now (Ok verdict) ok = by (mark_of verdict now) ok
   where
     of_room : (b : Bool) (new : World) → SaysOk (if b then says new (verdict_text verdict) else refuses w (refusal_text fails.Full)).text → ⊥
-    of_room true new ok = verdict_no verdict new ok
+    of_room true new ok = verdict_no verdict ok
     of_room false new ok = (let first = ok.first in omega (arith, first))
 
     by : (m : Option Mark) → SaysOk (marked w m (verdict_text verdict)).text → ⊥
-    by None ok = verdict_no verdict w ok
+    by None ok = verdict_no verdict ok
     by (Some mark) ok = of_room (nat_lt (marks_in_all w.lists) w.limits.marks) (with_lists w (with_mark w.id mark w.lists)) ok
+
+pub head_no : (algorithm : Algorithm) (id : ℕ) (a : Analysis) (rest : List ℕ) → SaysOk (head_line algorithm id a ++ rest) → ⊥
+unfolding head_line
+head_no algorithm id a rest ok = (let first = ok.first in omega (arith, first))
 
 pub analysed_no : (w : World) (algorithm : Algorithm) (now : ℕ) (found : Result Analysis AnalyseFail) → SaysOk (analysed w algorithm now found).text → ⊥
 unfolding report_text head_line

@@ -46,7 +46,7 @@ use Rattle.drill_core.proofs.LineKinds.{judged, validate_step, validate_notes}
 use Rattle.drill_core.proofs.Replies.{replied}
 use Rattle.drill_core.proofs.CallsTold.{none_made, all_replied, some_made, calls_beside}
 use Rattle.drill_core.proofs.MarkCalls.{was_marked, found_no_room, has_failed}
-use Rattle.drill_core.proofs.Faults.{ends_anyhow}
+use Rattle.drill_core.proofs.Faults.{ends_anyhow, ends_any_time}
 use Rattle.drill_core.proofs.Left.{left}
 
 pub replies_as : (next : Step) (x : Answered) (result : Result Answered LineFail) → x.text ≡ next.text → x.refused ≡ next.is_refused → IfOk result (λ answered. answered ≡ x) → IfOk result (IsReply next)
@@ -191,6 +191,7 @@ module _ (now : ℕ) (w : World) (held : Held) (old new : State) (bytes : List �
           (calls_beside w (lines.Plain stmts.Validate) now (judged f) (validated w now f) (with_validated w now f).0 bytes result old new same.trace filed filed_later
           (subst (λ (cs : List Call). Makes cs result) (sym (validate_notes w now f)) makes));
       only = ends_anyhow result;
+      timely = ends_any_time None refl result;
     }
 
     -- before anything is found

@@ -11,3 +11,4 @@ pub mod Reported
 pub mod Unheld
 pub mod Laws
 pub mod Acknowledged
+pub mod Growing

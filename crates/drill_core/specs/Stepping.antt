@@ -14,7 +14,7 @@ use Rattle.drill_core.specs.World.{World, Held, IsIn, StoresWorld, StoresEither,
 use Rattle.drill_core.specs.Found.{Found}
 use Rattle.drill_core.specs.Steps.{Step, step, MayFind}
 use Rattle.drill_core.specs.CallsMade.{MakesLineCalls}
-use Rattle.drill_core.specs.Faults.{MayEndIn}
+use Rattle.drill_core.specs.Faults.{MayEndIn, early_of, EndsTimely}
 
 -- this was replied
 pub record IsReply (next : Step) (answered : Answered) : Type 0 where
@@ -43,6 +43,8 @@ pub record Steps (line : Line) (now : ℕ) (w : World) (result : Result Answered
   pub makes : MakesLineCalls w line now found (step w line now found) result old new before
   -- the fault is of a device that the line uses
   pub only : IfErr result (MayEndIn (line_kind line) ((step w line now found).world.store ≢ w.store))
+  -- and comes where nothing speaks early against the line
+  pub timely : IfErr result (EndsTimely (early_of w line now))
 
 -- whatever world they stand for, with these limits
 abbrev pub StepsFor : Line → ℕ → Result Answered LineFail → Held → Held → Desk → Desk → Type 0

@@ -12,6 +12,8 @@ ghost use Rattle.forensic_report.specs.Fails.{disk_in_doubt, notary_in_doubt};
 ghost use Rattle.drill_core.specs.declared.fail.LineFail.TheVariants.{DiskFault, NotaryFault};
 ghost use Rattle.drill_core.specs.Answers.{IsReported};
 ghost use Rattle.drill_core.specs.Parts.{StepsWithout};
+ghost use Rattle.drill_core.specs.World.{Held};
+ghost use Rattle.drill_core.specs.Growing.{GrowsFor};
 ghost use Rattle.drill_core.specs.Steps.{algorithm_of};
 ghost use Rattle.drill_core.specs.Unheld.{TellsReport};
 
@@ -63,6 +65,7 @@ pub(crate) fn answer_analysis<D: Disk, N: Notary>(
 ) -> Result<Answered, LineFail>
     ensures report { TellsReport id (algorithm_of algorithm) now result
         (desk (D.state disk.old) (N.state notary.old)) (desk (D.state disk.new) (N.state notary.new)) }
+    ensures grows { (held : Held) → GrowsFor result held held (D.state disk.old) (D.state disk.new) }
     ensures told { StepsWithout (lines.Plain (stmts.Analyse algorithm)) now result id
         (D.state disk.old) (D.state disk.new) (N.state notary.old) (N.state notary.new) }
     ensures sound { KeepsSound (λ before. ⊤)

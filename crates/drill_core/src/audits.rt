@@ -16,6 +16,8 @@ ghost use Rattle.drill_core.specs.declared.fail.LineFail.TheVariants.{DiskFault,
 ghost use Rattle.drill_core.specs.Answers.{IsAnswerTo};
 ghost use Rattle.drill_core.specs.Stepping.{StepsFor};
 ghost use Rattle.drill_core.specs.Parts.{alone, StepsWithout};
+ghost use Rattle.drill_core.specs.World.{Held};
+ghost use Rattle.drill_core.specs.Growing.{GrowsFor};
 ghost use Rattle.drill_core.specs.Unheld.{GoesByBytes};
 
 use crate::answered::{Answered, found, refused, sealed};
@@ -53,6 +55,7 @@ pub(crate) fn answer_notarization<D: Disk, N: Notary>(
     requires open { store.old.at.is_closed ≡ false }
     ensures open { OnOk result (store.new.at.is_closed ≡ false) }
     ensures header { store.new.header ≡ store.old.header }
+    ensures grows { (kept : Machine) → GrowsFor result (alone kept store.old) (alone kept store.new) (D.state disk.old) (D.state disk.new) }
     ensures told { (kept : Machine) → StepsFor (lines.Plain stmts.Notarize) now result (alone kept store.old) (alone kept store.new)
         (desk (D.state disk.old) (N.state notary.old)) (desk (D.state disk.new) (N.state notary.new)) }
     ensures sound { KeepsSound (λ before. (items : List Item) × IsOpenOn store.old items before)
@@ -79,6 +82,7 @@ pub(crate) fn answer_validation<D: Disk, N: Notary>(
     now: u64,
 ) -> Result<Answered, LineFail>
     ensures bytes { GoesByBytes id now result (D.state disk.old) (D.state disk.new) (N.state notary.old) (N.state notary.new) }
+    ensures grows { (held : Held) → GrowsFor result held held (D.state disk.old) (D.state disk.new) }
     ensures told { StepsWithout (lines.Plain stmts.Validate) now result id
         (D.state disk.old) (D.state disk.new) (N.state notary.old) (N.state notary.new) }
     ensures sound { KeepsSound (λ before. ⊤)

@@ -37,6 +37,8 @@
 //! | so does an analysis, which leaves the disk and the notary; its report shows what is altered of each history that was filed so | `report` of `World::line` |
 //! | a failure is a fault of the disk or of the notary, or want of memory; behind a reply, a refusal too, neither counted a fault | `disk_cause` and `notary_cause`, `disk_counted` and `notary_counted` |
 //! | only a line that the notary answers ends in a fault of the notary; only such a line, or one that stores, in one of the disk | `only` of `World::line` and of `told`, by `MayEndIn` |
+//! | where the clock speaks against a notarization before anything is asked, it ends in no fault | `timely` of `told`, by `EndsTimely` |
+//! | of the store alone, whatever the notary tells: a crash leaves all items and perhaps more, what is replied `ok N` is stored, and the machine stands for the new bytes | `grows` of `World::line`, by `Grows` |
 //! | the store of the id is opened, or there is none | `value` of `World::enter` |
 //! | a world whose store is what was filed stays so at every line, and no line tells of an alteration | [`sound_worlds_stay_sound`] |
 //! | a line that is replied `ok N` leaves a store that has the transaction N, and no line takes an item away | [`steps_acknowledge`], [`steps_only_append`] |

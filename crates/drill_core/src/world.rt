@@ -21,6 +21,7 @@ ghost use Rattle.drill_core.specs.World.{StandsFor, IsEntered};
 ghost use Rattle.drill_core.specs.Faults.{MayEndIn};
 ghost use Rattle.drill_core.specs.Steps.{IsWorldLine};
 ghost use Rattle.drill_core.specs.Stepping.{StepsFor, KeepsStore};
+ghost use Rattle.drill_core.specs.Growing.{GrowsFor};
 ghost use Rattle.drill_core.specs.Unheld.{NeedsStore, IsToldNone, GoesByBytes, AnalysesBy};
 
 use crate::answered::Answered;
@@ -107,6 +108,7 @@ impl World {
             (desk (D.state disk.old) (N.state notary.old)) (desk (D.state disk.new) (N.state notary.new)) }
         ensures unasked { IsStatementLine line.now → N.state notary.new ≡ N.state notary.old }
         ensures only { IfErr result (MayEndIn (line_kind line.now) ⊤) }
+        ensures grows { GrowsFor result self.old self.new (D.state disk.old) (D.state disk.new) }
         ensures told { StepsFor line.now now result self.old self.new
             (desk (D.state disk.old) (N.state notary.old)) (desk (D.state disk.new) (N.state notary.new)) }
         ensures sound { KeepsSound (StandsFor self.old)

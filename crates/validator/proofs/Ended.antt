@@ -35,7 +35,7 @@ use Rattle.validator.proofs.Sound.{stays_sound}
 use Rattle.validator.proofs.Within.{tiles_in}
 
 -- no early cause: the store is open
-is_open : (s : Opened) (now : ℕ) → early_fault (tail_of s) s.at.is_closed now ≡ None → s.at.is_closed ≡ false
+pub is_open : (s : Opened) (now : ℕ) → early_fault (tail_of s) s.at.is_closed now ≡ None → s.at.is_closed ≡ false
 is_open s now none = by s.at.is_closed none
   where
     by : (b : Bool) → early_fault (tail_of s) b now ≡ None → b ≡ false

@@ -1,5 +1,5 @@
 -- What becomes of the store when a history is notarized: it is as it was, or has a Frontier more.
-use Rattle.std.specs.Prelude.{◌≡◌, ◌⊎◌, ℕ, true, List, [], ◌∷◌, ◌++◌, Option, Some, None, IsSome, Result, Ok, Err, IfOk}
+use Rattle.std.specs.Prelude.{◌≡◌, ◌⊎◌, ℕ, true, false, List, [], ◌∷◌, ◌++◌, Option, Some, None, IsSome, Result, Ok, Err, IfOk}
 use Rattle.outside_words.specs.Told.{WhereTold}
 use Rattle.disk_words.specs.declared.DiskFail.TheVariants as disk_fails
 use Rattle.disk_words.specs.Disk as disks
@@ -47,6 +47,21 @@ pub record IsReached (need : Option ℕ) (s later : Opened) (stored_items : List
   pub store_is : later ≡ reached need s
   pub open_on : IsOpenOn later (with_frontier_for need stored_items) after
   pub settled : disks.Only before old → disks.Only after new
+
+-- What becomes of a store and its disk, whatever the notary tells: at most a Frontier is stored.
+pub record Grows (stored_items : List Item) (s later_s : Opened) (old new : disks.State) (before after : List ℕ) : Type 0 where
+  -- its moment, where one is
+  pub frontier : Option ℕ
+  -- a store that is open stands for the new bytes
+  pub stands : later_s.at.is_closed ≡ false → IsReached frontier s later_s stored_items old new before after
+  -- a crash at any moment leaves the items, or those and the Frontier
+  pub images : disks.Only before old → EveryImage old new (StoresAround s.header stored_items frontier)
+  -- whatever was answered
+  pub kept : disks.Only before old → StoresAround s.header stored_items frontier after
+
+-- whatever items an open store stands for
+abbrev pub StoreGrows : Opened → Opened → disks.State → disks.State → Type 0
+StoreGrows s later_s old new = WhereTold old.reads new.reads (λ before after. (stored_items : List Item) → IsOpenOn s stored_items before → Grows stored_items s later_s old new before after)
 
 -- where the store stands after an answer: a fault of the disk and want of memory may also have shut it
 abbrev pub StandsAfter : {A : Type 0} → Result A AuditFail → (reached left shut : Type 0) → Type 0

@@ -17,7 +17,7 @@ ghost use Rattle.store_engine.specs.Opened.{IsOpenOn};
 ghost use Rattle.validator.specs.Desk.{WhereBothTell, desk};
 ghost use Rattle.validator.specs.declared.fail.AuditFail.TheVariants.{DiskFault, NotaryFault};
 ghost use Rattle.validator.specs.Fails.{disk_in_doubt, notary_in_doubt};
-ghost use Rattle.validator.specs.Reaching.{StaysOpen, Notarizes};
+ghost use Rattle.validator.specs.Reaching.{StaysOpen, Notarizes, StoreGrows};
 ghost use Rattle.validator.specs.Tiles.{end_of};
 ghost use Rattle.validator.specs.Steps.{fail_of_frontier, frontier_to, IsOfReaching, IsOfNotary, IsOfFilingAfter, Reaches, batches_from, FilesNext, IsNextPlan, IsChecked};
 
@@ -142,6 +142,7 @@ pub(crate) fn file_ended<D: Disk, N: Notary>(
         → IsChecked now store.old items (before.lists.batches store.old.header.id) plan.now.tiles count
         → Notarizes now items result store.old store.new
         (desk (D.state disk.old) (N.state notary.old)) (desk (D.state disk.new) (N.state notary.new)) before after) }
+    ensures grows { store.old.at.is_closed ≡ false → StoreGrows store.old store.new (D.state disk.old) (D.state disk.new) }
     ensures only { IfErr result IsOfFilingAfter }
     ensures open { StaysOpen result store.old store.new }
     ensures asked { (N.state notary.new).asked ≡ (N.state notary.old).asked }

@@ -36,6 +36,7 @@
 //! | no batch is filed before the store has reached the end of its tile on a settled disk | `told`: `ordered` |
 //! | no batch is filed before all changing calls of the disk | `told`: `order` |
 //! | a crash leaves the items, or those and the Frontier | `told`: `images`, `kept` |
+//! | whatever the notary tells: so it does, the bytes store them, and a store that stayed open stands for the new bytes | `grows` |
 //! | a sound store stays sound under each id, whatever is answered | `sound` |
 //! | at most two questions are asked | `asked` |
 //! | only a fault of the disk and want of memory close the store | `open` |

@@ -11,7 +11,7 @@ ghost use Rattle.store_engine.specs.Refusals.{tail_of};
 ghost use Rattle.validator.specs.declared.fail.AuditFail.TheVariants.{DiskFault, NotaryFault};
 ghost use Rattle.validator.specs.Fails.{disk_in_doubt, notary_in_doubt};
 ghost use Rattle.validator.specs.Notarizing.{early_fault, IsEarly};
-ghost use Rattle.validator.specs.Reaching.{Notarizes, IsLeft, StaysOpen, AsksNothing};
+ghost use Rattle.validator.specs.Reaching.{Notarizes, IsLeft, StaysOpen, AsksNothing, StoreGrows};
 ghost use Rattle.validator.specs.Desk.{KeepsSound, WhereBothTell, desk};
 ghost use Rattle.validator.specs.Steps.{IsTimely, IsOfClock};
 ghost use Rattle.tuple_bytes.specs.Spelling.{FitsHeader};
@@ -48,6 +48,7 @@ pub fn notarize<D: Disk, N: Notary>(
         (desk (D.state disk.old) (N.state notary.old)) (desk (D.state disk.new) (N.state notary.new)) (λ before after.
         (items : List Item) → IsOpenOn store.old items before.bytes → Notarizes now items result store.old store.new
         (desk (D.state disk.old) (N.state notary.old)) (desk (D.state disk.new) (N.state notary.new)) before after) }
+    ensures grows { StoreGrows store.old store.new (D.state disk.old) (D.state disk.new) }
     ensures sound { KeepsSound (λ before. (items : List Item) × IsOpenOn store.old items before)
         (desk (D.state disk.old) (N.state notary.old)) (desk (D.state disk.new) (N.state notary.new)) }
     ensures asked { (N.state notary.new).asked ≤ (N.state notary.old).asked + 2 }

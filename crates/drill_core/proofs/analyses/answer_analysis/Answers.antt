@@ -6,6 +6,8 @@ use Rattle.forensic_report.specs.Finding.{IsOfAnalysis}
 use Rattle.forensic_report.specs.Reporting.{Analyses}
 use Rattle.drill_core.specs.Steps.{algorithm_of}
 use Rattle.drill_core.proofs.Analysing.{unchanged_sound, analysis_shown, analysed_without}
+use Rattle.drill_core.specs.Growing.{text_in}
+use Rattle.drill_core.proofs.Growing.{grows_left, report_else}
 use Rattle.drill_core.proofs.analyses.answer_analysis.Goals as goal
 
 pub returns-clause-report : goal.returns-clause-report
@@ -32,3 +34,10 @@ returns-clause-told g c =
 
 pub returns-clause-sound : goal.returns-clause-sound
 returns-clause-sound g c = unchanged_sound _ _ _ _ c.analyse-answer.ensures.same c.analyse-answer.ensures.unchanged
+
+pub returns-clause-grows : goal.returns-clause-grows
+returns-clause-grows g c held =
+    let D = g.D.Disk.state in
+    let N = g.N.Notary.state in
+    grows_left (D c.args.disk.now) (D c.analyse-answer.new.disk) c.analyse-answer.ensures.same (g.met.D.Disk.only_now c.args.disk.now) text_in c.answer_to.result
+    (report_else c.algorithm_of.result c.args.id c.args.now (D c.args.disk.now) (N c.args.notary.now) (N c.analyse-answer.new.notary) c.analyse-answer.result c.answer_to.result c.analyse-answer.ensures.told c.answer_to.ensures.value) held

@@ -2,6 +2,8 @@ use Rattle.std.proofs.Common.{Ok, Err}
 use Rattle.std.proofs.lemmas.Result.{err_from_is_err_and}
 use Rattle.drill_core.specs.declared.fail.LineFail.TheVariants.{NoMemory}
 use Rattle.drill_core.proofs.Validating.{without}
+use Rattle.drill_core.specs.Growing.{text_in}
+use Rattle.drill_core.proofs.Growing.{grows_left, verdict_else}
 use Rattle.drill_core.proofs.audits.answer_validation.Goals as goal
 
 pub returns-in_err-found-in-Ok-clause-told : goal.returns-in_err-found-in-Ok-clause-told
@@ -25,3 +27,17 @@ returns-in-Err-clause-told g c =
     let N = g.N.Notary.state in
     without c.args.id c.args.now (S c.args.disk.now) (S c.validate.new.disk) (N c.args.notary.now) (N c.validate.new.notary) (Err c.in-Err.fail) c.answer_to.result c.in-Err.ensures.same
     (g.met.D.Disk.only_now c.args.disk.now) c.answer_to.ensures.value c.in-Err.ensures.trace c.in-Err.ensures.told
+
+pub returns-in_err-found-in-Ok-clause-grows : goal.returns-in_err-found-in-Ok-clause-grows
+returns-in_err-found-in-Ok-clause-grows g c held =
+    let p = err_from_is_err_and c.from_residual.result c.from_residual.ensures.1 in
+    rw (p.1, p.2) (grows_left (g.D.Disk.state c.args.disk.now) (g.D.Disk.state c.validate.new.disk) c.in-Ok.ensures.same (g.met.D.Disk.only_now c.args.disk.now) text_in (Err NoMemory) tt held)
+
+pub returns-in_ok-found-in-Ok-clause-grows : goal.returns-in_ok-found-in-Ok-clause-grows
+returns-in_ok-found-in-Ok-clause-grows g c held =
+    let result = c.in_ok-found-in-Ok.field-0 in
+    grows_left (g.D.Disk.state c.args.disk.now) (g.D.Disk.state c.validate.new.disk) c.in-Ok.ensures.same (g.met.D.Disk.only_now c.args.disk.now) text_in (Ok result) (verdict_else (Ok c.in-Ok.verdict) (Ok result) c.in_ok-found-in-Ok.ensures.value) held
+
+pub returns-in-Err-clause-grows : goal.returns-in-Err-clause-grows
+returns-in-Err-clause-grows g c held =
+    grows_left (g.D.Disk.state c.args.disk.now) (g.D.Disk.state c.validate.new.disk) c.in-Err.ensures.same (g.met.D.Disk.only_now c.args.disk.now) text_in c.answer_to.result (verdict_else (Err c.in-Err.fail) c.answer_to.result c.answer_to.ensures.value) held

@@ -2,7 +2,9 @@ use Rattle.std.proofs.Common.{rules, arith, ◌≡◌, ◌-◌, Option, Ok, Err,
 use Rattle.seal_plan.specs.Plan.{Planned}
 use Rattle.notary_link.proofs.Frame.{goes_on_same as notary_same, goes_on_then as notary_then}
 use Rattle.disk_words.proofs.Frame.{goes_on_same as disk_same, goes_on_then as disk_then}
-use Rattle.validator.proofs.Ended.{told_early, told_not_held, told_held, told_idle, keeps_sound}
+use Rattle.validator.proofs.Ended.{told_early, told_not_held, told_held, told_idle, keeps_sound, is_open}
+use Rattle.validator.proofs.Disks.{unchanged_same}
+use Rattle.validator.proofs.Grown.{grows_idle, grows_behind}
 use Rattle.validator.proofs.notarizing.notarize.Goals as goal
 
 pub returns-in_err-granule-clause-told : goal.returns-in_err-granule-clause-told
@@ -67,3 +69,24 @@ returns-in-None-clause-sound g c =
     let granule = c.in_ok-granule.ensures.value.1 in
     let below = c.in_ok-granule.ensures.within in
     keeps_sound c.args.now c.args.store.now c.args.store.now (Ok (c.in_ok-plan.count - 1)) (S c.args.disk.now) (S c.hold_stored.new.disk) (T c.args.notary.now) (T c.hold_stored.new.notary) c.in_ok-granule.ensures.fits (omega (arith, granule, below)) (g.met.D.Disk.reads_image c.args.disk.now) (g.met.D.Disk.counts_now c.hold_stored.new.disk) (returns-in-None-clause-told g c)
+
+pub returns-in_err-granule-clause-grows : goal.returns-in_err-granule-clause-grows
+returns-in_err-granule-clause-grows g c =
+    let S = g.D.Disk.state in
+    grows_idle c.args.store.now (S c.args.disk.now) (S c.args.disk.now) (unchanged_same (S c.args.disk.now)) (g.met.D.Disk.only_now c.args.disk.now)
+
+pub returns-in_err-plan-clause-grows : goal.returns-in_err-plan-clause-grows
+returns-in_err-plan-clause-grows g c =
+    let S = g.D.Disk.state in
+    grows_idle c.args.store.now (S c.args.disk.now) (S c.hold_stored.new.disk) c.in_err-plan.ensures.same (g.met.D.Disk.only_now c.args.disk.now)
+
+pub returns-in-Some-clause-grows : goal.returns-in-Some-clause-grows
+returns-in-Some-clause-grows g c =
+    let S = g.D.Disk.state in
+    grows_behind c.args.store.now c.file_ended.new.store (S c.args.disk.now) (S c.hold_stored.new.disk) (S c.file_ended.new.disk) c.in_ok-plan.ensures.same (g.met.D.Disk.only_now c.args.disk.now)
+    (c.file_ended.ensures.grows (is_open c.args.store.now c.args.now c.in_ok-granule.ensures.value.0))
+
+pub returns-in-None-clause-grows : goal.returns-in-None-clause-grows
+returns-in-None-clause-grows g c =
+    let S = g.D.Disk.state in
+    grows_idle c.args.store.now (S c.args.disk.now) (S c.hold_stored.new.disk) c.in_ok-plan.ensures.same (g.met.D.Disk.only_now c.args.disk.now)
