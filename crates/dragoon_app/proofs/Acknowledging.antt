@@ -16,14 +16,14 @@ use Rattle.statement_core.specs.World as statements
 use Rattle.drill_core.specs.Found.{Found}
 use Rattle.drill_core.specs.World.{StoresWorld, StoresOf}
 use Rattle.drill_core.specs.Steps.{step}
-use Rattle.drill_core.specs.Acknowledged.{HasTxn, IsStored, OnlyAppends, ok_text}
+use Rattle.drill_core.specs.Acknowledged.{HasTxn, IsStored, StoresMore, OnlyAppends, ok_text}
 use Rattle.drill_core.proofs.Texts.{SaysOk, says_ok}
 use Rattle.drill_core.proofs.Acknowledging.{appends_none, steps_append, steps_acknowledge}
 use Rattle.stmt_text.specs.declared.kind.LineKind.{LineKind}
 use Rattle.stmt_text.specs.declared.kind.LineKind.TheVariants as kinds
 use Rattle.stmt_text.specs.Kinds.{line_kind}
 use Rattle.dragoon_app.specs.Running.{Running, Timed, carry, carried, answered, said_by, seconds_of, set_moment, refused_text}
-use Rattle.dragoon_app.specs.Acknowledged.{IsReplied, StoresMore, AcknowledgedIsStored, RunsOnlyAppend}
+use Rattle.dragoon_app.specs.Acknowledged.{IsReplied, AcknowledgedIsStored, RunsOnlyAppend}
 
 -- ---- only items more are stored
 
@@ -116,7 +116,7 @@ module _ (digits : List ℕ) where
 txns_both : (xs ys : List Item) → txns (xs ++ ys) ≡ txns xs ++ txns ys
 txns_both xs ys = filter_map-append txn_in xs ys
 
-txn_stays : (digits : List ℕ) (is more : List Item) → HasTxn digits is → HasTxn digits (is ++ more)
+pub txn_stays : (digits : List ℕ) (is more : List Item) → HasTxn digits is → HasTxn digits (is ++ more)
 txn_stays digits is more has = record {
   txn = has.txn;
   number = has.number;

@@ -33,6 +33,7 @@ use Rattle.dragoon_app.specs.declared.runner.Runner.{Runner}
 use Rattle.dragoon_app.specs.Running.{Running, Timed, carried}
 use Rattle.dragoon_app.specs.Ran.{Ends, IsNext, IsUnderWay, Reads, TakesNoMore, lines_in, text_before, Takes}
 use Rattle.dragoon_app.specs.Failing.{EndsByUse}
+use Rattle.dragoon_app.proofs.Growing.{GrownFrom}
 use Rattle.dragoon_app.specs.Devices.{Devices, content, devices, site}
 use Rattle.dragoon_app.specs.Carrying.{Wherever, IsLineOf, Replies, RepliesFrom, Carries, CarriesFrom, IsWritten, IsBetween, ending, of_line, of_input, of_output}
 use Rattle.dragoon_app.proofs.Faults.{uses_run}
@@ -78,10 +79,11 @@ pub record IsGoing (first runner : Runner) (old now : disks.State) (filed later 
   pub clock_frame : clocks.GoesOn clock ahead
   pub input_frame : sources.GoesOn input left
 
--- the same, with what every call of the output keeps
+-- the same, with what every call of the output keeps, and what becomes of the store alone
 pub record IsCarrying (first runner : Runner) (old now : disks.State) (filed later : notaries.State) (clock ahead : clocks.State) (input left : sources.State) (reader : Reading) (out written : sinks.State) : Type 0 where
   pub going : IsGoing first runner old now filed later clock ahead input left reader (λ before text. sinks.IsOut text out written)
   pub out_frame : sinks.GoesOn out written
+  pub grows : GrownFrom first runner old now input left reader out written
 
 pub begins : (runner : Runner) (s : disks.State) (filed : notaries.State) (clock : clocks.State) (input : sources.State) (reader : Reading) (out : sinks.State)
     → ((c : List ℕ) → s.was_image (disks.turn s) c → s.is_image c) → reader ≡ record { line = []; pending = []; taken = 0 }
@@ -106,11 +108,11 @@ lines_more : (done : List Timed) (t : Timed) (line : List ℕ) → t.line ≡ li
 lines_more done t line is = map-append (λ (t : Timed). t.line) done (t ∷ []) ∙ ap (λ (l : List ℕ). lines_in done ++ l ∷ []) is
 
 -- the lines after one more was read
-read_on : (done : List Timed) (reader later : Reading) (input left rest : sources.State) → TellsAlike input.rest left.rest → WhereTold input.rest left.rest (IsRead (lines_in done) reader)
-    → Tells (Ok true) reader later left rest → IsFeedless later.line → readers.Takes reader later left rest → WhereTold input.rest rest.rest (IsRead (lines_in done ++ later.line ∷ []) later)
+pub read_on : (done : List (List ℕ)) (reader later : Reading) (input left rest : sources.State) → TellsAlike input.rest left.rest → WhereTold input.rest left.rest (IsRead done reader)
+    → Tells (Ok true) reader later left rest → IsFeedless later.line → readers.Takes reader later left rest → WhereTold input.rest rest.rest (IsRead (done ++ later.line ∷ []) later)
 read_on done reader later input left rest alike read tells clear takes =
     told_then input.rest left.rest rest.rest _ _ _ alike read (told_both left.rest rest.rest _ _ tells takes.as_lost)
-    (λ all others left so_far next. read_more (lines_in done) reader later all others left so_far next.0 clear next.1 takes.within)
+    (λ all others left so_far next. read_more done reader later all others left so_far next.0 clear next.1 takes.within)
 
 -- what is said of a reply within the limits, and of a run that is scripted so
 abbrev Within : NotaryLimits → Bool → List ℕ → Result (List ℕ) LineFail → Runner → Runner → disks.State → disks.State → notaries.State → notaries.State → clocks.State → clocks.State → Type 0
@@ -140,7 +142,7 @@ module _ (first runner last : Runner) (old mid new : disks.State) (filed half la
         let said : (carried first.is_scripted begin (a.done ++ x.timed ∷ [])).text ≡ r.text ++ text = ap (λ (y : Running). y.text) (carried_more first.is_scripted begin a.done x.timed) ∙ x.goes.reply in
         record {
           done = a.done ++ x.timed ∷ [];
-          read = subst (λ (ls : List (List ℕ)). WhereTold input.rest rest.rest (IsRead ls next)) (sym (lines_more a.done x.timed next.line x.line_is)) (read_on a.done reader next input left rest g.input_frame.told a.read tells clear takes);
+          read = subst (λ (ls : List (List ℕ)). WhereTold input.rest rest.rest (IsRead ls next)) (sym (lines_more a.done x.timed next.line x.line_is)) (read_on (lines_in a.done) reader next input left rest g.input_frame.told a.read tells clear takes);
           takes = takes_then first.is_scripted a.done (x.timed ∷ []) clock tick tock g.clock_frame.told a.takes x.seconds;
           stands = stands_more first.is_scripted begin a.done x.timed runner last old mid new before here after filed.limits lists here_lists later_lists text a.stands x.may x.goes;
           said = λ silent. subst (λ (b : List ℕ). After b (carried first.is_scripted begin (a.done ++ x.timed ∷ [])).text) (sym (before_more first.is_scripted begin a.done x.timed))
@@ -329,7 +331,7 @@ module _ (first runner last : Runner) (old mid new : disks.State) (filed half la
       let s = a.stands in
       let r : Running = carried first.is_scripted begin a.done in
       let x = from r s.at in
-      let read = read_on a.done reader next input left rest g.input_frame.told a.read tells clear takes in
+      let read = read_on (lines_in a.done) reader next input left rest g.input_frame.told a.read tells clear takes in
       record {
         done = a.done;
         next = x.timed;

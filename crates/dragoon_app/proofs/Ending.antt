@@ -3,11 +3,11 @@ use Rattle.std.proofs.Common.{if◌then◌else◌, ◌≡◌, ◌≢◌, ◌<◌
 use Rattle.std.specs.Prelude.{◌⊎◌, nat_lt, IsErrOf, IfSome}
 use Rattle.std.proofs.lemmas.Bool.Decides.{nat_tests}
 use Rattle.outside_words.specs.Faults.{Rose}
+use Rattle.outside_words.specs.Told.{WhereTold}
 use Rattle.outside_words.proofs.Told.{told_map}
 use Rattle.disk_words.specs.Disk as disks
 use Rattle.outside_io.specs.Sink.{State, IsOut, IsOutBut, FrontIsOut}
 use Rattle.outside_io.proofs.Out.{out_then, out_but_end}
-use Rattle.disk_model.proofs.Moments.{weaker}
 use Rattle.tuple_bytes.specs.declared.header.Header.{Header}
 use Rattle.tuple_bytes.specs.Spelling.{FitsHeader}
 use Rattle.history_model.specs.Stored.{stored}
@@ -26,13 +26,15 @@ use Rattle.dragoon_app.specs.Outcome.{Said, CutsOff, WriteCause, refused}
 use Rattle.dragoon_app.specs.Running.{Running, Timed, start, carried, world_of}
 use Rattle.dragoon_app.specs.Ran.{IsNext, TakesNoMore, Reads, CauseOf, IsToTell, IsCutAtEnd, Writes, IsSettled, RunsLines, Runs, KeepsPromises, RunsStore, RunsHeader, RunsOn, opened, lines_in, text_before}
 use Rattle.dragoon_app.specs.Failing.{EndsByUse}
-use Rattle.dragoon_app.specs.Carrying.{IsReady, Carries, CarriesFrom, IsWritten, IsBetween, ending, EndsWith, RunsFrom, SoundFrom}
+use Rattle.dragoon_app.specs.Carrying.{IsReady, Carries, CarriesFrom, IsWritten, IsBetween, ending, EndsWith, RunsFrom, SoundFrom, RunGrowsFrom}
 use Rattle.dragoon_app.specs.Devices.{Content, Devices, StaysSound, content, desk, devices, site_of}
+use Rattle.dragoon_app.specs.Growing.{RunGrows}
 use Rattle.dragoon_app.proofs.Faults.{KeepsUse}
+use Rattle.dragoon_app.proofs.RunGrowing.{run_opened}
 use Rattle.dragoon_app.proofs.OnStore.{IsHeaderOf, cause_from, only_before, every_image_from, told_from, at_disk, opened_on, telling}
 use Rattle.dragoon_app.proofs.SoundKept.{sound_images}
 use Rattle.dragoon_app.proofs.SoundRuns.{sound_runs, sound_begin}
-use Rattle.dragoon_app.proofs.Acknowledging.{acknowledged_in, appended_in, replied_more}
+use Rattle.dragoon_app.proofs.Acknowledging.{acknowledged_in, replied_more}
 use Rattle.dragoon_app.proofs.Wherever.{told_both, wherever_map}
 use Rattle.dragoon_app.proofs.Standing.{stores_in}
 
@@ -230,7 +232,6 @@ promises_kept scripted header done next result old new before after here has fit
     let all : List Timed = done ++ next ∷ [] in
     record {
       unaltered = λ sound. (sound_runs sound_worlds scripted begin all (fits, refl) (sound_begin old.desk.disk.is_image before.bytes header before.lists old.desk.notary.limits here has sound) lines.found).0;
-      appends = λ only. weaker (lines.store.images only) (λ c front. appended_in scripted begin (world_of header before.bytes) (take front.0 all) c refl front.1);
       acknowledged = λ only digits replied c is. ⊎_elim
           (λ (so_far : StoresWorld (carried scripted begin done).world c). acknowledged_in scripted begin done digits c replied so_far)
           (λ (more : StoresWorld (carried scripted begin all).world c). acknowledged_in scripted begin all digits c (replied_more (ok_text digits) scripted begin done (next ∷ []) replied) more)
@@ -254,9 +255,18 @@ runs_store scripted header result first old new before after same le here has fi
     }
 
 module _ (id : ℕ) (runner : Runner) (first : disks.State) (old new : Devices) (ready : IfSome first.reads (IsReady runner)) (is : runner.world.id ≡ id) (same : disks.Unchanged first old.desk.disk) where
-  pub ran_opened : (result : Status) → IfSome first.reads first.is_image → first.faults ≤ old.desk.disk.faults → RunsFrom result runner old new → RunsOn runner.is_scripted id result (at_disk first old) new
-  ran_opened result image le runs = opened_on id (RunsHeader runner.is_scripted) result (at_disk first old) new (telling first.reads new.desk.disk.reads (IsHeaderOf id) _
-      (told_from first.reads old.desk.disk.reads new.desk.disk.reads _ _ _ same.reads (if_both first.reads first.is_image (IsReady runner) image ready) runs (λ before after both from.
+  -- what is said over a header, where the notary tells
+  abbrev Lists : Status → Header → List ℕ → List ℕ → Type 0
+  Lists result h before after = WhereTold old.desk.notary.lists new.desk.notary.lists (λ filed later. RunsStore runner.is_scripted h result (at_disk first old) new (content before filed) (content after later))
+
+  -- and whatever it tells
+  abbrev OverHeader : Status → Header → List ℕ → List ℕ → Type 0
+  OverHeader result h before after = Lists result h before after × RunGrows (at_disk first old) new before
+
+  pub ran_opened : (result : Status) → IfSome first.reads first.is_image → first.faults ≤ old.desk.disk.faults → RunsFrom result runner old new → RunGrowsFrom runner old new → RunsOn runner.is_scripted id result (at_disk first old) new
+  ran_opened result image le runs grows = opened_on id (RunsHeader runner.is_scripted) result (at_disk first old) new (told_map first.reads new.desk.disk.reads _ _
+      (telling first.reads new.desk.disk.reads (IsHeaderOf id) (OverHeader result)
+      (told_map first.reads new.desk.disk.reads _ _ (told_both first.reads new.desk.disk.reads (λ before after. (h : Header) × IsHeaderOf id before h × Lists result h before after) (λ before after. RunGrows (at_disk first old) new before) (told_from first.reads old.desk.disk.reads new.desk.disk.reads _ _ _ same.reads (if_both first.reads first.is_image (IsReady runner) image ready) runs (λ before after both from.
       let r = both.1 in
       let h : Header = r.header in
       let limits = old.desk.notary.limits in (
@@ -265,7 +275,16 @@ module _ (id : ℕ) (runner : Runner) (first : disks.State) (old new : Devices) 
         told_map old.desk.notary.lists new.desk.notary.lists _ _ from (λ lists later_lists begins.
             runs_store runner.is_scripted h result first old new (content before lists) (content after later_lists) same le both.0 r.is r.fits
             (begins (start (world_of h before) lists limits) (r.at lists limits) refl)),
-      ))))
+      ))) (run_opened runner first old new same ready grows))
+      (λ before after both. (both.0.0, both.0.1, (both.0.2, both.1)))))
+      (λ before after h. (
+        h.0,
+        h.1,
+        record {
+          runs = told_map first.reads new.desk.disk.reads _ _ h.2 (λ b a x. x.0);
+          grows = told_map first.reads new.desk.disk.reads _ _ h.2 (λ b a x. x.1);
+        },
+      )))
 
   pub opened_sound : SoundFrom runner old.desk new.desk → StaysSound (desk first old.desk.notary) new.desk
   opened_sound sound = told_from first.reads old.desk.disk.reads new.desk.disk.reads _ _ _ same.reads ready sound (λ before after r from. told_map old.desk.notary.lists new.desk.notary.lists _ _ from (λ lists later_lists begins any stands only was.

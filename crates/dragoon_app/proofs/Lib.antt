@@ -24,9 +24,14 @@ pub mod Acknowledging
 pub mod Faults
 pub mod Wherever
 pub mod Standing
+pub mod Growing
 pub mod CarriedLines
+pub mod RunGrowing
 pub mod Replying
 pub mod Ending
 pub mod MadeLines
 pub mod LastTwo
 pub mod MadeEnding
+pub mod Completing
+pub mod CompletingAudits
+pub mod Completed

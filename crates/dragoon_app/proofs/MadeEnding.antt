@@ -2,6 +2,7 @@
 use Rattle.std.proofs.Common.{◌≡◌, ◌∙◌, ◌≤◌, ℕ, true, List, ◌++◌, length, drop, refl, sym, ap, subst, inl, inr, ⊎_elim, append_assoc, Result, Ok, Err, Option, Some, None}
 use Rattle.std.specs.Prelude.{nat_lt, if◌then◌else◌, Bool, false, IfSome, IsErrOf}
 use Rattle.outside_words.specs.Faults.{Rose}
+use Rattle.outside_words.specs.Told.{WhereTold}
 use Rattle.outside_words.proofs.Told.{told_map}
 use Rattle.disk_words.specs.Disk as disks
 use Rattle.disk_words.proofs.Steady.{unchanged_then}
@@ -18,7 +19,7 @@ use Rattle.drill_core.specs.declared.open_store.OpenStore.{OpenStore}
 use Rattle.drill_core.specs.World.{StoreIsIn, no_sessions}
 use Rattle.drill_core.specs.declared.fail.LineFail.{LineFail}
 use Rattle.drill_core.specs.declared.fail.LineFail.TheVariants as lines
-use Rattle.validator.proofs.Telling.{if_both}
+use Rattle.validator.proofs.Telling.{if_both, told_both}
 use Rattle.workload_make.specs.Script.{script}
 use Rattle.dragoon_app.specs.declared.make.LastTwo.{LastTwo}
 use Rattle.dragoon_app.specs.declared.runner.Runner.{Runner}
@@ -29,7 +30,9 @@ use Rattle.dragoon_app.specs.Devices.{Desk, Content, Site, Devices, AllIsLeft, c
 use Rattle.dragoon_app.specs.Running.{Running, Timed, start, carried, world_of}
 use Rattle.dragoon_app.specs.Ran.{IsSettled, RunsLines, ending_by, opened}
 use Rattle.dragoon_app.specs.Failing.{EndsByUse}
-use Rattle.dragoon_app.specs.Carrying.{IsReady, IsAt, EndsWith, FromWhere, SoundFrom, of_line}
+use Rattle.dragoon_app.specs.Growing.{OnlyGrows}
+use Rattle.dragoon_app.proofs.RunGrowing.{grows_opened}
+use Rattle.dragoon_app.specs.Carrying.{IsReady, IsAt, EndsWith, FromWhere, SoundFrom, of_line, OnlyGrowsFrom}
 use Rattle.dragoon_app.specs.Made.{Makes, MakesStore, MakesHeader, MakesOn, Tells, made_line, made_outcome, last_two, all_but_two, txns_in}
 use Rattle.dragoon_app.specs.MakingLines.{AreLastTwo, MakesLines, MakesLinesFrom, MakesFrom, script_for, width_of, stored_in, told_of, line_status}
 use Rattle.dragoon_app.proofs.OnStore.{IsHeaderOf, at_disk, told_from, opened_on, telling, wanting}
@@ -177,10 +180,19 @@ left_before first old new same left = record {
 }
 
 module _ (id seed count : ℕ) (runner : Runner) (first : disks.State) (old new : Devices) (ready : IfSome first.reads (IsReady runner)) (is : runner.world.id ≡ id) (same : disks.Unchanged first old.desk.disk) where
-  pub made_opened : (result : Status) → IfSome first.reads first.is_image → first.faults ≤ old.desk.disk.faults → MakesFrom seed count runner result old new → MakesOn id seed count result (at_disk first old) new
-  made_opened result image le (inl want) = wanting id (MakesHeader seed count) result (at_disk first old) new (left_before first old new same want.left) want.wanting want.none_out
-  made_opened result image le (inr makes) = opened_on id (MakesHeader seed count) result (at_disk first old) new (telling first.reads new.desk.disk.reads (IsHeaderOf id) _
-      (told_from first.reads old.desk.disk.reads new.desk.disk.reads _ _ _ same.reads (if_both first.reads first.is_image (IsReady runner) image ready) makes (λ before after both from.
+  -- what is said over a header, where the notary tells
+  abbrev Lists : Status → Header → List ℕ → List ℕ → Type 0
+  Lists result h before after = WhereTold old.desk.notary.lists new.desk.notary.lists (λ filed later. MakesStore seed count h result (at_disk first old) new (content before filed) (content after later))
+
+  -- and whatever it tells
+  abbrev OverHeader : Status → Header → List ℕ → List ℕ → Type 0
+  OverHeader result h before after = Lists result h before after × OnlyGrows first new.desk.disk before
+
+  pub made_opened : (result : Status) → IfSome first.reads first.is_image → first.faults ≤ old.desk.disk.faults → MakesFrom seed count runner result old new → OnlyGrowsFrom runner old.desk.disk new.desk.disk → MakesOn id seed count result (at_disk first old) new
+  made_opened result image le (inl want) grows = wanting id (MakesHeader seed count) result (at_disk first old) new (left_before first old new same want.left) want.wanting want.none_out
+  made_opened result image le (inr makes) grows = opened_on id (MakesHeader seed count) result (at_disk first old) new (told_map first.reads new.desk.disk.reads _ _
+      (telling first.reads new.desk.disk.reads (IsHeaderOf id) (OverHeader result)
+      (told_map first.reads new.desk.disk.reads _ _ (told_both first.reads new.desk.disk.reads (λ before after. (h : Header) × IsHeaderOf id before h × Lists result h before after) (λ before after. OnlyGrows first new.desk.disk before) (told_from first.reads old.desk.disk.reads new.desk.disk.reads _ _ _ same.reads (if_both first.reads first.is_image (IsReady runner) image ready) makes (λ before after both from.
       let r = both.1 in
       let h : Header = r.header in
       let limits = old.desk.notary.limits in (
@@ -191,7 +203,16 @@ module _ (id seed count : ℕ) (runner : Runner) (first : disks.State) (old new 
             let at = r.at lists limits in
             makes_store seed count h result first old new (content before lists) (content after later_lists) same le both.0 r.is r.fits
             (subst (λ (text : List ℕ). Makes count begin text result old new (content before lists) (content after later_lists)) (script_here seed count runner h before limits lists at) (begins begin at))),
-      ))))
+      ))) (grows_opened runner first old.desk.disk new.desk.disk same ready grows))
+      (λ before after both. (both.0.0, both.0.1, (both.0.2, both.1)))))
+      (λ before after h. (
+        h.0,
+        h.1,
+        record {
+          makes = told_map first.reads new.desk.disk.reads _ _ h.2 (λ b a x. x.0);
+          grows = told_map first.reads new.desk.disk.reads _ _ h.2 (λ b a x. x.1);
+        },
+      )))
 
 -- nothing was done
 pub sound_same : (runner : Runner) (s : disks.State) (filed : notaries.State) → SoundFrom runner (desk s filed) (desk s filed)

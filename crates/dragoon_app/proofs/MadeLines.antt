@@ -22,6 +22,7 @@ use Rattle.dragoon_app.specs.Ran.{IsSettled, lines_in, text_before, Takes}
 use Rattle.dragoon_app.specs.Carrying.{Wherever, IsLineOf, Replies, RepliesFrom, SoundFrom}
 use Rattle.dragoon_app.specs.Made.{all_but_two}
 use Rattle.dragoon_app.specs.MakingLines.{AreLastTwo, Reaches, MakesLinesFrom, line_status}
+use Rattle.dragoon_app.proofs.Growing.{MadeGrown}
 use Rattle.dragoon_app.proofs.Reading.{take_first}
 use Rattle.dragoon_app.proofs.Faults.{uses_made}
 use Rattle.dragoon_app.proofs.Seconds.{takes_none, takes_then, takes_blank}
@@ -71,6 +72,11 @@ pub record IsMaking (start runner : Runner) (old now : disks.State) (filed later
   pub disk_frame : disks.GoesOn old now
   pub notary_frame : notaries.GoesOn filed later
   pub clock_frame : clocks.GoesOn clock ahead
+
+-- the same, with what becomes of the store alone
+pub record IsMakingGrown (start runner : Runner) (old now : disks.State) (filed later : notaries.State) (clock ahead : clocks.State) (all rest : List (List ℕ)) (first second : List ℕ) : Type 0 where
+  pub making : IsMaking start runner old now filed later clock ahead all rest first second
+  pub grows : MadeGrown start runner old now
 
 pub begins : (runner : Runner) (s : disks.State) (filed : notaries.State) (clock : clocks.State) (all : List (List ℕ)) (first second : List ℕ) → ((c : List ℕ) → s.was_image (disks.turn s) c → s.is_image c)
     → runner.is_scripted ≡ true → first ≡ [] → second ≡ [] → IsMaking runner runner s s filed filed clock clock all all first second

@@ -21,7 +21,6 @@ use Rattle.drill_core.specs.declared.fail.LineFail.TheVariants as line_fails
 use Rattle.drill_core.specs.World.{World, Held, IsIn, StandsFor}
 use Rattle.drill_core.specs.Steps.{step, MayFind, IsInWorld, IsWorldLine}
 use Rattle.drill_core.specs.Stepping.{StepsFor}
-use Rattle.drill_core.specs.Faults.{MayEndIn}
 use Rattle.dragoon_app.specs.declared.runner.Runner.{Runner}
 use Rattle.stmt_text.specs.declared.kind.LineKind.{LineKind}
 use Rattle.stmt_text.specs.declared.kind.LineKind.TheVariants as kinds
@@ -30,7 +29,7 @@ use Rattle.stmt_text.specs.declared.kind.WorldPart.TheVariants as parts
 use Rattle.stmt_text.specs.Kinds.{stmt_kind, line_kind}
 use Rattle.stmt_text.specs.Numbers.{max_u64}
 use Rattle.dragoon_app.specs.Running.{Running, Timed, carry, counted, answered, said_by, seconds_of, stepped, set_moment, refused_line, refused_text, MayFindBy}
-use Rattle.dragoon_app.specs.Failing.{HasStored, MayEndBy}
+use Rattle.dragoon_app.specs.Failing.{HasStored, MayEndOn, MayEndBy}
 use Rattle.dragoon_app.specs.Ran.{Takes}
 use Rattle.dragoon_app.specs.Devices.{content, desk, site}
 use Rattle.dragoon_app.specs.Carrying.{Wherever, Goes, GoesTo, StepsFrom, LineFrom, RepliesFrom, IsLineOf, TakesFor, GivesSeconds, refusing, SetsMoment}
@@ -130,7 +129,7 @@ module _ (line : Line) (now : ℕ) (runner last : Runner) (old new : State) (fil
           ordered = s.goes.ordered;
           sound = λ id only was. p.1 id (stands_of r.world.id r.world.store r.world.sessions runner.world before at.stands.store) only was;
         };
-        only = s.only;
+        only = (s.only, s.timely);
       }))
 
 -- ---- by what the line asks for
@@ -180,7 +179,7 @@ goes_by line kind second result runner last old new filed later clock ahead is n
   seconds = subst (λ (k : LineKind). TakesFor k runner.is_scripted second clock ahead) (sym is) takes;
   may = finds_nothing line (λ part e. ne part (sym is ∙ e)) r.world;
   goes = subst (λ (k : LineKind). Goes r (said_by k runner.is_scripted (seconds_of runner.is_scripted r second) no_finding r line) result last old new (content before lists) (content after later_lists)) (sym is) goes;
-  only = ends_wanting (HasStored r (said_by (line_kind line) runner.is_scripted (seconds_of runner.is_scripted r second) no_finding r line)) (line_kind line) result wants;
+  only = ends_wanting (HasStored r (said_by (line_kind line) runner.is_scripted (seconds_of runner.is_scripted r second) no_finding r line)) line r.world (seconds_of runner.is_scripted r second) result wants;
 })
 
 -- a step at the seconds that were given
@@ -195,8 +194,8 @@ steps_by line part now result runner last old new filed later clock ahead is giv
       may = s.may;
       goes = subst (λ (k : LineKind). Goes r (said_by k runner.is_scripted (seconds_of runner.is_scripted r now) s.found r line) result last old new (content before lists) (content after later_lists)) (sym is)
           (subst (λ (n : ℕ). Goes r (stepped r (step r.world line n s.found)) result last old new (content before lists) (content after later_lists)) (sym seconds) s.goes);
-      only = subst (λ (k : LineKind). IfErr result (MayEndIn (line_kind line) (HasStored r (said_by k runner.is_scripted (seconds_of runner.is_scripted r now) s.found r line)))) (sym is)
-          (subst (λ (n : ℕ). IfErr result (MayEndIn (line_kind line) (HasStored r (stepped r (step r.world line n s.found))))) (sym seconds) s.only);
+      only = subst (λ (k : LineKind). IfErr result (MayEndOn line r.world (seconds_of runner.is_scripted r now) (HasStored r (said_by k runner.is_scripted (seconds_of runner.is_scripted r now) s.found r line)))) (sym is)
+          (subst (λ (n : ℕ). IfErr result (MayEndOn line r.world n (HasStored r (stepped r (step r.world line n s.found))))) (sym seconds) s.only);
     })
 
 -- a line of the world
@@ -253,8 +252,8 @@ replies_by bytes l result runner last old new filed later clock ahead is said to
       seconds = takes_line runner.is_scripted t l clock ahead said g.seconds;
       may = subst (λ (x : Result Line ParseFail). MayFindBy r.world x g.found) (sym is) g.may;
       goes = subst (λ (n : Running). Goes r n result last old new (content before lists) (content after later_lists)) (sym (carry_is runner.is_scripted r t (Ok l) is)) g.goes;
-      only = subst (λ (x : Result Line ParseFail). IfErr result (MayEndBy x (HasStored r (carry runner.is_scripted r t)))) (sym is)
-          (subst (λ (n : Running). IfErr result (MayEndBy (Ok l) (HasStored r n))) (sym (carry_is runner.is_scripted r t (Ok l) is)) g.only);
+      only = subst (λ (x : Result Line ParseFail). IfErr result (MayEndBy x r.world (seconds_of runner.is_scripted r g.second) (HasStored r (carry runner.is_scripted r t)))) (sym is)
+          (subst (λ (n : Running). IfErr result (MayEndBy (Ok l) r.world (seconds_of runner.is_scripted r g.second) (HasStored r n))) (sym (carry_is runner.is_scripted r t (Ok l) is)) g.only);
     })
 
 filled_answer : (bytes : List ℕ) (b : Bool) (fail : ParseFail) → is_blank (without_return bytes) ≡ b → answer bytes ≡ Err fail → is_blank (without_return bytes) ≡ false
@@ -273,7 +272,7 @@ replies_refused bytes name fail second result runner last s filed clock ahead is
       seconds = takes_filled kinds.OutsideScripts runner.is_scripted t clock ahead (λ e. cc) (filled_answer bytes (is_blank (without_return bytes)) fail refl is) (takes_for kinds.OutsideScripts runner.is_scripted runner second clock ahead (λ e. cc) gives);
       may = subst (λ (x : Result Line ParseFail). MayFindBy r.world x no_finding) (sym is) tt;
       goes = subst (λ (n : Running). Goes r n result last s s (content before lists) (content after later_lists)) (sym (carry_is runner.is_scripted r t (Err fail) is ∙ names runner.is_scripted (seconds_of runner.is_scripted r second) r)) goes;
-      only = subst (λ (x : Result Line ParseFail). IfErr result (MayEndBy x (HasStored r (carry runner.is_scripted r t)))) (sym is) (ends_refused (HasStored r (carry runner.is_scripted r t)) result wants);
+      only = subst (λ (x : Result Line ParseFail). IfErr result (MayEndBy x r.world (seconds_of runner.is_scripted r second) (HasStored r (carry runner.is_scripted r t)))) (sym is) (ends_refused (HasStored r (carry runner.is_scripted r t)) result wants);
     })
 
 -- none was begun
@@ -284,5 +283,5 @@ replies_none bytes runner last s filed clock still = wherever_same filed.limits 
   seconds = takes_blank runner.is_scripted nothing clock clock blank_nothing refl;
   may = nothing_found r.world;
   goes = goes_still r (carry runner.is_scripted r nothing) (Err line_fails.NoMemory) runner last s all filed.limits lists still at (ap (λ (x : Running). x.world) (carry_nothing runner.is_scripted r)) tt tt;
-  only = subst (λ (x : Result Line ParseFail). MayEndBy x (HasStored r (carry runner.is_scripted r nothing)) line_fails.NoMemory) (sym (blank_answer [] blank_nothing)) tt;
+  only = subst (λ (x : Result Line ParseFail). MayEndBy x r.world (seconds_of runner.is_scripted r nothing.second) (HasStored r (carry runner.is_scripted r nothing)) line_fails.NoMemory) (sym (blank_answer [] blank_nothing)) (tt, tt);
 })

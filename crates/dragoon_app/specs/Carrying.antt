@@ -24,9 +24,9 @@ use Rattle.drill_run.specs.declared.fail.DrillFail.TheVariants as drills
 use Rattle.drill_core.specs.Found.{Found}
 use Rattle.drill_core.specs.declared.fail.LineFail.{LineFail}
 use Rattle.drill_core.specs.declared.fail.LineFail.TheVariants as lines
-use Rattle.drill_core.specs.World.{IsIn, StoresWorld, StoresEither, AreBetween}
+use Rattle.drill_core.specs.Growing.{GrowsBy}
+use Rattle.drill_core.specs.World.{IsIn, StandsFor, StoresWorld, StoresEither, AreBetween}
 use Rattle.drill_core.specs.Steps.{step, MayFind}
-use Rattle.drill_core.specs.Faults.{MayEndIn}
 use Rattle.dragoon_app.specs.declared.status.Status.{Status}
 use Rattle.dragoon_app.specs.declared.status.Status.TheVariants as statuses
 use Rattle.dragoon_app.specs.declared.run_fail.RunFail.{RunFail}
@@ -39,7 +39,8 @@ use Rattle.stmt_text.specs.Numbers.{max_u64}
 use Rattle.dragoon_app.specs.Outcome.{Said, refused}
 use Rattle.dragoon_app.specs.Devices.{Desk, Content, Site, Devices, content}
 use Rattle.dragoon_app.specs.Running.{Running, Timed, start, carry, carried, counted, stepped, world_of, seconds_of, said_by, refused_text, MayFindBy, AllMayFind}
-use Rattle.dragoon_app.specs.Failing.{HasStored, MayEnd, EndsByUse}
+use Rattle.dragoon_app.specs.Failing.{HasStored, MayEndOn, MayEnd, EndsByUse}
+use Rattle.dragoon_app.specs.Growing.{Replied, lines_replied, all_replies, OnlyGrows, StoresReplied, RunGrows}
 use Rattle.dragoon_app.specs.Ran.{Runs, Reads, lines_in, text_before, StoresFront, Takes}
 
 -- ---- failures
@@ -172,7 +173,7 @@ pub record Steps (line : Line) (now : ℕ) (result : Result (List ℕ) LineFail)
   pub found : Found
   pub may : MayFind r.world line found
   pub goes : Goes r (stepped r (step r.world line now found)) result last old new before after
-  pub only : IfErr result (MayEndIn (line_kind line) (HasStored r (stepped r (step r.world line now found))))
+  pub only : IfErr result (MayEndOn line r.world now (HasStored r (stepped r (step r.world line now found))))
 
 abbrev pub StepsFrom : Line → ℕ → Result (List ℕ) LineFail → Runner → Runner → Desk → Desk → Type 0
 StepsFrom line now result runner last old new = FromWhere runner old new (Steps line now result last old.disk new.disk)
@@ -190,7 +191,7 @@ pub record GoesBy (line : Line) (scripted : Bool) (result : Result (List ℕ) Li
   pub seconds : TakesFor (line_kind line) scripted second old.clock new.clock
   pub may : MayFind r.world line found
   pub goes : Goes r (said_by (line_kind line) scripted (seconds_of scripted r second) found r line) result last old.desk.disk new.desk.disk before after
-  pub only : IfErr result (MayEndIn (line_kind line) (HasStored r (said_by (line_kind line) scripted (seconds_of scripted r second) found r line)))
+  pub only : IfErr result (MayEndOn line r.world (seconds_of scripted r second) (HasStored r (said_by (line_kind line) scripted (seconds_of scripted r second) found r line)))
 
 abbrev pub LineFrom : Line → Result (List ℕ) LineFail → Runner → Runner → Site → Site → Type 0
 LineFrom line result runner last old new = FromWhere runner old.desk new.desk (GoesBy line runner.is_scripted result last old new)
@@ -264,3 +265,36 @@ RunsFrom result runner old new = FromWhere runner old.desk new.desk (λ begin be
 
 abbrev pub SoundFrom : Runner → Desk → Desk → Type 0
 SoundFrom runner old new = Wherever old.notary.limits runner old.disk new.disk old.notary new.notary (λ begin before after lists later_lists. StaysSound old.disk new.disk before lists later_lists)
+
+-- ---- whatever the notary tells
+
+-- where a runner stands for the bytes that the disk tells
+abbrev pub WhereStands : Runner → disks.State → disks.State → (List ℕ → List ℕ → Type 0) → Type 0
+WhereStands runner old new P = WhereTold old.reads new.reads (λ before after. StandsFor runner.world before → P before after)
+
+-- a line was replied so
+abbrev pub ReplyGrows : Result (List ℕ) LineFail → Runner → Runner → disks.State → disks.State → Type 0
+ReplyGrows result runner last old new = GrowsBy (λ text. text) result runner.world last.world old new
+
+-- the replies are out before a fault is told; where the output failed or memory was wanting, a front of them
+abbrev pub WritesReplies : Result (Unit {0}) RunFail → List ℕ → sinks.State → sinks.State → Type 0
+WritesReplies (Err fails.WriteFault) text out written = sinks.FrontIsOut text out written
+WritesReplies (Err fails.NoMemory) text out written = sinks.FrontIsOut text out written
+WritesReplies result text out written = sinks.IsOut text out written
+
+-- lines were carried out
+pub record CarryGrows (result : Result (Unit {0}) RunFail) (old new : Devices) (before after : List ℕ) : Type 0 where
+  pub replied : List Replied
+  pub lines : WhereTold old.input.rest new.input.rest (λ all others. AreFirst (lines_replied replied) all)
+  pub out : WritesReplies result (all_replies replied) old.out new.out
+  pub appends : OnlyGrows old.desk.disk new.desk.disk before
+  pub acknowledged : StoresReplied replied old.desk.disk new.desk.disk before
+
+abbrev pub CarryGrowsFrom : Result (Unit {0}) RunFail → Runner → Devices → Devices → Type 0
+CarryGrowsFrom result runner old new = WhereStands runner old.desk.disk new.desk.disk (CarryGrows result old new)
+
+abbrev pub RunGrowsFrom : Runner → Devices → Devices → Type 0
+RunGrowsFrom runner old new = WhereStands runner old.desk.disk new.desk.disk (λ before after. RunGrows old new before)
+
+abbrev pub OnlyGrowsFrom : Runner → disks.State → disks.State → Type 0
+OnlyGrowsFrom runner old new = WhereStands runner old new (λ before after. OnlyGrows old new before)

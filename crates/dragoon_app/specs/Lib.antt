@@ -11,10 +11,12 @@ pub mod Ran
 pub mod Laws
 pub mod Serial
 pub mod Acknowledged
+pub mod Growing
 pub mod Audited
 pub mod Analysed
 pub mod Carrying
 pub mod Made
 pub mod MakingLines
 pub mod Drilled
+pub mod Completes
 pub mod Top

@@ -1,6 +1,7 @@
 -- What `make` leaves: the lines of a generated script are carried out as those of a scripted run, and a summary is written.
 use Rattle.std.specs.Prelude.{◌≡◌, ◌⊎◌, ◌-◌, ℕ, true, List, [], ◌∷◌, ◌++◌, length, take, drop, codes, decimal, Option, Some, None}
 use Rattle.outside_words.specs.Faults.{Rose}
+use Rattle.outside_words.specs.Told.{WhereTold}
 use Rattle.outside_io.specs.Sink as sinks
 use Rattle.line_input.specs.Lines.{lines_of}
 use Rattle.line_input.specs.Front.{AreFirst}
@@ -15,6 +16,7 @@ use Rattle.dragoon_app.specs.Devices.{Content, Devices, Effect, WhereBothTell, s
 use Rattle.dragoon_app.specs.Outcome.{Outcome, Said, refused}
 use Rattle.dragoon_app.specs.Commands.{OnStore}
 use Rattle.dragoon_app.specs.Running.{Running, Timed, carry, carried}
+use Rattle.dragoon_app.specs.Growing.{OnlyGrows}
 use Rattle.dragoon_app.specs.Ran.{IsNext, RunsLines, KeepsPromises, ending_of, lines_in, opened}
 
 -- ---- the summary
@@ -87,8 +89,12 @@ pub record MakesStore (seed count : ℕ) (header : Header) (result : Status) (ol
   pub makes : Makes count (opened header old before) (script header.width (last_moment (stored before.bytes).items) seed count) result old new before after
   pub promises : KeepsPromises true header makes.done makes.next old new before
 
-abbrev pub MakesHeader : ℕ → ℕ → Header → Effect
-MakesHeader seed count header result old new = WhereBothTell old.desk new.desk (MakesStore seed count header result old new)
+-- over a store that was opened
+pub record MakesHeader (seed count : ℕ) (header : Header) (result : Status) (old new : Devices) : Type 0 where
+  -- where both tell what they hold
+  pub makes : WhereBothTell old.desk new.desk (MakesStore seed count header result old new)
+  -- whatever the notary tells
+  pub grows : WhereTold old.desk.disk.reads new.desk.disk.reads (λ before after. OnlyGrows old.desk.disk new.desk.disk before)
 
 -- `make ID SEED N`
 abbrev pub MakesOn : ℕ → ℕ → ℕ → Effect

@@ -23,7 +23,8 @@ use Rattle.dragoon_app.specs.Texts.{fault_line}
 use Rattle.dragoon_app.specs.Running.{Running, Timed, start, carried, world_of, seconds_taken, AllMayFind}
 use Rattle.dragoon_app.specs.Failing.{EndsByUse}
 use Rattle.dragoon_app.specs.Laws.{AllTellNone}
-use Rattle.dragoon_app.specs.Acknowledged.{IsReplied, StoresMore}
+use Rattle.dragoon_app.specs.Acknowledged.{IsReplied}
+use Rattle.dragoon_app.specs.Growing.{RunGrows}
 
 -- ---- which lines were carried out, of an input that told its bytes before and after
 
@@ -170,8 +171,6 @@ opened header old before = start (world_of header before.bytes) before.lists old
 pub record KeepsPromises (scripted : Bool) (header : Header) (done : List Timed) (next : Timed) (old new : Devices) (before : Content) : Type 0 where
   -- no line tells of an alteration where the store is sound
   pub unaltered : IsSound old.desk.disk.is_image (before.lists.batches header.id) header.id → AllTellNone scripted (opened header old before) (done ++ next ∷ [])
-  -- a crash at any moment leaves all items that were stored, and perhaps more
-  pub appends : disks.Only before.bytes old.desk.disk → EveryImage old.desk.disk new.desk.disk (StoresMore (stored before.bytes).items)
   -- each transaction of which `ok N` was replied stands in every image, by its number
   pub acknowledged : disks.Only before.bytes old.desk.disk → (digits : List ℕ) → IsReplied (ok_text digits) scripted (opened header old before) done → (c : List ℕ) → new.desk.disk.is_image c → HasTxn digits (stored c).items
 
@@ -180,9 +179,12 @@ pub record RunsStore (scripted : Bool) (header : Header) (result : Status) (old 
   pub runs : Runs scripted (opened header old before) result old new before after
   pub promises : KeepsPromises scripted header runs.done runs.next old new before
 
--- a run whose store was opened, where both tell what they hold
-abbrev pub RunsHeader : Bool → Header → Effect
-RunsHeader scripted header result old new = WhereBothTell old.desk new.desk (RunsStore scripted header result old new)
+-- a run whose store was opened
+pub record RunsHeader (scripted : Bool) (header : Header) (result : Status) (old new : Devices) : Type 0 where
+  -- where both tell what they hold
+  pub runs : WhereBothTell old.desk new.desk (RunsStore scripted header result old new)
+  -- whatever the notary tells
+  pub grows : WhereTold old.desk.disk.reads new.desk.disk.reads (λ before after. RunGrows old new before)
 
 abbrev pub RunsOn : Bool → ℕ → Effect
 RunsOn scripted id = OnStore id (RunsHeader scripted)

@@ -17,6 +17,7 @@
 //! | for `link`, `init` and words that are no command: where the store tells its bytes, the status and the whole text are the defined ones, for `init` at the second that the clock gave, up to a fault or want of memory; of a text that was cut short a front is out | `leaves`: `Links`, `answers` of `InitsAt`, `EndsBy` |
 //! | `Usage` comes exactly where the words are no command, whatever the store is | `usage`, `leaves` |
 //! | a fault is answered only where the count of that device's faults rose | `causes` |
+//! | a call ends in the defined way, or memory is wanting: where no device failed, the store has what the command needs, no limit is met and the notary holds nothing or what was filed of one history, without a clash. `Broken` comes then only where the header or a sealed granule differs | `complete` (`Completes`) |
 //! | each device keeps what every call of it keeps | `goes_on` |
 //! | where the store's disk is settled: a sound store, one whose every image is what is filed, stays sound under each id, whatever is answered | `sound` |
 //! | of a sound store neither `notarize`, `validate` nor `analyse` says that it is altered; of the lines of a run see below | `unaltered` |
@@ -38,7 +39,7 @@
 //! | at one of these or of the output less than a piece was taken beyond the lines that were begun, or no line end more | `little` of `read` |
 //! | a scripted run asks no clock, and others take one second for each line that isn't blank, the one under way too; none is under way unless the disk or the notary failed or memory was wanting | `seconds`, `none` of `lines` |
 //! | a validation or an analysis tells what is found in the world that its line finds | `found` there |
-//! | a fault of the notary comes only by a line that asks it, and one of the disk by such a line or one that stores something | `uses` there |
+//! | a fault of the notary comes only by a line that asks it, and one of the disk by such a line or one that stores something; neither by a `notarize` whose refusal the clock decides | `uses` there |
 //! | on a settled store a crash at any moment leaves what stood there after some first lines | `images` of `store` there |
 //! | on a settled store every image of now has what the lines say that were carried out, or those and the one under way | `kept` there |
 //! | the notary holds all that the lines filed and marked, and no more unless a line was under way | `between`, `holds` there |
@@ -49,11 +50,19 @@
 //! | The layer above may rely on | Field of `KeepsPromises` |
 //! |---|---|
 //! | on a settled store each transaction of which `ok N` was replied stands in every image, as the N-th | `acknowledged` |
-//! | on a settled store a crash at any moment leaves all items that were stored, and perhaps more | `appends` |
 //! | where the store is sound no line tells of an alteration | `unaltered` |
 //! | the laws behind it, over any lines: a run over bytes that hold what is filed begins over a sound world; it ends over one, and no line tells of an alteration | `sound_bytes_begin_sound`, `sound_runs_are_unaltered` |
 //! | and: what was acknowledged is stored when the lines were carried out, and no line takes an item away | `acknowledged_is_stored`, `runs_only_append` |
 //! | and: every run is serial. A session that commits was told, since its `begin`, the texts that its statements are told alone over the history just before its commit; what these want to store is stored, as one transaction | `runs_are_serial` |
+//!
+//! Of the store alone it speaks where the store tells its bytes, whatever the notary tells:
+//!
+//! | The layer above may rely on | Field of `RunGrows` |
+//! |---|---|
+//! | the first lines of the input were replied to, each once | `lines` |
+//! | no text is out but these replies, one behind another, and a fault line behind them, or a front of that | `out` |
+//! | on a settled store a crash at any moment leaves all items that were stored, and perhaps more; so it is with `make` | `appends`; `grows` of `MakesHeader` |
+//! | on a settled store each transaction of which `ok N` is among the replies stands in every image, as the N-th | `acknowledged` |
 //!
 //! `notarize` is `NotarizesOn` in `leaves`: the store is opened, the clock's second taken, and the tiles that have
 //! ended by then are filed, as `validator` says it; the notary is asked at most two questions, whatever is answered

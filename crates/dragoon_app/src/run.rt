@@ -9,7 +9,7 @@ ghost use Rattle.outside_io.specs.Source as sources;
 ghost use Rattle.outside_io.specs.Clock as clocks;
 ghost use Rattle.dragoon_app.specs.declared.run_fail.RunFail.TheVariants as fails;
 ghost use Rattle.dragoon_app.specs.Devices.{desk, devices, StaysSound, HasCauses, AllGoOn};
-ghost use Rattle.dragoon_app.specs.Carrying.{CarriesFrom, RunsFrom, SoundFrom};
+ghost use Rattle.dragoon_app.specs.Carrying.{CarriesFrom, RunsFrom, SoundFrom, CarryGrowsFrom, RunGrowsFrom};
 ghost use Rattle.dragoon_app.specs.Ran.{RunsOn};
 
 use crate::Status;
@@ -33,6 +33,9 @@ fn carry_lines<D: Disk, N: Notary, C: Clock, I: Source, O: Sink>(
     input: &mut I,
     out: &mut O,
 ) -> Result<(), RunFail>
+    ensures grows { CarryGrowsFrom result runner.old
+        (devices (D.state disk.old) (N.state notary.old) (C.state clock.old) (I.state input.old) (O.state out.old))
+        (devices (D.state disk.new) (N.state notary.new) (C.state clock.new) (I.state input.new) (O.state out.new)) }
     ensures told { CarriesFrom result runner.old runner.new
         (devices (D.state disk.old) (N.state notary.old) (C.state clock.old) (I.state input.old) (O.state out.old))
         (devices (D.state disk.new) (N.state notary.new) (C.state clock.new) (I.state input.new) (O.state out.new)) }
@@ -64,6 +67,9 @@ fn run_opened<D: Disk, N: Notary, C: Clock, I: Source, O: Sink>(
     input: &mut I,
     out: &mut O,
 ) -> Status
+    ensures grows { RunGrowsFrom runner.old
+        (devices (D.state disk.old) (N.state notary.old) (C.state clock.old) (I.state input.old) (O.state out.old))
+        (devices (D.state disk.new) (N.state notary.new) (C.state clock.new) (I.state input.new) (O.state out.new)) }
     ensures told { RunsFrom result runner.old
         (devices (D.state disk.old) (N.state notary.old) (C.state clock.old) (I.state input.old) (O.state out.old))
         (devices (D.state disk.new) (N.state notary.new) (C.state clock.new) (I.state input.new) (O.state out.new)) }

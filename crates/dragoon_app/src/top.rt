@@ -5,6 +5,7 @@ ghost use Rattle.std.specs.String.{string_bytes};
 ghost use Rattle.dragoon_app.specs.Words as spec;
 ghost use Rattle.dragoon_app.specs.Devices.{desk, devices, StaysSound, HasCauses, AllGoOn};
 ghost use Rattle.dragoon_app.specs.Top.{Leaves, SoundIsUnaltered};
+ghost use Rattle.dragoon_app.specs.Completes.{Completes};
 
 use crate::Status;
 use crate::analyse::run_analyse;
@@ -49,6 +50,11 @@ pub fn dragoon<D: Disk, N: Notary, C: Clock, I: Source, O: Sink>(
 
     // A fault has its cause.
     ensures causes { HasCauses result
+        (devices (D.state store.old) (N.state notary.old) (C.state clock.old) (I.state input.old) (O.state out.old))
+        (devices (D.state store.new) (N.state notary.new) (C.state clock.new) (I.state input.new) (O.state out.new)) }
+
+    // Without a fault, within the limits and with a notary that is trusted, it ends as is defined.
+    ensures complete { Completes (spec.command_of (map string_bytes words.now)) result
         (devices (D.state store.old) (N.state notary.old) (C.state clock.old) (I.state input.old) (O.state out.old))
         (devices (D.state store.new) (N.state notary.new) (C.state clock.new) (I.state input.new) (O.state out.new)) }
 

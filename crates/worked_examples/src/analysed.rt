@@ -447,6 +447,56 @@ fn a_store_that_was_cut_or_has_another_header_is_altered(rt: HostRuntime) -> Res
     Ok(())
 }
 
+/// The report on a front of the store, of eight granules in one tile: whether its header is altered, and else how many
+/// granules are, each with a line.
+fn named(alloc: Global, filed: &mut MemNotary, front: &[u8]) -> Result<Option<usize>, AllocError> {
+    let mut store = MemDisk::holding(alloc, front.to_vec(alloc)?);
+    let (_, text) = audit(alloc, &mut store, filed, "analyse 7 a3d", b"", &[500])?;
+    if text.starts_with(b"report a3d id 7 tiles 1 header altered\n") {
+        return Ok(None);
+    }
+    let lines = text.split(|byte| *byte == b'\n');
+    Ok(Some(lines.filter(|line| line.starts_with(b"granule ")).count()))
+}
+
+/// A row is there where the gate behind it is, which stands at place 136 + 42 * g for granule g.
+#[test]
+fn each_cut_alters_the_granules_behind_it(rt: HostRuntime) -> Result<(), Fail> {
+    let alloc = rt.alloc();
+    let mut filed = notary(alloc);
+    let store = sealed(alloc, "init 7 60 3 ta", 8, &mut filed)?;
+    let bytes = store.bytes();
+    assert_eq!(rt; bytes.len(), 445);
+    for length in 0..446 {
+        let front = bytes.get(..length).unwrap_or(bytes);
+        let wanted = match length {
+            0..=64 => None,
+            _ => Some((0..8usize).filter(|g| length < 137 + 42 * *g).count()),
+        };
+        assert_eq!(rt; named(alloc, &mut filed, front)?, wanted, "{length}");
+    }
+    Ok(())
+}
+
+/// Each byte of the header turned over.
+#[test]
+fn a_turned_header_is_told_by_a_validation(rt: HostRuntime) -> Result<(), Fail> {
+    let alloc = rt.alloc();
+    let mut filed = notary(alloc);
+    let store = sealed(alloc, "init 7 60 3 ta", 8, &mut filed)?;
+    for place in 0usize..64 {
+        let byte = store.bytes().get(place).copied().unwrap_or(0);
+        let mut other = altered(alloc, &store, &[(place, byte ^ 0xff)])?;
+        let told = audit(alloc, &mut other, &mut filed, "validate 7", b"", &[500])?;
+        assert_eq!(rt;
+            (told.0, told.1.as_slice()),
+            (1, b"header altered 1\n".as_slice()),
+            "{place}"
+        );
+    }
+    Ok(())
+}
+
 /// The seal of a name, over these bytes.
 fn seal(name: Name, bytes: &[u8]) -> Seal
     requires { IsName name }

@@ -28,3 +28,5 @@ mod sessions;
 mod stops;
 #[cfg(test)]
 mod story;
+#[cfg(test)]
+mod untold;

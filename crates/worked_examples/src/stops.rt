@@ -1,6 +1,6 @@
 //! A disk or a notary that fails at each of its calls in turn, a crash after it, and the retry.
 
-use crate::desk::{audit, call, made, notary};
+use crate::desk::{audit, call, made, notary, sealed};
 use disk_model::MemDisk;
 use notary_book::Book;
 use sha2::{Digest, Sha256};
@@ -97,6 +97,47 @@ fn a_notary_that_fails_is_asked_again(rt: HostRuntime) -> Result<(), Fail> {
                 (status, text),
                 "{question} {change}"
             );
+        }
+    }
+    Ok(())
+}
+
+/// The words of a call over sealed granules, its input, how many reading calls of the disk it makes, and how it ends.
+const READS: [(&str, &[u8], u64, u8); 9] = [
+    ("link", b"", 2, 0),
+    ("init 7 60 3 ta", b"", 1, 13),
+    ("run 7", b"insert t 9 9\n", 2, 0),
+    ("run 8", b"", 1, 4),
+    ("notarize 7", b"", 4, 0),
+    ("validate 7", b"", 2, 0),
+    ("analyse 7 mono", b"", 2, 0),
+    ("analyse 7 tiled", b"", 2, 0),
+    ("analyse 7 a3d", b"", 2, 0),
+];
+
+/// A reading call of the disk fails, the store is as it was, and the next call ends as if there had been none before.
+#[test]
+fn a_disk_that_cannot_be_read_is_left_as_it_was(rt: HostRuntime) -> Result<(), Fail> {
+    let alloc = rt.alloc();
+    for (words, input, reads, status) in READS {
+        for failing in 1..=reads.saturating_add(1) {
+            let mut filed = notary(alloc);
+            let mut store = sealed(alloc, "init 7 60 3 ta", 2, &mut filed)?;
+            let before = store.bytes().to_vec(alloc)?;
+            store.failing([failing].to_vec(alloc)?, Vec::new(alloc));
+            let told = audit(alloc, &mut store, &mut filed, words, input, &[960])?;
+            if failing <= reads {
+                assert_eq!(rt;
+                    (told.0, told.1.as_slice()),
+                    (5, b"fault DiskFault\n".as_slice()),
+                    "{words}: {failing}"
+                );
+                assert!(rt; store.bytes() == before.as_slice());
+                let again = audit(alloc, &mut store, &mut filed, words, input, &[960])?;
+                assert_eq!(rt; again.0, status, "{words}: {failing}");
+            } else {
+                assert_eq!(rt; told.0, status, "{words}: {failing}");
+            }
         }
     }
     Ok(())

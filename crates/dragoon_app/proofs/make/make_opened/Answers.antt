@@ -4,6 +4,7 @@ use Rattle.dragoon_app.specs.Devices.{devices}
 use Rattle.dragoon_app.specs.MakingLines.{MakesTextFrom}
 use Rattle.dragoon_app.proofs.Behaving.{goes_on_beside, all_left, unchanged_same}
 use Rattle.dragoon_app.proofs.MadeEnding.{sound_same}
+use Rattle.dragoon_app.proofs.Growing.{only_same}
 use Rattle.dragoon_app.proofs.make.make_opened.Goals as goal
 
 pub returns-in-Ok-clause-told : goal.returns-in-Ok-clause-told
@@ -20,3 +21,6 @@ returns-in-Err-clause-sound g c = sound_same c.args.runner.now (g.D.Disk.state c
 
 pub returns-in-Err-clause-goes_on : goal.returns-in-Err-clause-goes_on
 returns-in-Err-clause-goes_on g c = λ input. goes_on_beside _ _ _ (disk_frames.goes_on_same _) (record { told = refl; faults = omega arith })
+
+pub returns-in-Err-clause-grows : goal.returns-in-Err-clause-grows
+returns-in-Err-clause-grows g c = only_same c.args.runner.now (g.D.Disk.state c.args.disk.now) (g.met.D.Disk.only_now c.args.disk.now)

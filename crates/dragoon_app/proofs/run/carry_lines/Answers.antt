@@ -4,17 +4,19 @@ use Rattle.notary_link.proofs.Frame as notary_frames
 use Rattle.outside_io.specs.Sink as sinks
 use Rattle.outside_io.proofs.Frame as sink_frames
 use Rattle.outside_io.proofs.Out.{out_then, out_but_end}
-use Rattle.dragoon_app.specs.Devices.{site}
+use Rattle.dragoon_app.specs.Devices.{site, devices}
 use Rattle.dragoon_app.specs.Carrying.{RepliesFrom, of_input, of_output, of_line}
 use Rattle.dragoon_app.proofs.Nothing.{nothing}
 use Rattle.dragoon_app.proofs.Faults.{uses_input, uses_output}
 use Rattle.dragoon_app.proofs.CarriedLines.{begins, goes_on, goes_no_further, between, under_way, ended, reads_failed, reads_unwritten, written_failed, written_front}
+use Rattle.dragoon_app.proofs.RunGrowing.{run_first, run_more, run_between, run_failed, run_unwritten, written_input}
 use Rattle.dragoon_app.proofs.run.carry_lines.Goals as goal
 
 pub lines-init : goal.lines-init
 lines-init g c = record {
   going = begins c.args.runner.now (g.D.Disk.state c.args.disk.now) (g.N.Notary.state c.args.notary.now) (g.C.Clock.state c.args.clock.now) (g.I.Source.state c.args.input.now) c.new-reader.result (g.O.Sink.state c.args.out.now) (g.met.D.Disk.only_now c.args.disk.now) c.new-reader.ensures.fresh;
   out_frame = sink_frames.goes_on_same _;
+  grows = run_first c.args.runner.now (g.D.Disk.state c.args.disk.now) (g.I.Source.state c.args.input.now) c.new-reader.result (g.O.Sink.state c.args.out.now) (g.met.D.Disk.only_now c.args.disk.now) c.new-reader.ensures.fresh;
 }
 
 pub lines-smaller : goal.lines-smaller
@@ -39,6 +41,8 @@ lines-preserved g c =
           replies c.reply.ensures.scripted c.reply.ensures.disk_frame c.reply.ensures.notary_frame c.reply.ensures.clock_frame
           (λ before xs out. out_then xs text (O c.args.out.now) (O c.lines.out) (O c.write_whole.new.out) out wrote);
       out_frame = sink_frames.goes_on_then (O c.args.out.now) (O c.lines.out) (O c.write_whole.new.out) c.lines.invariant.out_frame c.write_whole.ensures.frame;
+      grows = run_more c.args.runner.now c.lines.runner c.reply.new.self (D c.args.disk.now) (D c.lines.disk) (D c.reply.new.disk) c.lines.invariant.going.disk_frame.told (I c.args.input.now) (I c.lines.input) (I c.read_line.new.input) c.lines.invariant.going.input_frame.told c.lines.reader c.read_line.new.self
+          (rw c.if-branch.true at c.in_ok-read_line.ensures.told) c.read_line.ensures.feedless c.read_line.ensures.taken (O c.args.out.now) (O c.lines.out) c.lines.invariant.grows text (O c.write_whole.new.out) c.in_ok-text.ensures.grows wrote;
     }
 
 pub returns-in_err-read_line-clause-told : goal.returns-in_err-read_line-clause-told
@@ -108,3 +112,35 @@ returns-in_err-text-clause-notary_frame g c = notary_frames.goes_on_then _ _ _ c
 
 pub returns-in_err-write_whole-clause-notary_frame : goal.returns-in_err-write_whole-clause-notary_frame
 returns-in_err-write_whole-clause-notary_frame g c = notary_frames.goes_on_then _ _ _ c.lines.invariant.going.notary_frame c.reply.ensures.notary_frame
+
+pub returns-in_err-read_line-clause-grows : goal.returns-in_err-read_line-clause-grows
+returns-in_err-read_line-clause-grows g c =
+    let fail = c.in_err-read_line.field-0.0 in
+    let same : c.from_residual.result ≡ Err (of_input fail) = search rules in
+    rw same (run_between c.args.runner.now c.lines.runner (devices (g.D.Disk.state c.args.disk.now) (g.N.Notary.state c.args.notary.now) (g.C.Clock.state c.args.clock.now) (g.I.Source.state c.args.input.now) (g.O.Sink.state c.args.out.now))
+    (devices (g.D.Disk.state c.lines.disk) (g.N.Notary.state c.lines.notary) (g.C.Clock.state c.lines.clock) (g.I.Source.state c.read_line.new.input) (g.O.Sink.state c.lines.out))
+    (g.I.Source.state c.lines.input) c.lines.reader c.lines.invariant.going.input_frame.told (g.O.Sink.state c.lines.out) c.lines.invariant.grows (Err (of_input fail)) (λ text is. written_input fail text (g.O.Sink.state c.args.out.now) (g.O.Sink.state c.lines.out) is))
+
+pub returns-in_err-text-clause-grows : goal.returns-in_err-text-clause-grows
+returns-in_err-text-clause-grows g c =
+    let fail = c.in_err-text.field-0.0 in
+    let same : c.from_residual-in_err-text.result ≡ Err (of_line fail) = search rules in
+    rw same (run_failed c.args.runner.now c.lines.runner c.reply.new.self (devices (g.D.Disk.state c.args.disk.now) (g.N.Notary.state c.args.notary.now) (g.C.Clock.state c.args.clock.now) (g.I.Source.state c.args.input.now) (g.O.Sink.state c.args.out.now))
+    (devices (g.D.Disk.state c.reply.new.disk) (g.N.Notary.state c.reply.new.notary) (g.C.Clock.state c.reply.new.clock) (g.I.Source.state c.read_line.new.input) (g.O.Sink.state c.lines.out))
+    (g.D.Disk.state c.lines.disk) c.lines.invariant.going.disk_frame.told (g.I.Source.state c.lines.input) c.lines.invariant.going.input_frame.told c.lines.reader (g.O.Sink.state c.lines.out) c.lines.invariant.grows fail (g.met.D.Disk.counts_now c.reply.new.disk) c.in_err-text.ensures.grows refl)
+
+pub returns-in_err-write_whole-clause-grows : goal.returns-in_err-write_whole-clause-grows
+returns-in_err-write_whole-clause-grows g c =
+    let fail = c.in_err-write_whole.field-0.0 in
+    let same : c.from_residual-in_err-write_whole.result ≡ Err (of_output fail) = search rules in
+    let text = c.in_ok-text.text in
+    let wrote = subst (λ (l : List ℕ). sinks.FrontIsOut l (g.O.Sink.state c.lines.out) (g.O.Sink.state c.write_whole.new.out)) c.as_slice.ensures.value c.in_err-write_whole.ensures.err in
+    rw same (run_unwritten c.args.runner.now c.lines.runner c.reply.new.self (devices (g.D.Disk.state c.args.disk.now) (g.N.Notary.state c.args.notary.now) (g.C.Clock.state c.args.clock.now) (g.I.Source.state c.args.input.now) (g.O.Sink.state c.args.out.now))
+    (devices (g.D.Disk.state c.reply.new.disk) (g.N.Notary.state c.reply.new.notary) (g.C.Clock.state c.reply.new.clock) (g.I.Source.state c.read_line.new.input) (g.O.Sink.state c.write_whole.new.out))
+    (g.D.Disk.state c.lines.disk) c.lines.invariant.going.disk_frame.told (g.I.Source.state c.lines.input) c.lines.invariant.going.input_frame.told c.lines.reader c.read_line.new.self (g.O.Sink.state c.lines.out) c.lines.invariant.grows fail text
+    (rw c.if-branch.true at c.in_ok-read_line.ensures.told) c.read_line.ensures.feedless c.read_line.ensures.taken c.in_ok-text.ensures.grows wrote)
+
+pub returns-clause-grows : goal.returns-clause-grows
+returns-clause-grows g c = run_between c.args.runner.now c.lines.runner (devices (g.D.Disk.state c.args.disk.now) (g.N.Notary.state c.args.notary.now) (g.C.Clock.state c.args.clock.now) (g.I.Source.state c.args.input.now) (g.O.Sink.state c.args.out.now))
+    (devices (g.D.Disk.state c.lines.disk) (g.N.Notary.state c.lines.notary) (g.C.Clock.state c.lines.clock) (g.I.Source.state c.read_line.new.input) (g.O.Sink.state c.lines.out))
+    (g.I.Source.state c.lines.input) c.lines.reader c.lines.invariant.going.input_frame.told (g.O.Sink.state c.lines.out) c.lines.invariant.grows (Ok tt) (λ text is. is)

@@ -11,7 +11,7 @@ pub returns-in-Ok-clause-leaves : goal.returns-in-Ok-clause-leaves
 returns-in-Ok-clause-leaves g c = rw (sym c.in-Ok.ensures.scripted) (ran_opened c.args.id c.in-Ok.runner (g.D.Disk.state c.args.disk.now)
     (devices (g.D.Disk.state c.open.new.disk) (g.N.Notary.state c.args.notary.now) (g.C.Clock.state c.args.clock.now) (g.I.Source.state c.args.input.now) (g.O.Sink.state c.args.out.now))
     (devices (g.D.Disk.state c.run_opened.new.disk) (g.N.Notary.state c.run_opened.new.notary) (g.C.Clock.state c.run_opened.new.clock) (g.I.Source.state c.run_opened.new.input) (g.O.Sink.state c.run_opened.new.out))
-    c.in-Ok.ensures.value c.in-Ok.ensures.id c.open.ensures.same c.run_opened.result (g.met.D.Disk.reads_image c.args.disk.now) c.open.ensures.frame.faults c.run_opened.ensures.told)
+    c.in-Ok.ensures.value c.in-Ok.ensures.id c.open.ensures.same c.run_opened.result (g.met.D.Disk.reads_image c.args.disk.now) c.open.ensures.frame.faults c.run_opened.ensures.told c.run_opened.ensures.grows)
 
 pub returns-in-Ok-clause-sound : goal.returns-in-Ok-clause-sound
 returns-in-Ok-clause-sound g c = opened_sound c.args.id c.in-Ok.runner (g.D.Disk.state c.args.disk.now)

@@ -1,6 +1,7 @@
 use Rattle.std.proofs.Common.{Ok, Err, rules}
 use Rattle.dragoon_app.specs.Devices.{devices}
 use Rattle.dragoon_app.proofs.Ending.{some_refused, none_refused, ran_ok, ran_refused, ran_failed, ran_sound, written_cause}
+use Rattle.dragoon_app.proofs.RunGrowing.{ends_well, ends_failed}
 use Rattle.dragoon_app.proofs.run.run_opened.Goals as goal
 
 pub returns-then-runner-gt0-clause-told : goal.returns-then-runner-gt0-clause-told
@@ -47,3 +48,12 @@ returns-in-Err-clause-sound g c =
     ran_sound (Err c.in-Err.fail) c.args.runner.now c.carry_lines.new.runner (devices (g.D.Disk.state c.args.disk.now) (g.N.Notary.state c.args.notary.now) (g.C.Clock.state c.args.clock.now) (g.I.Source.state c.args.input.now) (g.O.Sink.state c.args.out.now))
     (devices (g.D.Disk.state c.carry_lines.new.disk) (g.N.Notary.state c.carry_lines.new.notary) (g.C.Clock.state c.carry_lines.new.clock) (g.I.Source.state c.carry_lines.new.input) (g.O.Sink.state c.carry_lines.new.out))
     c.in-Err.ensures.told
+
+pub returns-then-runner-gt0-clause-grows : goal.returns-then-runner-gt0-clause-grows
+returns-then-runner-gt0-clause-grows g c = ends_well c.args.runner.now (devices (g.D.Disk.state c.args.disk.now) (g.N.Notary.state c.args.notary.now) (g.C.Clock.state c.args.clock.now) (g.I.Source.state c.args.input.now) (g.O.Sink.state c.args.out.now)) (devices (g.D.Disk.state c.carry_lines.new.disk) (g.N.Notary.state c.carry_lines.new.notary) (g.C.Clock.state c.carry_lines.new.clock) (g.I.Source.state c.carry_lines.new.input) (g.O.Sink.state c.carry_lines.new.out)) c.in-Ok.ensures.grows
+
+pub returns-else-runner-gt0-clause-grows : goal.returns-else-runner-gt0-clause-grows
+returns-else-runner-gt0-clause-grows g c = ends_well c.args.runner.now (devices (g.D.Disk.state c.args.disk.now) (g.N.Notary.state c.args.notary.now) (g.C.Clock.state c.args.clock.now) (g.I.Source.state c.args.input.now) (g.O.Sink.state c.args.out.now)) (devices (g.D.Disk.state c.carry_lines.new.disk) (g.N.Notary.state c.carry_lines.new.notary) (g.C.Clock.state c.carry_lines.new.clock) (g.I.Source.state c.carry_lines.new.input) (g.O.Sink.state c.carry_lines.new.out)) c.in-Ok.ensures.grows
+
+pub returns-in-Err-clause-grows : goal.returns-in-Err-clause-grows
+returns-in-Err-clause-grows g c = ends_failed c.args.runner.now (devices (g.D.Disk.state c.args.disk.now) (g.N.Notary.state c.args.notary.now) (g.C.Clock.state c.args.clock.now) (g.I.Source.state c.args.input.now) (g.O.Sink.state c.args.out.now)) (devices (g.D.Disk.state c.carry_lines.new.disk) (g.N.Notary.state c.carry_lines.new.notary) (g.C.Clock.state c.carry_lines.new.clock) (g.I.Source.state c.carry_lines.new.input) (g.O.Sink.state c.carry_lines.new.out)) (g.O.Sink.state c.end.new.out) c.in-Err.fail c.end.result c.end.ensures.value c.in-Err.ensures.grows

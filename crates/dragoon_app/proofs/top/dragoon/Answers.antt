@@ -7,7 +7,8 @@ use Rattle.dragoon_app.specs.declared.command.Command.TheVariants as commands
 use Rattle.dragoon_app.proofs.Behaving.{all_left, goes_on_beside, unchanged_same}
 use Rattle.dragoon_app.specs.Drilled.{IsOfDrill}
 use Rattle.dragoon_app.proofs.SoundKept.{sound_same}
-use Rattle.dragoon_app.proofs.Defined.{leaves_at, unaltered_at}
+use Rattle.dragoon_app.proofs.Defined.{leaves_at, unaltered_at, completes_at}
+use Rattle.dragoon_app.proofs.Completed.{completes}
 use Rattle.dragoon_app.proofs.top.dragoon.Goals as goal
 
 pub returns-in-Some-Link-clause-leaves : goal.returns-in-Some-Link-clause-leaves
@@ -99,3 +100,33 @@ returns-in-None-clause-leaves g c = leaves_at _ None c.refuse.result _ _ (sym c.
 
 pub returns-in-None-clause-goes_on : goal.returns-in-None-clause-goes_on
 returns-in-None-clause-goes_on g c = goes_on_beside _ _ _ (disk_same _) c.refuse.ensures.frame
+
+pub returns-in-Some-Make-clause-leaves : goal.returns-in-Some-Make-clause-leaves
+returns-in-Some-Make-clause-leaves g c = leaves_at _ (Some (commands.Make c.in-Some-Make.id c.in-Some-Make.seed c.in-Some-Make.count)) c.run_make.result _ _ (sym (c.in-Some-Make.is ∙ ap (λ (x : Command). Some x) c.in-Some-Make.field-0-is) ∙ c.command_of.ensures.value) (c.run_make.ensures.leaves (g.I.Source.state c.args.input.now))
+
+pub returns-in-Some-Link-clause-complete : goal.returns-in-Some-Link-clause-complete
+returns-in-Some-Link-clause-complete g c = completes _ c.run_link.result _ _ (returns-in-Some-Link-clause-leaves g c) (c.run_link.ensures.causes (g.N.Notary.state c.args.notary.now) (g.C.Clock.state c.args.clock.now) (g.I.Source.state c.args.input.now)) (c.run_link.ensures.goes_on (g.N.Notary.state c.args.notary.now) (g.C.Clock.state c.args.clock.now) (g.I.Source.state c.args.input.now))
+
+pub returns-in-Some-Init-clause-complete : goal.returns-in-Some-Init-clause-complete
+returns-in-Some-Init-clause-complete g c = completes _ c.run_init.result _ _ (returns-in-Some-Init-clause-leaves g c) (c.run_init.ensures.causes (g.N.Notary.state c.args.notary.now) (g.I.Source.state c.args.input.now)) (c.run_init.ensures.goes_on (g.N.Notary.state c.args.notary.now) (g.I.Source.state c.args.input.now))
+
+pub returns-in-Some-Run-clause-complete : goal.returns-in-Some-Run-clause-complete
+returns-in-Some-Run-clause-complete g c = completes _ c.run_lines.result _ _ (returns-in-Some-Run-clause-leaves g c) c.run_lines.ensures.causes c.run_lines.ensures.goes_on
+
+pub returns-in-Some-Notarize-clause-complete : goal.returns-in-Some-Notarize-clause-complete
+returns-in-Some-Notarize-clause-complete g c = completes _ c.run_notarize.result _ _ (returns-in-Some-Notarize-clause-leaves g c) (c.run_notarize.ensures.causes (g.I.Source.state c.args.input.now)) (c.run_notarize.ensures.goes_on (g.I.Source.state c.args.input.now))
+
+pub returns-in-Some-Validate-clause-complete : goal.returns-in-Some-Validate-clause-complete
+returns-in-Some-Validate-clause-complete g c = completes _ c.run_validate.result _ _ (returns-in-Some-Validate-clause-leaves g c) (c.run_validate.ensures.causes (g.I.Source.state c.args.input.now)) (c.run_validate.ensures.goes_on (g.I.Source.state c.args.input.now))
+
+pub returns-in-Some-Analyse-clause-complete : goal.returns-in-Some-Analyse-clause-complete
+returns-in-Some-Analyse-clause-complete g c = completes _ c.run_analyse.result _ _ (returns-in-Some-Analyse-clause-leaves g c) (c.run_analyse.ensures.causes (g.I.Source.state c.args.input.now)) (c.run_analyse.ensures.goes_on (g.I.Source.state c.args.input.now))
+
+pub returns-in-Some-Make-clause-complete : goal.returns-in-Some-Make-clause-complete
+returns-in-Some-Make-clause-complete g c = completes _ c.run_make.result _ _ (returns-in-Some-Make-clause-leaves g c) (c.run_make.ensures.causes (g.I.Source.state c.args.input.now)) (c.run_make.ensures.goes_on (g.I.Source.state c.args.input.now))
+
+pub returns-in-Some-Drill-clause-complete : goal.returns-in-Some-Drill-clause-complete
+returns-in-Some-Drill-clause-complete g c = completes _ c.run_drill.result _ _ (returns-in-Some-Drill-clause-leaves g c) (returns-in-Some-Drill-clause-causes g c) (returns-in-Some-Drill-clause-goes_on g c)
+
+pub returns-in-None-clause-complete : goal.returns-in-None-clause-complete
+returns-in-None-clause-complete g c = completes_at _ None c.refuse.result _ _ (sym c.in-None.is ∙ c.command_of.ensures.value) tt

@@ -5,6 +5,7 @@ use Rattle.drill_core.specs.declared.fail.LineFail.TheVariants as lines
 use Rattle.stmt_text.specs.declared.kind.LineKind.TheVariants as kinds
 use Rattle.dragoon_app.specs.Running.{set_moment, refused_line}
 use Rattle.dragoon_app.proofs.Replying.{goes_by, steps_by, blank_goes, refuses_goes, sets_goes, fails_goes, moment_same, takes_for}
+use Rattle.dragoon_app.proofs.Growing.{refusal_left, wants_left, blank_left, moment_left}
 use Rattle.dragoon_app.proofs.runner.Runner.carry.Goals as goal
 
 pub returns-in_err-set_moment-in-SetsMoment-clause-disk_frame : goal.returns-in_err-set_moment-in-SetsMoment-clause-disk_frame
@@ -76,3 +77,22 @@ pub returns-in-InWorld-clause-told : goal.returns-in-InWorld-clause-told
 returns-in-InWorld-clause-told g c =
     steps_by c.args.line.now c.in-InWorld.part c.seconds-now.result c.step.result c.args.self.now c.step.new.self (g.D.Disk.state c.args.disk.now) (g.D.Disk.state c.step.new.disk) (g.N.Notary.state c.args.notary.now) (g.N.Notary.state c.step.new.notary) (g.C.Clock.state c.args.clock.now) (g.C.Clock.state c.seconds-now.new.clock)
     (sym c.kind.ensures.value ∙ c.in-InWorld.is) c.seconds-now.ensures.value c.step.ensures.told
+
+pub returns-in-Blank-clause-grows : goal.returns-in-Blank-clause-grows
+returns-in-Blank-clause-grows g c = blank_left c.new.result c.args.self.now (g.D.Disk.state c.args.disk.now) (g.met.D.Disk.only_now c.args.disk.now) c.new.ensures.value
+
+pub returns-in_ok-set_moment-in-SetsMoment-clause-grows : goal.returns-in_ok-set_moment-in-SetsMoment-clause-grows
+returns-in_ok-set_moment-in-SetsMoment-clause-grows g c = moment_left _ c.args.self.now.is_scripted c.in-SetsMoment.moment c.in_ok-set_moment-in-SetsMoment.field-0 c.args.self.now c.set_moment.new.self (g.D.Disk.state c.args.disk.now) (g.met.D.Disk.only_now c.args.disk.now) c.in_ok-set_moment-in-SetsMoment.ensures.value
+
+pub returns-in_err-set_moment-in-SetsMoment-clause-grows : goal.returns-in_err-set_moment-in-SetsMoment-clause-grows
+returns-in_err-set_moment-in-SetsMoment-clause-grows g c =
+    let same : c.from_residual.result ≡ Err lines.NoMemory = search rules in
+    rw same (wants_left c.args.self.now c.set_moment.new.self (g.D.Disk.state c.args.disk.now) (g.met.D.Disk.only_now c.args.disk.now))
+
+pub returns-in_ok-refuse-in-OutsideScripts-clause-grows : goal.returns-in_ok-refuse-in-OutsideScripts-clause-grows
+returns-in_ok-refuse-in-OutsideScripts-clause-grows g c = refusal_left (codes "Syntax") c.in_ok-refuse-in-OutsideScripts.field-0 c.args.self.now c.refuse.new.self (g.D.Disk.state c.args.disk.now) (g.met.D.Disk.only_now c.args.disk.now) c.in_ok-refuse-in-OutsideScripts.ensures.value c.in_ok-refuse-in-OutsideScripts.ensures.change
+
+pub returns-in_err-refuse-in-OutsideScripts-clause-grows : goal.returns-in_err-refuse-in-OutsideScripts-clause-grows
+returns-in_err-refuse-in-OutsideScripts-clause-grows g c =
+    let same : c.from_residual-in_err-refuse-in-OutsideScripts.result ≡ Err lines.NoMemory = search rules in
+    rw same (wants_left c.args.self.now c.refuse.new.self (g.D.Disk.state c.args.disk.now) (g.met.D.Disk.only_now c.args.disk.now))
