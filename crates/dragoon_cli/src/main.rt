@@ -6,16 +6,21 @@
 #![tactic(auto)]
 
 mod device;
+mod progress;
 mod telling;
 mod usage;
+mod watched;
 
 use crate::device::Device;
+use crate::progress::Progress;
 use crate::telling::{Ending, Named, tell};
+use crate::watched::{WatchedDisk, WatchedSink, WatchedSource};
 use dragoon_app::{Status, dragoon, leading};
 use notary_book::Book;
 use outside_io::{StdSink, StdSource, SystemClock};
 use std::alloc::{AllocError, Global};
 use std::fs::File;
+use std::io::IsTerminal;
 use std::process::ExitCode;
 use std::rt::{Files, Runtime};
 use std::{env, fs, io};
@@ -48,18 +53,38 @@ fn spare_numbers<R: Files<File = File>>(rt: &R) -> [io::Result<File>; 3] {
     [fs::open(rt, "/"), fs::open(rt, "/"), fs::open(rt, "/")]
 }
 
-fn run<R: Runtime + Files<File = File> + AllocGlobal + Drop>(rt: &R) -> Result<Status, AllocError> {
+/// Which streams are terminals. Where standard error is one, it says how far a long call is.
+#[derive(Clone, Copy)]
+struct Terminals {
+    output: bool,
+    error: bool,
+}
+
+fn run<R: Runtime + Files<File = File> + AllocGlobal + Drop>(
+    rt: &R,
+    terminals: Terminals,
+) -> Result<Status, AllocError> {
     let _spare = spare_numbers(rt);
     let words = words_of(rt)?;
     let (devices, call) = words.split_at(leading(&words));
-    let mut store = Device::named(rt, path_behind("store=", devices))?;
-    let mut notary = Book::new(
-        rt.alloc(),
-        Device::named(rt, path_behind("notary=", devices))?,
+    let mut store = WatchedDisk::new(
+        Device::named(rt, path_behind("store=", devices))?,
+        Progress::new(rt, "store", terminals.error)?,
     );
+    let book = WatchedDisk::new(
+        Device::named(rt, path_behind("notary=", devices))?,
+        Progress::new(rt, "notary's book", terminals.error)?,
+    );
+    let mut notary = Book::new(rt.alloc(), book);
     let mut clock = SystemClock::new(rt.clone()?);
-    let mut input = StdSource::new(rt.clone()?);
-    let mut out = StdSink::new(rt.clone()?);
+    let mut input = WatchedSource::new(
+        StdSource::new(rt.clone()?),
+        Progress::new(rt, "input", terminals.error)?,
+    );
+    let mut out = WatchedSink::new(
+        StdSink::new(rt.clone()?),
+        Progress::new(rt, "output", terminals.output && terminals.error)?,
+    );
     let status = dragoon(
         rt.alloc(),
         call,
@@ -74,22 +99,26 @@ fn run<R: Runtime + Files<File = File> + AllocGlobal + Drop>(rt: &R) -> Result<S
         store: Named {
             name: "store",
             path: path_behind("store=", devices),
-            error: store.error(),
+            error: store.below().error(),
         },
         notary: Named {
             name: "notary's book",
             path: path_behind("notary=", devices),
-            error: notary.into_disk().error(),
+            error: notary.into_disk().below().error(),
         },
-        input: input.error(),
-        output: out.error(),
+        input: input.below().error(),
+        output: out.below().error(),
     };
     let _ = tell(rt, &ending);
     Ok(status)
 }
 
 fn main(rt: HostRuntime) -> ExitCode {
-    match run(&rt) {
+    let terminals = Terminals {
+        output: rt.stdout().is_terminal(),
+        error: rt.stderr().is_terminal(),
+    };
+    match run(&rt, terminals) {
         Ok(status) => ExitCode::from(status.code()),
         Err(_) => {
             let _ = eprintln!(rt; "dragoon: no memory was left for the words of the call");
