@@ -5,14 +5,18 @@ ghost use Rattle.line_input.specs.Fail.{fail_of};
 
 use outside_io::StreamFail;
 use std::alloc::AllocError;
+use thiserror::Error;
 
 /// Why no line was given out.
-#[derive(Clone, Copy, Debug, PartialEq, Eq)]
+#[derive(Clone, Copy, Debug, PartialEq, Eq, Error)]
 pub enum InputFail {
-    /// The source failed, and has counted it.
+    /// It has counted this.
+    #[error("the input failed")]
     ReadFault,
     /// As many bytes were taken as may be, without a line's end or the end of input.
+    #[error("the input is longer than it may be")]
     InputLimit,
+    #[error("no memory was left")]
     NoMemory,
 }
 

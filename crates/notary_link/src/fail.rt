@@ -7,17 +7,19 @@ ghost use Rattle.notary_link.specs.declared.fail.AskFail.TheVariants as ask_fail
 
 use crate::name::Name;
 use std::alloc::AllocError;
+use thiserror::Error;
 
 /// Why a notary did not do what it was asked.
-#[derive(Clone, Copy, Debug, PartialEq, Eq)]
+#[derive(Clone, Copy, Debug, PartialEq, Eq, Error)]
 pub enum NotaryFail {
-    /// The notary failed, and has counted it.
+    /// It has counted this.
+    #[error("the notary failed")]
     Failed,
-    /// The batch is not the next one of its id, of which there are so many.
+    #[error("the notary has {count} batches under this id, and another number was expected")]
     OutOfTurn { count: u32 },
-    /// It holds all that it may.
+    #[error("the notary holds all that it may")]
     Full,
-    /// No memory was left.
+    #[error("no memory was left")]
     NoMemory,
 }
 
@@ -30,15 +32,17 @@ impl From<AllocError> for NotaryFail {
 }
 
 /// Why a reader of a notary's answers came to no end.
-#[derive(Clone, Copy, Debug, PartialEq, Eq)]
+#[derive(Clone, Copy, Debug, PartialEq, Eq, Error)]
 pub enum AskFail {
+    #[error("the notary failed")]
     NotaryFault,
-    /// No seal of this name was filed, though it was planned.
+    #[error("a seal was planned and never filed")]
     SealMissing { name: Name },
-    /// The seals that would be asked for are not among those that are planned.
+    #[error("the seals that would be asked for were not planned")]
     NotSealedSo,
-    /// A node differs, and both of those below it are the same.
+    #[error("node {index} of level {level} differs, and both nodes below it are the same")]
     NotaryInconsistent { level: u8, index: u32 },
+    #[error("no memory was left")]
     NoMemory,
 }
 

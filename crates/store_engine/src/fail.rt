@@ -5,27 +5,34 @@ ghost use Rattle.store_engine.specs.declared.fail.StoreFail.TheVariants.{NoMemor
 ghost use Rattle.store_engine.specs.Fail.{fail_of_journal, fail_of_encoding, closes};
 
 use std::alloc::AllocError;
+use thiserror::Error;
 use tuple_bytes::EncodeFail;
 use txn_journal::JournalFail;
 
 /// A refusal of a store.
-#[derive(Clone, Copy, Debug, PartialEq, Eq)]
+#[derive(Clone, Copy, Debug, PartialEq, Eq, Error)]
 pub enum StoreFail {
-    /// There is no header, or one of another id.
+    #[error("the device has no header of this id")]
     NotAStore,
-    /// The clock is before the last moment, or before the store's first second.
+    #[error("the clock stands before the last moment, {last}, or before the store's first second")]
     ClockBack { last: u64 },
     /// The moment's granule is 1,048,576 or more.
+    #[error("the clock stands behind the last granule")]
     TooLate,
-    /// More than 256 operations.
+    /// There are more than 256.
+    #[error("a transaction has too many operations")]
     TooManyOps,
-    /// The transaction's spelling is longer than 32,768 bytes.
+    /// It has more than 32,768 bytes.
+    #[error("the spelling of a transaction is too long")]
     TooLong,
     /// The next gate would reach the limit of the file.
+    #[error("the store has no room for the record")]
     StoreFull,
+    #[error("the disk failed")]
     DiskFault,
-    /// An earlier call failed, and the store was not opened anew since.
+    #[error("an earlier call failed, and the store was not opened anew since")]
     Closed,
+    #[error("no memory was left")]
     NoMemory,
 }
 

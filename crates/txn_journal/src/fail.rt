@@ -6,18 +6,22 @@ ghost use Rattle.txn_journal.specs.Fail.{fail_of};
 
 use disk_model::DiskFail;
 use std::alloc::AllocError;
+use thiserror::Error;
 
-#[derive(Clone, Copy, Debug, PartialEq, Eq)]
+#[derive(Clone, Copy, Debug, PartialEq, Eq, Error)]
 pub enum JournalFail {
-    /// The device is not free.
+    #[error("the device is not free")]
     AlreadyThere,
-    /// The bytes have no head of this shape.
+    #[error("the device has no head of this shape")]
     NotAStore,
+    #[error("the disk failed")]
     DiskFault,
     /// The next gate would reach the limit of the file.
+    #[error("the file has no room for the record")]
     StoreFull,
-    /// An earlier call failed, and the file was not opened anew since.
+    #[error("an earlier call failed, and the file was not opened anew since")]
     Closed,
+    #[error("no memory was left")]
     NoMemory,
 }
 
