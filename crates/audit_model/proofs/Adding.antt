@@ -51,7 +51,7 @@ added_stays batches id n header is item fits notarized follows =
     let width = fits.width.0 in
     let reached = notarized.reached in
     let last : last_moment (is ++ item ∷ []) ≡ after_last (last_moment is) item = fold-append after_last 0 is (item ∷ []) in
-    let same = same_batches (history header is) (history header (is ++ item ∷ [])) 0 n refl (layouts.header_alike (history header is) (history header (is ++ item ∷ [])) refl (0 + n)) (λ g below. later_rows header is item g (first_granule (layout (history header is)) n) (last_moment is) (omega (arith, width)) (let none : 0 + n ≡ n = omega arith in subst (λ (m : ℕ). g < first_granule (layout (history header is)) m) none below) reached follows) in
+    let same = same_batches (history header is) (history header (is ++ item ∷ [])) 0 n refl (layouts.tiles_stay header is (item ∷ []) (0 + n)) (λ g below. later_rows header is item g (first_granule (layout (history header is)) n) (last_moment is) (omega (arith, width)) (let none : 0 + n ≡ n = omega arith in subst (λ (m : ℕ). g < first_granule (layout (history header is)) m) none below) reached follows) in
     record {
       filed = record { seals = notarized.filed.seals ∙ same; header = notarized.filed.header; within = notarized.filed.within };
       reached = rw last (omega (arith, reached));
@@ -59,11 +59,11 @@ added_stays batches id n header is item fits notarized follows =
 
 pub frontier_filed : FrontierStaysFiled
 frontier_filed batches id n header is moment filed =
-    let same = same_batches (history header is) (history header (is ++ items.Frontier moment ∷ [])) 0 n refl (layouts.header_alike (history header is) (history header (is ++ items.Frontier moment ∷ [])) refl (0 + n)) (λ g below. frontier_rows header is moment g) in
+    let same = same_batches (history header is) (history header (is ++ items.Frontier moment ∷ [])) 0 n refl (layouts.tiles_stay header is (items.Frontier moment ∷ []) (0 + n)) (λ g below. frontier_rows header is moment g) in
     record { seals = filed.seals ∙ same; header = filed.header; within = filed.within }
 
 pub frontier_same : FrontierFilesSame
-frontier_same header is moment i = sym (same_batch (history header is) (history header (is ++ items.Frontier moment ∷ [])) i refl (layouts.header_alike (history header is) (history header (is ++ items.Frontier moment ∷ [])) refl i) (λ g below. frontier_rows header is moment g))
+frontier_same header is moment i = sym (same_batch (history header is) (history header (is ++ items.Frontier moment ∷ [])) i refl (layouts.tiles_stay header is (items.Frontier moment ∷ []) i) (λ g below. frontier_rows header is moment g))
 
 -- ---- a batch more
 

@@ -2,7 +2,7 @@
 use Rattle.std.proofs.Common.{◌≡◌, ℕ, zero, suc, ◌+◌, ◌-◌, ◌*◌, ◌^◌, ◌<◌, ◌≤◌, List, [], map, filter, refl, sym, ap, subst, ◌∙◌, ◌⊎◌, inl, inr, Option, Some, None, arith}
 use Rattle.std.specs.List.{Contains, range_with_len}
 use Rattle.std.proofs.lemmas.Bool.{cases_eq, cases_lt}
-use Rattle.tuple_bytes.specs.Spelling.{spell_fields}
+use Rattle.tuple_bytes.specs.Spelling.{FitsHeader, spell_fields}
 use Rattle.notary_link.specs.declared.name.Name.{Name}
 use Rattle.notary_link.specs.declared.name.Name.TheVariants as names
 use Rattle.notary_link.specs.declared.answer.Answer.{Answer}
@@ -37,6 +37,12 @@ pub header_planned : (l : Layout) (n : ℕ) → Contains (planned l n) names.Hea
 unfolding planned batch_names
 header_planned l n = Contains-flat_map (batch_names l) (range_with_len 0 (n + 1)) 0 names.Header (in_range 0 (n + 1) 0 (omega arith) (omega arith)) (here names.Header [])
 
+-- headers with the same fields are one, and the tiles lie alike under it
+places_by_fields : (h s : History) (n : ℕ) → FitsHeader h.header → FitsHeader s.header → spell_fields h.header ≡ spell_fields s.header → HasPlacesOf h s n
+places_by_fields h s n ours theirs same =
+    let one = same_header h.header s.header ours theirs same in
+    record { header = one; tiles = layouts.header_alike h s one n }
+
 pub header_shown : HeaderIsShown
 unfolding digest inputs_of header_answer
 header_shown batches id h s n is ours theirs e =
@@ -46,9 +52,7 @@ header_shown batches id h s n is ours theirs e =
     let left = hashed_for h n names.Header (header_input h.header) plan (here (header_input h.header) []) in
     let right = hashed_for s n names.Header (header_input s.header) (header_planned (layout s) n) (here (header_input s.header) []) in
     elim (same_or_clash (inputs h n) (inputs s n) (header_input h.header) (header_input s.header) left right alike) [
-      | inl one ↦
-          (let header = same_header h.header s.header ours.header theirs.header (let fields : spell_fields h.header ≡ spell_fields s.header = cc in fields) in
-          inl (record { header = header; tiles = layouts.header_alike h s header n }))
+      | inl one ↦ inl (places_by_fields h s n ours.header theirs.header (let fields : spell_fields h.header ≡ spell_fields s.header = cc in fields))
       | inr c ↦ inr c
     ]
 
@@ -131,7 +135,7 @@ nodes_consistent batches id h s n level index filed e = elim (one_answer (node_d
 
 pub one_or_other : HeadersAreOneOrOther
 one_or_other h s n ours theirs = elim (List-discrete ℕ_discrete (spell_fields h.header) (spell_fields s.header)) [
-  | yes same ↦ (let header = same_header h.header s.header ours theirs same in inl (record { header = header; tiles = layouts.header_alike h s header n }))
+  | yes same ↦ inl (places_by_fields h s n ours theirs same)
   | no other ↦ inr other
 ]
 

@@ -1,13 +1,14 @@
 -- What may be used of a layout. All but the last part holds of tiles of any sizes, one behind the other.
-use Rattle.std.proofs.Common.{◌≡◌, ℕ, zero, suc, ◌+◌, ◌-◌, ◌*◌, ◌^◌, ◌<◌, ◌≤◌, nat_le, true, false, map, refl, ap, subst, ◌∙◌, inl, inr, arith}
+use Rattle.std.proofs.Common.{◌≡◌, ℕ, zero, suc, ◌+◌, ◌-◌, ◌*◌, ◌^◌, ◌<◌, ◌≤◌, nat_le, true, false, List, ◌++◌, map, refl, sym, ap, subst, ◌∙◌, inl, inr, arith}
 use Rattle.std.specs.Prelude.{nat_eq}
 use Rattle.std.specs.Int.{bit_at}
 use Rattle.std.proofs.lemmas.Bool.{cases_lt}
 use Rattle.std.proofs.lemmas.Bool.Decides.{nat_tests}
 use Rattle.std.proofs.lemmas.Nat.{pow_pos}
 use Rattle.tuple_bytes.specs.declared.header.Header.{Header}
+use Rattle.tuple_bytes.specs.declared.item.Item.{Item}
 use Rattle.tuple_bytes.specs.Spelling.{FitsHeader}
-use Rattle.history_model.specs.History.{History}
+use Rattle.history_model.specs.History.{History, history}
 use Rattle.digest_model.specs.Layout.{Layout, layout, SameTile, SameTiles, exponent, tile_size, first_granule, end_granule, tile_up, tile_of, has_tile_chains, has_tree, numbers_in_part, part_granules}
 
 module _ (l : Layout) where
@@ -129,6 +130,27 @@ module _ (l : Layout) where
   unfolding tile_of
   tile_ends g = up_ends g g (let many = counts l (suc g) in omega (arith, many))
 
+  -- and in no other
+  pub only_tile : (tile g : ℕ) → first_granule l tile ≤ g → g < end_granule l tile → tile_of l g ≡ tile
+  only_tile tile g from to =
+      let own_from = tile_begins g in
+      let own_to = tile_ends g in
+      let ends = adjoin l tile in
+      let own_ends = adjoin l (tile_of l g) in
+      let low = tile_within l (tile + 1) (tile_of l g) g own_from (omega (arith, to, ends)) in
+      let high = tile_within l (tile_of l g + 1) tile g from (omega (arith, own_to, own_ends)) in
+      omega (arith, low, high)
+
+-- a granule of the first tiles lies in the same one
+pub same_tile_of : (l m : Layout) (n g : ℕ) → SameTiles n l m → g < first_granule l n → tile_of l g ≡ tile_of m g
+same_tile_of l m n g same inside =
+    let from = tile_begins l g in
+    let to = tile_ends l g in
+    let few = tile_within l n (tile_of l g) g from inside in
+    let begin = same_first l m n (tile_of l g) (omega (arith, few)) same in
+    let end = same_end l m n (tile_of l g) few same in
+    sym (only_tile m (tile_of l g) g (omega (arith, from, begin)) (omega (arith, to, end)))
+
 -- ---- of a history whose tiles are all alike: replaced where a store may change its exponent
 
 module _ (h : History) where
@@ -153,6 +175,10 @@ module _ (h : History) where
   pub exponents_fit : (tile : ℕ) → FitsHeader h.header → exponent (layout h) tile ≤ 10
   unfolding exponent
   exponents_fit tile fits = fits.k
+
+-- items more leave all tiles where they were
+pub tiles_stay : (header : Header) (items more : List Item) (n : ℕ) → SameTiles n (layout (history header items)) (layout (history header (items ++ more)))
+tiles_stay header items more n tile below = record { exponent = refl; algorithms = refl }
 
 -- the header says all
 pub header_alike : (h s : History) → h.header ≡ s.header → (n : ℕ) → SameTiles n (layout h) (layout s)
