@@ -4,6 +4,7 @@ pub mod Ending
 pub mod Filed
 pub mod Notarized
 pub mod Fails
+pub mod Trees
 pub mod Going
 pub mod Finding
 pub mod Rooted

@@ -11,13 +11,13 @@ use Rattle.notary_link.specs.declared.name.Name.TheVariants.{Node}
 use Rattle.notary_link.specs.declared.fail.AskFail.{AskFail}
 use Rattle.notary_link.specs.Batches.{Batch}
 use Rattle.history_model.specs.History.{History}
-use Rattle.digest_model.specs.Layout.{layout, first_granule, has_tree}
+use Rattle.digest_model.specs.Layout.{layout, first_granule}
 use Rattle.digest_model.specs.Roots.{has_root_at, down_from, roots_of}
 use Rattle.audit_model.specs.Tree.{is_different, found_from, forks_from, found, checks}
 use Rattle.ask_words.specs.Asked.{IsTold, stop_at, or_stop, first_stop, unless_stopped}
 use Rattle.a3d_forensics.specs.declared.found.A3dFound.{A3dFound}
 use Rattle.a3d_forensics.specs.Asking.{node_told, Compares}
-use Rattle.a3d_forensics.specs.Descent.{nodes_of, stop_from, stop_of, descent, tree_found, tree_checks, tree_stop, tree_told}
+use Rattle.a3d_forensics.specs.Descent.{nodes_of, stop_from, stop_of, descent, tree_found, tree_checks, tree_stop, tiles_have_tree, tree_told}
 use Rattle.a3d_forensics.specs.Going.{stop_under, more_from, gone_from, left_by, GoesFrom}
 use Rattle.a3d_forensics.specs.Rooted.{root_at_level, roots_below, more_over, gone_over, GoesOver}
 use Rattle.ask_words.proofs.Stops.{ended, stops_whole, or_none, first_stop-append}
@@ -134,7 +134,7 @@ module _ (granules : ℕ) (nodes : ℕ → ℕ → Answer) where
   ends level found e on = sym (on ∙ ap (λ (l : ℕ). gone_over nodes (roots_below granules l) found) e ∙ ap Ok (same_found _ _ _ _ (append-nil found.granules) (omega arith)))
 
 -- the sealed granules of a history with a tree
-pub of_tree : (batches : List Batch) (s : History) (tiles granules : ℕ) (result : Result A3dFound AskFail) → has_tree (layout s) 0 ≡ true → granules ≡ first_granule (layout s) tiles
+pub of_tree : (batches : List Batch) (s : History) (tiles granules : ℕ) (result : Result A3dFound AskFail) → tiles_have_tree (layout s) tiles ≡ true → granules ≡ first_granule (layout s) tiles
     → IsTold (descent granules (nodes_of batches s)) result → IsTold (tree_told batches s tiles) result
 unfolding tree_found tree_checks tree_stop
 of_tree batches s tiles granules result has e told = rw has (subst (λ (n : ℕ). IsTold (descent n (nodes_of batches s)) result) e told)

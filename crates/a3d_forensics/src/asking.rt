@@ -1,22 +1,23 @@
 //! Asking for a node.
 
-ghost use Rattle.std.specs.Prelude.{◌≡◌, ◌≤◌, ◌+◌, true, IfErr};
+ghost use Rattle.std.specs.Prelude.{◌≡◌, ◌≤◌, ◌+◌, IfErr};
 ghost use Rattle.outside_words.specs.Faults.{HasCause};
 ghost use Rattle.outside_words.specs.Shown.{ShowsFaults};
 ghost use Rattle.outside_words.specs.Told.{WhereTold};
 ghost use Rattle.notary_link.specs.declared.fail.AskFail.TheVariants.{NotaryFault};
 ghost use Rattle.notary_link.specs.Fails.{ask_in_doubt};
 ghost use Rattle.notary_link.specs.Notary.{Unchanged, GoesOn};
-ghost use Rattle.digest_model.specs.Layout.{layout, first_granule, max_granules, has_tree};
+ghost use Rattle.digest_model.specs.Layout.{layout, first_granule, max_granules};
+ghost use Rattle.audit_model.specs.Laws.{HasTree};
 ghost use Rattle.a3d_forensics.specs.Asking.{Compares, IsNodeFail};
-ghost use Rattle.a3d_forensics.specs.Descent.{nodes_of, IsOver};
+ghost use Rattle.a3d_forensics.specs.Descent.{nodes_of, tiles_have_tree, IsOver};
 
 use notary_link::{Answer, AskFail, Name, Notary};
 use seal_plan::Plan;
 
 /// Whether the granules are leaves of the tree.
 pub(crate) fn has_tree(plan: &Plan) -> bool
-    ensures { result ≡ has_tree (layout plan.now.history) 0 }
+    ensures { result ≡ tiles_have_tree (layout plan.now.history) plan.now.tiles }
 {
     plan.eras().has_tree(0)
 }
@@ -29,7 +30,7 @@ pub(crate) fn differs<N: Notary>(
     level: u8,
     index: u32,
 ) -> Result<bool, AskFail>
-    requires tree { has_tree (layout plan.now.history) 0 ≡ true }
+    requires tree { HasTree plan.now.history plan.now.tiles }
     requires within { first_granule (layout plan.now.history) plan.now.tiles ≤ max_granules }
     requires over { IsOver (first_granule (layout plan.now.history) plan.now.tiles) level index }
     ensures value { WhereTold (N.state notary.old).lists (N.state notary.new).lists (λ before after.

@@ -1,6 +1,6 @@
 //! The descent, a root after the other.
 
-ghost use Rattle.std.specs.Prelude.{◌≡◌, ◌≤◌, ◌<◌, ◌+◌, ◌*◌, ◌↔◌, true, false, All, length, IsErrOf, IfErr, IfOk, OnOk};
+ghost use Rattle.std.specs.Prelude.{◌≡◌, ◌≤◌, ◌<◌, ◌+◌, ◌*◌, ◌↔◌, false, All, length, IsErrOf, IfErr, IfOk, OnOk};
 ghost use Rattle.std.specs.List.Sorted.{IsStrictlyIncreasing};
 ghost use Rattle.outside_words.specs.Faults.{HasCause};
 ghost use Rattle.outside_words.specs.Shown.{ShowsFaults};
@@ -8,11 +8,12 @@ ghost use Rattle.outside_words.specs.Told.{WhereTold};
 ghost use Rattle.notary_link.specs.declared.fail.AskFail.TheVariants.{NotaryFault, NotSealedSo};
 ghost use Rattle.notary_link.specs.Fails.{ask_in_doubt};
 ghost use Rattle.notary_link.specs.Notary.{Unchanged, GoesOn};
-ghost use Rattle.digest_model.specs.Layout.{layout, first_granule, max_granules, has_tree};
+ghost use Rattle.digest_model.specs.Layout.{layout, first_granule, max_granules};
 ghost use Rattle.digest_model.specs.Roots.{roots_of};
+ghost use Rattle.audit_model.specs.Laws.{HasTree};
 ghost use Rattle.audit_model.specs.Tree.{digit_count};
 ghost use Rattle.ask_words.specs.Asked.{IsTold};
-ghost use Rattle.a3d_forensics.specs.Descent.{nodes_of, tree_told, IsDescentFail, IsBelowFail};
+ghost use Rattle.a3d_forensics.specs.Descent.{nodes_of, tiles_have_tree, tree_told, IsDescentFail, IsBelowFail};
 ghost use Rattle.a3d_forensics.specs.Rooted.{root_at_level, GoesOver, IsFoundAbove};
 
 use crate::asking::{differs, has_tree};
@@ -32,7 +33,8 @@ pub fn altered<N: Notary>(
 ) -> Result<A3dFound, AskFail>
     ensures value { WhereTold (N.state notary.old).lists (N.state notary.new).lists (λ before after.
         IsTold (tree_told (before.batches id) plan.now.history plan.now.tiles) result) }
-    ensures sealed_so { IsErrOf result NotSealedSo ↔ has_tree (layout plan.now.history) 0 ≡ false }
+    ensures sealed_so { IsErrOf result NotSealedSo
+        ↔ tiles_have_tree (layout plan.now.history) plan.now.tiles ≡ false }
     ensures unasked { IsErrOf result NotSealedSo → N.state notary.new ≡ N.state notary.old }
     ensures ascending { IfOk result (λ found. IsStrictlyIncreasing found.granules) }
     ensures within { IfOk result (λ found.
@@ -78,7 +80,7 @@ fn descend_root<N: Notary>(
     level: u8,
     found: &mut A3dFound,
 ) -> Result<(), AskFail>
-    requires tree { has_tree (layout plan.now.history) 0 ≡ true }
+    requires tree { HasTree plan.now.history plan.now.tiles }
     requires granules { granules ≡ first_granule (layout plan.now.history) plan.now.tiles }
     requires within { granules ≤ max_granules }
     requires level { level < 32 }

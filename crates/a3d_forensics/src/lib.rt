@@ -16,7 +16,7 @@
 //! | The layer above may rely on | Clause of `altered` |
 //! |---|---|
 //! | the leaves that are reached and differ, and the number of nodes asked; or what stops the descent first | `value` |
-//! | `NotSealedSo` exactly where the header has no tree, and then nothing is asked | `sealed_so`, `unasked` |
+//! | `NotSealedSo` exactly where a tile, or where there is none the first one, has no tree; and then nothing is asked | `sealed_so`, `unasked` |
 //! | a seal that is missing is one of a planned node, and so is a node that is inconsistent, whatever is told | `only` |
 //! | the granules ascend and are sealed | `ascending`, `within` |
 //! | where Ok is answered, at most as many questions are asked as `checks` says, which are few: the roots, and twice the binary digits of the number of granules for each granule found | `asked`, `few` |

@@ -9,6 +9,8 @@ use Rattle.digest_model.proofs.Layouts as layouts
 use Rattle.digest_model.proofs.Lists.{one_of, none_of, in_range}
 use Rattle.notary_link.specs.Batches.{Batch}
 use Rattle.audit_model.specs.Laws.{IsAudit, HasTree}
+use Rattle.a3d_forensics.specs.Descent.{tiles_have_tree}
+use Rattle.a3d_forensics.proofs.Trees.{each_has_tree}
 use Rattle.forensic_report.specs.declared.algorithm.Algorithm.{Algorithm}
 use Rattle.cumulative_chain.specs.Tiles.{layout_of}
 use Rattle.forensic_report.specs.declared.algorithm.Algorithm.TheVariants.{Mono, Tiled, TiledExactly, A3d}
@@ -53,12 +55,8 @@ sealed_before l n small = elim (cases_lt (first_past l) n) [
   | inr few ↦ few
 ]
 
--- it has the first tile, and each one that is sealed
+-- it has each tile that is sealed
 module _ (l : Layout) (n : ℕ) where
-  first_in_range : Contains (range_of l n) 0
-  unfolding range_of
-  first_in_range = in_range 0 (max 1 (min n (first_past l))) 0 (omega arith) (omega arith)
-
   sealed_in_range : first_granule l n ≤ max_granules → (tile : ℕ) → tile < n → Contains (range_of l n) tile
   unfolding range_of
   sealed_in_range small tile below = (let few = sealed_before l n small in in_range 0 (max 1 (min n (first_past l))) tile (omega arith) (omega (arith, few, below)))
@@ -118,12 +116,13 @@ lacking_refuses A3d l n lacks = tt
 pub tile_has_chains : (s : History) (n : ℕ) → first_granule (layout s) n ≤ max_granules → has_chains Tiled (layout s) n ≡ true → HaveTileChains s n
 tile_has_chains s n small has tile below = passes (has_tile_chains (layout s)) (range_of (layout s) n) tile has (sealed_in_range (layout s) n small tile below)
 
-pub tile_has_tree : (s : History) (n : ℕ) → first_granule (layout s) n ≤ max_granules → has_chains A3d (layout s) n ≡ true → HasTree s n
-tile_has_tree s n small has tile below = passes (has_tree (layout s)) (range_of (layout s) n) tile has (sealed_in_range (layout s) n small tile below)
+-- for the descent they are the tiles that it asks of
+pub range_has_tree : (s : History) (n : ℕ) → first_granule (layout s) n ≤ max_granules → has_chains A3d (layout s) n ≡ true → tiles_have_tree (layout s) n ≡ true
+unfolding tiles_have_tree
+range_has_tree s n small has = sym (ap (list_all (has_tree (layout s))) (range_is (layout s) n small)) ∙ has
 
--- and so has the first one
-pub first_has_tree : (s : History) (n : ℕ) → has_chains A3d (layout s) n ≡ true → has_tree (layout s) 0 ≡ true
-first_has_tree s n has = passes (has_tree (layout s)) (range_of (layout s) n) 0 has (first_in_range (layout s) n)
+pub tile_has_tree : (s : History) (n : ℕ) → first_granule (layout s) n ≤ max_granules → has_chains A3d (layout s) n ≡ true → HasTree s n
+tile_has_tree s n small has = each_has_tree s n (range_has_tree s n small has)
 
 -- ---- of a file with the sealed tiles of what was filed
 

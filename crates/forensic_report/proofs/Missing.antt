@@ -80,7 +80,7 @@ module _ (batches : List Batch) (id n : ℕ) (h s : History) (audit : IsAudit ba
   tree_ends fail has is =
       let own = tree_of_audit batches id h s n audit has in
       ended leaves (layout s) n (tree_stop batches s n) (found_in_tree batches s n) fail (audited_ends batches id h s n audit compare consistent own)
-      (is ∙ ap (analysis_by leaves (layout s) n) (tree_is batches s n has))
+      (is ∙ ap (analysis_by leaves (layout s) n) (tree_is batches s n (ends_within batches id h s n audit) has))
 
   region_ends : (fail : AnalyseFail) → IsRegion (cums batches s) (layout s) n (Err fail) → ⊥
   region_ends (fails.SealMissing name) is = not_absent batches id n h s audit.filed (names.Cum is.0) (cum_planned (layout h) n is.0 is.1) is.3

@@ -29,7 +29,7 @@ by_algorithm : (algorithm : Algorithm) (batches : List Batch) (id n : ℕ) (h s 
 by_algorithm Mono batches id n h s a header has small is = mono_shows batches id h s n a header is
 by_algorithm Tiled batches id n h s a header has small is = tiled_shows batches id h s n a small has header is
 by_algorithm (TiledExactly kappa) batches id n h s a header has small is = exactly_shows batches id h s n a small has header is kappa
-by_algorithm A3d batches id n h s a header has small is = tree_shows batches id h s n a has header is
+by_algorithm A3d batches id n h s a header has small is = tree_shows batches id h s n a small has header is
 
 abbrev reported : Analysis → Result Analysis AnalyseFail
 reported a = Ok a

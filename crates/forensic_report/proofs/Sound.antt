@@ -83,7 +83,7 @@ module _ (batches : List Batch) (id n : ℕ) (h : History) (filed : NotaryOf bat
       let own = tile_has_tree h n filed.within has in
       let none = none_found batches id n h filed own in
       let stops = none_stops batches id n h filed own in
-      tree_is batches h n has ∙ (rw (stops, none) refl)
+      tree_is batches h n filed.within has ∙ (rw (stops, none) refl)
 
   tiled_found : (found : Result Analysis AnalyseFail) → has_chains Tiled (layout h) n ≡ true → found ≡ analysis_by Targets (layout h) n (targets_told batches h n) → TellsNoAlteration found
   tiled_found found has is = told found (Found (layout h) n (Targets [])) (is ∙ ap (analysis_by Targets (layout h) n) (tiled_same has)) refl

@@ -14,7 +14,7 @@ use Rattle.a3d_forensics.specs.Descent.{tree_found, tree_checks, tree_stop, tree
 use Rattle.forensic_report.specs.declared.algorithm.Algorithm.TheVariants.{Tiled, A3d}
 use Rattle.forensic_report.specs.Analysis.{Findings, Leaves}
 use Rattle.forensic_report.specs.Finding.{stop_told, failing, has_chains}
-use Rattle.forensic_report.proofs.Layouts.{tile_has_chains, first_has_tree}
+use Rattle.forensic_report.proofs.Layouts.{tile_has_chains, range_has_tree}
 
 abbrev pub leaves : A3dFound → Findings
 leaves f = Leaves f.granules f.checks
@@ -40,5 +40,5 @@ module _ (batches : List Batch) (s : History) (n : ℕ) where
   abbrev pub found_in_tree : A3dFound
   found_in_tree = record { granules = tree_found batches s n; checks = tree_checks batches s n }
 
-  pub tree_is : has_chains A3d (layout s) n ≡ true → tree_told batches s n ≡ unless_stopped (tree_stop batches s n) found_in_tree
-  tree_is has = ap (λ (b : Bool). if b then unless_stopped (tree_stop batches s n) found_in_tree else Err NotSealedSo) (first_has_tree s n has)
+  pub tree_is : first_granule (layout s) n ≤ max_granules → has_chains A3d (layout s) n ≡ true → tree_told batches s n ≡ unless_stopped (tree_stop batches s n) found_in_tree
+  tree_is small has = ap (λ (b : Bool). if b then unless_stopped (tree_stop batches s n) found_in_tree else Err NotSealedSo) (range_has_tree s n small has)

@@ -1,10 +1,10 @@
 -- What the leaves of the tree show.
-use Rattle.std.proofs.Common.{◌≡◌, ◌⊎◌, inl, inr, ℕ, true, false, List, Some, Ok, sym, ap, subst, ◌∙◌}
+use Rattle.std.proofs.Common.{◌≡◌, ◌⊎◌, inl, inr, ℕ, ◌≤◌, true, false, List, Some, Ok, sym, ap, subst, ◌∙◌}
 use Rattle.std.specs.List.{Contains}
 use Rattle.tuple_bytes.specs.declared.header.Header.{Header}
 use Rattle.tuple_bytes.specs.Spelling.{spell_fields}
 use Rattle.history_model.specs.History.{History}
-use Rattle.digest_model.specs.Layout.{layout, tile_of}
+use Rattle.digest_model.specs.Layout.{layout, first_granule, tile_of, max_granules}
 use Rattle.notary_link.specs.Batches.{Batch}
 use Rattle.audit_model.specs.Altered.{HasOtherHeader, IsAltered, HashClash}
 use Rattle.audit_model.specs.Laws.{IsAudit, HasTree}
@@ -54,8 +54,8 @@ leaves_show batches id h s n has (inl audit) = leaves_own batches id h s n audit
 leaves_show batches id h s n has (inr passed) =
     passed_shows A3d batches h s (layout s) n (found_leaves batches s n) passed (none_under_other h s n (tree_found batches s n) (tree_checks batches s n) passed.other) tt
 
-pub tree_shows : (batches : List Batch) (id : ℕ) (h s : History) (n : ℕ) (a : Analysis) → has_chains A3d (layout s) n ≡ true
+pub tree_shows : (batches : List Batch) (id : ℕ) (h s : History) (n : ℕ) (a : Analysis) → first_granule (layout s) n ≤ max_granules → has_chains A3d (layout s) n ≡ true
     → IsAudit batches id h s n ⊎ IsPassed h s n → Ok a ≡ analysis_by leaves (layout s) n (tree_told batches s n) → Shows A3d batches h (Some s) n a
-tree_shows batches id h s n a has header is =
-    let u = unstopped leaves (layout s) n (tree_stop batches s n) (found_in_tree batches s n) a (is ∙ ap (analysis_by leaves (layout s) n) (tree_is batches s n has)) in
+tree_shows batches id h s n a small has header is =
+    let u = unstopped leaves (layout s) n (tree_stop batches s n) (found_in_tree batches s n) a (is ∙ ap (analysis_by leaves (layout s) n) (tree_is batches s n small has)) in
     subst (λ (x : Analysis). Shows A3d batches h (Some s) n x) (sym u.1) (leaves_show batches id h s n has header)

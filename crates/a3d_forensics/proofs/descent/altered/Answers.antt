@@ -13,6 +13,7 @@ use Rattle.a3d_forensics.specs.Rooted.{root_at_level, GoesOver}
 use Rattle.ask_words.proofs.Reading.{reads_then}
 use Rattle.a3d_forensics.proofs.Rooted.{GoesDown, begins, goes_down, stops_all, ends, of_tree}
 use Rattle.a3d_forensics.proofs.Above.{above_all}
+use Rattle.a3d_forensics.proofs.Trees.{each_has_tree}
 use Rattle.a3d_forensics.proofs.descent.altered.Goals as goal
 
 -- ---- no tree
@@ -45,6 +46,9 @@ loop-level-init g c =
       frame = goes_on_same _;
       counted = refl;
     }
+
+pub descend_root-requires-clause-tree : goal.descend_root-requires-clause-tree
+descend_root-requires-clause-tree g c = each_has_tree c.args.plan.now.history c.args.plan.now.tiles c.loop-level.invariant.tree
 
 pub loop-level-preserved : goal.loop-level-preserved
 loop-level-preserved g c =
