@@ -12,7 +12,6 @@ use Rattle.audit_model.specs.Laws.{IsAudit, HasTree}
 use Rattle.a3d_forensics.specs.Descent.{tiles_have_tree}
 use Rattle.a3d_forensics.proofs.Trees.{each_has_tree}
 use Rattle.forensic_report.specs.declared.algorithm.Algorithm.{Algorithm}
-use Rattle.cumulative_chain.specs.Tiles.{layout_of}
 use Rattle.forensic_report.specs.declared.algorithm.Algorithm.TheVariants.{Mono, Tiled, TiledExactly, A3d}
 use Rattle.policy_eras.specs.Policy.{first_past}
 use Rattle.forensic_report.specs.declared.fail.AnalyseFail.TheVariants.{NotSealedSo}
@@ -160,9 +159,3 @@ module _ (batches : List Batch) (id : ℕ) (h s : History) (n : ℕ) (audit : Is
       ap (list_all (tile_has algorithm (layout h))) (range_is (layout h) n audit.filed.within)
       ∙ all_alike (tile_has algorithm (layout h)) (tile_has algorithm (layout s)) 0 (max 1 n) (λ tile below. one_so algorithm tile (range_alike n refl tile (omega (arith, below))))
       ∙ ap (list_all (tile_has algorithm (layout s))) (sym (range_is (layout s) n ends_within))
-
--- ---- of one era: replaced where a store may change its exponent
-
--- one header, one layout: the timelines' reports go by it
-pub one_layout : (h s : History) → h.header ≡ s.header → layout h ≡ layout s
-one_layout h s one = ap layout_of one

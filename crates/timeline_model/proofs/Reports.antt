@@ -9,12 +9,13 @@ use Rattle.history_model.specs.Stored.{stored}
 use Rattle.history_model.specs.StoredHistory.{IsHistory}
 use Rattle.history_model.specs.History.{History, history}
 use Rattle.history_model.proofs.Stores.{stored_history}
-use Rattle.digest_model.specs.Layout.{Layout, layout}
+use Rattle.digest_model.specs.Layout.{layout}
 use Rattle.digest_model.proofs.Layouts.{tile_within}
 use Rattle.notary_link.specs.declared.notary.NotaryLimits.{NotaryLimits}
 use Rattle.notary_link.specs.Batches.{Batch}
 use Rattle.audit_model.specs.Altered.{history_with, HasPlacesOf, IsAltered, HashClash}
 use Rattle.audit_model.specs.Laws.{IsAudit}
+use Rattle.audit_model.proofs.Planned.{places_of}
 use Rattle.corruption_diagram.specs.declared.span.Span.{Span}
 use Rattle.stmt_text.specs.declared.error.ParseFail.{ParseFail}
 use Rattle.stmt_text.specs.declared.stmt.LineAlgorithm.{LineAlgorithm}
@@ -29,7 +30,6 @@ use Rattle.forensic_report.specs.Held.{HoldsHistory}
 use Rattle.forensic_report.specs.Shows.{Shows}
 use Rattle.forensic_report.specs.Texts.{Kept, report_text}
 use Rattle.forensic_report.proofs.Showing.{shows}
-use Rattle.forensic_report.proofs.Layouts.{one_layout}
 use Rattle.drill_core.specs.Found.{Found as FoundOf}
 use Rattle.drill_core.specs.World as worlds
 use Rattle.drill_core.specs.Steps as world_steps
@@ -212,21 +212,18 @@ module _ (limits : NotaryLimits) (e : Event) (es : List Event) (id : ℕ) (state
 
       module _ (holds : Holds t es id h n) (is : IsAudit batches id h at.store n) where
         places : HasPlacesOf h at.store n
-        places = record { header = is.header; tiles = is.places }
+        places = places_of batches id h at.store n is
 
-        a_is : a ≡ Found (layout h) n at.findings
-        a_is = at.is ∙ ap (λ (l : Layout). Found l n at.findings) (sym (one_layout h at.store is.header))
-
-        shown_here : Shows algorithm batches h (Some at.store) n (Found (layout h) n at.findings)
-        shown_here = subst (λ (x : Analysis). Shows algorithm batches h (Some at.store) n x) a_is (subst (λ (o : Option History). Shows algorithm batches h o n a) held_is (shown holds))
+        shown_here : Shows algorithm batches h (Some at.store) n (Found (layout at.store) n at.findings)
+        shown_here = subst (λ (x : Analysis). Shows algorithm batches h (Some at.store) n x) at.is (subst (λ (o : Option History). Shows algorithm batches h o n a) held_is (shown holds))
 
         span_here : (g : ℕ) (span : Span) (line : List ℕ) → IsAltered h (held now) n g → Prints algorithm kept a g span line → IsSpanOf h g kept span
-        span_here g span line altered prints = in_span h n g altered.is_sealed kept algorithm batches at.store at.findings span line shown_here.explained
-            (subst (λ (x : Analysis). Prints algorithm kept x g span line) a_is prints)
+        span_here g span line altered prints = in_span h (layout at.store) n g is.places altered.is_sealed kept algorithm batches at.store at.findings span line shown_here.explained
+            (subst (λ (x : Analysis). Prints algorithm kept x g span line) at.is prints)
 
         first_here : (tile : ℕ) (span : Span) (line : List ℕ) → PrintsFirst kept a tile span line → HasAlteredIn h (held now) n tile ⊎ HasClash t es h n
         first_here tile span line prints =
-            let p = subst (λ (x : Analysis). PrintsFirst kept x tile span line) a_is prints in
+            let p = subst (λ (x : Analysis). PrintsFirst kept x tile span line) at.is prints in
             elim (first_altered h at.store n tile p.tiles at.findings places shown_here.begins shown_here.only p.bad_is) [
               | inl has ↦ inl (subst (λ (o : Option History). HasAlteredIn h o n tile) (sym held_is) has)
               | inr clash ↦ inr (clash_read clash)

@@ -22,7 +22,7 @@ use Rattle.tuple_bytes.specs.Spelling.{spell_frontier, FitsHeader}
 use Rattle.history_model.specs.Stored.{stored}
 use Rattle.history_model.specs.History.{History, history, rows, txns, txn_in, is_in_granule}
 use Rattle.history_model.proofs.Stores.{stored_history}
-use Rattle.digest_model.specs.Layout.{Layout, layout, first_granule, max_granules}
+use Rattle.digest_model.specs.Layout.{Layout, layout, first_granule, max_granules, SameTiles}
 use Rattle.digest_model.specs.Digests.{cum, header_digest}
 use Rattle.digest_model.proofs.Follows.{follow}
 use Rattle.notary_link.specs.declared.answer.Answer.{Answer}
@@ -68,6 +68,7 @@ use Rattle.timeline_model.proofs.Acts.{Acts}
 use Rattle.timeline_model.proofs.Bytes.{all_calls, one_last}
 use Rattle.timeline_model.proofs.Doings.{ActsOn, ActsEither, without_notary, spelled_of, StoreIs, store_is}
 use Rattle.digest_model.proofs.Layouts.{ascends}
+use Rattle.digest_model.proofs.Layouts as layouts
 
 -- ---- calls of the notary, one after the other
 
@@ -153,19 +154,30 @@ frontier_is l t now batches moment e = by (nat_le (length batches) (tiles_at l t
 
 -- ---- the same rows
 
-abbrev chain_by : ℕ → Answer → Layout → Option AuditFail
-chain_by last a l = if nat_le (first_granule l (suc last)) max_granules then fault_by (names.Cum last) a else Some (fails.SealMissing (names.Cum (first_past l)))
+-- of a tile that ends here; one more than the last tile that is ever sealed is told as missing
+abbrev chain_by : ℕ → Answer → ℕ → ℕ → Option AuditFail
+chain_by last a end past = if nat_le end max_granules then fault_by (names.Cum last) a else Some (fails.SealMissing (names.Cum past))
+
+-- the first tile that is never sealed
+past_alike : (l m : Layout) → ((n : ℕ) → SameTiles n l m) → first_past l ≡ first_past m
+past_alike l m places = (let many = layouts.counts l (max_granules + 1) in layouts.same_tile_of l m (max_granules + 1) max_granules (places (max_granules + 1)) (omega (arith, many)))
 
 -- what speaks against a history goes by its header, its tiles and its transactions
-fault_alike : (batches : List Batch) (h s : History) → h.header ≡ s.header → layout h ≡ layout s → ((g : ℕ) → rows h g ≡ rows s g) → filed_fault batches h ≡ filed_fault batches s
+fault_alike : (batches : List Batch) (h s : History) → h.header ≡ s.header → ((n : ℕ) → SameTiles n (layout h) (layout s)) → ((g : ℕ) → rows h g ≡ rows s g) → filed_fault batches h ≡ filed_fault batches s
 unfolding digest header_answer
 fault_alike [] h s one places same = refl
 fault_alike (first ∷ []) h s one places same = ap (λ (header : Header). fault_by names.Header (answer (first ∷ []) names.Header (header_digest header))) one
 fault_alike (first ∷ second ∷ rest) h s one places same =
-    let chain : cum h (length rest) ≡ cum s (length rest) = follow.cums h s (length rest) (λ tile below. record { exponent = ap (λ (l : Layout). l.exponents tile) places; algorithms = ap (λ (l : Layout). l.algorithms tile) places }) (record { header = one; rows = λ g below. same g }) in
-    ap (λ (header : Header). else_cause (fault_by names.Header (answer (first ∷ second ∷ rest) names.Header (header_digest header))) (chain_fault (first ∷ second ∷ rest) h (length rest))) one
-    ∙ ap (λ (a : Answer). else_cause (fault_by names.Header (answer (first ∷ second ∷ rest) names.Header (header_digest s.header))) (chain_by (length rest) a (layout h))) (ap (answer (first ∷ second ∷ rest) (names.Cum (length rest))) chain)
-    ∙ ap (λ (l : Layout). else_cause (fault_by names.Header (answer (first ∷ second ∷ rest) names.Header (header_digest s.header))) (chain_by (length rest) (answers (first ∷ second ∷ rest) s (names.Cum (length rest))) l)) places
+    let last : ℕ = length rest in
+    let batches : List Batch = first ∷ second ∷ rest in
+    let header : Header → Option AuditFail → Option AuditFail = λ x. else_cause (fault_by names.Header (answer batches names.Header (header_digest x))) in
+    let chain : cum h last ≡ cum s last = follow.cums h s last (places (last + 1)) (record { header = one; rows = λ g below. same g }) in
+    let begin : first_granule (layout h) (suc last) ≡ first_granule (layout s) (suc last) = layouts.same_begins (layout h) (layout s) (suc last) (places (suc last)) in
+    let past : first_past (layout h) ≡ first_past (layout s) = past_alike (layout h) (layout s) places in
+    ap (λ (x : Header). header x (chain_fault batches h last)) one
+    ∙ ap (λ (a : Answer). header s.header (chain_by last a (first_granule (layout h) (suc last)) (first_past (layout h)))) (ap (answer batches (names.Cum last)) chain)
+    ∙ ap (λ (end : ℕ). header s.header (chain_by last (answers batches s (names.Cum last)) end (first_past (layout h)))) begin
+    ∙ ap (λ (tile : ℕ). header s.header (chain_by last (answers batches s (names.Cum last)) (first_granule (layout s) (suc last)) tile)) past
 
 frontier_rows : (header : Header) (is : List Item) (moment g : ℕ) → rows (history header is) g ≡ rows (history header (is ++ items.Frontier moment ∷ [])) g
 unfolding rows
@@ -174,6 +186,11 @@ frontier_rows header is moment g = ap (filter (is_in_granule header g)) (sym (fi
 around_rows : (header : Header) (is : List Item) (need : Option ℕ) (g : ℕ) → rows (history header is) g ≡ rows (history header (with_frontier_for need is)) g
 around_rows header is None g = refl
 around_rows header is (Some moment) g = frontier_rows header is moment g
+
+-- a Frontier is an item more, and leaves all tiles
+around_places : (header : Header) (is : List Item) (need : Option ℕ) (n : ℕ) → SameTiles n (layout (history header is)) (layout (history header (with_frontier_for need is)))
+around_places header is None n tile below = record { exponent = refl; algorithms = refl }
+around_places header is (Some moment) n tile below = layouts.tiles_stay header is (items.Frontier moment ∷ []) n tile below
 
 around_batch : (header : Header) (is : List Item) (need : Option ℕ) (i : ℕ) → batch (history header is) i ≡ batch (history header (with_frontier_for need is)) i
 around_batch header is None i = refl
@@ -324,7 +341,7 @@ module _ (i : ℕ) (t : Scene) (found : Found) (store : statements.World) (is : 
       batches = subst (λ (x : ℕ). after.lists.batches x ≡ t.lists.batches x ++ take (suc j) next) (sym own) more.here;
       seals = subst (λ (x : ℕ). map (λ (b : Batch). b.seals) (take (suc j) next) ≡ map (batch s) (range_with_len (length (t.lists.batches x)) (length (take (suc j) next)))) (sym own) seals_are;
       within = subst (λ (x : ℕ). first_granule (layout s) (length (t.lists.batches x) + length (take (suc j) next) - 1) ≤ max_granules) (sym own) tiles_within;
-      free = subst (λ (x : ℕ). filed_fault (t.lists.batches x) s ≡ None) (sym own) (sym (fault_alike batches h s refl refl (around_rows store.header store.items need)) ∙ later_causes.0);
+      free = subst (λ (x : ℕ). filed_fault (t.lists.batches x) s ≡ None) (sym own) (sym (fault_alike batches h s refl (around_places store.header store.items need) (around_rows store.header store.items need)) ∙ later_causes.0);
       moments = subst (λ (c : ℕ). All (λ (b : Batch). b.moment ≡ c) (take (suc j) next)) (sym clock_same) moments_are;
       marks = more.marks id;
     }))
@@ -344,8 +361,10 @@ module _ (i : ℕ) (t : Scene) (found : Found) (store : statements.World) (is : 
 
         tiles_within : first_granule (layout s) (length batches + length (take (suc j) next) - 1) ≤ max_granules
         tiles_within =
-            let le = ascends (layout h) (length batches + length (take (suc j) next) - 1) (tiles_at (layout h) store.header now) (omega (arith, length_is, few, many)) in
-            omega (arith, le, within)
+            let last : ℕ = length batches + length (take (suc j) next) - 1 in
+            let le = ascends (layout h) last (tiles_at (layout h) store.header now) (omega (arith, length_is, few, many)) in
+            let begin = layouts.same_begins (layout h) (layout s) last (around_places store.header store.items need last) in
+            omega (arith, le, within, begin)
 
     -- of so many, under any id; where it is none, whatever the bytes are
     files_any : (id j : ℕ) (after : Scene) → j ≤ length next → (0 < j → after.bytes ≡ bytes_with (added need)) → after.clock ≡ t.clock → HasMore i (take j next) t.lists after.lists → ActsOn id t after
