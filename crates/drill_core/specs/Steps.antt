@@ -153,8 +153,7 @@ step w (lines.Plain stmts.Validate) now found = validated w now found.verdict
 step w (lines.Plain (stmts.Analyse algorithm)) now found = analysed w (algorithm_of algorithm) now found.analysis
 step w line now found = on_tables w w.store line now
 
--- What may be found: in all but odd cases there is one answer. A line that is neither finds nothing, and anything may stand for
--- that.
+-- What may be found by a validation or an analysis. A line that is neither finds nothing, and anything may stand for that.
 abbrev pub MayFind : World → Line → Found → Type 0
 MayFind w (lines.Plain stmts.Validate) found = IsFoundIn (filed_for w) (history_of w.store) found.verdict
 MayFind w (lines.Plain (stmts.Analyse algorithm)) found = IsAnalysisIn (algorithm_of algorithm) (filed_for w) (history_of w.store) found.analysis

@@ -91,7 +91,7 @@ holds_history [] bytes fits = tt
 holds_history (b ∷ bs) bytes fits = is_history bytes (stored bytes).header fits refl
 
 -- n sealed tiles have a batch each, and the header has one
-found_of : (algorithm : Algorithm) (batches : List Batch) (n : ℕ) (file : Option History) (found : Result Analysis AnalyseFail) → length batches ≡ n + 1
+pub found_of : (algorithm : Algorithm) (batches : List Batch) (n : ℕ) (file : Option History) (found : Result Analysis AnalyseFail) → length batches ≡ n + 1
     → IsAnalysisIn algorithm batches file found → IsFoundOf algorithm batches n file found
 found_of algorithm [] n file found many is = absurd (omega (arith, many))
 found_of algorithm (b ∷ bs) n file found many is = (let same : length bs ≡ n = omega (arith, many) in subst (λ (m : ℕ). IsFoundOf algorithm (b ∷ bs) m file found) same is)

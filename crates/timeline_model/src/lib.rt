@@ -26,6 +26,7 @@
 //! | the report of an analysis line is what was replied; it shows, as `reports_show` says, what is altered of what was filed under its id, or two inputs clash; where nothing was filed it says so, and nowhere else | `reports_name_altered` |
 //! | where the clock never goes back, the span that a report prints for an altered granule holds a change of it, and that of its first change one of that tile, or two inputs clash | `reports_have_changes` |
 //! | both hold of each analysis line that is not refused; each granule that its report names has a span, unless it tells another header, and each line with a span stands in its text | `each_report_is_right` |
+//! | what a validation or an analysis may find is one thing, or two inputs clash | `findings_are_one` |
 //! | after a line that no crash stops the bytes and the sessions are the world that its step gives, and that was replied; a crash behind it drops the sessions | `lines_take_their_step` |
 //! | a session that commits was told what its statements are told alone, over the history just before its commit, whatever came before; what a session is told is replied | `sessions_are_serial` |
 //! | the disk has bytes, and a line stores only what a record can hold | `bytes_stay_bytes`, `lines_store_spellings` |
@@ -42,7 +43,7 @@ mod laws;
 pub use laws::{
     acknowledged_stays_stored, analyses_name_altered, appends_write_items, bytes_stay_bytes,
     calls_are_counted, crashes_are_survived, each_report_is_right, each_timeline_is_kept,
-    entered_stand_for_worlds, events_keep_items, failed_calls_leave_nothing,
+    entered_stand_for_worlds, events_keep_items, failed_calls_leave_nothing, findings_are_one,
     first_spans_have_changes, images_go_by_new_calls, inits_leave_half_made, inits_write_headers,
     lines_store_spellings, lines_take_their_step, next_lines_tell_no_alteration,
     refused_headers_are_altered, reports_have_changes, reports_name_altered, sessions_are_serial,

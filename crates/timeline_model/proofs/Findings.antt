@@ -1,0 +1,258 @@
+-- What a line finds is one thing, or two inputs clash.
+use Rattle.std.proofs.Common.{◌≡◌, ◌⊎◌, inl, inr, ℕ, zero, suc, ◌+◌, ◌-◌, ◌<◌, ◌≤◌, Bool, true, false, List, [], ◌∷◌, length, Option, Some, None, Result, Ok, Err, refl, sym, ap, subst, ◌∙◌, arith}
+use Rattle.std.specs.Prelude.{nat_le}
+use Rattle.std.proofs.lemmas.Bool.{cases_lt}
+use Rattle.byte_grammar.specs.Reading.{IsBytes}
+use Rattle.history_model.specs.Stored.{stored}
+use Rattle.history_model.specs.History.{History, rows}
+use Rattle.digest_model.specs.Layout.{Layout, layout, first_granule, end_granule, max_granules}
+use Rattle.digest_model.specs.Digests.{cum}
+use Rattle.digest_model.proofs.Follows.{follow}
+use Rattle.digest_model.proofs.Layouts.{adjoin, ends_within, fewer}
+use Rattle.notary_link.specs.declared.answer.Answer.{Answer}
+use Rattle.notary_link.specs.declared.answer.Answer.TheVariants.{Same, Differs, Absent}
+use Rattle.notary_link.specs.declared.name.Name.TheVariants as names
+use Rattle.notary_link.specs.declared.notary.NotaryLimits.{NotaryLimits}
+use Rattle.notary_link.specs.Batches.{Batch, compared}
+use Rattle.audit_model.specs.Names.{digest}
+use Rattle.audit_model.specs.Notary.{header_answer, cums}
+use Rattle.audit_model.specs.Mono.{BeginsRegion, IsFirstBad}
+use Rattle.audit_model.specs.Altered.{history_with, HashClash}
+use Rattle.audit_model.specs.Laws.{IsAudit}
+use Rattle.audit_model.proofs.Compare.{compare, one_answer}
+use Rattle.audit_model.proofs.Planned.{cum_planned}
+use Rattle.audit_model.proofs.Region.{clean_to}
+use Rattle.validator.specs.declared.verdict.Verdict.{Verdict}
+use Rattle.validator.specs.declared.verdict.Verdict.TheVariants as verdicts
+use Rattle.validator.specs.declared.fail.AuditFail.{AuditFail}
+use Rattle.validator.specs.declared.fail.AuditFail.TheVariants as fails
+use Rattle.validator.specs.Verdicts as judging
+use Rattle.validator.specs.Verdicts.{IsVerdict, IsFoundIn}
+use Rattle.forensic_report.specs.declared.algorithm.Algorithm.{Algorithm}
+use Rattle.forensic_report.specs.declared.algorithm.Algorithm.TheVariants.{Mono, Tiled, TiledExactly, A3d}
+use Rattle.forensic_report.specs.declared.fail.AnalyseFail.{AnalyseFail}
+use Rattle.forensic_report.specs.declared.fail.AnalyseFail.TheVariants as analyse_fails
+use Rattle.forensic_report.specs.Analysis.{Analysis, Region, Targets, Leaves, Unsealed, HeaderAltered, Found}
+use Rattle.forensic_report.specs.Finding as analysing
+use Rattle.forensic_report.specs.Finding.{IsRegion, has_chains, IsFoundOf, IsAnalysisIn}
+use Rattle.forensic_report.proofs.Filed.{not_absent}
+use Rattle.stmt_text.specs.declared.stmt.Stmt.TheVariants as stmts
+use Rattle.stmt_text.specs.declared.line.Line.{Line}
+use Rattle.stmt_text.specs.declared.line.Line.TheVariants as lines
+use Rattle.drill_core.specs.Found as found_words
+use Rattle.drill_core.specs.Steps.{history_of, algorithm_of, MayFind}
+use Rattle.timeline_model.specs.Scene.{Scene, nothing_yet, store_in, world_of, held, batches_of}
+use Rattle.timeline_model.specs.Timeline.{Event, after, IsTimeline}
+use Rattle.timeline_model.specs.Kept.{IsFiledOver, HasClash, Kept}
+use Rattle.timeline_model.specs.Findings.{FindsSame, HasFiledClash, FindingsAreOne}
+use Rattle.timeline_model.proofs.Doings.{spelled_of, history_same}
+use Rattle.timeline_model.proofs.Judged.{audit, under_held}
+use Rattle.timeline_model.proofs.Steady.{Holds}
+use Rattle.timeline_model.proofs.Events.{each_kept, fit_after, nothing_fit}
+use Rattle.timeline_model.proofs.Analyses.{known_of, clash_at_last}
+use Rattle.timeline_model.proofs.Reports.{found_of}
+
+-- ---- the region of a chain under the header that was filed
+
+abbrev judged : Verdict → Result Verdict AuditFail
+judged v = Ok v
+
+abbrev told : Analysis → Result Analysis AnalyseFail
+told a = Ok a
+
+-- the verdict over n tiles of a region
+abbrev judged_as : ℕ → Option ℕ → Result Verdict AuditFail
+judged_as n None = Ok (verdicts.Clean n)
+judged_as n (Some first) = Ok (verdicts.Altered n first)
+
+module _ (batches : List Batch) (id n : ℕ) (h s : History) (checked : IsAudit batches id h s n) where
+  abbrev chain : ℕ → Answer
+  chain = cums batches s
+
+  -- where it is the same at the end of a tile, it is so at the end of each tile before
+  same_before : (tile later : ℕ) → tile ≤ later → later < n → chain later ≡ Same → (chain tile ≡ Same) ⊎ HashClash h (Some s) n
+  unfolding digest
+  same_before tile later le below same = elim (clean_to batches id h s n later checked below same) [
+    | inl alike ↦
+        (let up = ends_within (layout h) (later + 1) tile (omega (arith, le)) in
+        let ends = adjoin (layout h) later in
+        let low : tile < n = omega (arith, le, below) in
+        let own : cum h tile ≡ cum s tile = follow.cums h s tile (fewer (layout h) (layout s) n (tile + 1) (omega (arith, low)) checked.places)
+        (record { header = checked.header; rows = λ g inside. alike.rows g (omega (arith, inside, up, ends)) }) in
+        let asked : chain tile ≡ compared (cum s tile) (cum h tile) = compare batches id h s n (names.Cum tile) checked.filed (cum_planned (layout h) n tile low) in
+        inl (asked ∙ elim (one_answer (cum s tile) (cum h tile)) [ inl is ↦ is.1 | inr other ↦ absurd (other.0 (sym own)) ]))
+    | inr clash ↦ inr clash
+  ]
+
+  -- so no first bad tile lies before another one
+  no_earlier : (p q : ℕ) → p < q → IsFirstBad chain n p → IsFirstBad chain n q → HashClash h (Some s) n
+  no_earlier p q less first second = elim second.before [
+    | inl none ↦ absurd (omega (arith, none, less))
+    | inr same ↦ elim (same_before p (q - 1) (omega (arith, less)) (let within = second.within in omega (arith, within, less)) same) [
+      | inl own ↦ absurd (let differs = first.differs in let both : Same ≡ Differs = sym own ∙ differs in cc)
+      | inr clash ↦ clash
+    ]
+  ]
+
+  one_bad : (p q : ℕ) → IsFirstBad chain n p → IsFirstBad chain n q → (p ≡ q) ⊎ HashClash h (Some s) n
+  one_bad p q first second = elim (cases_lt p q) [
+    | inl less ↦ inr (no_earlier p q less first second)
+    | inr reached ↦ elim (cases_lt q p) [
+      | inl more ↦ inr (no_earlier q p more second first)
+      | inr back ↦ inl (omega (arith, reached, back))
+    ]
+  ]
+
+  one_region : (m : ℕ) → m ≡ n → (one other : Option ℕ) → BeginsRegion chain m one → BeginsRegion chain m other → (one ≡ other) ⊎ HashClash h (Some s) n
+  one_region zero e one other x y = inl (x ∙ sym y)
+  one_region (suc last) e None None x y = inl refl
+  one_region (suc last) e None (Some q) x y = absurd (let differs = y.0 in let both : Same ≡ Differs = sym x ∙ differs in cc)
+  one_region (suc last) e (Some p) None x y = absurd (let differs = x.0 in let both : Same ≡ Differs = sym y ∙ differs in cc)
+  one_region (suc last) e (Some p) (Some q) x y = elim (one_bad p q (subst (λ (k : ℕ). IsFirstBad chain k p) e x.1) (subst (λ (k : ℕ). IsFirstBad chain k q) e y.1)) [
+    | inl same ↦ inl (ap (λ (i : ℕ). Some i) same)
+    | inr clash ↦ inr clash
+  ]
+
+  -- a verdict is that of a region, since no seal is missing
+  verdict_region : (r : Result Verdict AuditFail) → judging.IsFoundBy chain n r → (region : Option ℕ) × BeginsRegion chain n region × (r ≡ judged_as n region)
+  verdict_region (Ok (verdicts.Clean tiles)) is = (None, is.1, ap (λ (k : ℕ). judged (verdicts.Clean k)) is.0)
+  verdict_region (Ok (verdicts.Altered tiles first)) is = (Some first, is.1, ap (λ (k : ℕ). judged (verdicts.Altered k first)) is.0)
+  verdict_region (Err (fails.SealMissing name)) is = absurd (not_absent batches id n h s checked.filed (names.Cum is.0) (cum_planned (layout h) n is.0 is.1) is.3)
+  verdict_region r is = absurd is
+
+  one_judged : (r q : Result Verdict AuditFail) → judging.IsFoundBy chain n r → judging.IsFoundBy chain n q → (r ≡ q) ⊎ HashClash h (Some s) n
+  one_judged r q x y =
+      let one = verdict_region r x in
+      let other = verdict_region q y in
+      elim (one_region n refl one.0 other.0 one.1 other.1) [
+        | inl same ↦ inl (one.2 ∙ ap (judged_as n) same ∙ sym other.2)
+        | inr clash ↦ inr clash
+      ]
+
+  -- and so is an analysis by the chain
+  analysis_region : (r : Result Analysis AnalyseFail) → IsRegion chain (layout s) n r → (region : Option ℕ) × BeginsRegion chain n region × (r ≡ told (Found (layout s) n (Region region)))
+  analysis_region (Ok (Found l tiles (Region region))) is = (region, is.2, ap (λ (x : Layout). told (Found x tiles (Region region))) is.0 ∙ ap (λ (k : ℕ). told (Found (layout s) k (Region region))) is.1)
+  analysis_region (Err (analyse_fails.SealMissing name)) is = absurd (not_absent batches id n h s checked.filed (names.Cum is.0) (cum_planned (layout h) n is.0 is.1) is.3)
+  analysis_region r is = absurd is
+
+  one_analysed : (algorithm : Algorithm) (r q : Result Analysis AnalyseFail) → analysing.IsFoundBy algorithm batches n s r → analysing.IsFoundBy algorithm batches n s q → (r ≡ q) ⊎ HashClash h (Some s) n
+  one_analysed Mono r q x y =
+      let one = analysis_region r x in
+      let other = analysis_region q y in
+      elim (one_region n refl one.0 other.0 one.1 other.1) [
+        | inl same ↦ inl (one.2 ∙ ap (λ (region : Option ℕ). told (Found (layout s) n (Region region))) same ∙ sym other.2)
+        | inr clash ↦ inr clash
+      ]
+  one_analysed Tiled r q x y = inl (x ∙ sym y)
+  one_analysed (TiledExactly kappa) r q x y = inl (x ∙ sym y)
+  one_analysed A3d r q x y = inl (x ∙ sym y)
+
+-- ---- of a file, where a header that is answered the same is the one that was filed, or there is a clash
+
+module _ (batches : List Batch) (id n : ℕ) (h : History) (C : Type 0) where
+  abbrev Checked : History → Type 0
+  Checked s = (IsAudit batches id h s n × (HashClash h (Some s) n → C)) ⊎ C
+
+  module _ (s : History) (r q : Result Verdict AuditFail) where
+    verdict_within : (b : Bool) → Checked s → judging.IsFoundWithin b batches n s r → judging.IsFoundWithin b batches n s q → (r ≡ q) ⊎ C
+    verdict_within true (inl checked) x y = elim (one_judged batches id n h s checked.0 r q x y) [ inl same ↦ inl same | inr clash ↦ inr (checked.1 clash) ]
+    verdict_within true (inr clash) x y = inr clash
+    verdict_within false known x y = inl (x ∙ sym y)
+
+    verdict_at : (a : Answer) → (a ≡ Same → Checked s) → judging.IsFoundAt a batches n s r → judging.IsFoundAt a batches n s q → (r ≡ q) ⊎ C
+    verdict_at Same known x y = verdict_within (nat_le (first_granule (layout s) n) max_granules) (known refl) x y
+    verdict_at Differs known x y = inl (x ∙ sym y)
+    verdict_at Absent known x y = inl (x ∙ sym y)
+
+  one_verdict : (file : Option History) (r q : Result Verdict AuditFail) → ((s : History) → file ≡ Some s → header_answer batches s n ≡ Same → Checked s)
+      → IsVerdict batches n file r → IsVerdict batches n file q → (r ≡ q) ⊎ C
+  one_verdict None r q known x y = inl (x ∙ sym y)
+  one_verdict (Some s) r q known x y = verdict_at s r q (header_answer batches s n) (known s refl) x y
+
+  module _ (algorithm : Algorithm) (s : History) (r q : Result Analysis AnalyseFail) where
+    analysis_within : (b : Bool) → Checked s → analysing.IsFoundWithin b algorithm batches n s r → analysing.IsFoundWithin b algorithm batches n s q → (r ≡ q) ⊎ C
+    analysis_within true (inl checked) x y = elim (one_analysed batches id n h s checked.0 algorithm r q x y) [ inl same ↦ inl same | inr clash ↦ inr (checked.1 clash) ]
+    analysis_within true (inr clash) x y = inr clash
+    analysis_within false known x y = inl (x ∙ sym y)
+
+    analysis_with : (b : Bool) → Checked s → analysing.IsFoundWith b algorithm batches n s r → analysing.IsFoundWith b algorithm batches n s q → (r ≡ q) ⊎ C
+    analysis_with true known x y = analysis_within (nat_le (first_granule (layout s) n) max_granules) known x y
+    analysis_with false known x y = inl (x ∙ sym y)
+
+    analysis_at : (a : Answer) → (a ≡ Same → Checked s) → analysing.IsFoundAt a algorithm batches n s r → analysing.IsFoundAt a algorithm batches n s q → (r ≡ q) ⊎ C
+    analysis_at Same known x y = analysis_with (has_chains algorithm (layout s) n) (known refl) x y
+    analysis_at Differs known x y = inl (x ∙ sym y)
+    analysis_at Absent known x y = inl (x ∙ sym y)
+
+  one_analysis : (algorithm : Algorithm) (file : Option History) (r q : Result Analysis AnalyseFail) → ((s : History) → file ≡ Some s → header_answer batches s n ≡ Same → Checked s)
+      → IsFoundOf algorithm batches n file r → IsFoundOf algorithm batches n file q → (r ≡ q) ⊎ C
+  one_analysis algorithm None r q known x y = inl (x ∙ sym y)
+  one_analysis algorithm (Some s) r q known x y = analysis_at algorithm s r q (header_answer batches s n) (known s refl) x y
+
+-- n sealed tiles have a batch each, and the header has one
+verdict_of : (batches : List Batch) (n : ℕ) (file : Option History) (r : Result Verdict AuditFail) → length batches ≡ n + 1 → IsFoundIn batches file r → IsVerdict batches n file r
+verdict_of [] n file r many is = absurd (omega (arith, many))
+verdict_of (b ∷ bs) n file r many is = (let same : length bs ≡ n = omega (arith, many) in subst (λ (m : ℕ). IsVerdict (b ∷ bs) m file r) same is)
+
+-- ---- at the end of a timeline
+
+module _ (limits : NotaryLimits) (es : List Event) (id : ℕ) (is_timeline : IsTimeline (nothing_yet limits) es) where
+  abbrev t : Scene
+  t = nothing_yet limits
+
+  abbrev now : Scene
+  now = after t es
+
+  abbrev batches : List Batch
+  batches = batches_of now id
+
+  abbrev file : Option History
+  file = history_with id (stored now.bytes)
+
+  bytes : IsBytes now.bytes
+  bytes = (fit_after t es (nothing_fit limits) is_timeline).bytes
+
+  file_is : history_of (store_in id (stored now.bytes)) ≡ file
+  file_is = history_same id (stored now.bytes).header (stored now.bytes)
+
+  module _ (h : History) (n : ℕ) (over : IsFiledOver t es id h n) where
+    filed_clash : HasClash t es h n → HasFiledClash t es id
+    filed_clash clash = (h, n, over, clash)
+
+    checked : (s : History) → file ≡ Some s → header_answer batches s n ≡ Same → Checked batches id n h (HasFiledClash t es id) s
+    checked s stands same = by (known_of limits es id is_timeline h n over)
+      where
+        held_is : held now ≡ Some s
+        held_is = under_held id (stored now.bytes).header (stored now.bytes) s stands
+
+        clash_read : HashClash h (Some s) n → HasFiledClash t es id
+        clash_read clash = filed_clash (clash_at_last t es id h n over.filed (subst (λ (o : Option History). HashClash h o n) (sym held_is) clash))
+
+        by : Holds t es id h n ⊎ HasClash t es h n → Checked batches id n h (HasFiledClash t es id) s
+        by (inl holds) = elim (audit batches id n h s holds.kept.notary holds.spelled (spelled_of now.bytes s bytes held_is) same) [
+          | inl is ↦ inl (is, clash_read)
+          | inr clash ↦ inr (clash_read clash)
+        ]
+        by (inr clash) = inr (filed_clash clash)
+
+  verdicts_one : Kept t es id → (r q : Result Verdict AuditFail) → IsFoundIn batches file r → IsFoundIn batches file q → (r ≡ q) ⊎ HasFiledClash t es id
+  verdicts_one (inl none) r q x y = inl (subst (λ (bs : List Batch). IsFoundIn bs file r) none x ∙ sym (subst (λ (bs : List Batch). IsFoundIn bs file q) none y))
+  verdicts_one (inr (h, n, over, kept)) r q x y =
+      one_verdict batches id n h (HasFiledClash t es id) file r q (checked h n over) (verdict_of batches n file r over.count x) (verdict_of batches n file q over.count y)
+
+  analyses_one : (algorithm : Algorithm) → Kept t es id → (r q : Result Analysis AnalyseFail) → IsAnalysisIn algorithm batches file r → IsAnalysisIn algorithm batches file q → (r ≡ q) ⊎ HasFiledClash t es id
+  analyses_one algorithm (inl none) r q x y = inl (subst (λ (bs : List Batch). IsAnalysisIn algorithm bs file r) none x ∙ sym (subst (λ (bs : List Batch). IsAnalysisIn algorithm bs file q) none y))
+  analyses_one algorithm (inr (h, n, over, kept)) r q x y =
+      one_analysis batches id n h (HasFiledClash t es id) algorithm file r q (checked h n over) (found_of algorithm batches n file r over.count x) (found_of algorithm batches n file q over.count y)
+
+pub findings_one : FindingsAreOne
+unfolding world_of
+findings_one limits es id (lines.Plain stmts.Validate) one other is x y =
+    verdicts_one limits es id is (each_kept limits es id is) one.verdict other.verdict
+    (subst (λ (o : Option History). IsFoundIn (batches_of (after (nothing_yet limits) es) id) o one.verdict) (file_is limits es id is) x)
+    (subst (λ (o : Option History). IsFoundIn (batches_of (after (nothing_yet limits) es) id) o other.verdict) (file_is limits es id is) y)
+findings_one limits es id (lines.Plain (stmts.Analyse algorithm)) one other is x y =
+    analyses_one limits es id is (algorithm_of algorithm) (each_kept limits es id is) one.analysis other.analysis
+    (subst (λ (o : Option History). IsAnalysisIn (algorithm_of algorithm) (batches_of (after (nothing_yet limits) es) id) o one.analysis) (file_is limits es id is) x)
+    (subst (λ (o : Option History). IsAnalysisIn (algorithm_of algorithm) (batches_of (after (nothing_yet limits) es) id) o other.analysis) (file_is limits es id is) y)
+findings_one limits es id line one other is x y = inl tt
