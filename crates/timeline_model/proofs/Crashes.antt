@@ -1,7 +1,7 @@
 -- What an event leaves under a crash, from its single laws.
 use Rattle.std.proofs.Common.{◌≡◌, inl, inr, ℕ, ◌-◌, ◌<◌, ◌≤◌, Bool, true, false, List, [], ◌∷◌, ◌++◌, length, take, Option, Some, None, Result, Ok, refl, sym, ap, subst, ◌∙◌, arith}
-use Rattle.std.specs.Prelude.{nat_le, if◌then◌else◌}
-use Rattle.std.proofs.lemmas.Bool.{leb-true, leb-false}
+use Rattle.std.specs.Prelude.{nat_le, if◌then◌else◌, IfSome}
+use Rattle.std.proofs.lemmas.Bool.{le-leb, leb-true, leb-false}
 use Rattle.std.proofs.lemmas.Nat.{mul-le}
 use Rattle.std.proofs.lemmas.List.{take_all}
 use Rattle.outside_words.specs.Runs.{after_calls}
@@ -24,7 +24,8 @@ use Rattle.timeline_model.specs.Lines.{Act, header_at}
 use Rattle.timeline_model.specs.Timeline.{Event, calls_in, stopped, crashed, ended, with_calls, under, taken, act_on, step, after, IsTimeline, MayCome}
 use Rattle.timeline_model.specs.Sound.{stored_by, IsFromInside, AllFromInside}
 use Rattle.timeline_model.specs.Acknowledged.{IsAcknowledged, IsStoredAs}
-use Rattle.timeline_model.specs.Crashes.{LeavesHalfMade, WasAdded, made_under, calls_made, LeavesOnly, HasReached, SurvivesCrashes, CrashesAreSurvived}
+use Rattle.timeline_model.specs.Stepping.{IsWhole}
+use Rattle.timeline_model.specs.Crashes.{LeavesHalfMade, WasAdded, made_under, calls_made, LeavesOnly, WholeLinesAreDurable, HasReached, SurvivesCrashes, CrashesAreSurvived}
 use Rattle.timeline_model.proofs.Events.{fit_after, nothing_fit}
 use Rattle.timeline_model.proofs.Sessions.{IsFit}
 use Rattle.timeline_model.proofs.StayBytes.{still_fit}
@@ -33,6 +34,28 @@ use Rattle.timeline_model.proofs.SoundLines.{reading_sound, event_good, stay_sou
 use Rattle.timeline_model.proofs.Inits.{inits_half}
 use Rattle.timeline_model.proofs.Acknowledging.{stays_stored}
 use Rattle.digest_model.proofs.Layouts.{ascends}
+
+-- ---- a line that is not stopped
+
+-- behind all its calls nothing is on its way
+module _ (more : List Item) (t : Scene) (a : Act) (sound : SoundEither more t a) where
+  lasts_behind : (crash : Crash) → calls_in a ≤ crash.after → LeavesOnly t.bytes (take crash.after a.disk_calls) (ended a.next).scene.bytes
+  lasts_behind crash passes choice =
+      let all : take crash.after a.disk_calls ≡ a.disk_calls = take_all crash.after a.disk_calls (omega (arith, passes)) in
+      ap (λ (calls : List disks.Call). image_of choice t.bytes (after_calls is_done calls [])) all ∙ sound.lasts choice
+
+  whole_lasts : (crash : Option Crash) → IfSome crash (λ c. calls_in a ≤ c.after) → LeavesOnly t.bytes (made_under crash a) (under crash t a).scene.bytes
+  whole_lasts None passes = sound.lasts
+  whole_lasts (Some crash) passes = (let enough : nat_le (calls_in a) crash.after ≡ true = le-leb (calls_in a) crash.after passes in rw enough (lasts_behind crash passes))
+
+whole_event : (t : Scene) (e : Event) → IsFit t → MayCome t e → IsFromInside e.line → IsWhole t e → LeavesOnly t.bytes (calls_made t e) (step t e.line e.found).scene.bytes
+unfolding step
+whole_event t e fits may inside passes =
+    whole_lasts (stored_by t.id (taken t) e.line e.found) (taken t) (act_on (taken t) e.line e.found) (reading_sound (taken t) e.line e.found may.line inside may.fits (still_fit t fits)) t.crash passes
+
+pub whole_durable : WholeLinesAreDurable
+unfolding after
+whole_durable limits e es is inside passes = whole_event (after (nothing_yet limits) es) e (fit_after (nothing_yet limits) es (nothing_fit limits) is.0) is.1 inside passes
 
 -- ---- a batch more
 
@@ -59,9 +82,7 @@ module _ (more : List Item) (t : Scene) (a : Act) (sound : SoundEither more t a)
   durable (Some crash) new = by (nat_le (calls_in a) crash.after) refl new
     where
       by : (b : Bool) → nat_le (calls_in a) crash.after ≡ b → index < length (batches_of (if b then ended a.next else crashed (stopped t crash a)).scene id) → LeavesOnly t.bytes (take crash.after a.disk_calls) (if b then ended a.next else crashed (stopped t crash a)).scene.bytes
-      by true enough new =
-          let all : take crash.after a.disk_calls ≡ a.disk_calls = take_all crash.after a.disk_calls (omega (arith, leb-true (calls_in a) crash.after enough)) in
-          λ choice. ap (λ (calls : List disks.Call). image_of choice t.bytes (after_calls is_done calls [])) all ∙ sound.lasts choice
+      by true enough new = lasts_behind more t a sound crash (leb-true (calls_in a) crash.after enough)
       by false few new = durable_part crash new
 
 durable_event : (t : Scene) (e : Event) → IsFit t → MayCome t e → IsFromInside e.line → (id index : ℕ) → WasAdded id index t (step t e.line e.found).scene → LeavesOnly t.bytes (calls_made t e) (step t e.line e.found).scene.bytes

@@ -33,6 +33,7 @@
 //! | without a change from outside each store is what was filed under each id, and no line tells of an alteration | `timelines_stay_sound`, `next_lines_tell_no_alteration` |
 //! | an event that is no change from outside leaves the stored items, or those and what its line stores; what was acknowledged stays stored; an `init` leaves what a stopped `create` leaves | `events_keep_items`, `acknowledged_stays_stored`, `inits_leave_half_made` |
 //! | all of this of each event under whatever crash; and a batch is new only where the store has durably reached the end of its tile | `crashes_are_survived` |
+//! | behind a line that is no change from outside, and that no crash stopped, each crash leaves what the disk has | `whole_lines_are_durable` |
 //! | how many calls a line makes, what they leave, and that a call that failed leaves nothing; the image of a choice goes by the calls since the disk was settled | `calls_are_counted`, `appends_write_items`, `inits_write_headers`, `failed_calls_leave_nothing`, `images_go_by_new_calls` |
 //! | the world that an open store stands for is the one that is read from the bytes, and the other way round where no session is begun | `worlds_go_by_bytes`, `entered_stand_for_worlds` |
 //! | drills worked by hand | `worked_timelines` |
@@ -47,5 +48,6 @@ pub use laws::{
     first_spans_have_changes, images_go_by_new_calls, inits_leave_half_made, inits_write_headers,
     lines_store_spellings, lines_take_their_step, next_lines_tell_no_alteration,
     refused_headers_are_altered, reports_have_changes, reports_name_altered, sessions_are_serial,
-    spans_have_changes, timelines_stay_sound, worked_timelines, worlds_go_by_bytes,
+    spans_have_changes, timelines_stay_sound, whole_lines_are_durable, worked_timelines,
+    worlds_go_by_bytes,
 };
