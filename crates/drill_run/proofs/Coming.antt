@@ -17,7 +17,7 @@ use Rattle.drill_core.specs.Answers.{refusal}
 use Rattle.drill_core.specs.Found.{Found}
 use Rattle.timeline_model.specs.Scene.{Scene, Crash, world_of}
 use Rattle.timeline_model.specs.Lines.{Next, Act, quiet, says, refuses, brings, act}
-use Rattle.timeline_model.specs.Timeline.{IsReading, FitsReading, MayBeFound, calls_in, crashed, stopped, ended, under, taken, name_of, act_on, step}
+use Rattle.timeline_model.specs.Timeline.{IsReading, FitsReading, MayBeFound, calls_in, crashed, stopped, crashed_behind, under, without_crash, name_of, act_on, step}
 use Rattle.drill_run.specs.declared.machine.Crash as code
 use Rattle.drill_run.specs.declared.machine.Drill.{Drill}
 use Rattle.drill_run.specs.Drills.{bare_of, IsAt}
@@ -27,14 +27,14 @@ use Rattle.drill_run.specs.Taken.{Follows, IsActed, IsLeft, IsStopped, IsTakenUn
 
 -- ---- under a crash
 
-pub under_whole : (t : Scene) (crash : Crash) (a : Act) → nat_le (calls_in a) crash.after ≡ true → under (Some crash) t a ≡ ended a.next
+pub under_whole : (t : Scene) (crash : Crash) (a : Act) → nat_le (calls_in a) crash.after ≡ true → under (Some crash) t a ≡ crashed_behind a.next
 under_whole t crash a passes = rw passes refl
 
 pub under_stopped : (t : Scene) (crash : Crash) (a : Act) → nat_le (calls_in a) crash.after ≡ false → under (Some crash) t a ≡ crashed (stopped t crash a)
 under_stopped t crash a stops = rw stops refl
 
 -- a line without a changing call
-pub under_quiet : (t : Scene) (crash : Crash) (next : Next) → under (Some crash) t (quiet next) ≡ ended next
+pub under_quiet : (t : Scene) (crash : Crash) (next : Next) → under (Some crash) t (quiet next) ≡ crashed_behind next
 under_quiet t crash next = under_whole t crash (quiet next) (le-leb 0 crash.after (omega arith))
 
 -- ---- what is next
@@ -48,7 +48,7 @@ module _ (answered : Answered) (d later : Drill) where
 
   -- under a crash a line without a changing call is carried out
   pub quiet_left : (crash : Crash) (t : Scene) (next : Next) → Follows next answered d later → IsLeft (under (Some crash) t (quiet next)) answered d later
-  quiet_left crash t next f = left_on (ended next) (under (Some crash) t (quiet next)) (under_quiet t crash next)
+  quiet_left crash t next f = left_on (crashed_behind next) (under (Some crash) t (quiet next)) (under_quiet t crash next)
       (record { fields = sym f.at.fields; none_fails = f.at.none_fails; text = f.text; refused = f.refused; faults = f.faults })
 
 -- this was replied, and nothing else has changed
@@ -78,7 +78,7 @@ module _ (t : Scene) where
   may_now (Some id) moment = tt
 
   -- a pending crash says nothing of it
-  may_on : (o : Option ℕ) (reading : Result Line ParseFail) (found : Found) → MayBeFound o (taken t) reading found → MayBeFound o t reading found
+  may_on : (o : Option ℕ) (reading : Result Line ParseFail) (found : Found) → MayBeFound o (without_crash t) reading found → MayBeFound o t reading found
   unfolding world_of
   may_on None reading found may = tt
   may_on (Some id) (Ok line) found may = may
@@ -158,9 +158,9 @@ module _ (reading : Result Line ParseFail) (t : Scene) (answered : Answered) (d 
       record {
         found = a.found;
         may = record { line = of_reading; fits = fits; found = may_on t t.id reading a.found a.may };
-        follows = next_on answered d later (act_on (taken t) reading a.found).next (under t.crash (taken t) (act_on (taken t) reading a.found))
-            (ap (λ (o : Option Crash). under o (taken t) (act_on (taken t) reading a.found)) none)
-            (from_rest (act_on (taken t) reading a.found).next answered d later d.clock crash a.follows);
+        follows = next_on answered d later (act_on (without_crash t) reading a.found).next (under t.crash (without_crash t) (act_on (without_crash t) reading a.found))
+            (ap (λ (o : Option Crash). under o (without_crash t) (act_on (without_crash t) reading a.found)) none)
+            (from_rest (act_on (without_crash t) reading a.found).next answered d later d.clock crash a.follows);
       }
 
   -- under a crash
@@ -171,9 +171,9 @@ module _ (reading : Result Line ParseFail) (t : Scene) (answered : Answered) (d 
       record {
         found = s.found;
         may = record { line = of_reading; fits = fits; found = may_on t t.id reading s.found s.may };
-        follows = next_on answered d later (under (Some by) (taken t) (act_on (taken t) reading s.found)) (under t.crash (taken t) (act_on (taken t) reading s.found))
-            (ap (λ (o : Option Crash). under o (taken t) (act_on (taken t) reading s.found)) some)
-            (from_rest (under (Some by) (taken t) (act_on (taken t) reading s.found)) answered d later d.clock crash s.follows);
+        follows = next_on answered d later (under (Some by) (without_crash t) (act_on (without_crash t) reading s.found)) (under t.crash (without_crash t) (act_on (without_crash t) reading s.found))
+            (ap (λ (o : Option Crash). under o (without_crash t) (act_on (without_crash t) reading s.found)) some)
+            (from_rest (under (Some by) (without_crash t) (act_on (without_crash t) reading s.found)) answered d later d.clock crash s.follows);
       }
 
 -- what was read of a line, where it is one to take

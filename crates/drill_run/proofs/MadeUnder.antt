@@ -31,7 +31,7 @@ use Rattle.drill_core.specs.declared.answered.Answered.{Answered}
 use Rattle.drill_core.specs.Answers.{said, refusal}
 use Rattle.timeline_model.specs.Scene.{Scene, Crash}
 use Rattle.timeline_model.specs.Lines.{Act, Next, quiet, refuses, makes, inits, header_at}
-use Rattle.timeline_model.specs.Timeline.{under, crashed, stopped, ended, with_calls}
+use Rattle.timeline_model.specs.Timeline.{under, crashed, stopped, crashed_behind, with_calls}
 use Rattle.timeline_model.proofs.Acts.{take_none}
 use Rattle.timeline_model.proofs.Calls.{failed_nothing}
 use Rattle.drill_run.specs.declared.machine.Drill.{Drill}
@@ -91,7 +91,7 @@ module _ (head_is : List ℕ → Bool) (shape : Shape) (h : Header) (d : Drill) 
       let c = created (Ok tt) is in
       let le : 6 ≤ after = (disk_plans.stops_where_listed 0 after ((after + 1) ∷ []) (calls_of (creation head)) (Ok tt) old new s.disk (ap length s.trace) refl on c.trace).0 in
       let of_disk : disk.faults ≡ d.disk.faults = disk_quiet.as_many_failed old new on s.disk_sure (ap (count_by disks.is_failed) c.trace ∙ all_passed disks.is_failed is_done (λ call. refl) (calls_of (creation head)) old.trace) in
-      by_act (makes t h) (ended (makes t h).next) (free_making t h (free_is d.disk.bytes.items c.refused)) (under_whole t crash (makes t h) (le-leb 6 after le))
+      by_act (makes t h) (crashed_behind (makes t h).next) (free_making t h (free_is d.disk.bytes.items c.refused)) (under_whole t crash (makes t h) (le-leb 6 after le))
       (record {
         fields = pass.fields ∙ ap (λ (b : List ℕ). record t { bytes = b }) (c.made ∙ ap (λ (b : List ℕ). b ++ closed_gate ∷ []) spelled);
         none_fails = pass.none_fails;
@@ -105,7 +105,7 @@ module _ (head_is : List ℕ → Bool) (shape : Shape) (h : Header) (d : Drill) 
       let c = created (Err fails.AlreadyThere) is in
       let same = c.kept c.refused in
       let of_disk : disk.faults ≡ d.disk.faults = disk_quiet.no_change old new on s.disk_sure same.trace in
-      by_act (quiet (refuses t (codes "AlreadyThere"))) (ended (refuses t (codes "AlreadyThere"))) (taken_making t h (taken_is d.disk.bytes.items c.refused)) (under_quiet t crash (refuses t (codes "AlreadyThere")))
+      by_act (quiet (refuses t (codes "AlreadyThere"))) (crashed_behind (refuses t (codes "AlreadyThere"))) (taken_making t h (taken_is d.disk.bytes.items c.refused)) (under_quiet t crash (refuses t (codes "AlreadyThere")))
       (record {
         fields = pass.fields ∙ fields_stay d d.world disk d.notary (same_Some disk.bytes.items d.disk.bytes.items same.reads) (record { lists = refl; limits = refl; faults = refl });
         none_fails = pass.none_fails;
@@ -186,7 +186,7 @@ module _ (d : Drill) (id width k algs : ℕ) (crash : Crash) (t : Scene) (at : I
   pub late_left : (answered : Answered) → max_moment < d.clock → answered ≡ refusal (codes "TooLate") → IsLeft (under (Some crash) t (inits renamed (header_at id t.clock width k algs))) answered d (under_id d id)
   late_left answered late is =
       let clock : t.clock ≡ d.clock = ap (λ (b : Scene). b.clock) at.fields in
-      left_on answered d (under_id d id) (ended (refuses renamed (codes "TooLate"))) (under (Some crash) t (inits renamed (header_at id t.clock width k algs)))
+      left_on answered d (under_id d id) (crashed_behind (refuses renamed (codes "TooLate"))) (under (Some crash) t (inits renamed (header_at id t.clock width k algs)))
       (ap (under (Some crash) t) (init_is_late renamed (header_at id t.clock width k algs) (omega (arith, late, clock))) ∙ under_quiet t crash (refuses renamed (codes "TooLate")))
       (record {
         fields = sym (renamed_is d id t at);

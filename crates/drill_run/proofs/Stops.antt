@@ -43,7 +43,7 @@ use Rattle.drill_core.specs.Stepping.{Steps, StepsFor}
 use Rattle.drill_core.specs.Steps.{IsWorldLine}
 use Rattle.timeline_model.specs.Scene.{Scene, Crash, world_of}
 use Rattle.timeline_model.specs.Lines.{Act, over_world, act}
-use Rattle.timeline_model.specs.Timeline.{MayBeFound, calls_in, under, crashed, stopped, ended, with_calls}
+use Rattle.timeline_model.specs.Timeline.{MayBeFound, calls_in, under, crashed, stopped, crashed_behind, with_calls}
 use Rattle.timeline_model.proofs.Calls.{failed_nothing}
 use Rattle.drill_run.specs.declared.machine.Drill.{Drill}
 use Rattle.drill_run.specs.Drills.{bare_of, StandsUnder, faults_of, HasFewFaults}
@@ -171,7 +171,7 @@ module _ (d : Drill) (begun : ℕ → Option Session) (stands : StandsUnder d.id
       passed choice d4 pass = record {
         found = steps.found;
         may = may_of t id own line steps.found steps.may;
-        left = left_on answered d0 d4 (ended a.next) (under (Some crash) t (act t line steps.found))
+        left = left_on answered d0 d4 (crashed_behind a.next) (under (Some crash) t (act t line steps.found))
             (ap (under (Some crash) t) (act_of t id own line steps.found of_world) ∙ under_whole t crash a (le-leb (calls_in a) after all_pass))
             (record {
               fields = pass.fields ∙ sym (whole.fields_are d begun stands line of_world fits result world disk notary told disk_on notary_on id own answered steps);

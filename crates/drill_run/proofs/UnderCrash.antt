@@ -19,7 +19,7 @@ use Rattle.drill_core.specs.Answers.{said}
 use Rattle.drill_core.specs.World.{Held}
 use Rattle.drill_core.specs.Steps.{IsWorldLine}
 use Rattle.drill_core.specs.Stepping.{Steps, StepsFor}
-use Rattle.timeline_model.specs.Scene.{Scene, Crash, dropped}
+use Rattle.timeline_model.specs.Scene.{Scene, Crash, without_sessions}
 use Rattle.drill_run.specs.declared.machine.Drill.{Drill}
 use Rattle.drill_run.specs.Drills.{bare_of, StandsUnder, IsAt, faults_of, HasFewFaults}
 use Rattle.drill_run.specs.Devices.{WillStop, WillPass, IsRestarted}
@@ -43,7 +43,7 @@ module _ (d0 d1 d : Drill) (after before : ℕ) (line : Line) (of_world : IsWorl
   fewer : faults_of d ≤ faults_of d0
   fewer = let f = will.faults in omega (arith, f, faults1)
 
-  fields : dropped t ≡ bare_of d
+  fields : without_sessions t ≡ bare_of d
   fields = at1.fields ∙ sym will.fields
 
   stands : StandsUnder t.id t d.world

@@ -36,10 +36,10 @@ use Rattle.drill_core.specs.World.{World, Held, IsIn, StoreIsIn}
 use Rattle.drill_core.specs.Steps as world_steps
 use Rattle.drill_core.specs.Stepping.{Steps, StepsFor}
 use Rattle.drill_core.specs.Steps.{IsWorldLine, MayFind}
-use Rattle.timeline_model.specs.Scene.{Scene, Crash, dropped, sessions_over, store_in, world_of}
+use Rattle.timeline_model.specs.Scene.{Scene, Crash, without_sessions, sessions_over, store_in, world_of}
 use Rattle.drill_core.specs.LineCalls.{items_added, with_items, appends, end_of_store}
 use Rattle.timeline_model.specs.Lines.{Act, Next, quiet, refuses, with_step, over_world, over_store, act}
-use Rattle.timeline_model.specs.Timeline.{MayBeFound, ended, under}
+use Rattle.timeline_model.specs.Timeline.{MayBeFound, crashed_behind, under}
 use Rattle.timeline_model.proofs.Calls.{appended, world_is}
 use Rattle.timeline_model.proofs.Doings.{store_is}
 use Rattle.timeline_model.proofs.Sessions.{step_under, world_over}
@@ -180,7 +180,7 @@ module _ (d : Drill) (begun : ℕ → Option Session) (stands : StandsUnder d.id
     lists_are : lists_of notary.made.items ≡ s.world.lists
     lists_are = same_lists s.world.lists (lists_of notary.made.items) steps.goes.stands.lists
 
-    pub fields_are : dropped next.scene ≡ bare_of later
+    pub fields_are : without_sessions next.scene ≡ bare_of later
     fields_are =
         ap (λ (b : List ℕ). record (bare_of d) { bytes = b; lists = s.world.lists }) (sym bytes_are)
         ∙ ap (λ (l : notaries.Lists). record (bare_of d) { bytes = disk.bytes.items; lists = l }) (sym lists_are)

@@ -6,7 +6,7 @@ use Rattle.notary_link.specs.Calls.{lists_of}
 use Rattle.notary_link.specs.Memory as notaries
 use Rattle.drill_core.specs.World.{Held, IsIn, no_sessions}
 use Rattle.timeline_model.specs.Scene as scenes
-use Rattle.timeline_model.specs.Scene.{Scene, dropped, world_of}
+use Rattle.timeline_model.specs.Scene.{Scene, without_sessions, world_of}
 use Rattle.drill_run.specs.declared.machine.Crash.{Crash}
 use Rattle.drill_run.specs.declared.machine.Drill.{Drill}
 
@@ -39,7 +39,7 @@ pub record NoneFails (d : Drill) : Type 0 where
 
 -- between two lines a drill stands for this scene
 pub record IsAt (t : Scene) (d : Drill) : Type 0 where
-  pub fields : dropped t ≡ bare_of d
+  pub fields : without_sessions t ≡ bare_of d
   pub world : StandsUnder t.id t d.world
   pub none_fails : NoneFails d
 

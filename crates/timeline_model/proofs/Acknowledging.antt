@@ -43,7 +43,7 @@ use Rattle.txn_journal.specs.Create.{is_free}
 use Rattle.timeline_model.specs.Scene.{Scene, Crash, nothing_yet, store_in, world_with, world_of, held}
 use Rattle.drill_core.specs.LineCalls.{notary_calls, items_added}
 use Rattle.timeline_model.specs.Lines.{Act, Next, quiet, says, refuses, over_world, over_store, header_at, makes, brings, act}
-use Rattle.timeline_model.specs.Timeline.{Event, calls_in, stopped, crashed, ended, under, taken, act_on, name_of, step, after, IsReading, IsDrillLine, FitsReading, MayCome}
+use Rattle.timeline_model.specs.Timeline.{Event, calls_in, stopped, crashed, crashed_behind, under, without_crash, act_on, name_of, step, after, IsReading, IsDrillLine, FitsReading, MayCome}
 use Rattle.timeline_model.specs.Sound.{stored_by, stores, HasAlso}
 use Rattle.timeline_model.specs.Acknowledged.{IsAcknowledged, HasTxn, IsStoredAs, AcknowledgedStaysStored}
 use Rattle.drill_core.proofs.LineKinds.{GoesToTables, goes_to_tables}
@@ -55,7 +55,7 @@ use Rattle.timeline_model.proofs.Sessions.{AreFit, IsFit, asked_fit}
 use Rattle.timeline_model.proofs.Spellings.{IsFitOp}
 use Rattle.timeline_model.proofs.Fitting.{few}
 use Rattle.timeline_model.proofs.Sound.{stored_held, one_stored, stores_whole}
-use Rattle.timeline_model.proofs.SoundLines.{taken_stored, event_good}
+use Rattle.timeline_model.proofs.SoundLines.{stored_without_crash, event_good}
 
 -- ---- texts
 
@@ -233,15 +233,15 @@ under_acks : (more : List Item) (t : Scene) (a : Act) (crash : Option Crash) →
 under_acks more t a None acks = acks
 under_acks more t a (Some crash) acks = by (nat_le (calls_in a) crash.after)
   where
-    by : (b : Bool) → IfOk more t (if b then ended a.next else crashed (stopped t crash a))
+    by : (b : Bool) → IfOk more t (if b then crashed_behind a.next else crashed (stopped t crash a))
     by true ok = (let said = acks ok in record { txn = said.txn; one = said.one; before = said.before; held_before = said.held_before; held_now = said.held_now; counted = said.counted; few_yet = said.few_yet; text = said.text })
     by false ok = absurd (let first = ok.first in omega (arith, first))
 
 event_acks : (t : Scene) (e : Event) → IsFit t → MayCome t e → IfOk (stores t e) t (step t e.line e.found)
 unfolding step
 event_acks t e fits may ok =
-    let acks = under_acks (stored_by t.id (taken t) e.line e.found) (taken t) (act_on (taken t) e.line e.found) t.crash (reading_acks (taken t) e.line e.found may.line may.fits (still_fit t fits)) ok in
-    record { txn = acks.txn; one = sym (taken_stored t.id t e.line e.found) ∙ acks.one; before = acks.before; held_before = acks.held_before; held_now = acks.held_now; counted = acks.counted; few_yet = acks.few_yet; text = acks.text }
+    let acks = under_acks (stored_by t.id (without_crash t) e.line e.found) (without_crash t) (act_on (without_crash t) e.line e.found) t.crash (reading_acks (without_crash t) e.line e.found may.line may.fits (still_fit t fits)) ok in
+    record { txn = acks.txn; one = sym (stored_without_crash t.id t e.line e.found) ∙ acks.one; before = acks.before; held_before = acks.held_before; held_now = acks.held_now; counted = acks.counted; few_yet = acks.few_yet; text = acks.text }
 
 -- ---- its place, at once and later
 

@@ -21,7 +21,7 @@ use Rattle.stmt_text.specs.declared.line.Line.TheVariants as lines
 use Rattle.drill_core.specs.Laws.{HoldsFiled}
 use Rattle.timeline_model.specs.Scene.{Scene, Crash, nothing_yet, held, batches_of}
 use Rattle.timeline_model.specs.Lines.{Act, header_at}
-use Rattle.timeline_model.specs.Timeline.{Event, calls_in, stopped, crashed, ended, with_calls, under, taken, act_on, step, after, IsTimeline, MayCome}
+use Rattle.timeline_model.specs.Timeline.{Event, calls_in, stopped, crashed, crashed_behind, with_calls, under, without_crash, act_on, step, after, IsTimeline, MayCome}
 use Rattle.timeline_model.specs.Sound.{stored_by, IsFromInside, AllFromInside}
 use Rattle.timeline_model.specs.Acknowledged.{IsAcknowledged, IsStoredAs}
 use Rattle.timeline_model.specs.Stepping.{IsWhole}
@@ -39,7 +39,7 @@ use Rattle.digest_model.proofs.Layouts.{ascends}
 
 -- behind all its calls nothing is on its way
 module _ (more : List Item) (t : Scene) (a : Act) (sound : SoundEither more t a) where
-  lasts_behind : (crash : Crash) → calls_in a ≤ crash.after → LeavesOnly t.bytes (take crash.after a.disk_calls) (ended a.next).scene.bytes
+  lasts_behind : (crash : Crash) → calls_in a ≤ crash.after → LeavesOnly t.bytes (take crash.after a.disk_calls) (crashed_behind a.next).scene.bytes
   lasts_behind crash passes choice =
       let all : take crash.after a.disk_calls ≡ a.disk_calls = take_all crash.after a.disk_calls (omega (arith, passes)) in
       ap (λ (calls : List disks.Call). image_of choice t.bytes (after_calls is_done calls [])) all ∙ sound.lasts choice
@@ -51,7 +51,7 @@ module _ (more : List Item) (t : Scene) (a : Act) (sound : SoundEither more t a)
 whole_event : (t : Scene) (e : Event) → IsFit t → MayCome t e → IsFromInside e.line → IsWhole t e → LeavesOnly t.bytes (calls_made t e) (step t e.line e.found).scene.bytes
 unfolding step
 whole_event t e fits may inside passes =
-    whole_lasts (stored_by t.id (taken t) e.line e.found) (taken t) (act_on (taken t) e.line e.found) (reading_sound (taken t) e.line e.found may.line inside may.fits (still_fit t fits)) t.crash passes
+    whole_lasts (stored_by t.id (without_crash t) e.line e.found) (without_crash t) (act_on (without_crash t) e.line e.found) (reading_sound (without_crash t) e.line e.found may.line inside may.fits (still_fit t fits)) t.crash passes
 
 pub whole_durable : WholeLinesAreDurable
 unfolding after
@@ -81,14 +81,14 @@ module _ (more : List Item) (t : Scene) (a : Act) (sound : SoundEither more t a)
   durable None new = sound.lasts
   durable (Some crash) new = by (nat_le (calls_in a) crash.after) refl new
     where
-      by : (b : Bool) → nat_le (calls_in a) crash.after ≡ b → index < length (batches_of (if b then ended a.next else crashed (stopped t crash a)).scene id) → LeavesOnly t.bytes (take crash.after a.disk_calls) (if b then ended a.next else crashed (stopped t crash a)).scene.bytes
+      by : (b : Bool) → nat_le (calls_in a) crash.after ≡ b → index < length (batches_of (if b then crashed_behind a.next else crashed (stopped t crash a)).scene id) → LeavesOnly t.bytes (take crash.after a.disk_calls) (if b then crashed_behind a.next else crashed (stopped t crash a)).scene.bytes
       by true enough new = lasts_behind more t a sound crash (leb-true (calls_in a) crash.after enough)
       by false few new = durable_part crash new
 
 durable_event : (t : Scene) (e : Event) → IsFit t → MayCome t e → IsFromInside e.line → (id index : ℕ) → WasAdded id index t (step t e.line e.found).scene → LeavesOnly t.bytes (calls_made t e) (step t e.line e.found).scene.bytes
 unfolding step
 durable_event t e fits may inside id index added =
-    durable (stored_by t.id (taken t) e.line e.found) (taken t) (act_on (taken t) e.line e.found) (reading_sound (taken t) e.line e.found may.line inside may.fits (still_fit t fits)) id index added.new t.crash added.filed
+    durable (stored_by t.id (without_crash t) e.line e.found) (without_crash t) (act_on (without_crash t) e.line e.found) (reading_sound (without_crash t) e.line e.found may.line inside may.fits (still_fit t fits)) id index added.new t.crash added.filed
 
 -- the store that is filed has reached the end of each tile
 reached_by : (was : Scene) (e : Event) (is : Scene) (id index : ℕ) → LeavesOnly was.bytes (calls_made was e) is.bytes → index < length (batches_of is id) → (o : Option History) → held is ≡ o → HoldsFiled (batches_of is id) id o → HasReached index was e is

@@ -43,9 +43,9 @@ use Rattle.timeline_model.specs.Scene.{Scene, Crash, store_under, store_in, worl
 use Rattle.txn_journal.specs.Held.{standing}
 use Rattle.drill_core.specs.LineCalls.{items_added, with_items, appends, end_of_store, notary_calls, validate_calls, noting}
 use Rattle.timeline_model.specs.Lines.{Act, quiet, says, refuses, over_world, over_store, header_at, makes, inits, altered, shortened, brings}
-use Rattle.timeline_model.specs.Timeline.{with_calls, calls_in, stopped, crashed, ended, under, MayBeFound}
+use Rattle.timeline_model.specs.Timeline.{with_calls, calls_in, stopped, crashed, crashed_behind, under, MayBeFound}
 use Rattle.drill_core.proofs.LineItems.{none_added}
-use Rattle.timeline_model.proofs.Acts.{Acts, acts_dropped, take_none}
+use Rattle.timeline_model.proofs.Acts.{Acts, acts_without_sessions, take_none}
 
 -- ---- what leaves the lists
 
@@ -71,8 +71,8 @@ pub under_crash : (id : ℕ) (t : Scene) (a : Act) (crash : Option Crash) → Ac
 under_crash id t a None acts = acts.whole
 under_crash id t a (Some crash) acts = by (nat_le (calls_in a) crash.after) refl
   where
-    by : (b : Bool) → nat_le (calls_in a) crash.after ≡ b → ActsOn id t (if b then ended a.next else crashed (stopped t crash a)).scene
-    by true le = λ bytes. acts_dropped id t a.next.scene (acts.whole bytes)
+    by : (b : Bool) → nat_le (calls_in a) crash.after ≡ b → ActsOn id t (if b then crashed_behind a.next else crashed (stopped t crash a)).scene
+    by true le = λ bytes. acts_without_sessions id t a.next.scene (acts.whole bytes)
     by false more = acts.in_part crash (grind (arith, nat_tests, more))
 
 -- no call of the notary

@@ -38,7 +38,7 @@ use Rattle.drill_core.proofs.Analysing.{analysed_stays}
 use Rattle.drill_core.specs.LineCalls.{notary_calls}
 use Rattle.timeline_model.specs.Scene.{Scene, Crash, nothing_yet, store_in, world_of, held, batches_of}
 use Rattle.timeline_model.specs.Lines.{over_world, over_store, act}
-use Rattle.timeline_model.specs.Timeline.{Event, calls_in, under, taken, act_on, step, after, MayBeFound, IsTimeline, SomeEvent}
+use Rattle.timeline_model.specs.Timeline.{Event, calls_in, under, without_crash, act_on, step, after, MayBeFound, IsTimeline, SomeEvent}
 use Rattle.timeline_model.specs.Kept.{IsFiledOver, HasAlteredIn, HasClash}
 use Rattle.timeline_model.specs.Changes.{ClockRises, Changed, ChangedTile, begins, ends}
 use Rattle.timeline_model.specs.Stepping.{IsWhole}
@@ -72,13 +72,13 @@ module _ (t : Scene) (id : ℕ) (algorithm : LineAlgorithm) (found : FoundOf) (o
   unfolding act
   no_calls = ap (λ (o : Option ℕ). calls_in (over_store t o line found)) own ∙ none_in_world (world_of t id)
 
-passes : (t : Scene) (e : Event) (crash : Option Crash) → calls_in (act_on (taken t) e.line e.found) ≡ 0 → IfSome crash (λ c. calls_in (act_on (taken t) e.line e.found) ≤ c.after)
+passes : (t : Scene) (e : Event) (crash : Option Crash) → calls_in (act_on (without_crash t) e.line e.found) ≡ 0 → IfSome crash (λ c. calls_in (act_on (without_crash t) e.line e.found) ≤ c.after)
 passes t e None none = tt
 passes t e (Some c) none = omega (arith, none)
 
 whole_line : (t : Scene) (e : Event) (id : ℕ) (algorithm : LineAlgorithm) → e.line ≡ Ok (lines.Plain (stmts.Analyse algorithm)) → t.id ≡ Some id → IsWhole t e
 whole_line t e id algorithm line_is own = passes t e t.crash
-    (ap (λ (l : Result Line ParseFail). calls_in (act_on (taken t) l e.found)) line_is ∙ no_calls (taken t) id algorithm e.found own)
+    (ap (λ (l : Result Line ParseFail). calls_in (act_on (without_crash t) l e.found)) line_is ∙ no_calls (without_crash t) id algorithm e.found own)
 
 -- ---- bytes that were read hold a history
 
@@ -304,9 +304,9 @@ reports_have limits e es id algorithm a is_timeline reported rises = holds_chang
 -- without a store's id it is refused
 refused_nowhere : (t : Scene) (algorithm : LineAlgorithm) (found : FoundOf) → t.id ≡ None → (step t (Ok (lines.Plain (stmts.Analyse algorithm))) found).is_refused ≡ true
 unfolding step act
-refused_nowhere t algorithm found none = ap (λ (o : Option ℕ). (under t.crash (taken t) (over_store (taken t) o (lines.Plain (stmts.Analyse algorithm)) found)).is_refused) none ∙ by t.crash
+refused_nowhere t algorithm found none = ap (λ (o : Option ℕ). (under t.crash (without_crash t) (over_store (without_crash t) o (lines.Plain (stmts.Analyse algorithm)) found)).is_refused) none ∙ by t.crash
   where
-    by : (crash : Option Crash) → (under crash (taken t) (over_store (taken t) None (lines.Plain (stmts.Analyse algorithm)) found)).is_refused ≡ true
+    by : (crash : Option Crash) → (under crash (without_crash t) (over_store (without_crash t) None (lines.Plain (stmts.Analyse algorithm)) found)).is_refused ≡ true
     by None = refl
     by (Some crash) = (let enough : nat_le 0 crash.after ≡ true = le-leb 0 crash.after (omega arith) in rw enough refl)
 

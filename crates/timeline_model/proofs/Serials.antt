@@ -38,9 +38,9 @@ use Rattle.drill_core.specs.Steps as world_steps
 use Rattle.drill_core.specs.Steps.{filed_for, reached, notarized, validated, on_tables, algorithm_of}
 use Rattle.drill_core.proofs.Acknowledging.{by_line}
 use Rattle.drill_core.proofs.Analysing.{analysed_stays}
-use Rattle.timeline_model.specs.Scene.{Scene, Crash, nothing_yet, dropped, sessions_over, store_in, world_with, world_of}
+use Rattle.timeline_model.specs.Scene.{Scene, Crash, nothing_yet, without_sessions, sessions_over, store_in, world_with, world_of}
 use Rattle.timeline_model.specs.Lines.{Act, quiet, says, refuses, over_store, header_at, makes, inits, altered, shortened, brings, act}
-use Rattle.timeline_model.specs.Timeline.{Event, calls_in, stopped, crashed, ended, under, taken, act_on, step, after, FitsReading, IsTimeline, MayCome}
+use Rattle.timeline_model.specs.Timeline.{Event, calls_in, stopped, crashed, crashed_behind, under, without_crash, act_on, step, after, FitsReading, IsTimeline, MayCome}
 use Rattle.timeline_model.specs.Stepping.{IsWhole}
 use Rattle.timeline_model.specs.Sessions.{begun_under, begun_in, told_more, told_under, told, SessionsAreSerial}
 use Rattle.timeline_model.proofs.Events.{fit_after, nothing_fit}
@@ -124,9 +124,9 @@ clock_same : (id : Option ℕ) (t : Scene) (moment : ℕ) → begun_under id (re
 clock_same None t moment = refl
 clock_same (Some id) t moment = refl
 
-dropped_held : (id : Option ℕ) (t : Scene) (logs : Logs) → HeldIn (begun_under id (dropped t)) logs
-dropped_held None t logs = tt
-dropped_held (Some id) t logs = by (store_in id (stored t.bytes))
+held_without_sessions : (id : Option ℕ) (t : Scene) (logs : Logs) → HeldIn (begun_under id (without_sessions t)) logs
+held_without_sessions None t logs = tt
+held_without_sessions (Some id) t logs = by (store_in id (stored t.bytes))
   where
     by : (o : Option statements.World) → HeldIn (option_map (λ store. record { store = store; sessions = no_sessions }) o) logs
     by None = tt
@@ -136,9 +136,9 @@ under_held : (t : Scene) (a : Act) (crash : Option Crash) (logs : Logs) → Held
 under_held t a None logs held = held
 under_held t a (Some crash) logs held = by (nat_le (calls_in a) crash.after)
   where
-    by : (b : Bool) → HeldIn (begun_in (if b then ended a.next else crashed (stopped t crash a)).scene) no_logs
-    by true = dropped_held a.next.scene.id a.next.scene no_logs
-    by false = dropped_held a.next.scene.id (stopped t crash a) no_logs
+    by : (b : Bool) → HeldIn (begun_in (if b then crashed_behind a.next else crashed (stopped t crash a)).scene) no_logs
+    by true = held_without_sessions a.next.scene.id a.next.scene no_logs
+    by false = held_without_sessions a.next.scene.id (stopped t crash a) no_logs
 
 -- the world of a scene
 same_store : (t : Scene) (id : ℕ) → store_of (world_of t id) ≡ begun_under (Some id) t
@@ -178,22 +178,22 @@ module _ (t : Scene) (fits : IsFit t) (logs : Logs) (held : HeldIn (begun_in t) 
     where
       by : (late free : Bool)
           → HeldIn (begun_in (if late then quiet (refuses (record t { id = Some id; sessions = no_sessions }) (codes "TooLate")) else if free then makes (record t { id = Some id; sessions = no_sessions }) header else quiet (refuses (record t { id = Some id; sessions = no_sessions }) (codes "AlreadyThere"))).next.scene) logs
-      by true free = dropped_held (Some id) t logs
-      by false true = dropped_held (Some id) (makes t header).next.scene logs
-      by false false = dropped_held (Some id) t logs
+      by true free = held_without_sessions (Some id) t logs
+      by false true = held_without_sessions (Some id) (makes t header).next.scene logs
+      by false false = held_without_sessions (Some id) t logs
 
   altered_held : (place : ℕ) (bytes : List ℕ) → HeldIn (begun_in (altered t place bytes).scene) logs
   altered_held place bytes = by (nat_le (place + length bytes) (length t.bytes))
     where
       by : (b : Bool) → HeldIn (begun_in (if b then says (record t { bytes = written place bytes t.bytes; sessions = no_sessions }) (codes "ok") else refuses t (codes "NoPlace")).scene) logs
-      by true = dropped_held t.id (record t { bytes = written place bytes t.bytes }) logs
+      by true = held_without_sessions t.id (record t { bytes = written place bytes t.bytes }) logs
       by false = held
 
   shortened_held : (n : ℕ) → HeldIn (begun_in (shortened t n).scene) logs
   shortened_held n = by (nat_le n (length t.bytes))
     where
       by : (b : Bool) → HeldIn (begun_in (if b then says (record t { bytes = take n t.bytes; sessions = no_sessions }) (codes "ok") else refuses t (codes "NoPlace")).scene) logs
-      by true = dropped_held t.id (record t { bytes = take n t.bytes }) logs
+      by true = held_without_sessions t.id (record t { bytes = take n t.bytes }) logs
       by false = held
 
   brings_held : (event : drills.Event) → HeldIn (begun_in (brings t event).next.scene) logs
@@ -226,9 +226,9 @@ event_held : (t : Scene) (e : Event) (logs : Logs) → IsFit t → MayCome t e �
 unfolding step
 event_held t e logs fits may held =
     let same = crash_same t.id t None in
-    under_held (taken t) (act_on (taken t) e.line e.found) t.crash (told_more logs (begun_in t) e.line t.clock)
-    (subst (λ (o : Option sessions.World). HeldIn (begun_in (act_on (taken t) e.line e.found).next.scene) (told_more logs o e.line t.clock)) same
-    (reading_held (taken t) (still_fit t fits) logs (subst (λ (o : Option sessions.World). HeldIn o logs) (sym same) held) e.line e.found may.fits))
+    under_held (without_crash t) (act_on (without_crash t) e.line e.found) t.crash (told_more logs (begun_in t) e.line t.clock)
+    (subst (λ (o : Option sessions.World). HeldIn (begun_in (act_on (without_crash t) e.line e.found).next.scene) (told_more logs o e.line t.clock)) same
+    (reading_held (without_crash t) (still_fit t fits) logs (subst (λ (o : Option sessions.World). HeldIn o logs) (sym same) held) e.line e.found may.fits))
 
 all_held : (t : Scene) (es : List Event) → IsFit t → HeldIn (begun_in t) no_logs → IsTimeline t es → HeldIn (begun_in (after t es)) (told t es)
 unfolding after told

@@ -57,7 +57,7 @@ use Rattle.timeline_model.specs.Scene.{Scene, Crash, nothing_yet, store_in, worl
 use Rattle.txn_journal.specs.Held.{standing}
 use Rattle.drill_core.specs.LineCalls.{end_of_store, items_added, with_items, appends, notary_calls, validate_calls, noting, filing_calls, unless}
 use Rattle.timeline_model.specs.Lines.{Act, says, refuses, over_world, over_store, header_at, act}
-use Rattle.timeline_model.specs.Timeline.{Event, step, taken, act_on, name_of, after, with_calls, calls_in, stopped, IsDrillLine, IsReading, FitsReading, IsTimeline, MayCome}
+use Rattle.timeline_model.specs.Timeline.{Event, step, without_crash, act_on, name_of, after, with_calls, calls_in, stopped, IsDrillLine, IsReading, FitsReading, IsTimeline, MayCome}
 use Rattle.timeline_model.specs.Sound.{IsFromInside, stored_by, stores, AllFromInside, HasAlso, TimelinesStaySound, EventsKeepItems, NextLinesTellNoAlteration}
 use Rattle.drill_core.proofs.LineItems.{none_added}
 use Rattle.timeline_model.proofs.Acts.{take_none}
@@ -379,20 +379,20 @@ reading_sound t (Err fail) found is inside parts fits = quiet_sound (stored_by t
 
 -- ---- all events
 
-pub taken_stored : (o : Option ℕ) (t : Scene) (l : Result Line ParseFail) (found : Found) → stored_by o (taken t) l found ≡ stored_by o t l found
+pub stored_without_crash : (o : Option ℕ) (t : Scene) (l : Result Line ParseFail) (found : Found) → stored_by o (without_crash t) l found ≡ stored_by o t l found
 unfolding world_of
-taken_stored None t l found = refl
-taken_stored (Some id) t (Ok l) found = refl
-taken_stored (Some id) t (Err fail) found = refl
+stored_without_crash None t l found = refl
+stored_without_crash (Some id) t (Ok l) found = refl
+stored_without_crash (Some id) t (Err fail) found = refl
 
 pub event_good : (t : Scene) (e : Event) → IsFit t → MayCome t e → IsFromInside e.line → IsGood (stores t e) t (step t e.line e.found).scene
 unfolding step
 event_good t e fits may inside =
-    let good = under_sound (stored_by t.id (taken t) e.line e.found) (taken t) (act_on (taken t) e.line e.found) t.crash
-    (reading_sound (taken t) e.line e.found may.line inside may.fits (still_fit t fits)) in
+    let good = under_sound (stored_by t.id (without_crash t) e.line e.found) (without_crash t) (act_on (without_crash t) e.line e.found) t.crash
+    (reading_sound (without_crash t) e.line e.found may.line inside may.fits (still_fit t fits)) in
     record {
       sound = good.sound;
-      extends = λ h some. subst (λ (more : List Item). HasAlso h more (held (step t e.line e.found).scene)) (taken_stored t.id t e.line e.found) (good.extends h some);
+      extends = λ h some. subst (λ (more : List Item). HasAlso h more (held (step t e.line e.found).scene)) (stored_without_crash t.id t e.line e.found) (good.extends h some);
       bare = good.bare;
     }
 

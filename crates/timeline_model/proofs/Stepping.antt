@@ -29,7 +29,7 @@ use Rattle.store_engine.proofs.Appended.{append_adds, append_puts, stores_record
 use Rattle.drill_core.specs.LineCalls.{items_added, with_items, end_of_store}
 use Rattle.timeline_model.specs.Scene.{Scene, Crash, nothing_yet, sessions_over, store_under, store_in, world_of}
 use Rattle.timeline_model.specs.Lines.{Act, Next, over_world, over_store, act}
-use Rattle.timeline_model.specs.Timeline.{Event, calls_in, ended, under, taken, act_on, step, after, FitsReading}
+use Rattle.timeline_model.specs.Timeline.{Event, calls_in, crashed_behind, under, without_crash, act_on, step, after, FitsReading}
 use Rattle.timeline_model.specs.Stepping.{IsWhole, left_by, TakesItsStep, LinesTakeTheirStep}
 use Rattle.timeline_model.proofs.Doings.{StoreIs, store_is}
 use Rattle.timeline_model.proofs.Statements.{new_txn, with_begun, Stores, step_stores, same_added, txn_added, frontier_added}
@@ -152,7 +152,7 @@ line_act t (lines.Drill event) found is = absurd is
 -- what a line leaves under a crash that lets it pass
 abbrev behind : Option Crash → Next → Next
 behind None next = next
-behind (Some crash) next = ended next
+behind (Some crash) next = crashed_behind next
 
 under_whole : (t : Scene) (a : Act) (crash : Option Crash) → IfSome crash (λ c. calls_in a ≤ c.after) → under crash t a ≡ behind crash a.next
 under_whole t a None passes = refl
@@ -175,11 +175,11 @@ behind_refused (Some crash) next = refl
 event_takes : (t : Scene) (e : Event) (id : ℕ) (line : Line) → IsFit t → FitsReading e.line → t.id ≡ Some id → e.line ≡ Ok line → IsWorldLine line → IsWhole t e → TakesItsStep t id line e.found (step t e.line e.found)
 unfolding step world_of
 event_takes t e id line scene_fits fits own line_is on passes =
-    let act_is : act_on (taken t) e.line e.found ≡ over_world (taken t) (world_of (taken t) id) line e.found (world_steps.step (world_of (taken t) id) line t.clock e.found) =
-    ap (λ (l : Result Line ParseFail). act_on (taken t) l e.found) line_is ∙ line_act (taken t) line e.found on ∙ ap (λ (o : Option ℕ). over_store (taken t) o line e.found) own in
-    let takes_it = takes id (taken t) line e.found (still_fit t scene_fits) (subst FitsReading line_is fits) refl in
-    let next_is = under_whole (taken t) (act_on (taken t) e.line e.found) t.crash passes ∙ ap (λ (a : Act). behind t.crash a.next) act_is in
-    let next = (over_world (taken t) (world_of (taken t) id) line e.found (world_steps.step (world_of (taken t) id) line t.clock e.found)).next in
+    let act_is : act_on (without_crash t) e.line e.found ≡ over_world (without_crash t) (world_of (without_crash t) id) line e.found (world_steps.step (world_of (without_crash t) id) line t.clock e.found) =
+    ap (λ (l : Result Line ParseFail). act_on (without_crash t) l e.found) line_is ∙ line_act (without_crash t) line e.found on ∙ ap (λ (o : Option ℕ). over_store (without_crash t) o line e.found) own in
+    let takes_it = takes id (without_crash t) line e.found (still_fit t scene_fits) (subst FitsReading line_is fits) refl in
+    let next_is = under_whole (without_crash t) (act_on (without_crash t) e.line e.found) t.crash passes ∙ ap (λ (a : Act). behind t.crash a.next) act_is in
+    let next = (over_world (without_crash t) (world_of (without_crash t) id) line e.found (world_steps.step (world_of (without_crash t) id) line t.clock e.found)).next in
     record {
       world = ap (λ (n : Next). world_of n.scene id) next_is ∙ world_behind t.crash next id ∙ ap (left_by t.crash) takes_it.world;
       text = ap (λ (n : Next). n.text) next_is ∙ behind_text t.crash next ∙ takes_it.text;

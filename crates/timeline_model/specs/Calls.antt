@@ -19,7 +19,7 @@ use Rattle.session_model.specs.World.{Session}
 use Rattle.session_model.specs.Standing.{NoneKept}
 use Rattle.drill_core.specs.declared.open_store.OpenStore.{OpenStore}
 use Rattle.drill_core.specs.World.{StoreIsIn, IsIn, IsEntered}
-use Rattle.timeline_model.specs.Scene.{Scene, dropped, store_in, world_of}
+use Rattle.timeline_model.specs.Scene.{Scene, without_sessions, store_in, world_of}
 use Rattle.drill_core.specs.LineCalls.{with_items, appends}
 
 -- nothing is on its way to the disk: what reads give was synced
@@ -58,8 +58,8 @@ WorldsGoByBytes = (id : ℕ) (w : Option statements.World) (begun : ℕ → Opti
 
 -- what a machine stands for behind an answer of entering, if it came to one: a world without sessions
 abbrev pub StandsEntered : Scene → ℕ → Result (Unit {0}) StoreFail → Option OpenStore → Lists → Type 0
-StandsEntered t id (Ok _) kept lists = IsIn (world_of (dropped t) id) (record { id = id; opened = kept }) t.bytes lists
-StandsEntered t id (Err fails.NotAStore) kept lists = IsIn (world_of (dropped t) id) (record { id = id; opened = None }) t.bytes lists
+StandsEntered t id (Ok _) kept lists = IsIn (world_of (without_sessions t) id) (record { id = id; opened = kept }) t.bytes lists
+StandsEntered t id (Err fails.NotAStore) kept lists = IsIn (world_of (without_sessions t) id) (record { id = id; opened = None }) t.bytes lists
 StandsEntered t id (Err fail) kept lists = Unit {0}
 
 -- The other way round: a machine that entered over a scene's bytes, without sessions, stands for the world that a timeline reads.
