@@ -1,6 +1,6 @@
 -- A history that grows stays the notarized one; a batch more is filed.
 use Rattle.std.proofs.Common.{◌≡◌, ℕ, ◌+◌, ◌*◌, ◌/◌, ◌<◌, ◌≤◌, false, List, [], ◌∷◌, ◌++◌, map, filter, refl, sym, ap, subst, ◌∙◌, arith}
-use Rattle.std.specs.Prelude.{nat_eq, max}
+use Rattle.std.specs.Prelude.{nat_eq}
 use Rattle.std.specs.List.{range_with_len}
 use Rattle.std.proofs.lemmas.Bool.{ne_eqb}
 use Rattle.std.proofs.lemmas.Nat.{le-div}
@@ -51,16 +51,18 @@ added_stays batches id n header is item fits notarized follows =
     let width = fits.width.0 in
     let reached = notarized.reached in
     let last : last_moment (is ++ item ∷ []) ≡ after_last (last_moment is) item = fold-append after_last 0 is (item ∷ []) in
+    let begin = layouts.same_begins (layout (history header is)) (layout (history header (is ++ item ∷ []))) n (layouts.tiles_stay header is (item ∷ []) n) in
     let same = same_batches (history header is) (history header (is ++ item ∷ [])) 0 n refl (layouts.tiles_stay header is (item ∷ []) (0 + n)) (λ g below. later_rows header is item g (first_granule (layout (history header is)) n) (last_moment is) (omega (arith, width)) (let none : 0 + n ≡ n = omega arith in subst (λ (m : ℕ). g < first_granule (layout (history header is)) m) none below) reached follows) in
     record {
-      filed = record { seals = notarized.filed.seals ∙ same; header = notarized.filed.header; within = notarized.filed.within };
-      reached = rw last (omega (arith, reached));
+      filed = record { seals = notarized.filed.seals ∙ same; header = notarized.filed.header; within = (let within = notarized.filed.within in omega (arith, within, begin)) };
+      reached = rw last (subst (λ (g : ℕ). g * header.width ≤ after_last (last_moment is) item) begin (omega (arith, reached)));
     }
 
 pub frontier_filed : FrontierStaysFiled
 frontier_filed batches id n header is moment filed =
+    let begin = layouts.same_begins (layout (history header is)) (layout (history header (is ++ items.Frontier moment ∷ []))) n (layouts.tiles_stay header is (items.Frontier moment ∷ []) n) in
     let same = same_batches (history header is) (history header (is ++ items.Frontier moment ∷ [])) 0 n refl (layouts.tiles_stay header is (items.Frontier moment ∷ []) (0 + n)) (λ g below. frontier_rows header is moment g) in
-    record { seals = filed.seals ∙ same; header = filed.header; within = filed.within }
+    record { seals = filed.seals ∙ same; header = filed.header; within = (let within = filed.within in omega (arith, within, begin)) }
 
 pub frontier_same : FrontierFilesSame
 frontier_same header is moment i = sym (same_batch (history header is) (history header (is ++ items.Frontier moment ∷ [])) i refl (layouts.tiles_stay header is (items.Frontier moment ∷ []) i) (λ g below. frontier_rows header is moment g))

@@ -50,7 +50,7 @@ use Rattle.validator.specs.Texts.{refusal_text}
 use Rattle.validator.specs.Tiles.{tiles_at, end_of}
 use Rattle.validator.specs.Notarizing.{next_batches, sealed_after, frontier_for, else_cause, early_fault, fault_by, chain_fault, filed_fault, room_fault, notarize_fault}
 use Rattle.validator.specs.Reaching.{with_frontier_for}
-use Rattle.validator.proofs.Growing.{ended_within}
+use Rattle.validator.proofs.Growing.{ended_within, around_places}
 use Rattle.drill_core.specs.Found.{Found}
 use Rattle.drill_core.specs.World as worlds
 use Rattle.drill_core.specs.World.{with_batches}
@@ -186,11 +186,6 @@ frontier_rows header is moment g = ap (filter (is_in_granule header g)) (sym (fi
 around_rows : (header : Header) (is : List Item) (need : Option ℕ) (g : ℕ) → rows (history header is) g ≡ rows (history header (with_frontier_for need is)) g
 around_rows header is None g = refl
 around_rows header is (Some moment) g = frontier_rows header is moment g
-
--- a Frontier is an item more, and leaves all tiles
-around_places : (header : Header) (is : List Item) (need : Option ℕ) (n : ℕ) → SameTiles n (layout (history header is)) (layout (history header (with_frontier_for need is)))
-around_places header is None n tile below = record { exponent = refl; algorithms = refl }
-around_places header is (Some moment) n tile below = layouts.tiles_stay header is (items.Frontier moment ∷ []) n tile below
 
 around_batch : (header : Header) (is : List Item) (need : Option ℕ) (i : ℕ) → batch (history header is) i ≡ batch (history header (with_frontier_for need is)) i
 around_batch header is None i = refl
