@@ -1,6 +1,6 @@
 -- Tiles that have the tree.
 use Rattle.std.proofs.Common.{◌≡◌, ℕ, ◌<◌, max, true, false, inl, inr, sym, ◌∙◌, arith}
-use Rattle.std.specs.List.{list_all, range_with_len}
+use Rattle.std.specs.List.{range_with_len}
 use Rattle.std.proofs.lemmas.Bool.{cases_Bool}
 use Rattle.std.proofs.lemmas.List.Elements.{All-contains}
 use Rattle.std.proofs.lemmas.List.Sums.{AllPass-from_list_all, list_all-from_AllPass}

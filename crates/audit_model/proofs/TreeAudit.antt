@@ -4,7 +4,7 @@ use Rattle.std.specs.Prelude.{nat_eq}
 use Rattle.std.specs.List.{Contains, range_with_len}
 use Rattle.std.specs.Int.{bit_at}
 use Rattle.std.proofs.lemmas.Bool.{cases_lt, eq-eqb}
-use Rattle.std.proofs.lemmas.Nat.{mul-le, pow_pos, shl-shr, shr-shr, shr_split, mod_below, mod_low, div_below}
+use Rattle.std.proofs.lemmas.Nat.{mul-le, pow_pos, shl-shr, shr-shr, mod_low}
 use Rattle.std.proofs.Math.Pow.{pow_mono}
 use Rattle.std.proofs.lemmas.List.Elements.{Contains-append_right}
 use Rattle.tuple_bytes.specs.declared.item.Txn.{Txn}

@@ -1,7 +1,6 @@
 -- What was read is the next event, by what was done with it.
 use Rattle.std.proofs.Common.{◌∙◌, ◌≡◌, ℕ, true, false, Option, Some, None, Result, Ok, Err, refl, sym, ap, subst, arith}
 use Rattle.std.specs.Prelude.{nat_le, codes}
-use Rattle.std.specs.Option.{option_map}
 use Rattle.std.proofs.lemmas.Bool.{le-leb}
 use Rattle.stmt_text.specs.declared.error.ParseFail.{ParseFail}
 use Rattle.stmt_text.specs.declared.error.ParseFail.TheVariants as parse_fails
@@ -20,7 +19,7 @@ use Rattle.timeline_model.specs.Lines.{Next, Act, quiet, says, refuses, brings, 
 use Rattle.timeline_model.specs.Timeline.{IsReading, FitsReading, MayBeFound, calls_in, crashed, stopped, crashed_behind, under, without_crash, name_of, act_on, step}
 use Rattle.drill_run.specs.declared.machine.Crash as code
 use Rattle.drill_run.specs.declared.machine.Drill.{Drill}
-use Rattle.drill_run.specs.Drills.{bare_of, IsAt}
+use Rattle.drill_run.specs.Drills.{IsAt}
 use Rattle.drill_run.specs.Devices.{EntersAnew}
 use Rattle.drill_run.proofs.Ready.{with_rest}
 use Rattle.drill_run.specs.Taken.{Follows, IsActed, IsLeft, IsStopped, IsTakenUnder, IsEvent, IsAnswered}

@@ -1,14 +1,13 @@
 -- What listing failures, and entering a store anew, do to what a drill holds.
-use Rattle.std.proofs.Common.{arith, ◌≡◌, ℕ, ◌+◌, true, false, List, [], ◌∷◌, Option, Some, None, IfSome, Result, Ok, Err, length, refl, sym, ap, ◌∙◌, subst}
+use Rattle.std.proofs.Common.{arith, ◌≡◌, ℕ, true, false, List, Option, Some, None, IfSome, Result, Ok, Err, refl, sym, ap, ◌∙◌, subst}
 use Rattle.std.proofs.lemmas.Option.{same_Some}
-use Rattle.outside_words.specs.Listed.{listed_from}
 use Rattle.disk_words.specs.Disk as disks
 use Rattle.disk_words.proofs.Quiet as disk_quiet
 use Rattle.disk_model.specs.declared.memory.MemDisk.{MemDisk}
 use Rattle.disk_model.specs.Memory as disk_memory
 use Rattle.notary_link.specs.declared.memory.MemNotary.{MemNotary}
 use Rattle.notary_link.specs.declared.notary.NotaryLimits.{NotaryLimits}
-use Rattle.notary_link.specs.Calls.{lists_of, trace_of}
+use Rattle.notary_link.specs.Calls.{lists_of}
 use Rattle.notary_link.specs.Memory as notary_memory
 use Rattle.notary_link.specs.Notary as notaries
 use Rattle.store_engine.specs.declared.fail.StoreFail.{StoreFail}
@@ -19,8 +18,8 @@ use Rattle.drill_core.specs.World.{Held, IsEntered}
 use Rattle.timeline_model.proofs.Entering as entering
 use Rattle.timeline_model.specs.Scene.{Scene}
 use Rattle.drill_run.specs.declared.machine.Drill.{Drill}
-use Rattle.drill_run.specs.Drills.{bare_of, StandsUnder, NoneFails, IsAt, faults_of}
-use Rattle.drill_run.specs.Devices.{listed_filings, WillStop, WillPass, EntersAnew, IsRestarted, Holds}
+use Rattle.drill_run.specs.Drills.{bare_of, StandsUnder, NoneFails}
+use Rattle.drill_run.specs.Devices.{WillPass, EntersAnew, IsRestarted}
 
 -- the same lists, limits and faults, where all but the plan stays
 pub record NotaryStays (old new : MemNotary) : Type 0 where

@@ -48,7 +48,7 @@ use Rattle.timeline_model.proofs.Calls.{failed_nothing}
 use Rattle.drill_run.specs.declared.machine.Drill.{Drill}
 use Rattle.drill_run.specs.Drills.{bare_of, StandsUnder, faults_of, HasFewFaults}
 use Rattle.drill_run.specs.Devices.{listed_filings, IsStopping, WillPass, IsRestarted}
-use Rattle.drill_run.specs.Taken.{IsStopped, IsLeft, ComeBefore}
+use Rattle.drill_run.specs.Taken.{IsStopped, ComeBefore}
 use Rattle.drill_run.proofs.Ready.{scene_of}
 use Rattle.drill_run.proofs.Coming.{left_on, under_whole, under_stopped}
 use Rattle.drill_run.proofs.Planned.{FailedOne, failed_one, answered_within, answered_quiet}

@@ -38,8 +38,8 @@ use Rattle.drill_core.specs.Stepping.{Steps, StepsFor}
 use Rattle.drill_core.specs.Steps.{IsWorldLine, MayFind}
 use Rattle.timeline_model.specs.Scene.{Scene, Crash, without_sessions, sessions_over, store_in, world_of}
 use Rattle.drill_core.specs.LineCalls.{items_added, with_items, appends, end_of_store}
-use Rattle.timeline_model.specs.Lines.{Act, Next, quiet, refuses, with_step, over_world, over_store, act}
-use Rattle.timeline_model.specs.Timeline.{MayBeFound, crashed_behind, under}
+use Rattle.timeline_model.specs.Lines.{Act, Next, quiet, refuses, over_world, over_store, act}
+use Rattle.timeline_model.specs.Timeline.{MayBeFound, under}
 use Rattle.timeline_model.proofs.Calls.{appended, world_is}
 use Rattle.timeline_model.proofs.Doings.{store_is}
 use Rattle.timeline_model.proofs.Sessions.{step_under, world_over}
@@ -47,7 +47,6 @@ use Rattle.timeline_model.proofs.Statements.{new_txn, Stores, step_stores, same_
 use Rattle.timeline_model.proofs.Stepping.{line_act}
 use Rattle.drill_run.specs.declared.machine.Drill.{Drill}
 use Rattle.drill_run.specs.Drills.{bare_of, StandsUnder, NoneFails, IsAt, FailsOnce}
-use Rattle.drill_run.specs.Devices.{WillPass}
 use Rattle.drill_run.specs.Taken.{Follows, IsActed, IsLeft, IsStopped}
 use Rattle.drill_run.proofs.Ready.{same_lists, scene_of}
 use Rattle.drill_run.proofs.Coming.{any_found, next_on, quiet_left, refused_only}

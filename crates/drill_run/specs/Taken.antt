@@ -1,5 +1,5 @@
 -- What a line does to the scene that a drill stands for.
-use Rattle.std.specs.Prelude.{codes, if◌then◌else◌, Bool, true, false, ◌≡◌, ◌≢◌, ℕ, List, [], length, Option, Some, None, Result, Ok, Err, IfOk}
+use Rattle.std.specs.Prelude.{codes, if◌then◌else◌, Bool, true, false, ◌≡◌, ◌≢◌, ℕ, [], length, Option, Some, None, Result, Ok, IfOk}
 use Rattle.tuple_bytes.specs.declared.header.Header.{Header}
 use Rattle.stmt_text.specs.declared.error.ParseFail.{ParseFail}
 use Rattle.stmt_text.specs.declared.line.Line.{Line}

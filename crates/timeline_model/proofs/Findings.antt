@@ -4,8 +4,8 @@ use Rattle.std.specs.Prelude.{nat_le}
 use Rattle.std.proofs.lemmas.Bool.{cases_lt}
 use Rattle.byte_grammar.specs.Reading.{IsBytes}
 use Rattle.history_model.specs.Stored.{stored}
-use Rattle.history_model.specs.History.{History, rows}
-use Rattle.digest_model.specs.Layout.{Layout, layout, first_granule, end_granule, max_granules}
+use Rattle.history_model.specs.History.{History}
+use Rattle.digest_model.specs.Layout.{Layout, layout, first_granule, max_granules}
 use Rattle.digest_model.specs.Digests.{cum}
 use Rattle.digest_model.proofs.Follows.{follow}
 use Rattle.digest_model.proofs.Layouts.{adjoin, ends_within, fewer}
@@ -32,19 +32,17 @@ use Rattle.forensic_report.specs.declared.algorithm.Algorithm.{Algorithm}
 use Rattle.forensic_report.specs.declared.algorithm.Algorithm.TheVariants.{Mono, Tiled, TiledExactly, A3d}
 use Rattle.forensic_report.specs.declared.fail.AnalyseFail.{AnalyseFail}
 use Rattle.forensic_report.specs.declared.fail.AnalyseFail.TheVariants as analyse_fails
-use Rattle.forensic_report.specs.Analysis.{Analysis, Region, Targets, Leaves, Unsealed, HeaderAltered, Found}
+use Rattle.forensic_report.specs.Analysis.{Analysis, Region, Found}
 use Rattle.forensic_report.specs.Finding as analysing
 use Rattle.forensic_report.specs.Finding.{IsRegion, has_chains, IsFoundOf, IsAnalysisIn}
 use Rattle.forensic_report.proofs.Filed.{not_absent}
 use Rattle.stmt_text.specs.declared.stmt.Stmt.TheVariants as stmts
-use Rattle.stmt_text.specs.declared.line.Line.{Line}
 use Rattle.stmt_text.specs.declared.line.Line.TheVariants as lines
-use Rattle.drill_core.specs.Found as found_words
-use Rattle.drill_core.specs.Steps.{history_of, algorithm_of, MayFind}
+use Rattle.drill_core.specs.Steps.{history_of, algorithm_of}
 use Rattle.timeline_model.specs.Scene.{Scene, nothing_yet, store_in, world_of, held, batches_of}
 use Rattle.timeline_model.specs.Timeline.{Event, after, IsTimeline}
 use Rattle.timeline_model.specs.Kept.{IsFiledOver, HasClash, Kept}
-use Rattle.timeline_model.specs.Findings.{FindsSame, HasFiledClash, FindingsAreOne}
+use Rattle.timeline_model.specs.Findings.{HasFiledClash, FindingsAreOne}
 use Rattle.timeline_model.proofs.Doings.{spelled_of, history_same}
 use Rattle.timeline_model.proofs.Judged.{audit, under_held}
 use Rattle.timeline_model.proofs.Steady.{Holds}

@@ -1,9 +1,8 @@
 -- What becomes of a store and its disk when it is notarized, whatever the notary tells.
 use Rattle.std.proofs.Common.{◌≡◌, ◌⊎◌, inl, inr, ℕ, true, false, List, Option, Some, None, Result, Ok, Err, refl, sym, ap, subst, ◌∙◌}
 use Rattle.std.specs.Prelude.{unwrap_or}
-use Rattle.outside_words.specs.Told.{WhereTold, TellsAlike}
-use Rattle.outside_words.proofs.Told.{told_map, told_then}
-use Rattle.disk_words.specs.Disk as disks
+use Rattle.outside_words.specs.Told.{WhereTold}
+use Rattle.outside_words.proofs.Told.{told_map}
 use Rattle.disk_words.specs.Disk.{State, Unchanged}
 use Rattle.tuple_bytes.specs.declared.item.Item.{Item}
 use Rattle.store_engine.specs.Opened.{Opened, IsOpenOn}

@@ -1,5 +1,5 @@
 -- What a validation answers and leaves, by what its parts answer and leave.
-use Rattle.std.proofs.Common.{◌≡◌, ◌⊎◌, inl, inr, ℕ, ◌+◌, ◌<◌, List, [], ◌∷◌, ◌++◌, length, Option, Some, None, false, Result, Ok, Err, IfSome, refl, sym, ap, subst, ◌∙◌, arith}
+use Rattle.std.proofs.Common.{◌≡◌, ◌⊎◌, inl, inr, ℕ, ◌+◌, List, [], ◌∷◌, ◌++◌, length, Option, Some, None, false, Result, Ok, Err, IfSome, refl, sym, ap, subst, ◌∙◌, arith}
 use Rattle.std.specs.Option.{is_some}
 use Rattle.outside_words.specs.Told.{WhereTold, TellsAlike}
 use Rattle.outside_words.proofs.Told.{told_map}
@@ -16,7 +16,7 @@ use Rattle.validator.specs.declared.fail.AuditFail.{AuditFail}
 use Rattle.validator.specs.declared.fail.AuditFail.TheVariants as fails
 use Rattle.validator.specs.Fails.{of_notary}
 use Rattle.audit_model.specs.Altered.{history_with}
-use Rattle.validator.specs.Verdicts.{IsVerdict, IsFound, mark_of, IsMarked, IsNotMarked, MayBeMarked, AnswersMark, AfterVerdict, Validates, OrGivesUp, IsOfFinding, KeepsBatches}
+use Rattle.validator.specs.Verdicts.{IsVerdict, IsFound, mark_of, IsMarked, IsNotMarked, MayBeMarked, AnswersMark, AfterVerdict, Validates, OrGivesUp}
 
 -- ---- behind calls that changed nothing
 

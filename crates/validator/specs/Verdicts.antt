@@ -1,8 +1,7 @@
 -- What a validation finds, and the mark that it adds.
 use Rattle.std.specs.Prelude.{◌≡◌, ◌≢◌, ◌⊎◌, ◌<◌, ◌==◌, ℕ, ◌+◌, ◌-◌, nat_le, if◌then◌else◌, Bool, true, false, List, [], ◌∷◌, length, Option, Some, None, Result, Ok, Err}
-use Rattle.tuple_bytes.specs.declared.header.Header.{Header}
 use Rattle.history_model.specs.declared.stored.Stored.{Stored}
-use Rattle.history_model.specs.History.{History, history}
+use Rattle.history_model.specs.History.{History}
 use Rattle.digest_model.specs.Layout.{layout, first_granule, max_granules}
 use Rattle.notary_link.specs.declared.answer.Answer.{Answer}
 use Rattle.notary_link.specs.declared.answer.Answer.TheVariants.{Same, Differs, Absent}

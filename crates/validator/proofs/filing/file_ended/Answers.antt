@@ -1,4 +1,4 @@
-use Rattle.std.proofs.Common.{rules, arith, ◌≡◌, ◌≤◌, ℕ, Ok, Err, subst}
+use Rattle.std.proofs.Common.{rules, arith, ◌≡◌, ℕ, Ok, Err, subst}
 use Rattle.notary_link.proofs.Frame.{goes_on_same}
 use Rattle.outside_words.specs.Told.{WhereTold}
 use Rattle.validator.proofs.Reached.{IsReaching}

@@ -1,8 +1,8 @@
-use Rattle.std.proofs.Common.{rules, arith, ◌≡◌, ◌-◌, ◌≤◌, ◌<◌, ℕ, List, max, map, true, false, length, None, Some, Option, Result, Ok, Err, refl, ap, sym, subst, ◌∙◌}
+use Rattle.std.proofs.Common.{rules, arith, ◌≡◌, ◌-◌, ◌≤◌, ◌<◌, ℕ, List, map, Result, Ok, Err, ap, sym, subst, ◌∙◌}
 use Rattle.std.specs.List.{range_with_len}
 use Rattle.tuple_bytes.specs.declared.header.Header.{Header}
 use Rattle.tuple_bytes.specs.declared.item.Item.{Item}
-use Rattle.history_model.specs.History.{History, history}
+use Rattle.history_model.specs.History.{history}
 use Rattle.digest_model.specs.Layout.{layout, tile_of, first_granule, max_granules}
 use Rattle.digest_model.specs.Digests.{cum}
 use Rattle.policy_eras.specs.Policy.{Policy, policy_of, layout_by}
