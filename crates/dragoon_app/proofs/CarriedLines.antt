@@ -30,6 +30,7 @@ use Rattle.dragoon_app.specs.declared.status.Status.{Status}
 use Rattle.dragoon_app.specs.declared.status.Status.TheVariants as statuses
 use Rattle.dragoon_app.specs.declared.run_fail.RunFail.{RunFail}
 use Rattle.dragoon_app.specs.declared.runner.Runner.{Runner}
+use Rattle.dragoon_app.specs.Outcome.{SomeIsOut}
 use Rattle.dragoon_app.specs.Running.{Running, Timed, carried}
 use Rattle.dragoon_app.specs.Ran.{Ends, IsNext, IsUnderWay, Reads, TakesNoMore, lines_in, text_before, Takes}
 use Rattle.dragoon_app.specs.Failing.{EndsByUse}
@@ -83,6 +84,7 @@ pub record IsGoing (first runner : Runner) (old now : disks.State) (filed later 
 pub record IsCarrying (first runner : Runner) (old now : disks.State) (filed later : notaries.State) (clock ahead : clocks.State) (input left : sources.State) (reader : Reading) (out written : sinks.State) : Type 0 where
   pub going : IsGoing first runner old now filed later clock ahead input left reader (λ before text. sinks.IsOut text out written)
   pub out_frame : sinks.GoesOn out written
+  pub out_grows : SomeIsOut out written
   pub grows : GrownFrom first runner old now input left reader out written
 
 pub begins : (runner : Runner) (s : disks.State) (filed : notaries.State) (clock : clocks.State) (input : sources.State) (reader : Reading) (out : sinks.State)

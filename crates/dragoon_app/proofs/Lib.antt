@@ -6,6 +6,7 @@ pub mod Answering
 pub mod Making
 pub mod OnStore
 pub mod Behaving
+pub mod Ended
 pub mod Once
 pub mod Auditing
 pub mod Notarized

@@ -19,4 +19,5 @@ pub mod Made
 pub mod MakingLines
 pub mod Drilled
 pub mod Completes
+pub mod Ends
 pub mod Top

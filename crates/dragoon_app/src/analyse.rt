@@ -1,11 +1,13 @@
 //! The command `analyse`: which granules of the store are altered, and when they were.
 
-ghost use Rattle.std.specs.Prelude.{◌≡◌, ◌≢◌, Ok, Err, IfOk};
+ghost use Rattle.std.specs.Prelude.{◌≡◌, Some, Ok, Err, IfOk};
 ghost use Rattle.outside_io.specs.Sink as sinks;
 ghost use Rattle.outside_io.specs.Source as sources;
 ghost use Rattle.dragoon_app.specs.Analysed.{analyse_outcome, AnalysesOn};
 ghost use Rattle.dragoon_app.specs.Audited.{SaysUnaltered};
+ghost use Rattle.dragoon_app.specs.declared.command.Command.TheVariants as commands;
 ghost use Rattle.dragoon_app.specs.Devices.{desk, devices, StaysSound, HasCauses, AllGoOn};
+ghost use Rattle.dragoon_app.specs.Ends.{Ends};
 ghost use Rattle.dragoon_app.specs.Outcome.{Said, WriteCause};
 ghost use Rattle.dragoon_app.specs.Texts.{fault_line};
 
@@ -104,7 +106,7 @@ pub fn run_analyse<D: Disk, N: Notary, C: Clock, O: Sink>(
         (devices (D.state disk.new) (N.state notary.new) (C.state clock.new) input (O.state out.new)) }
     ensures sound { StaysSound (desk (D.state disk.old) (N.state notary.old)) (desk (D.state disk.new) (N.state notary.new)) }
     ensures unaltered { SaysUnaltered id result (desk (D.state disk.old) (N.state notary.old)) (desk (D.state disk.new) (N.state notary.new)) }
-    ensures no_usage { result ≢ Status.Usage }
+    ensures ends { Ends (Some (commands.Analyse id algorithm)) result (O.state out.old) (O.state out.new) }
     ensures causes { (input : sources.State) → HasCauses result
         (devices (D.state disk.old) (N.state notary.old) (C.state clock.old) input (O.state out.old))
         (devices (D.state disk.new) (N.state notary.new) (C.state clock.new) input (O.state out.new)) }

@@ -1,6 +1,6 @@
 //! The command `init`: a new store, which begins at the clock's second.
 
-ghost use Rattle.std.specs.Prelude.{◌≡◌, ◌≢◌, ◌<◌, ◌≤◌, IfOk};
+ghost use Rattle.std.specs.Prelude.{◌≡◌, ◌<◌, ◌≤◌, Some, IfOk};
 ghost use Rattle.std.specs.String.{string_bytes};
 ghost use Rattle.outside_io.specs.Sink as sinks;
 ghost use Rattle.outside_io.specs.Clock as clocks;
@@ -8,7 +8,9 @@ ghost use Rattle.notary_link.specs.Notary as notaries;
 ghost use Rattle.tuple_bytes.specs.Limits.{max_moment};
 ghost use Rattle.tuple_bytes.specs.Spelling.{FitsHeader};
 ghost use Rattle.outside_io.specs.Source as sources;
+ghost use Rattle.dragoon_app.specs.declared.command.Command.TheVariants as commands;
 ghost use Rattle.dragoon_app.specs.Devices.{desk, devices, StaysSound, HasCauses, AllGoOn};
+ghost use Rattle.dragoon_app.specs.Ends.{Ends};
 ghost use Rattle.dragoon_app.specs.Outcome.{Said, WriteCause};
 ghost use Rattle.dragoon_app.specs.Init.{FitsStore, header_at, ready_line, says_ready};
 ghost use Rattle.dragoon_app.specs.Init.{InitsAt, Inits};
@@ -67,7 +69,7 @@ fn init_at<D: Disk, O: Sink>(
     requires fits { FitsStore new.now }
     ensures told { InitsAt new.now now result (D.state store.old) (D.state store.new)
         (O.state out.old) (O.state out.new) }
-    ensures no_usage { result ≢ Status.Usage }
+    ensures ends { Ends (Some (commands.Init new.now)) result (O.state out.old) (O.state out.new) }
     ensures causes { (notary : notaries.State) (clock : clocks.State) (input : sources.State) → HasCauses result
         (devices (D.state store.old) notary clock input (O.state out.old))
         (devices (D.state store.new) notary clock input (O.state out.new)) }
@@ -101,7 +103,7 @@ pub fn run_init<D: Disk, C: Clock, O: Sink>(
         (devices (D.state store.new) notary (C.state clock.new) input (O.state out.new)) }
     ensures sound { (notary : notaries.State) → StaysSound
         (desk (D.state store.old) notary) (desk (D.state store.new) notary) }
-    ensures no_usage { result ≢ Status.Usage }
+    ensures ends { Ends (Some (commands.Init new.now)) result (O.state out.old) (O.state out.new) }
     ensures causes { (notary : notaries.State) (input : sources.State) → HasCauses result
         (devices (D.state store.old) notary (C.state clock.old) input (O.state out.old))
         (devices (D.state store.new) notary (C.state clock.new) input (O.state out.new)) }

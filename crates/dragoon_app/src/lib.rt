@@ -16,6 +16,7 @@
 //! |---|---|
 //! | for `link`, `init` and words that are no command: where the store tells its bytes, the status and the whole text are the defined ones, for `init` at the second that the clock gave, up to a fault or want of memory; of a text that was cut short a front is out | `leaves`: `Links`, `answers` of `InitsAt`, `EndsBy` |
 //! | `Usage` comes exactly where the words are no command, whatever the store is | `usage`, `leaves` |
+//! | each command ends by a status of its own, or its text was cut off, whatever the devices tell; at a fault the output, where it tells what it holds, ends with its line | `ends`: `status` by `ends_of`, `named` |
 //! | a fault is answered only where the count of that device's faults rose | `causes` |
 //! | a call ends in the defined way, or memory is wanting: where no device failed, the store has what the command needs, no limit is met and the notary holds nothing or what was filed of one history, without a clash. `Broken` comes then only where the header or a sealed granule differs | `complete` (`Completes`) |
 //! | each device keeps what every call of it keeps | `goes_on` |
@@ -87,7 +88,7 @@
 //!
 //! `leading` says how many words in front of the command name devices. A further device is one more
 //! prefix there, one more parameter of `dragoon` and one more field of `Devices`. A further command is a case of
-//! `command_of`, of `Leaves` and of the call, and a module with its function, its definition (an `Effect`, mostly by
+//! `command_of`, of `Leaves`, of `ends_of` and of the call, and a module with its function, its definition (an `Effect`, mostly by
 //! `OnStore` and `DoesOnce`) and its contract, in the clauses of `dragoon`.
 //!
 //! Only tested: that memory is found where there is plenty of it.

@@ -1,6 +1,6 @@
 //! The command `make`: the lines of a generated script, carried out one after another.
 
-ghost use Rattle.std.specs.Prelude.{◌≡◌, ◌≢◌, ◌≤◌, ◌++◌, true, IfOk, IsSome};
+ghost use Rattle.std.specs.Prelude.{◌≡◌, ◌≤◌, ◌++◌, ℕ, true, Some, IfOk, IsSome};
 ghost use Rattle.std.specs.String.{string_bytes};
 ghost use Rattle.outside_words.specs.Faults.{HasCause};
 ghost use Rattle.disk_words.specs.Disk as disks;
@@ -10,7 +10,9 @@ ghost use Rattle.outside_io.specs.Sink as sinks;
 ghost use Rattle.outside_io.specs.Source as sources;
 ghost use Rattle.workload_make.specs.Script.{max_steps};
 ghost use Rattle.drill_core.specs.declared.fail.LineFail.TheVariants as lines;
+ghost use Rattle.dragoon_app.specs.declared.command.Command.TheVariants as commands;
 ghost use Rattle.dragoon_app.specs.Devices.{desk, site, devices, StaysSound, HasCauses, AllGoOn};
+ghost use Rattle.dragoon_app.specs.Ends.{Ends};
 ghost use Rattle.dragoon_app.specs.Outcome.{Said, WriteCause};
 ghost use Rattle.dragoon_app.specs.Carrying.{SoundFrom, OnlyGrowsFrom};
 ghost use Rattle.dragoon_app.specs.Ran.{ending_by};
@@ -156,7 +158,7 @@ fn make_text<D: Disk, N: Notary, C: Clock, O: Sink>(
         (devices (D.state disk.old) (N.state notary.old) (C.state clock.old) input (O.state out.old))
         (devices (D.state disk.new) (N.state notary.new) (C.state clock.new) input (O.state out.new)) }
     ensures sound { SoundFrom runner.old (desk (D.state disk.old) (N.state notary.old)) (desk (D.state disk.new) (N.state notary.new)) }
-    ensures no_usage { result ≢ Status.Usage }
+    ensures ends { (id seed : ℕ) → Ends (Some (commands.Make id seed count)) result (O.state out.old) (O.state out.new) }
     ensures causes { (input : sources.State) → HasCauses result
         (devices (D.state disk.old) (N.state notary.old) (C.state clock.old) input (O.state out.old))
         (devices (D.state disk.new) (N.state notary.new) (C.state clock.new) input (O.state out.new)) }
@@ -190,7 +192,7 @@ fn make_opened<D: Disk, N: Notary, C: Clock, O: Sink>(
         (devices (D.state disk.old) (N.state notary.old) (C.state clock.old) input (O.state out.old))
         (devices (D.state disk.new) (N.state notary.new) (C.state clock.new) input (O.state out.new)) }
     ensures sound { SoundFrom runner.old (desk (D.state disk.old) (N.state notary.old)) (desk (D.state disk.new) (N.state notary.new)) }
-    ensures no_usage { result ≢ Status.Usage }
+    ensures ends { (id seed : ℕ) → Ends (Some (commands.Make id seed count)) result (O.state out.old) (O.state out.new) }
     ensures causes { (input : sources.State) → HasCauses result
         (devices (D.state disk.old) (N.state notary.old) (C.state clock.old) input (O.state out.old))
         (devices (D.state disk.new) (N.state notary.new) (C.state clock.new) input (O.state out.new)) }
@@ -230,7 +232,7 @@ pub fn run_make<D: Disk, N: Notary, C: Clock, O: Sink>(
         (devices (D.state disk.old) (N.state notary.old) (C.state clock.old) input (O.state out.old))
         (devices (D.state disk.new) (N.state notary.new) (C.state clock.new) input (O.state out.new)) }
     ensures sound { StaysSound (desk (D.state disk.old) (N.state notary.old)) (desk (D.state disk.new) (N.state notary.new)) }
-    ensures no_usage { result ≢ Status.Usage }
+    ensures ends { Ends (Some (commands.Make id seed count)) result (O.state out.old) (O.state out.new) }
     ensures causes { (input : sources.State) → HasCauses result
         (devices (D.state disk.old) (N.state notary.old) (C.state clock.old) input (O.state out.old))
         (devices (D.state disk.new) (N.state notary.new) (C.state clock.new) input (O.state out.new)) }

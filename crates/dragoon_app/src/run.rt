@@ -1,6 +1,6 @@
 //! The command `run`: the lines of the input, carried out one after another.
 
-ghost use Rattle.std.specs.Prelude.{◌≢◌};
+ghost use Rattle.std.specs.Prelude.{ℕ, Bool, Some};
 ghost use Rattle.outside_words.specs.Faults.{HasCause};
 ghost use Rattle.disk_words.specs.Disk as disks;
 ghost use Rattle.notary_link.specs.Notary as notaries;
@@ -8,7 +8,10 @@ ghost use Rattle.outside_io.specs.Sink as sinks;
 ghost use Rattle.outside_io.specs.Source as sources;
 ghost use Rattle.outside_io.specs.Clock as clocks;
 ghost use Rattle.dragoon_app.specs.declared.run_fail.RunFail.TheVariants as fails;
+ghost use Rattle.dragoon_app.specs.declared.command.Command.TheVariants as commands;
 ghost use Rattle.dragoon_app.specs.Devices.{desk, devices, StaysSound, HasCauses, AllGoOn};
+ghost use Rattle.dragoon_app.specs.Ends.{Ends};
+ghost use Rattle.dragoon_app.specs.Outcome.{SomeIsOut};
 ghost use Rattle.dragoon_app.specs.Carrying.{CarriesFrom, RunsFrom, SoundFrom, CarryGrowsFrom, RunGrowsFrom};
 ghost use Rattle.dragoon_app.specs.Ran.{RunsOn};
 
@@ -44,6 +47,7 @@ fn carry_lines<D: Disk, N: Notary, C: Clock, I: Source, O: Sink>(
     ensures clock_frame { clocks.GoesOn (C.state clock.old) (C.state clock.new) }
     ensures input_frame { sources.GoesOn (I.state input.old) (I.state input.new) }
     ensures out_frame { sinks.GoesOn (O.state out.old) (O.state out.new) }
+    ensures out_grows { SomeIsOut (O.state out.old) (O.state out.new) }
     ensures disk_cause { HasCause fails.DiskFault (D.state disk.old).faults (D.state disk.new).faults result }
     ensures notary_cause { HasCause fails.NotaryFault (N.state notary.old).faults (N.state notary.new).faults result }
     ensures read_cause { HasCause fails.ReadFault (I.state input.old).faults (I.state input.new).faults result }
@@ -74,7 +78,7 @@ fn run_opened<D: Disk, N: Notary, C: Clock, I: Source, O: Sink>(
         (devices (D.state disk.old) (N.state notary.old) (C.state clock.old) (I.state input.old) (O.state out.old))
         (devices (D.state disk.new) (N.state notary.new) (C.state clock.new) (I.state input.new) (O.state out.new)) }
     ensures sound { SoundFrom runner.old (desk (D.state disk.old) (N.state notary.old)) (desk (D.state disk.new) (N.state notary.new)) }
-    ensures no_usage { result ≢ Status.Usage }
+    ensures ends { (id : ℕ) (scripted : Bool) → Ends (Some (commands.Run id scripted)) result (O.state out.old) (O.state out.new) }
     ensures causes { HasCauses result
         (devices (D.state disk.old) (N.state notary.old) (C.state clock.old) (I.state input.old) (O.state out.old))
         (devices (D.state disk.new) (N.state notary.new) (C.state clock.new) (I.state input.new) (O.state out.new)) }
@@ -109,7 +113,7 @@ pub fn run_lines<D: Disk, N: Notary, C: Clock, I: Source, O: Sink>(
         (devices (D.state disk.old) (N.state notary.old) (C.state clock.old) (I.state input.old) (O.state out.old))
         (devices (D.state disk.new) (N.state notary.new) (C.state clock.new) (I.state input.new) (O.state out.new)) }
     ensures sound { StaysSound (desk (D.state disk.old) (N.state notary.old)) (desk (D.state disk.new) (N.state notary.new)) }
-    ensures no_usage { result ≢ Status.Usage }
+    ensures ends { Ends (Some (commands.Run id is_scripted)) result (O.state out.old) (O.state out.new) }
     ensures causes { HasCauses result
         (devices (D.state disk.old) (N.state notary.old) (C.state clock.old) (I.state input.old) (O.state out.old))
         (devices (D.state disk.new) (N.state notary.new) (C.state clock.new) (I.state input.new) (O.state out.new)) }

@@ -1,10 +1,13 @@
-use Rattle.std.proofs.Common.{List, ℕ, subst, refl, arith, inl, inr, ◌∙◌}
+use Rattle.std.proofs.Common.{List, ℕ, Some, subst, refl, arith, inl, inr, ◌∙◌}
 use Rattle.disk_words.proofs.Frame as disk_frames
 use Rattle.dragoon_app.specs.Devices.{devices}
 use Rattle.dragoon_app.specs.MakingLines.{MakesTextFrom}
 use Rattle.dragoon_app.proofs.Behaving.{goes_on_beside, all_left, unchanged_same}
 use Rattle.dragoon_app.proofs.MadeEnding.{sound_same}
 use Rattle.dragoon_app.proofs.Growing.{only_same}
+use Rattle.dragoon_app.specs.declared.command.Command.TheVariants as commands
+use Rattle.dragoon_app.specs.declared.status.Status.TheVariants as statuses
+use Rattle.dragoon_app.proofs.Ended.{ends_cut}
 use Rattle.dragoon_app.proofs.make.make_opened.Goals as goal
 
 pub returns-in-Ok-clause-told : goal.returns-in-Ok-clause-told
@@ -24,3 +27,9 @@ returns-in-Err-clause-goes_on g c = λ input. goes_on_beside _ _ _ (disk_frames.
 
 pub returns-in-Err-clause-grows : goal.returns-in-Err-clause-grows
 returns-in-Err-clause-grows g c = only_same c.args.runner.now (g.D.Disk.state c.args.disk.now) (g.met.D.Disk.only_now c.args.disk.now)
+
+pub returns-in-Ok-clause-ends : goal.returns-in-Ok-clause-ends
+returns-in-Ok-clause-ends g c = c.make_text.ensures.ends
+
+pub returns-in-Err-clause-ends : goal.returns-in-Err-clause-ends
+returns-in-Err-clause-ends g c = λ id seed. ends_cut (Some (commands.Make id seed c.args.count)) statuses.NoMemory (g.O.Sink.state c.args.out.now) (g.O.Sink.state c.args.out.now) (inr refl)

@@ -1,4 +1,4 @@
-use Rattle.std.proofs.Common.{None, refl, arith}
+use Rattle.std.proofs.Common.{Some, None, refl, arith, inr}
 use Rattle.dragoon_app.specs.declared.status.Status.TheVariants as statuses
 use Rattle.dragoon_app.specs.Devices.{devices}
 use Rattle.dragoon_app.specs.Made.{MakesHeader}
@@ -6,6 +6,8 @@ use Rattle.dragoon_app.proofs.OnStore.{wanting}
 use Rattle.dragoon_app.proofs.Behaving.{goes_on_opened, causes_opened, goes_on_beside, all_left}
 use Rattle.dragoon_app.proofs.Ending.{opened_sound}
 use Rattle.dragoon_app.proofs.MadeEnding.{made_opened}
+use Rattle.dragoon_app.specs.declared.command.Command.TheVariants as commands
+use Rattle.dragoon_app.proofs.Ended.{ends_cut, ends_refused}
 use Rattle.dragoon_app.proofs.make.run_make.Goals as goal
 
 pub returns-in-Ok-clause-leaves : goal.returns-in-Ok-clause-leaves
@@ -37,3 +39,15 @@ returns-in-Err-clause-goes_on g c = λ input. goes_on_beside _ _ _ c.open.ensure
 
 pub returns-in-Err-clause-leaves : goal.returns-in-Err-clause-leaves
 returns-in-Err-clause-leaves g c = λ input. wanting c.args.id (MakesHeader c.args.seed c.args.count) statuses.NoMemory _ _ (all_left _ _ _ _ _ c.open.ensures.same) refl refl
+
+pub returns-in-Ok-clause-ends : goal.returns-in-Ok-clause-ends
+returns-in-Ok-clause-ends g c = c.make_opened.ensures.ends c.args.id c.args.seed
+
+pub returns-in-Err-NotAStore-clause-ends : goal.returns-in-Err-NotAStore-clause-ends
+returns-in-Err-NotAStore-clause-ends g c = ends_refused (Some (commands.Make c.args.id c.args.seed c.args.count)) c.refuse.result (g.O.Sink.state c.args.out.now) (g.O.Sink.state c.refuse.new.out) statuses.NotAStore refl c.refuse.ensures.said
+
+pub returns-in-Err-DiskFault-clause-ends : goal.returns-in-Err-DiskFault-clause-ends
+returns-in-Err-DiskFault-clause-ends g c = ends_refused (Some (commands.Make c.args.id c.args.seed c.args.count)) c.refuse-in-Err-DiskFault.result (g.O.Sink.state c.args.out.now) (g.O.Sink.state c.refuse-in-Err-DiskFault.new.out) statuses.DiskFault refl c.refuse-in-Err-DiskFault.ensures.said
+
+pub returns-in-Err-clause-ends : goal.returns-in-Err-clause-ends
+returns-in-Err-clause-ends g c = ends_cut (Some (commands.Make c.args.id c.args.seed c.args.count)) statuses.NoMemory (g.O.Sink.state c.args.out.now) (g.O.Sink.state c.args.out.now) (inr refl)

@@ -6,6 +6,7 @@ use Rattle.outside_io.proofs.Frame as sink_frames
 use Rattle.outside_io.proofs.Out.{out_then, out_but_end}
 use Rattle.dragoon_app.specs.Devices.{site, devices}
 use Rattle.dragoon_app.specs.Carrying.{RepliesFrom, of_input, of_output, of_line}
+use Rattle.dragoon_app.proofs.Ended.{front_out, none_out, out_more}
 use Rattle.dragoon_app.proofs.Nothing.{nothing}
 use Rattle.dragoon_app.proofs.Faults.{uses_input, uses_output}
 use Rattle.dragoon_app.proofs.CarriedLines.{begins, goes_on, goes_no_further, between, under_way, ended, reads_failed, reads_unwritten, written_failed, written_front}
@@ -16,6 +17,7 @@ pub lines-init : goal.lines-init
 lines-init g c = record {
   going = begins c.args.runner.now (g.D.Disk.state c.args.disk.now) (g.N.Notary.state c.args.notary.now) (g.C.Clock.state c.args.clock.now) (g.I.Source.state c.args.input.now) c.new-reader.result (g.O.Sink.state c.args.out.now) (g.met.D.Disk.only_now c.args.disk.now) c.new-reader.ensures.fresh;
   out_frame = sink_frames.goes_on_same _;
+  out_grows = none_out (g.O.Sink.state c.args.out.now) (g.O.Sink.state c.args.out.now) refl;
   grows = run_first c.args.runner.now (g.D.Disk.state c.args.disk.now) (g.I.Source.state c.args.input.now) c.new-reader.result (g.O.Sink.state c.args.out.now) (g.met.D.Disk.only_now c.args.disk.now) c.new-reader.ensures.fresh;
 }
 
@@ -41,6 +43,7 @@ lines-preserved g c =
           replies c.reply.ensures.scripted c.reply.ensures.disk_frame c.reply.ensures.notary_frame c.reply.ensures.clock_frame
           (λ before xs out. out_then xs text (O c.args.out.now) (O c.lines.out) (O c.write_whole.new.out) out wrote);
       out_frame = sink_frames.goes_on_then (O c.args.out.now) (O c.lines.out) (O c.write_whole.new.out) c.lines.invariant.out_frame c.write_whole.ensures.frame;
+      out_grows = out_more (O c.args.out.now) (O c.lines.out) (O c.write_whole.new.out) c.lines.invariant.out_grows (text, wrote);
       grows = run_more c.args.runner.now c.lines.runner c.reply.new.self (D c.args.disk.now) (D c.lines.disk) (D c.reply.new.disk) c.lines.invariant.going.disk_frame.told (I c.args.input.now) (I c.lines.input) (I c.read_line.new.input) c.lines.invariant.going.input_frame.told c.lines.reader c.read_line.new.self
           (rw c.if-branch.true at c.in_ok-read_line.ensures.told) c.read_line.ensures.feedless c.read_line.ensures.taken (O c.args.out.now) (O c.lines.out) c.lines.invariant.grows text (O c.write_whole.new.out) c.in_ok-text.ensures.grows wrote;
     }
@@ -144,3 +147,6 @@ pub returns-clause-grows : goal.returns-clause-grows
 returns-clause-grows g c = run_between c.args.runner.now c.lines.runner (devices (g.D.Disk.state c.args.disk.now) (g.N.Notary.state c.args.notary.now) (g.C.Clock.state c.args.clock.now) (g.I.Source.state c.args.input.now) (g.O.Sink.state c.args.out.now))
     (devices (g.D.Disk.state c.lines.disk) (g.N.Notary.state c.lines.notary) (g.C.Clock.state c.lines.clock) (g.I.Source.state c.read_line.new.input) (g.O.Sink.state c.lines.out))
     (g.I.Source.state c.lines.input) c.lines.reader c.lines.invariant.going.input_frame.told (g.O.Sink.state c.lines.out) c.lines.invariant.grows (Ok tt) (λ text is. is)
+
+pub returns-in_err-write_whole-clause-out_grows : goal.returns-in_err-write_whole-clause-out_grows
+returns-in_err-write_whole-clause-out_grows g c = out_more (g.O.Sink.state c.args.out.now) (g.O.Sink.state c.lines.out) (g.O.Sink.state c.write_whole.new.out) c.lines.invariant.out_grows (front_out _ (g.O.Sink.state c.lines.out) (g.O.Sink.state c.write_whole.new.out) c.in_err-write_whole.ensures.err)

@@ -1,10 +1,12 @@
-use Rattle.std.proofs.Common.{sym, refl, arith}
+use Rattle.std.proofs.Common.{Some, sym, refl, arith, inr}
 use Rattle.dragoon_app.specs.declared.status.Status.TheVariants as statuses
 use Rattle.dragoon_app.specs.Devices.{devices}
 use Rattle.dragoon_app.specs.Ran.{RunsHeader}
 use Rattle.dragoon_app.proofs.OnStore.{wanting}
 use Rattle.dragoon_app.proofs.Behaving.{goes_on_opened, causes_opened, goes_on_beside, all_left}
 use Rattle.dragoon_app.proofs.Ending.{ran_opened, opened_sound}
+use Rattle.dragoon_app.specs.declared.command.Command.TheVariants as commands
+use Rattle.dragoon_app.proofs.Ended.{ends_cut, ends_refused}
 use Rattle.dragoon_app.proofs.run.run_lines.Goals as goal
 
 pub returns-in-Ok-clause-leaves : goal.returns-in-Ok-clause-leaves
@@ -36,3 +38,15 @@ returns-in-Err-clause-goes_on g c = goes_on_beside _ _ _ c.open.ensures.frame (r
 
 pub returns-in-Err-clause-leaves : goal.returns-in-Err-clause-leaves
 returns-in-Err-clause-leaves g c = wanting c.args.id (RunsHeader c.args.is_scripted) statuses.NoMemory _ _ (all_left _ _ _ _ _ c.open.ensures.same) refl refl
+
+pub returns-in-Ok-clause-ends : goal.returns-in-Ok-clause-ends
+returns-in-Ok-clause-ends g c = c.run_opened.ensures.ends c.args.id c.args.is_scripted
+
+pub returns-in-Err-NotAStore-clause-ends : goal.returns-in-Err-NotAStore-clause-ends
+returns-in-Err-NotAStore-clause-ends g c = ends_refused (Some (commands.Run c.args.id c.args.is_scripted)) c.refuse.result (g.O.Sink.state c.args.out.now) (g.O.Sink.state c.refuse.new.out) statuses.NotAStore refl c.refuse.ensures.said
+
+pub returns-in-Err-DiskFault-clause-ends : goal.returns-in-Err-DiskFault-clause-ends
+returns-in-Err-DiskFault-clause-ends g c = ends_refused (Some (commands.Run c.args.id c.args.is_scripted)) c.refuse-in-Err-DiskFault.result (g.O.Sink.state c.args.out.now) (g.O.Sink.state c.refuse-in-Err-DiskFault.new.out) statuses.DiskFault refl c.refuse-in-Err-DiskFault.ensures.said
+
+pub returns-in-Err-clause-ends : goal.returns-in-Err-clause-ends
+returns-in-Err-clause-ends g c = ends_cut (Some (commands.Run c.args.id c.args.is_scripted)) statuses.NoMemory (g.O.Sink.state c.args.out.now) (g.O.Sink.state c.args.out.now) (inr refl)

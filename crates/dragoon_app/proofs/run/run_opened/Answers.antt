@@ -1,7 +1,9 @@
-use Rattle.std.proofs.Common.{Ok, Err, rules}
+use Rattle.std.proofs.Common.{Ok, Err, Some, refl, rules}
 use Rattle.dragoon_app.specs.Devices.{devices}
 use Rattle.dragoon_app.proofs.Ending.{some_refused, none_refused, ran_ok, ran_refused, ran_failed, ran_sound, written_cause}
 use Rattle.dragoon_app.proofs.RunGrowing.{ends_well, ends_failed}
+use Rattle.dragoon_app.specs.declared.command.Command.TheVariants as commands
+use Rattle.dragoon_app.proofs.Ended.{ended, ends_behind, run_may}
 use Rattle.dragoon_app.proofs.run.run_opened.Goals as goal
 
 pub returns-then-runner-gt0-clause-told : goal.returns-then-runner-gt0-clause-told
@@ -57,3 +59,13 @@ returns-else-runner-gt0-clause-grows g c = ends_well c.args.runner.now (devices 
 
 pub returns-in-Err-clause-grows : goal.returns-in-Err-clause-grows
 returns-in-Err-clause-grows g c = ends_failed c.args.runner.now (devices (g.D.Disk.state c.args.disk.now) (g.N.Notary.state c.args.notary.now) (g.C.Clock.state c.args.clock.now) (g.I.Source.state c.args.input.now) (g.O.Sink.state c.args.out.now)) (devices (g.D.Disk.state c.carry_lines.new.disk) (g.N.Notary.state c.carry_lines.new.notary) (g.C.Clock.state c.carry_lines.new.clock) (g.I.Source.state c.carry_lines.new.input) (g.O.Sink.state c.carry_lines.new.out)) (g.O.Sink.state c.end.new.out) c.in-Err.fail c.end.result c.end.ensures.value c.in-Err.ensures.grows
+
+pub returns-then-runner-gt0-clause-ends : goal.returns-then-runner-gt0-clause-ends
+returns-then-runner-gt0-clause-ends g c = λ id scripted. record { status = refl; named = λ fault. absurd fault }
+
+pub returns-else-runner-gt0-clause-ends : goal.returns-else-runner-gt0-clause-ends
+returns-else-runner-gt0-clause-ends g c = λ id scripted. record { status = refl; named = λ fault. absurd fault }
+
+pub returns-in-Err-clause-ends : goal.returns-in-Err-clause-ends
+returns-in-Err-clause-ends g c = λ id scripted. ends_behind (Some (commands.Run id scripted)) c.end.result (g.O.Sink.state c.carry_lines.new.out) (g.O.Sink.state c.end.new.out) (g.O.Sink.state c.args.out.now) c.carry_lines.ensures.out_grows
+    (ended (Some (commands.Run id scripted)) c.end.result (g.O.Sink.state c.carry_lines.new.out) (g.O.Sink.state c.end.new.out) c.in-Err.fail (run_may id scripted c.in-Err.fail) c.end.ensures.value)
