@@ -1,4 +1,4 @@
-//! Reading lines as the table says, and what the table leaves out: bytes that are no text, long lines, rows.
+//! Reading lines as the table says, and what the table leaves out: bytes that are no text, and long lines.
 
 mod table;
 
@@ -6,17 +6,23 @@ use std::alloc::Global;
 use std::process::Abort;
 use std::test::Fail;
 use stmt_text::plain::plain_tokens;
-use stmt_text::{ParseFail, parse_line, print_line, print_row};
+use stmt_text::{ParseFail, parse_line, print_line};
 use table::{Case, DRILLS, LINES, OTHERS, SESSIONS, TABLES, VALUES};
-use tuple_bytes::{Blob, Row, Text, Value};
+use tuple_bytes::Blob;
+
+fn name_of(fail: ParseFail) -> &'static [u8] {
+    match fail {
+        ParseFail::Syntax => b"Syntax",
+        ParseFail::NumberTooWide => b"NumberTooWide",
+        ParseFail::NoMemory => b"NoMemory",
+    }
+}
 
 /// What reading a line answers: the line as it is printed, or the refusal's name.
 fn answer_of(alloc: Global, line: &[u8]) -> Result<Blob, Fail> {
     match parse_line(alloc, line) {
         Ok(line) => Ok(print_line(alloc, &line)?),
-        Err(ParseFail::Syntax) => Ok(Blob::from_vec(b"Syntax".to_vec(alloc)?)),
-        Err(ParseFail::NumberTooWide) => Ok(Blob::from_vec(b"NumberTooWide".to_vec(alloc)?)),
-        Err(ParseFail::NoMemory) => Ok(Blob::from_vec(b"NoMemory".to_vec(alloc)?)),
+        Err(fail) => Ok(Blob::from_vec(name_of(fail).to_vec(alloc)?)),
     }
 }
 
@@ -64,29 +70,29 @@ fn check(rt: &impl Abort, alloc: Global, cases: &[Case]) -> Result<(), Fail> {
     Ok(())
 }
 
+const ALL: [&[Case]; 6] = [&LINES, &SESSIONS, &TABLES, &VALUES, &OTHERS, &DRILLS];
+
 #[test]
 fn lines_are_read_as_the_grammar_says(rt: HostRuntime) -> Result<(), Fail> {
     let alloc = rt.alloc();
-    check(&rt, alloc, &LINES)?;
-    check(&rt, alloc, &SESSIONS)?;
-    check(&rt, alloc, &TABLES)?;
-    check(&rt, alloc, &VALUES)?;
-    check(&rt, alloc, &OTHERS)?;
-    check(&rt, alloc, &DRILLS)?;
+    for cases in ALL {
+        check(&rt, alloc, cases)?;
+    }
     Ok(())
 }
+
+const NO_TEXTS: [(&[u8], &str); 5] = [
+    (b"get t '\xff'", "no byte of UTF-8"),
+    (b"get t '\xc3'", "a character that is cut off"),
+    (b"get t '\xc0\x80'", "zero in two bytes"),
+    (b"get t '\xed\xa0\x80'", "half of a pair"),
+    (b"get t '\xf4\x90\x80\x80'", "past the last character"),
+];
 
 #[test]
 fn texts_are_valid_in_every_byte(rt: HostRuntime) -> Result<(), Fail> {
     let alloc = rt.alloc();
-    let cases: [(&[u8], &str); 5] = [
-        (b"get t '\xff'", "no byte of UTF-8"),
-        (b"get t '\xc3'", "a character that is cut off"),
-        (b"get t '\xc0\x80'", "zero in two bytes"),
-        (b"get t '\xed\xa0\x80'", "half of a pair"),
-        (b"get t '\xf4\x90\x80\x80'", "past the last character"),
-    ];
-    for (line, reason) in cases {
+    for (line, reason) in NO_TEXTS {
         reads(&rt, alloc, line, b"Syntax", reason)?;
     }
     Ok(())
@@ -109,52 +115,73 @@ fn filled(
     Ok(line)
 }
 
-#[test]
-fn a_line_of_65536_bytes_is_read_and_one_of_more_is_not(rt: HostRuntime) -> Result<(), Fail> {
-    let alloc = rt.alloc();
-    let quotes = filled(alloc, b"insert tt ", b'\'', 65_526, b"")?;
-    reads(&rt, alloc, &quotes, &quotes, "quotes")?;
-    let more_quotes = filled(alloc, b"insert tt ", b'\'', 65_528, b"")?;
-    reads(&rt, alloc, &more_quotes, b"Syntax", "too many quotes")?;
-    let digits = filled(alloc, b"insert t ", b'7', 65_527, b"")?;
-    reads(&rt, alloc, &digits, b"NumberTooWide", "digits")?;
-    let zeros = filled(alloc, b"insert t ", b'0', 65_526, b"7\r")?;
-    reads(&rt, alloc, &zeros, b"insert t 7", "zeros")?;
-    let spaces = filled(alloc, b"notarize", b' ', 65_529, b"")?;
-    reads(&rt, alloc, &spaces, b"Syntax", "a space too many")?;
-    let blank = filled(alloc, b" ", b' ', 65_536, b"")?;
-    reads(&rt, alloc, &blank, b"", "a blank line has no limit")?;
-    let comment = filled(alloc, b"#", b'\'', 65_537, b"")?;
-    reads(&rt, alloc, &comment, b"", "nor has a comment")?;
-    Ok(())
-}
+/// A front, a byte, how often it comes, and an end; the answer, where it isn't the line itself; and the reason.
+type Long = (
+    &'static [u8],
+    u8,
+    usize,
+    &'static [u8],
+    Option<&'static [u8]>,
+    &'static str,
+);
+
+const LONG: [Long; 9] = [
+    (b"insert tt ", b'\'', 65_526, b"", None, "quotes"),
+    (
+        b"insert tt ",
+        b'\'',
+        65_528,
+        b"",
+        Some(b"Syntax"),
+        "too many quotes",
+    ),
+    (
+        b"insert t ",
+        b'7',
+        65_527,
+        b"",
+        Some(b"NumberTooWide"),
+        "digits",
+    ),
+    (
+        b"insert t ",
+        b'0',
+        65_526,
+        b"7\r",
+        Some(b"insert t 7"),
+        "zeros",
+    ),
+    (
+        b"notarize",
+        b' ',
+        65_529,
+        b"",
+        Some(b"Syntax"),
+        "a space too many",
+    ),
+    (
+        b" ",
+        b' ',
+        65_536,
+        b"",
+        Some(b""),
+        "a blank line has no limit",
+    ),
+    (b"#", b'\'', 65_537, b"", Some(b""), "nor has a comment"),
+    (b"alter 0 ", b'e', 512, b"", None, "256 bytes"),
+    (b"alter 0 ", b'e', 514, b"", Some(b"Syntax"), "257 bytes"),
+];
 
 #[test]
-fn an_alteration_has_at_most_256_bytes(rt: HostRuntime) -> Result<(), Fail> {
+fn lines_have_65536_bytes_and_alterations_256(rt: HostRuntime) -> Result<(), Fail> {
     let alloc = rt.alloc();
-    let most = filled(alloc, b"alter 0 ", b'e', 512, b"")?;
-    reads(&rt, alloc, &most, &most, "256 bytes")?;
-    let more = filled(alloc, b"alter 0 ", b'e', 514, b"")?;
-    reads(&rt, alloc, &more, b"Syntax", "257 bytes")?;
-    Ok(())
-}
-
-#[test]
-fn a_row_is_printed_with_control_characters_as_they_are(rt: HostRuntime) -> Result<(), Fail> {
-    let alloc = rt.alloc();
-    let mut row = Row::new(alloc);
-    row.push(Value::Int(-40))?;
-    match Text::new(alloc, b"it's\n")? {
-        Some(text) => row.push(Value::Text(text))?,
-        None => assert!(rt; false),
+    for (front, byte, count, end, answer, reason) in LONG {
+        let line = filled(alloc, front, byte, count, end)?;
+        let wanted = match answer {
+            Some(answer) => answer,
+            None => line.as_slice(),
+        };
+        reads(&rt, alloc, &line, wanted, reason)?;
     }
-    row.push(Value::Bytes(Blob::from_vec([0, 171].to_vec(alloc)?)))?;
-    row.push(Value::Bool(true))?;
-    row.push(Value::Null)?;
-    let text = print_row(alloc, &row)?;
-    assert_eq!(rt;
-        text.as_slice(),
-        b"row -40 'it''s\n' x'00ab' true null".as_slice()
-    );
     Ok(())
 }

@@ -1,14 +1,9 @@
 -- Without a fault, within the limits and with a notary that is trusted, `notarize`, `validate` and `analyse` end as they are defined.
-use Rattle.std.proofs.Common.{◌≡◌, ◌⊎◌, ◌≤◌, ◌<◌, ℕ, suc, Bool, true, false, List, [], ◌∷◌, length, Option, Some, None, refl, sym, ap, subst, ◌∙◌, arith, inl, inr, ⊎_elim, Result, Ok, Err}
+use Rattle.std.proofs.Common.{◌≡◌, ◌⊎◌, ◌<◌, ℕ, suc, Bool, true, false, List, [], ◌∷◌, length, Option, Some, None, refl, sym, ap, subst, ◌∙◌, arith, inl, inr, ⊎_elim, Result, Ok, Err}
 use Rattle.std.specs.Prelude.{IfSome, is_some, ◌==◌, nat_le, if◌then◌else◌}
 use Rattle.std.specs.Option.{option_map}
-use Rattle.outside_words.specs.Told.{WhereTold}
-use Rattle.outside_words.specs.Faults.{Rose}
-use Rattle.disk_words.specs.Disk as disks
-use Rattle.outside_io.specs.Sink as sinks
 use Rattle.byte_grammar.specs.Reading.{IsBytes}
 use Rattle.tuple_bytes.specs.declared.header.Header.{Header}
-use Rattle.tuple_bytes.specs.declared.item.Item.{Item}
 use Rattle.history_model.specs.declared.stored.Stored.{Stored}
 use Rattle.history_model.specs.History.{History, history, txns, last_moment}
 use Rattle.history_model.specs.Stored.{stored}
@@ -34,27 +29,25 @@ use Rattle.validator.specs.declared.verdict.Verdict.{Verdict}
 use Rattle.validator.specs.declared.verdict.Verdict.TheVariants as verdicts
 use Rattle.validator.specs.declared.fail.AuditFail.{AuditFail}
 use Rattle.validator.specs.declared.fail.AuditFail.TheVariants as fails
-use Rattle.validator.specs.Notarizing.{else_cause, fault_by, chain_fault, IsEarly, early_fault, filed_fault, room_fault, frontier_for, next_batches, notarize_fault, intent_of, IsRefusedBy}
+use Rattle.validator.specs.Notarizing.{else_cause, fault_by, chain_fault, IsEarly, early_fault, filed_fault, room_fault, frontier_for, next_batches, notarize_fault, IsRefusedBy}
 use Rattle.validator.specs.Reaching.{Notarizes}
 use Rattle.validator.specs.Filing.{FilesFor}
-use Rattle.validator.specs.Verdicts.{IsFound, IsFoundIn, IsOfValidation, IsNotMarked, Validates, mark_of}
+use Rattle.validator.specs.Verdicts.{IsFound, IsFoundIn, IsNotMarked, Validates, mark_of}
 use Rattle.validator.proofs.Shown.{broken_altered, missing_clash}
 use Rattle.forensic_report.specs.declared.algorithm.Algorithm.{Algorithm}
 use Rattle.forensic_report.specs.declared.report.Report.{Report}
 use Rattle.forensic_report.specs.declared.fail.AnalyseFail.{AnalyseFail}
 use Rattle.forensic_report.specs.declared.fail.AnalyseFail.TheVariants as analyses
-use Rattle.forensic_report.specs.Analysis.{Analysis, Unsealed}
 use Rattle.forensic_report.specs.Finding.{has_chains, IsAnalysis, IsAnalysisIn}
 use Rattle.forensic_report.specs.Held.{HoldsHistory}
 use Rattle.forensic_report.specs.Reporting.{Analyses, IsFoundOn}
 use Rattle.forensic_report.proofs.Refusals.{refusals_clash}
 use Rattle.dragoon_app.specs.declared.status.Status.{Status}
 use Rattle.dragoon_app.specs.declared.status.Status.TheVariants as statuses
-use Rattle.dragoon_app.specs.Devices.{Content, Desk, Devices, WhereBothTell, AllGoOn, HasCauses, content}
-use Rattle.dragoon_app.specs.Running.{world_of}
-use Rattle.dragoon_app.specs.Audited.{NotarizesOn, NotarizesHeader, NotarizesStore, ValidatesOn, notarize_outcome, validate_outcome, verdict_status}
+use Rattle.dragoon_app.specs.Devices.{Content, Desk, Devices, AllGoOn, HasCauses, content}
+use Rattle.dragoon_app.specs.Audited.{NotarizesOn, NotarizesHeader, ValidatesOn, notarize_outcome, validate_outcome, verdict_status}
 use Rattle.dragoon_app.specs.Analysed.{AnalysesOn, analyse_outcome, report_status}
-use Rattle.dragoon_app.specs.Completes.{NoneFailed, DeskTells, IsTrusted, IsFiled, MayFileAt, tail_in, EndsJudged, EndsSealed, MayNotarize, MayValidate, MayAnalyse}
+use Rattle.dragoon_app.specs.Completes.{NoneFailed, DeskTells, IsTrusted, MayFileAt, tail_in, EndsJudged, EndsSealed, MayNotarize, MayValidate, MayAnalyse}
 use Rattle.dragoon_app.proofs.Completing.{telling, if_told, both_told, on_store, said_well}
 
 -- ---- what the bytes hold

@@ -1,5 +1,5 @@
 -- How a run ends, and what it leaves then.
-use Rattle.std.proofs.Common.{if◌then◌else◌, ◌≡◌, ◌≢◌, ◌<◌, ◌≤◌, ◌∙◌, ℕ, Bool, true, false, List, [], ◌∷◌, ◌++◌, take, Some, refl, sym, ap, subst, arith, inl, inr, ⊎_elim, Result, Ok, Err}
+use Rattle.std.proofs.Common.{if◌then◌else◌, ◌≡◌, ◌≢◌, ◌<◌, ◌≤◌, ◌∙◌, ℕ, Bool, true, false, List, [], ◌∷◌, ◌++◌, Some, refl, sym, ap, subst, arith, inl, inr, ⊎_elim, Result, Ok, Err}
 use Rattle.std.specs.Prelude.{◌⊎◌, nat_lt, IsErrOf, IfSome}
 use Rattle.std.proofs.lemmas.Bool.Decides.{nat_tests}
 use Rattle.outside_words.specs.Faults.{Rose}

@@ -1,5 +1,5 @@
 -- What becomes of a store's bytes in a run, whatever the notary tells.
-use Rattle.std.proofs.Common.{◌≡◌, ◌⊎◌, ◌≤◌, ℕ, Bool, true, List, [], ◌∷◌, ◌++◌, Option, Some, Result, Ok, Err, refl, sym, ap, subst, ◌∙◌, ⊎_elim}
+use Rattle.std.proofs.Common.{◌≡◌, ℕ, true, List, [], ◌∷◌, ◌++◌, Result, Ok, Err, refl, sym, ap, subst, ⊎_elim}
 use Rattle.std.specs.Prelude.{IfSome}
 use Rattle.outside_words.specs.Told.{WhereTold, TellsAlike}
 use Rattle.outside_words.proofs.Told.{told_map, told_then, told_same}
@@ -27,14 +27,14 @@ use Rattle.dragoon_app.specs.declared.run_fail.RunFail.TheVariants as fails
 use Rattle.dragoon_app.specs.declared.runner.Runner.{Runner}
 use Rattle.dragoon_app.specs.declared.status.Status.{Status}
 use Rattle.dragoon_app.specs.declared.status.Status.TheVariants as statuses
-use Rattle.dragoon_app.specs.Carrying.{EndsWith, IsReady, of_input, of_output, of_line, WhereStands, ReplyGrows, WritesReplies, CarryGrows, CarryGrowsFrom, RunGrowsFrom}
+use Rattle.dragoon_app.specs.Carrying.{EndsWith, IsReady, of_input, of_output, of_line, WhereStands, ReplyGrows, WritesReplies, CarryGrowsFrom, RunGrowsFrom}
 use Rattle.dragoon_app.specs.Devices.{Devices, devices}
 use Rattle.dragoon_app.specs.Growing.{Replied, lines_replied, all_replies, RunGrows, OnlyGrows}
 use Rattle.dragoon_app.specs.Outcome.{Said, CutsOff, refused}
 use Rattle.dragoon_app.specs.Texts.{fault_line}
 use Rattle.dragoon_app.specs.Running.{start, world_of}
 use Rattle.dragoon_app.proofs.CarriedLines.{read_on}
-use Rattle.dragoon_app.proofs.Growing.{Here, Counts, GrownAt, GrownFrom, grown_first, grown_more, appends_failed, replied_failed, replied_between, lines_more, text_more}
+use Rattle.dragoon_app.proofs.Growing.{Here, Counts, GrownFrom, grown_first, grown_more, appends_failed, replied_failed, replied_between, lines_more, text_more}
 use Rattle.dragoon_app.proofs.OnStore.{told_from, only_before, every_image_from, at_disk}
 use Rattle.dragoon_app.proofs.Reading.{IsRead, read_none, first_of}
 use Rattle.validator.proofs.Telling.{told_any}

@@ -11,7 +11,7 @@ use store_engine::Store;
 use tuple_bytes::{Header, MAX_ALGORITHMS, MAX_EXPONENT, encode_header};
 use validator::notarize;
 
-pub(crate) const ID: u64 = 7;
+const ID: u64 = 7;
 
 /// A row that is inserted, as its item is spelled, but for its number, its moment and its key.
 const INSERT: [u8; 37] = [
@@ -30,7 +30,7 @@ fn insert(number: u8, moment: u16, key: u8) -> [u8; 37] {
 }
 
 /// The header of a store of granules of a minute.
-pub(crate) fn header_of(k: u8, algs: u8) -> Header
+fn header_of(k: u8, algs: u8) -> Header
     ensures fits { FitsHeader result }
 {
     Header {
@@ -43,11 +43,7 @@ pub(crate) fn header_of(k: u8, algs: u8) -> Header
 }
 
 /// A store with a row in each of these granules, by its key.
-pub(crate) fn store_of(
-    alloc: Global,
-    header: &Header,
-    rows: &[(u8, u8)],
-) -> Result<MemDisk, AllocError>
+fn store_of(alloc: Global, header: &Header, rows: &[(u8, u8)]) -> Result<MemDisk, AllocError>
     requires fits { FitsHeader header.now }
 {
     let head = encode_header(header);
@@ -75,7 +71,7 @@ pub(crate) fn empty(alloc: Global) -> MemNotary {
 }
 
 /// Files the digests of a store at these clock seconds.
-pub(crate) fn file(
+fn file(
     alloc: Global,
     notary: &mut MemNotary,
     header: &Header,

@@ -5,16 +5,13 @@
 //!
 //! | File | Shows |
 //! |---|---|
-//! | `reports` | reports, and how many nodes a descent asks; that every damage to a store is told |
+//! | `reports` | reports, and how many nodes a descent asks |
 //! | `targets` | the candidates of a tile, by its target and by how many granules are altered |
 //! | `spans` | when a tile was changed; how many events a diagram has |
-//! | `refusals` | what refuses an analysis |
 #![tactic(auto)]
 
 #[cfg(test)]
 mod desk;
-#[cfg(test)]
-mod refusals;
 #[cfg(test)]
 mod reports;
 #[cfg(test)]

@@ -107,21 +107,6 @@ fn spans_begin_at_clean_marks_and_end_at_altered_ones(rt: HostRuntime) -> Result
     Ok(())
 }
 
-const EVENTS: Marks = &[(490, 3, CLEAN), (495, 4, OTHER), (500, 4, TILE_2)];
-
-#[test]
-fn each_event_has_its_line(rt: HostRuntime) -> Result<(), Fail> {
-    let alloc = rt.alloc();
-    let mut notary = notary_of(alloc, 4, EVENTS)?;
-    let text =
-        "diagram\n         480 N...\n         480 .N..\n         480 ..N.\n         480 ...N\n         490 vvv.\n         495 HHHH\n         500 vvx?\n         510 ..XX\n";
-    match grid(alloc, &mut notary, ID, 4, &[false, false, true, true], 510)? {
-        Some(drawn) => assert_eq!(rt; drawn.as_slice(), text.as_bytes()),
-        None => assert!(rt; false),
-    }
-    Ok(())
-}
-
 /// How many tiles there are, the marks, and whether there is a diagram.
 const DRAWN: [(u32, Marks, bool); 5] = [
     (64, &[], true),

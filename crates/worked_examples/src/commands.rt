@@ -1,9 +1,7 @@
-//! The words of commands, and what `link` and `init` do.
+//! What `link` and `init` do.
 
-use crate::desk::{call, ended, notary, owned};
+use crate::desk::{call, ended, notary};
 use disk_model::MemDisk;
-use dragoon_app::{Status, leading};
-use notary_link::Name;
 use outside_io::MemSource;
 use std::alloc::{AllocError, Global};
 use std::test::Fail;
@@ -125,29 +123,6 @@ fn link_tells_the_transactions_and_their_chain(rt: HostRuntime) -> Result<(), Fa
     Ok(())
 }
 
-const LEADING: [(&[&str], usize); 11] = [
-    (&[], 0),
-    (&["link"], 0),
-    (&["store=a"], 1),
-    (&["store=", "link"], 1),
-    (&["store=a", "store=b", "link"], 1),
-    (&["notary=a", "store=b"], 2),
-    (&["store=b", "notary=a", "link"], 2),
-    (&["notary=a", "store=b", "notary=c"], 2),
-    (&["notary=a", "notary=c"], 1),
-    (&["stor=a", "link"], 0),
-    (&["link", "store=a"], 0),
-];
-
-#[test]
-fn leading_words_name_devices_once(rt: HostRuntime) -> Result<(), Fail> {
-    let alloc = rt.alloc();
-    for (words, count) in LEADING {
-        assert_eq!(rt; leading(&owned(alloc, words)?), count);
-    }
-    Ok(())
-}
-
 /// The front of a new store of id 7. Behind it stand zeros, and there are 65 bytes in all.
 const NEW: &[u8] = b"\xa7DRAGOON1\0\0\0\0\0\0\0\x07\0\0\0\0\0\0\0\0\0\0\0\x3c\x03\0";
 
@@ -260,32 +235,4 @@ fn init_makes_a_store_of_65_bytes_or_none(rt: HostRuntime) -> Result<(), Fail> {
         assert_eq!(rt; store.bytes(), wanted.as_slice(), "{words}");
     }
     Ok(())
-}
-
-const STATUSES: [Status; 18] = [
-    Status::Ok,
-    Status::Altered,
-    Status::Usage,
-    Status::Refused,
-    Status::NotAStore,
-    Status::DiskFault,
-    Status::NotaryFault,
-    Status::ReadFault,
-    Status::WriteFault,
-    Status::NoMemory,
-    Status::Broken,
-    Status::SealMissing { name: Name::Header },
-    Status::OutOfTurn { count: 2 },
-    Status::AlreadyThere,
-    Status::ClockBack { last: 3 },
-    Status::TooLate,
-    Status::Full,
-    Status::InputLimit,
-];
-
-#[test]
-fn each_status_has_its_number(rt: HostRuntime) {
-    for (status, number) in STATUSES.iter().zip(0u8..18) {
-        assert_eq!(rt; status.code(), number);
-    }
 }

@@ -7,7 +7,7 @@ use notary_link::{MemNotary, Notary};
 use outside_io::{MemClock, MemSink, MemSource};
 use std::alloc::{AllocError, Global};
 
-pub fn owned(alloc: Global, texts: &[&str]) -> Result<Vec<String>, AllocError> {
+fn owned(alloc: Global, texts: &[&str]) -> Result<Vec<String>, AllocError> {
     let mut words = Vec::new(alloc);
     for text in texts {
         words.push(String::from_str(alloc, text)?)?;
@@ -104,22 +104,4 @@ pub fn altered(
         }
     }
     Ok(MemDisk::holding(alloc, bytes))
-}
-
-/// 400 entries of a week in granules of an hour. The tiles that have ended are sealed on the fifth
-/// day, when a validation finds them clean, and at the week's end.
-pub fn week(alloc: Global, notary: &mut MemNotary) -> Result<MemDisk, AllocError> {
-    let mut script = b"create ledger id int name text cents int\n".to_vec(alloc)?;
-    for entry in 1u32..401 {
-        let moment = (entry - 1) * 1512;
-        let lines = format!(in alloc; "now {moment}\ninsert ledger {entry} 'entry' 1000\n")?;
-        script.extend_from_slice(lines.as_bytes())?;
-        if entry == 286 {
-            script.extend_from_slice(b"now 432000\nnotarize\nvalidate\n")?;
-        }
-    }
-    script.extend_from_slice(b"now 604800\nnotarize\n")?;
-    let mut store = made(alloc, "init 18 3600 3 ta")?;
-    let _filled = audit(alloc, &mut store, notary, "run 18 scripted", &script, &[])?;
-    Ok(store)
 }

@@ -1,11 +1,9 @@
 //! Stores that are made from a seed. Another program gave the numbers.
 
-use crate::desk::{audit, call, ended, made, notary};
+use crate::desk::{audit, made, notary};
 use crate::story::{Step, Story, tell};
 use disk_model::MemDisk;
-use outside_io::MemSource;
 use std::test::Fail;
-use store_engine::Store;
 
 const READY: Step = Step::Call("init 7 60 3 ta", &[0], b"", 0, b"ready 7\n");
 
@@ -103,46 +101,5 @@ fn a_seed_gives_one_store_and_one_summary(rt: HostRuntime) -> Result<(), Fail> {
     }
     let bytes: Vec<&[u8]> = stores.iter().map(MemDisk::bytes).collect(alloc)?;
     assert_eq!(rt; bytes.first(), bytes.last());
-    Ok(())
-}
-
-/// Which changing call of the disk fails, and how many transactions were durable before.
-const FAULTS: [(u64, u32); 4] = [(1, 0), (6, 1), (12, 2), (16, 3)];
-
-#[test]
-fn a_disk_that_fails_ends_it_and_keeps_the_lines_before(rt: HostRuntime) -> Result<(), Fail> {
-    let alloc = rt.alloc();
-    for (failing, count) in FAULTS {
-        let mut store = made(alloc, "init 7 60 3 ta")?;
-        store.failing(Vec::new(alloc), [failing].to_vec(alloc)?);
-        let told = call(alloc, &mut store, "make 7 1 3", b"", &[])?;
-        assert_eq!(rt;
-            (told.0, told.1.as_slice()),
-            (5, b"fault DiskFault\n".as_slice()),
-            "{failing}"
-        );
-        store.crash(200)?;
-        let stored = match Store::open_store(alloc, &mut store, 7) {
-            Ok(opened) => opened.txn_count(),
-            Err(_) => 0,
-        };
-        assert!(rt;
-            stored == count || stored == count.saturating_add(1),
-            "{failing}"
-        );
-    }
-    let mut store = made(alloc, "init 7 60 3 ta")?;
-    let mut input = MemSource::new(Vec::new(alloc), 1, Vec::new(alloc));
-    let words = ["make", "7", "1", "3"];
-    let told = ended(
-        alloc,
-        &words,
-        &mut store,
-        &mut notary(alloc),
-        &[],
-        &mut input,
-        &[1],
-    )?;
-    assert_eq!(rt; (told.0, told.1.as_slice()), (8, b"".as_slice()));
     Ok(())
 }

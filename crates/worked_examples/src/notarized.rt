@@ -56,6 +56,13 @@ const FILED: [Story; 8] = [
         &[
             Step::Call("init 7 60 3 ta", &[0], b"", 0, b"ready 7\n"),
             Step::Call("validate 7", &[9], b"", 0, b"unsealed\n"),
+            Step::Call(
+                "analyse 7 a3d",
+                &[9],
+                b"",
+                0,
+                b"report a3d id 7 tiles 0 unsealed\n",
+            ),
             Step::Holds(0, 0),
         ],
     ),
@@ -151,21 +158,7 @@ const FOUND: [Story; 2] = [
     ),
 ];
 
-const SCRIPTED: [Story; 4] = [
-    (
-        "a script notarizes when a tile has ended",
-        &[
-            Step::Notary(1_000, 1),
-            Step::Call("init 9 60 2 m", &[5], b"", 0, b"ready 9\n"),
-            Step::Call(
-                "run 9 scripted",
-                &[5],
-                b"now 239\nnotarize\nnow 240\nnotarize\n",
-                0,
-                b"ok\nsealed 0\nok\nsealed 1\n",
-            ),
-        ],
-    ),
+const SCRIPTED: [Story; 2] = [
     (
         "a script notarizes what it has stored",
         &[
@@ -191,20 +184,6 @@ const SCRIPTED: [Story; 4] = [
                 b"validate\nnotarize\nvalidate\nvalidate\n",
                 3,
                 b"unsealed\nsealed 0\nclean 0\nrefused Full\n",
-            ),
-        ],
-    ),
-    (
-        "a script notarizes at no earlier moment",
-        &[
-            Step::Notary(1_000, 1),
-            Step::Call("init 9 60 2 m", &[5], b"", 0, b"ready 9\n"),
-            Step::Call(
-                "run 9 scripted",
-                &[5],
-                b"now 240\nnotarize\nnow 140\nnotarize\n",
-                3,
-                b"ok\nsealed 1\nok\nrefused ClockBack 240\n",
             ),
         ],
     ),
