@@ -60,31 +60,82 @@ struct Terminals {
     error: bool,
 }
 
-fn run<R: Runtime + Files<File = File> + AllocGlobal + Drop>(
+/// The devices of a call.
+#[derive(Drop)]
+struct Devices<R: Runtime + Files<File = File> + AllocGlobal + Drop> {
+    store: WatchedDisk<Device<R>, R>,
+    book: WatchedDisk<Device<R>, R>,
+    clock: SystemClock<R>,
+    input: WatchedSource<StdSource<R>, R>,
+    out: WatchedSink<StdSink<R>, R>,
+}
+
+fn disk_of<R: Runtime + Files<File = File> + AllocGlobal + Drop>(
+    rt: &R,
+    name: &'static str,
+    path: Option<&str>,
+    terminals: Terminals,
+) -> Result<WatchedDisk<Device<R>, R>, AllocError> {
+    let progress = Progress::new(rt, name, terminals.error)?;
+    Ok(WatchedDisk::new(Device::named(rt, path)?, progress))
+}
+
+fn input_of<R: Runtime + Drop>(
     rt: &R,
     terminals: Terminals,
-) -> Result<Status, AllocError> {
-    let _spare = spare_numbers(rt);
-    let words = words_of(rt)?;
-    let (devices, call) = words.split_at(leading(&words));
-    let mut store = WatchedDisk::new(
-        Device::named(rt, path_behind("store=", devices))?,
-        Progress::new(rt, "store", terminals.error)?,
-    );
-    let book = WatchedDisk::new(
-        Device::named(rt, path_behind("notary=", devices))?,
-        Progress::new(rt, "notary's book", terminals.error)?,
-    );
+) -> Result<WatchedSource<StdSource<R>, R>, AllocError> {
+    let progress = Progress::new(rt, "input", terminals.error)?;
+    Ok(WatchedSource::new(StdSource::new(rt.clone()?), progress))
+}
+
+fn output_of<R: Runtime + Drop>(
+    rt: &R,
+    terminals: Terminals,
+) -> Result<WatchedSink<StdSink<R>, R>, AllocError> {
+    let progress = Progress::new(rt, "output", terminals.output && terminals.error)?;
+    Ok(WatchedSink::new(StdSink::new(rt.clone()?), progress))
+}
+
+/// The devices that these words name.
+fn devices_of<R: Runtime + Files<File = File> + AllocGlobal + Drop>(
+    rt: &R,
+    words: &[String],
+    terminals: Terminals,
+) -> Result<Devices<R>, AllocError> {
+    let clock = SystemClock::new(rt.clone()?);
+    let input = input_of(rt, terminals)?;
+    let out = output_of(rt, terminals)?;
+    let store = disk_of(rt, "store", path_behind("store=", words), terminals)?;
+    let book = disk_of(
+        rt,
+        "notary's book",
+        path_behind("notary=", words),
+        terminals,
+    )?;
+    Ok(Devices {
+        store,
+        book,
+        clock,
+        input,
+        out,
+    })
+}
+
+/// Makes the call, and says beside a fault what happened to which device.
+fn carry_out<R: Runtime + Files<File = File> + AllocGlobal + Drop>(
+    rt: &R,
+    words: &[String],
+    call: &[String],
+    devices: Devices<R>,
+) -> Status {
+    let Devices {
+        mut store,
+        book,
+        mut clock,
+        mut input,
+        mut out,
+    } = devices;
     let mut notary = Book::new(rt.alloc(), book);
-    let mut clock = SystemClock::new(rt.clone()?);
-    let mut input = WatchedSource::new(
-        StdSource::new(rt.clone()?),
-        Progress::new(rt, "input", terminals.error)?,
-    );
-    let mut out = WatchedSink::new(
-        StdSink::new(rt.clone()?),
-        Progress::new(rt, "output", terminals.output && terminals.error)?,
-    );
     let status = dragoon(
         rt.alloc(),
         call,
@@ -98,19 +149,30 @@ fn run<R: Runtime + Files<File = File> + AllocGlobal + Drop>(
         status,
         store: Named {
             name: "store",
-            path: path_behind("store=", devices),
+            path: path_behind("store=", words),
             error: store.below().error(),
         },
         notary: Named {
             name: "notary's book",
-            path: path_behind("notary=", devices),
+            path: path_behind("notary=", words),
             error: notary.into_disk().below().error(),
         },
         input: input.below().error(),
         output: out.below().error(),
     };
     let _ = tell(rt, &ending);
-    Ok(status)
+    status
+}
+
+fn run<R: Runtime + Files<File = File> + AllocGlobal + Drop>(
+    rt: &R,
+    terminals: Terminals,
+) -> Result<Status, AllocError> {
+    let _spare = spare_numbers(rt);
+    let words = words_of(rt)?;
+    let (names, call) = words.split_at(leading(&words));
+    let devices = devices_of(rt, names, terminals)?;
+    Ok(carry_out(rt, names, call, devices))
 }
 
 fn main(rt: HostRuntime) -> ExitCode {
