@@ -32,10 +32,15 @@ impl Ord for Name {
 
     #[tactic(auto, unfolding(crate::specs::NameOrder::name_cmp))]
     fn cmp(&self, other: &Name) -> Ordering {
-        rank(*self)
-            .cmp(&rank(*other))
-            .then(first(*self).cmp(&first(*other)))
-            .then(second(*self).cmp(&second(*other)))
+        let ranks = rank(*self).cmp(&rank(*other));
+        if ranks.is_ne() {
+            return ranks;
+        }
+        let firsts = first(*self).cmp(&first(*other));
+        if firsts.is_ne() {
+            return firsts;
+        }
+        second(*self).cmp(&second(*other))
     }
 }
 
