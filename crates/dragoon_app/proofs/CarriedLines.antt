@@ -31,10 +31,10 @@ use Rattle.dragoon_app.specs.declared.status.Status.TheVariants as statuses
 use Rattle.dragoon_app.specs.declared.run_fail.RunFail.{RunFail}
 use Rattle.dragoon_app.specs.declared.runner.Runner.{Runner}
 use Rattle.dragoon_app.specs.Outcome.{SomeIsOut}
-use Rattle.dragoon_app.specs.Running.{Running, Timed, carried}
-use Rattle.dragoon_app.specs.Ran.{Ends, IsNext, IsUnderWay, Reads, TakesNoMore, lines_in, text_before, Takes}
+use Rattle.dragoon_app.specs.Running.{Running, Timed, carried, Takes}
+use Rattle.dragoon_app.specs.Ran.{Ends, IsNext, IsUnderWay, Reads, TakesNoMore, lines_in, text_before}
 use Rattle.dragoon_app.specs.Failing.{EndsByUse}
-use Rattle.dragoon_app.proofs.Growing.{GrownFrom}
+use Rattle.dragoon_app.proofs.GrownLines.{GrownFrom}
 use Rattle.dragoon_app.specs.Devices.{Devices, content, devices, site}
 use Rattle.dragoon_app.specs.Carrying.{Wherever, IsLineOf, Replies, RepliesFrom, Carries, CarriesFrom, IsWritten, IsBetween, ending, of_line, of_input, of_output}
 use Rattle.dragoon_app.proofs.Faults.{uses_run}
@@ -85,7 +85,7 @@ pub record IsCarrying (first runner : Runner) (old now : disks.State) (filed lat
   pub going : IsGoing first runner old now filed later clock ahead input left reader (λ before text. sinks.IsOut text out written)
   pub out_frame : sinks.GoesOn out written
   pub out_grows : SomeIsOut out written
-  pub grows : GrownFrom first runner old now input left reader out written
+  pub grows : GrownFrom first runner (site old filed clock) (site now later ahead) input left reader (λ text. sinks.IsOut text out written)
 
 pub begins : (runner : Runner) (s : disks.State) (filed : notaries.State) (clock : clocks.State) (input : sources.State) (reader : Reading) (out : sinks.State)
     → ((c : List ℕ) → s.was_image (disks.turn s) c → s.is_image c) → reader ≡ record { line = []; pending = []; taken = 0 }

@@ -261,12 +261,12 @@ module _ (id : ℕ) (runner : Runner) (first : disks.State) (old new : Devices) 
 
   -- and whatever it tells
   abbrev OverHeader : Status → Header → List ℕ → List ℕ → Type 0
-  OverHeader result h before after = Lists result h before after × RunGrows (at_disk first old) new before
+  OverHeader result h before after = Lists result h before after × RunGrows runner.is_scripted h (at_disk first old) new before
 
   pub ran_opened : (result : Status) → IfSome first.reads first.is_image → first.faults ≤ old.desk.disk.faults → RunsFrom result runner old new → RunGrowsFrom runner old new → RunsOn runner.is_scripted id result (at_disk first old) new
   ran_opened result image le runs grows = opened_on id (RunsHeader runner.is_scripted) result (at_disk first old) new (told_map first.reads new.desk.disk.reads _ _
       (telling first.reads new.desk.disk.reads (IsHeaderOf id) (OverHeader result)
-      (told_map first.reads new.desk.disk.reads _ _ (told_both first.reads new.desk.disk.reads (λ before after. (h : Header) × IsHeaderOf id before h × Lists result h before after) (λ before after. RunGrows (at_disk first old) new before) (told_from first.reads old.desk.disk.reads new.desk.disk.reads _ _ _ same.reads (if_both first.reads first.is_image (IsReady runner) image ready) runs (λ before after both from.
+      (told_map first.reads new.desk.disk.reads _ _ (told_both first.reads new.desk.disk.reads (λ before after. (h : Header) × IsHeaderOf id before h × Lists result h before after) (λ before after. (h : Header) → (stored before).header ≡ Some h → RunGrows runner.is_scripted h (at_disk first old) new before) (told_from first.reads old.desk.disk.reads new.desk.disk.reads _ _ _ same.reads (if_both first.reads first.is_image (IsReady runner) image ready) runs (λ before after both from.
       let r = both.1 in
       let h : Header = r.header in
       let limits = old.desk.notary.limits in (
@@ -276,7 +276,7 @@ module _ (id : ℕ) (runner : Runner) (first : disks.State) (old new : Devices) 
             runs_store runner.is_scripted h result first old new (content before lists) (content after later_lists) same le both.0 r.is r.fits
             (begins (start (world_of h before) lists limits) (r.at lists limits) refl)),
       ))) (run_opened runner first old new same ready grows))
-      (λ before after both. (both.0.0, both.0.1, (both.0.2, both.1)))))
+      (λ before after both. (both.0.0, both.0.1, (both.0.2, both.1 both.0.0 both.0.1.0)))))
       (λ before after h. (
         h.0,
         h.1,

@@ -1,203 +1,205 @@
--- What becomes of a store's bytes while lines are carried out, whatever the notary tells.
-use Rattle.std.proofs.Common.{◌≡◌, ◌⊎◌, ◌≤◌, inl, inr, ℕ, Bool, true, false, List, [], ◌∷◌, ◌++◌, Result, Ok, Err, refl, sym, ap, subst, ◌∙◌, append_assoc, arith}
+-- A line of a run, as far as the store alone says it, whatever the notary tells.
+use Rattle.std.proofs.Common.{◌≡◌, ◌∙◌, ℕ, Bool, true, false, List, [], ◌++◌, Result, Ok, Err, OnOk, IfOk, inl, refl, sym, ap, subst}
 use Rattle.std.specs.Prelude.{codes}
-use Rattle.std.specs.List.{Contains}
-use Rattle.std.proofs.lemmas.Grind.{flat_map-append}
-use Rattle.std.proofs.lemmas.List.{append-nil, map-append}
-use Rattle.std.proofs.lemmas.List.Elements.{Contains-push_cases, at_from_Contains}
-use Rattle.outside_words.specs.Told.{WhereTold, TellsAlike}
-use Rattle.outside_words.proofs.Told.{told_map, told_then, told_same}
-use Rattle.disk_words.specs.Disk.{State, Only, turn}
-use Rattle.disk_model.proofs.Moments.{started, joined}
-use Rattle.outside_io.specs.Sink as sinks
-use Rattle.outside_io.specs.Source as sources
-use Rattle.line_input.specs.Reader.{Reading}
-use Rattle.tuple_bytes.specs.declared.item.Item.{Item}
-use Rattle.history_model.specs.Stored.{stored}
-use Rattle.drill_core.specs.declared.fail.LineFail.{LineFail}
-use Rattle.drill_core.specs.Acknowledged.{HasTxn, StoresMore, ok_text}
-use Rattle.drill_core.specs.Growing.{Grows, GrowsBy, GrowsFor}
-use Rattle.drill_core.specs.World.{Held, StandsFor}
-use Rattle.drill_core.proofs.Growing.{NeverOk, stores_none, grows_left}
-use Rattle.drill_core.proofs.Texts.{SaysOk}
+use Rattle.std.proofs.lemmas.List.{append-nil}
+use Rattle.outside_words.proofs.Told.{told_map, told_same}
+use Rattle.disk_words.specs.Disk.{State}
+use Rattle.disk_model.proofs.Moments.{started}
+use Rattle.outside_io.specs.Clock as clocks
+use Rattle.notary_link.specs.Notary as notaries
+use Rattle.session_model.specs.Standing.{IsOfStore, IsStatementLine}
+use Rattle.stmt_text.specs.declared.error.ParseFail.{ParseFail}
+use Rattle.stmt_text.specs.declared.line.Line.{Line}
+use Rattle.stmt_text.specs.declared.kind.LineKind.{LineKind}
+use Rattle.stmt_text.specs.declared.kind.LineKind.TheVariants as kinds
+use Rattle.stmt_text.specs.declared.kind.WorldPart.{WorldPart}
+use Rattle.stmt_text.specs.declared.kind.WorldPart.TheVariants as parts
+use Rattle.stmt_text.specs.Grammar.{SaysLine}
+use Rattle.stmt_text.specs.Kinds.{line_kind}
+use Rattle.stmt_text.specs.Lines.{answer, is_blank, without_return}
+use Rattle.stmt_text.specs.Numbers.{in_range}
 use Rattle.drill_core.specs.declared.answered.Answered.{Answered}
-use Rattle.drill_core.specs.declared.fail.LineFail.TheVariants as lines
-use Rattle.statement_core.proofs.Untouched.{unchanged_same}
+use Rattle.drill_core.specs.declared.fail.LineFail.{LineFail}
+use Rattle.drill_core.specs.declared.fail.LineFail.TheVariants as line_fails
+use Rattle.drill_core.specs.Alone.{StepsAlone}
+use Rattle.drill_core.specs.Found.{Found}
+use Rattle.drill_core.specs.Growing.{GrowsFor}
+use Rattle.drill_core.specs.Steps.{Step}
+use Rattle.drill_core.specs.World.{StoresWorld, StoresEither}
+use Rattle.drill_core.proofs.LineKinds.{goes_to_tables}
 use Rattle.dragoon_app.specs.declared.runner.Runner.{Runner}
-use Rattle.dragoon_app.specs.Growing.{Replied, lines_replied, texts_replied, all_replies, OnlyGrows, StoresReplied}
-use Rattle.dragoon_app.specs.Running.{refused_text}
-use Rattle.dragoon_app.specs.Carrying.{refusing, SetsMoment, WhereStands, ReplyGrows}
-use Rattle.dragoon_app.proofs.Acknowledging.{txn_stays}
-use Rattle.dragoon_app.proofs.Reading.{IsRead}
+use Rattle.dragoon_app.specs.Devices.{site}
+use Rattle.dragoon_app.specs.Growing.{SaidAlone, AnsweredAlone, RepliesAlone}
+use Rattle.dragoon_app.specs.Running.{Running, Timed, counted, said_by, answered, stepped, set_moment, refused_line, refused_text, seconds_of}
+use Rattle.dragoon_app.specs.Carrying.{IsAtAlone, WhereStands, GoesAlone, StepGrowsFrom, LineGrowsFrom, ReplyGrowsFrom, TakesFor, GivesSeconds, SetsMoment, refusing}
+use Rattle.dragoon_app.proofs.Nothing.{no_finding, nothing, blank_nothing, blank_answer}
+use Rattle.dragoon_app.proofs.Replying.{at_refusal, at_moment, seconds_are, takes_for, takes_line, takes_filled, filled_answer, line_of}
+use Rattle.dragoon_app.proofs.Seconds.{takes_blank}
+use Rattle.dragoon_app.proofs.Standing.{IsStill, stores_in}
 
--- ---- items
+-- ---- where the disk is left alone
 
-more_then : (is : List Item) (x c : List ℕ) → StoresMore is x → StoresMore (stored x).items c → StoresMore is c
-more_then is x c one two = record {
-  more = one.more ++ two.more;
-  all = two.all ∙ ap (λ (l : List Item). l ++ two.more) one.all ∙ append_assoc is one.more two.more;
-}
+on_any : {A E P : Type 0} (result : Result A E) → P → OnOk result P
+on_any (Ok done) p = p
+on_any (Err fail) p = tt
 
-txn_in_more : (digits : List ℕ) (is : List Item) (c : List ℕ) → HasTxn digits is → StoresMore is c → HasTxn digits (stored c).items
-txn_in_more digits is c has more = subst (HasTxn digits) (sym more.all) (txn_stays digits is more.more has)
+-- wherever the run stands
+abbrev pub Still : Runner → Runner → State → (Running → Running) → Result (List ℕ) LineFail → Type 0
+Still runner last s next result = WhereStands runner s s (λ r before after. GoesAlone r (next r) result last s s before after)
 
-none_among : (text : List ℕ) → Contains [] text → ⊥
-none_among text among = let at = at_from_Contains [] text among in omega (arith, at.1)
-
--- ---- lines that were carried out
-
-abbrev pub Here : State → Type 0
-Here s = (c : List ℕ) → s.was_image (turn s) c → s.is_image c
-
-abbrev pub Counts : State → Type 0
-Counts s = (t : ℕ) (c : List ℕ) → t ≤ turn s → s.is_image c → s.was_image t c
-
--- these lines were replied to, and the machine stands for the bytes
-pub record Grown (held : Held) (replied : List Replied) (old now : State) (before after : List ℕ) : Type 0 where
-  pub stands : StandsFor held after
-  pub settled : Only before old → Only after now
-  pub appends : OnlyGrows old now before
-  pub kept : Only before old → StoresMore (stored before).items after
-  pub acknowledged : Only before old → (digits : List ℕ) → Contains (texts_replied replied) (ok_text digits) → HasTxn digits (stored after).items
-
--- no line was
-pub grown_first : (held : Held) (s : State) (bytes : List ℕ) → Here s → StandsFor held bytes → Grown held [] s s bytes bytes
-grown_first held s bytes only_now stands = record {
-  stands = stands;
-  settled = λ only. only;
-  appends = λ only. started s (StoresMore (stored bytes).items) only_now (λ c image. stores_none (stored bytes).items c (ap (λ (x : List ℕ). (stored x).items) (only c image)));
-  kept = λ only. stores_none (stored bytes).items bytes refl;
-  acknowledged = λ only digits among. absurd (none_among (ok_text digits) among);
-}
-
-texts_more : (replied : List Replied) (r : Replied) → texts_replied (replied ++ r ∷ []) ≡ texts_replied replied ++ r.text ∷ []
-texts_more replied r = map-append (λ (x : Replied). x.text) replied (r ∷ [])
-
-pub lines_more : (replied : List Replied) (r : Replied) → lines_replied (replied ++ r ∷ []) ≡ lines_replied replied ++ r.line ∷ []
-lines_more replied r = map-append (λ (x : Replied). x.line) replied (r ∷ [])
-
-pub text_more : (replied : List Replied) (r : Replied) → all_replies (replied ++ r ∷ []) ≡ all_replies replied ++ r.text
-text_more replied r = flat_map-append (λ (x : Replied). x.text) replied (r ∷ []) ∙ ap (λ (l : List ℕ). all_replies replied ++ l) (append-nil r.text)
-
--- a reply as it is
-abbrev pub same_text : List ℕ → List ℕ
-same_text text = text
-
-module _ (held : Held) (replied : List Replied) (old mid : State) (before here : List ℕ) (g : Grown held replied old mid before here) (last : Held) (new : State) (after : List ℕ) where
-  images_then : (result : Result (List ℕ) LineFail) → Grows same_text result last mid new here after → OnlyGrows old new before
-  images_then result next only = joined old mid new (StoresMore (stored before).items) (StoresMore (stored here).items) (g.appends only) (next.images (g.settled only)) (λ c more. more_then (stored before).items here c (g.kept only) more)
-
-  -- one line more
-  pub grown_more : (r : Replied) → Grows same_text (Ok r.text) last mid new here after → Grown last (replied ++ r ∷ []) old new before after
-  grown_more r next = record {
-    stands = next.stands;
-    settled = λ only. next.settled (g.settled only);
-    appends = images_then (Ok r.text) next;
-    kept = λ only. more_then (stored before).items here after (g.kept only) (next.kept (g.settled only));
-    acknowledged = λ only digits among. by only digits (Contains-push_cases (texts_replied replied) r.text (ok_text digits) (subst (λ (ts : List (List ℕ)). Contains ts (ok_text digits)) (texts_more replied r) among));
+module _ (runner last : Runner) (s : State) (still : IsStill s) where
+  still_alone : (r next : Running) (result : Result (List ℕ) LineFail) (bytes : List ℕ) → IsAtAlone r runner bytes → next.world ≡ r.world → IfOk result (λ text. next.text ≡ r.text ++ text) → OnOk result (IsAtAlone next last bytes) → GoesAlone r next result last s s bytes bytes
+  still_alone r next result bytes at same reply stands = record {
+    reply = reply;
+    stands = stands;
+    settled = λ only. on_any result only;
+    images = λ only. started s (StoresEither r.world next.world) still (λ c here. inl (subst (StoresWorld r.world) (sym (only c here)) (stores_in r runner bytes r.world.limits r.world.lists at)));
   }
+
+  -- nothing came of it
+  pub fails_alone : (next : Running → Running) (fail : LineFail) → ((r : Running) → (next r).world ≡ r.world) → Still runner last s next (Err fail)
+  fails_alone next fail same = told_same s.reads s.reads _ refl (λ bytes r at. still_alone r (next r) (Err fail) bytes at (same r) tt tt)
+
+  -- a line is refused
+  pub refuses_alone : (name text : List ℕ) → text ≡ refused_text name → last ≡ refusing runner → Still runner last s (λ r. refused_line r name) (Ok text)
+  refuses_alone name text spelled is = told_same s.reads s.reads _ refl (λ bytes r at.
+      still_alone r (refused_line r name) (Ok text) bytes at refl (ap (λ (x : List ℕ). r.text ++ x) (sym spelled)) (at_refusal r runner last name bytes r.world.limits r.world.lists is at))
+
+  -- the moment is set
+  pub sets_alone : (E : Type 0) (scripted : Bool) (moment : ℕ) (text : List ℕ) → SetsMoment {E = E} scripted moment (Ok text) runner last → Still runner last s (λ r. set_moment scripted r moment) (Ok text)
+  sets_alone E true moment text sets = told_same s.reads s.reads _ refl (λ bytes r at.
+      still_alone r (set_moment true r moment) (Ok text) bytes at refl (ap (λ (x : List ℕ). r.text ++ x) (sym sets.text)) (at_moment r runner last moment bytes r.world.limits r.world.lists sets.later_is at))
+  sets_alone E false moment text sets = refuses_alone (codes "NotScripted") text sets.text sets.later_is
+
+-- nothing is said
+pub blank_alone : (text : List ℕ) (runner : Runner) (s : State) → IsStill s → text ≡ [] → Still runner runner s (λ r. r) (Ok text)
+blank_alone text runner s still none = told_same s.reads s.reads _ refl (λ bytes r at.
+    still_alone runner runner s still r r (Ok text) bytes at refl (sym (ap (λ (x : List ℕ). r.text ++ x) none ∙ append-nil r.text)) at)
+
+-- ---- a line of the world
+
+module _ (line : Line) (now : ℕ) (runner last : Runner) (old new : State) where
+  pub step_alone : (answered : Answered) → GrowsFor line now (Ok answered) runner.world last.world old new → last.epoch ≡ runner.epoch → last.moment ≡ runner.moment → last.refused ≡ counted answered.refused runner.refused
+      → StepGrowsFrom line now (Ok answered.text) runner last old new
+  step_alone answered told epoch moment refused = told_map old.reads new.reads _ _ told (λ before after grows r at.
+      let g = grows r.world at.stands in
+      record {
+        step = g.next;
+        allowed = g.allowed;
+        goes = record {
+          reply = ap (λ (x : List ℕ). r.text ++ x) (sym g.reply.text);
+          stands = record {
+            stands = g.stands;
+            within = refl;
+            epoch = epoch ∙ at.epoch;
+            moment = moment ∙ at.moment;
+            refused = refused ∙ ap (counted answered.refused) at.refused ∙ ap (λ (b : Bool). counted b r.refused) g.reply.refused;
+          };
+          settled = g.settled;
+          images = g.images;
+        };
+      })
+
+  pub step_fails : (fail : LineFail) → GrowsFor line now (Err fail) runner.world last.world old new → StepGrowsFrom line now (Err fail) runner last old new
+  step_fails fail told = told_map old.reads new.reads _ _ told (λ before after grows r at.
+      let g = grows r.world at.stands in
+      record { step = g.next; allowed = g.allowed; goes = record { reply = tt; stands = tt; settled = λ only. tt; images = g.images } })
+
+-- ---- a line of the grammar
+
+module _ (line : Line) (kind : LineKind) (is : line_kind line ≡ kind) (scripted : Bool) (now : ℕ) (r next : Running) where
+  -- as it is defined
+  said_alone : ((part : WorldPart) → kind ≡ kinds.InWorld part → ⊥) → ((found : Found) → next ≡ said_by kind scripted now found r line) → SaidAlone kind scripted now r line next
+  said_alone ne said = by kind ne said
     where
-      by : Only before old → (digits : List ℕ) → Contains (texts_replied replied) (ok_text digits) ⊎ (r.text ≡ ok_text digits) → HasTxn digits (stored after).items
-      by only digits (inl earlier) = txn_in_more digits (stored here).items after (g.acknowledged only digits earlier) (next.kept (g.settled only))
-      by only digits (inr is) = next.acknowledged digits is
+      by : (kind : LineKind) → ((part : WorldPart) → kind ≡ kinds.InWorld part → ⊥) → ((found : Found) → next ≡ said_by kind scripted now found r line) → SaidAlone kind scripted now r line next
+      by kinds.Blank ne said = said
+      by (kinds.InWorld part) ne said = absurd (ne part refl)
+      by (kinds.SetsMoment moment) ne said = said
+      by kinds.OutsideScripts ne said = said
 
-  -- a line that failed
-  pub appends_failed : (fail : LineFail) → Grows same_text (Err fail) last mid new here after → OnlyGrows old new before
-  appends_failed fail next = images_then (Err fail) next
+-- a step of the world
+stepped_alone : (line : Line) (part : WorldPart) → line_kind line ≡ kinds.InWorld part → (scripted : Bool) (now : ℕ) (r : Running) (s : Step) → StepsAlone r.world line now s → SaidAlone (kinds.InWorld part) scripted now r line (stepped r s)
+stepped_alone line part is scripted now r s allowed = by part is
+  where
+    tables : IsStatementLine line → (found : Found) → stepped r s ≡ said_by (kinds.InWorld parts.Tables) scripted now found r line
+    tables on found =
+        let goes = goes_to_tables line on in
+        ap (stepped r) (goes.only r.world now s allowed ∙ sym (goes.steps r.world now found))
 
-  pub replied_failed : (fail : LineFail) → Counts new → Grows same_text (Err fail) last mid new here after → StoresReplied replied old new before
-  replied_failed fail counts next only digits among c image =
-      let images = next.images (g.settled only) in
-      txn_in_more digits (stored here).items c (g.acknowledged only digits among) (images.each c (counts (turn mid) c images.later image))
+    by : (part : WorldPart) → line_kind line ≡ kinds.InWorld part → SaidAlone (kinds.InWorld part) scripted now r line (stepped r s)
+    by parts.Notary is = (s, allowed, refl)
+    by parts.Tables is = tables (subst IsOfStore (sym is) tt)
+    by parts.Sessions is = tables (subst IsOfStore (sym is) tt)
 
--- between two lines
-pub replied_between : (held : Held) (replied : List Replied) (old now : State) (before after : List ℕ) → Grown held replied old now before after → StoresReplied replied old now before
-replied_between held replied old now before after g only digits among c image = subst (λ (x : List ℕ). HasTxn digits (stored x).items) (sym (g.settled only c image)) (g.acknowledged only digits among)
+module _ (line : Line) (result : Result (List ℕ) LineFail) (runner last : Runner) (filed later : notaries.State) (clock ahead : clocks.State) where
+  -- one that isn't of the world
+  pub line_alone : (kind : LineKind) (second : ℕ) (s : State) → line_kind line ≡ kind → ((part : WorldPart) → kind ≡ kinds.InWorld part → ⊥) → TakesFor kind runner.is_scripted second clock ahead
+      → (next : Running → Running) → ((found : Found) (r : Running) → next r ≡ said_by kind runner.is_scripted (seconds_of runner.is_scripted r second) found r line) → Still runner last s next result
+      → LineGrowsFrom line result runner last (site s filed clock) (site s later ahead)
+  line_alone kind second s is ne takes next said still = told_map s.reads s.reads _ _ still (λ before after goes r at. record {
+    second = second;
+    next = next r;
+    seconds = subst (λ (k : LineKind). TakesFor k runner.is_scripted second clock ahead) (sym is) takes;
+    said = subst (λ (k : LineKind). SaidAlone k runner.is_scripted (seconds_of runner.is_scripted r second) r line (next r)) (sym is)
+        (said_alone line kind is runner.is_scripted (seconds_of runner.is_scripted r second) r (next r) ne (λ found. said found r));
+    goes = goes r at;
+  })
 
--- ---- a line
+  -- one that is
+  pub line_steps : (part : WorldPart) (now : ℕ) (old new : State) → line_kind line ≡ kinds.InWorld part → GivesSeconds runner.is_scripted runner now clock ahead → StepGrowsFrom line now result runner last old new
+      → LineGrowsFrom line result runner last (site old filed clock) (site new later ahead)
+  line_steps part now old new is gives told = told_map old.reads new.reads _ _ told (λ before after steps r at.
+      let s = steps r at in
+      let seconds = seconds_are runner.is_scripted r runner at.epoch at.moment now clock ahead gives in
+      record {
+        second = now;
+        next = stepped r s.step;
+        seconds = subst (λ (k : LineKind). TakesFor k runner.is_scripted now clock ahead) (sym is) (takes_for (kinds.InWorld part) runner.is_scripted runner now clock ahead (λ e. cc) gives);
+        said = subst (λ (k : LineKind). SaidAlone k runner.is_scripted (seconds_of runner.is_scripted r now) r line (stepped r s.step)) (sym is)
+            (subst (λ (n : ℕ). SaidAlone (kinds.InWorld part) runner.is_scripted n r line (stepped r s.step)) (sym seconds) (stepped_alone line part is runner.is_scripted now r s.step s.allowed));
+        goes = s.goes;
+      })
 
--- as the world of the code answers it
-pub reply_grows : (answered : Answered) (runner last : Runner) (old new : State) → GrowsFor (Ok answered) runner.world last.world old new → ReplyGrows (Ok answered.text) runner last old new
-reply_grows answered runner last old new told = told_map old.reads new.reads _ _ told (λ before after grows stands.
-    let g = grows stands in
-    record { stands = g.stands; settled = g.settled; images = g.images; kept = g.kept; acknowledged = g.acknowledged })
+-- ---- as bytes
 
-pub reply_fails : (fail : LineFail) (runner last : Runner) (old new : State) → GrowsFor (Err fail) runner.world last.world old new → ReplyGrows (Err fail) runner last old new
-reply_fails fail runner last old new told = told_map old.reads new.reads _ _ told (λ before after grows stands.
-    let g = grows stands in
-    record { stands = tt; settled = λ only. tt; images = g.images; kept = g.kept; acknowledged = tt })
+module _ (bytes : List ℕ) (result : Result (List ℕ) LineFail) (runner last : Runner) (filed later : notaries.State) (clock ahead : clocks.State) where
+  -- a line of the grammar
+  pub reply_alone : (l : Line) (old new : State) → answer bytes ≡ Ok l → SaysLine in_range bytes l → LineGrowsFrom l result runner last (site old filed clock) (site new later ahead) → ReplyGrowsFrom bytes result runner last (site old filed clock) (site new later ahead)
+  reply_alone l old new is said told = told_map old.reads new.reads _ _ told (λ before after line r at.
+      let g = line r at in
+      let t : Timed = record { line = bytes; second = g.second; found = no_finding } in
+      record {
+        replied = record { line = t; behind = g.next };
+        line_is = line_of bytes result;
+        seconds = takes_line runner.is_scripted t l clock ahead said g.seconds;
+        alone = subst (λ (x : Result Line ParseFail). AnsweredAlone runner.is_scripted (seconds_of runner.is_scripted r g.second) r x g.next) (sym is) g.said;
+        goes = g.goes;
+      })
 
--- a line that leaves the world, and is replied to with another text
-pub reply_left : (result : Result (List ℕ) LineFail) (runner last : Runner) (s : State) → Here s → last.world ≡ runner.world → NeverOk same_text result → ReplyGrows result runner last s s
-reply_left result runner last s only_now same never = subst (λ (held : Held). GrowsBy same_text result runner.world held s s) (sym same) (grows_left s s (unchanged_same s) only_now same_text result never runner.world)
+  -- one that is refused
+  pub refused_alone : (name : List ℕ) (fail : ParseFail) (second : ℕ) (s : State) → answer bytes ≡ Err fail → ((scripted : Bool) (now : ℕ) (found : Found) (r : Running) → refused_line r name ≡ answered scripted now found r (Err fail))
+      → GivesSeconds runner.is_scripted runner second clock ahead → Still runner last s (λ r. refused_line r name) result → ReplyGrowsFrom bytes result runner last (site s filed clock) (site s later ahead)
+  refused_alone name fail second s is names gives still = told_map s.reads s.reads _ _ still (λ before after goes r at.
+      let t : Timed = record { line = bytes; second = second; found = no_finding } in
+      record {
+        replied = record { line = t; behind = refused_line r name };
+        line_is = line_of bytes result;
+        seconds = takes_filled kinds.OutsideScripts runner.is_scripted t clock ahead (λ e. cc) (filled_answer bytes (is_blank (without_return bytes)) fail refl is) (takes_for kinds.OutsideScripts runner.is_scripted runner second clock ahead (λ e. cc) gives);
+        alone = subst (λ (x : Result Line ParseFail). AnsweredAlone runner.is_scripted (seconds_of runner.is_scripted r second) r x (refused_line r name)) (sym is) (λ found. names runner.is_scripted (seconds_of runner.is_scripted r second) found r);
+        goes = goes r at;
+      })
 
-refused_no : (name : List ℕ) → SaysOk (refused_text name) → ⊥
-refused_no name ok = (let first = ok.first in omega (arith, first))
+-- a line that is none
+pub nothing_alone : (scripted : Bool) (r : Running) → RepliesAlone scripted r nothing r
+nothing_alone scripted r = subst (λ (x : Result Line ParseFail). AnsweredAlone scripted (seconds_of scripted r nothing.second) r x r) (sym (blank_answer [] blank_nothing)) (λ found. refl)
 
--- a refusal
-pub refusal_left : (name text : List ℕ) (runner last : Runner) (s : State) → Here s → text ≡ refused_text name → last ≡ refusing runner → ReplyGrows (Ok text) runner last s s
-refusal_left name text runner last s only_now is later = reply_left (Ok text) runner last s only_now (ap (λ (x : Runner). x.world) later) (λ ok. refused_no name (subst SaysOk is ok))
-
--- want of memory
-pub wants_left : (runner last : Runner) (s : State) → Here s → ReplyGrows (Err lines.NoMemory) runner last s s
-wants_left runner last s only_now = told_same s.reads s.reads _ refl (λ bytes stands. record {
-  stands = tt;
-  settled = λ only. tt;
-  images = λ only. started s (StoresMore (stored bytes).items) only_now (λ c image. stores_none (stored bytes).items c (ap (λ (x : List ℕ). (stored x).items) (only c image)));
-  kept = λ only. stores_none (stored bytes).items bytes refl;
-  acknowledged = tt;
+-- none was begun
+pub none_alone : (bytes : List ℕ) (runner last : Runner) (s : State) (filed : notaries.State) (clock : clocks.State) → IsStill s → ReplyGrowsFrom bytes (Err line_fails.NoMemory) runner last (site s filed clock) (site s filed clock)
+none_alone bytes runner last s filed clock still = told_map s.reads s.reads _ _ (fails_alone runner last s still (λ r. r) line_fails.NoMemory (λ r. refl)) (λ before after goes r at. record {
+  replied = record { line = nothing; behind = r };
+  line_is = inl refl;
+  seconds = takes_blank runner.is_scripted nothing clock clock blank_nothing refl;
+  alone = nothing_alone runner.is_scripted r;
+  goes = goes r at;
 })
-
--- a blank line
-pub blank_left : (text : List ℕ) (runner : Runner) (s : State) → Here s → text ≡ [] → ReplyGrows (Ok text) runner runner s s
-blank_left text runner s only_now none = reply_left (Ok text) runner runner s only_now refl (λ ok. let said = subst SaysOk none ok in let first = said.first in omega (arith, first))
-
--- the moment is set
-pub moment_left : (E : Type 0) (scripted : Bool) (moment : ℕ) (text : List ℕ) (runner last : Runner) (s : State) → Here s → SetsMoment {E = E} scripted moment (Ok text) runner last → ReplyGrows (Ok text) runner last s s
-moment_left E true moment text runner last s only_now sets = reply_left (Ok text) runner last s only_now (ap (λ (x : Runner). x.world) sets.later_is) (λ ok. let said = subst SaysOk sets.text ok in let third = said.third in omega (arith, third))
-moment_left E false moment text runner last s only_now sets = refusal_left (codes "NotScripted") text runner last s only_now sets.text sets.later_is
-
--- ---- a runner
-
-abbrev pub Stood : Runner → List Replied → State → State → List ℕ → List ℕ → Type 0
-Stood runner replied old now before after = Grown runner.world replied old now before after
-
--- What a turn of the loop of a run keeps: these lines were read, and their replies are out.
-pub record GrownAt (runner : Runner) (old now : State) (input left : sources.State) (reader : Reading) (out written : sinks.State) (before after : List ℕ) : Type 0 where
-  pub replied : List Replied
-  pub read : WhereTold input.rest left.rest (IsRead (lines_replied replied) reader)
-  pub is_out : sinks.IsOut (all_replies replied) out written
-  pub grown : Stood runner replied old now before after
-
-abbrev pub GrownFrom : Runner → Runner → State → State → sources.State → sources.State → Reading → sinks.State → sinks.State → Type 0
-GrownFrom first runner old now input left reader out written = WhereStands first old now (GrownAt runner old now input left reader out written)
-
--- the same of a text at hand, whose replies are kept
-pub record MadeAt (runner : Runner) (old now : State) (before after : List ℕ) : Type 0 where
-  pub replied : List Replied
-  pub grown : Stood runner replied old now before after
-
-abbrev pub MadeGrown : Runner → Runner → State → State → Type 0
-MadeGrown first runner old now = WhereStands first old now (MadeAt runner old now)
-
-pub made_first : (runner : Runner) (s : State) → Here s → MadeGrown runner runner s s
-made_first runner s only_now = told_same s.reads s.reads _ refl (λ bytes stands. record { replied = []; grown = grown_first runner.world s bytes only_now stands })
-
-module _ (first runner last : Runner) (old mid new : State) (alike : TellsAlike old.reads mid.reads) where
-  pub made_more : (line text : List ℕ) → MadeGrown first runner old mid → ReplyGrows (Ok text) runner last mid new → MadeGrown first last old new
-  made_more line text made reply = told_then old.reads mid.reads new.reads _ _ _ alike made reply (λ before here after m next stands.
-      let at = m stands in
-      let r : Replied = record { line = line; text = text } in
-      record { replied = at.replied ++ r ∷ []; grown = grown_more runner.world at.replied old mid before here at.grown last.world new after r (next at.grown.stands) })
-
-  pub made_failed : (fail : LineFail) → MadeGrown first runner old mid → ReplyGrows (Err fail) runner last mid new → WhereStands first old new (λ before after. OnlyGrows old new before)
-  made_failed fail made reply = told_then old.reads mid.reads new.reads _ _ _ alike made reply (λ before here after m next stands.
-      let at = m stands in
-      appends_failed runner.world at.replied old mid before here at.grown last.world new after fail (next at.grown.stands))
-
-pub made_all : (first runner : Runner) (old now : State) → MadeGrown first runner old now → WhereStands first old now (λ before after. OnlyGrows old now before)
-made_all first runner old now made = told_map old.reads now.reads _ _ made (λ before after m stands. (m stands).grown.appends)
-
--- nothing was done
-pub only_same : (runner : Runner) (s : State) → Here s → WhereStands runner s s (λ before after. OnlyGrows s s before)
-only_same runner s only_now = made_all runner runner s s (made_first runner s only_now)

@@ -25,10 +25,12 @@ pub mod Acknowledging
 pub mod Faults
 pub mod Wherever
 pub mod Standing
+pub mod Replying
 pub mod Growing
+pub mod RepliedAlone
+pub mod GrownLines
 pub mod CarriedLines
 pub mod RunGrowing
-pub mod Replying
 pub mod Ending
 pub mod MadeLines
 pub mod LastTwo

@@ -30,10 +30,11 @@ use Rattle.dragoon_app.specs.Devices.{Desk, Content, Site, Devices, AllIsLeft, c
 use Rattle.dragoon_app.specs.Running.{Running, Timed, start, carried, world_of}
 use Rattle.dragoon_app.specs.Ran.{IsSettled, RunsLines, ending_by, opened}
 use Rattle.dragoon_app.specs.Failing.{EndsByUse}
-use Rattle.dragoon_app.specs.Growing.{OnlyGrows}
-use Rattle.dragoon_app.proofs.RunGrowing.{grows_opened}
-use Rattle.dragoon_app.specs.Carrying.{IsReady, IsAt, EndsWith, FromWhere, SoundFrom, of_line, OnlyGrowsFrom}
-use Rattle.dragoon_app.specs.Made.{Makes, MakesStore, MakesHeader, MakesOn, Tells, made_line, made_outcome, last_two, all_but_two, txns_in}
+use Rattle.dragoon_app.specs.Growing.{AreOfInput, nothing_filed, opened_alone}
+use Rattle.dragoon_app.proofs.RepliedAlone.{keeps_alone}
+use Rattle.dragoon_app.proofs.RunGrowing.{alone_from}
+use Rattle.dragoon_app.specs.Carrying.{IsReady, IsAt, EndsWith, FromWhere, SoundFrom, of_line, MakesAloneFrom}
+use Rattle.dragoon_app.specs.Made.{Makes, MakesStore, MakeGrows, MakesHeader, MakesOn, Tells, made_line, made_outcome, last_two, all_but_two, txns_in}
 use Rattle.dragoon_app.specs.MakingLines.{AreLastTwo, MakesLines, MakesLinesFrom, MakesFrom, script_for, width_of, stored_in, told_of, line_status}
 use Rattle.dragoon_app.proofs.OnStore.{IsHeaderOf, at_disk, told_from, opened_on, telling, wanting}
 use Rattle.dragoon_app.proofs.Answering.{said_is}
@@ -179,6 +180,24 @@ left_before first old new same left = record {
   input = left.input;
 }
 
+-- the lines of the script, whatever the notary tells, of each header that the bytes have
+grows_opened : (seed count : ℕ) (runner : Runner) (first : disks.State) (old new : Devices) → disks.Unchanged first old.desk.disk → IfSome first.reads (IsReady runner) → MakesAloneFrom (script_for runner seed count) runner (site_of old) (site_of new)
+    → WhereTold first.reads new.desk.disk.reads (λ before after. (h : Header) → (stored before).header ≡ Some h → MakeGrows seed count h (site_of (at_disk first old)) (site_of new) before)
+grows_opened seed count runner first old new same ready told = told_from first.reads old.desk.disk.reads new.desk.disk.reads (IsReady runner) _ _ same.reads ready told (λ before after r from h is.
+    let ready_is = r.is in
+    let header_is : r.header ≡ h = cc in
+    let begin : Running = opened_alone r.header before in
+    let at = r.at nothing_filed begin.world.limits in
+    let g = from begin at in
+    let alone = alone_from true begin g.done g.next first (site_of old) (site_of new) before same g.alone in
+    subst (λ (x : Header). MakeGrows seed count x (site_of (at_disk first old)) (site_of new) before) header_is (record {
+      done = g.done;
+      next = g.next;
+      lines = subst (AreOfInput g.done g.next) (script_here seed count runner r.header before begin.world.limits nothing_filed at) g.lines;
+      alone = alone;
+      keeps = keeps_alone true r.header before g.done g.next (site_of (at_disk first old)) (site_of new) alone;
+    }))
+
 module _ (id seed count : ℕ) (runner : Runner) (first : disks.State) (old new : Devices) (ready : IfSome first.reads (IsReady runner)) (is : runner.world.id ≡ id) (same : disks.Unchanged first old.desk.disk) where
   -- what is said over a header, where the notary tells
   abbrev Lists : Status → Header → List ℕ → List ℕ → Type 0
@@ -186,13 +205,13 @@ module _ (id seed count : ℕ) (runner : Runner) (first : disks.State) (old new 
 
   -- and whatever it tells
   abbrev OverHeader : Status → Header → List ℕ → List ℕ → Type 0
-  OverHeader result h before after = Lists result h before after × OnlyGrows first new.desk.disk before
+  OverHeader result h before after = Lists result h before after × MakeGrows seed count h (site_of (at_disk first old)) (site_of new) before
 
-  pub made_opened : (result : Status) → IfSome first.reads first.is_image → first.faults ≤ old.desk.disk.faults → MakesFrom seed count runner result old new → OnlyGrowsFrom runner old.desk.disk new.desk.disk → MakesOn id seed count result (at_disk first old) new
+  pub made_opened : (result : Status) → IfSome first.reads first.is_image → first.faults ≤ old.desk.disk.faults → MakesFrom seed count runner result old new → MakesAloneFrom (script_for runner seed count) runner (site_of old) (site_of new) → MakesOn id seed count result (at_disk first old) new
   made_opened result image le (inl want) grows = wanting id (MakesHeader seed count) result (at_disk first old) new (left_before first old new same want.left) want.wanting want.none_out
   made_opened result image le (inr makes) grows = opened_on id (MakesHeader seed count) result (at_disk first old) new (told_map first.reads new.desk.disk.reads _ _
       (telling first.reads new.desk.disk.reads (IsHeaderOf id) (OverHeader result)
-      (told_map first.reads new.desk.disk.reads _ _ (told_both first.reads new.desk.disk.reads (λ before after. (h : Header) × IsHeaderOf id before h × Lists result h before after) (λ before after. OnlyGrows first new.desk.disk before) (told_from first.reads old.desk.disk.reads new.desk.disk.reads _ _ _ same.reads (if_both first.reads first.is_image (IsReady runner) image ready) makes (λ before after both from.
+      (told_map first.reads new.desk.disk.reads _ _ (told_both first.reads new.desk.disk.reads (λ before after. (h : Header) × IsHeaderOf id before h × Lists result h before after) (λ before after. (h : Header) → (stored before).header ≡ Some h → MakeGrows seed count h (site_of (at_disk first old)) (site_of new) before) (told_from first.reads old.desk.disk.reads new.desk.disk.reads _ _ _ same.reads (if_both first.reads first.is_image (IsReady runner) image ready) makes (λ before after both from.
       let r = both.1 in
       let h : Header = r.header in
       let limits = old.desk.notary.limits in (
@@ -203,8 +222,8 @@ module _ (id seed count : ℕ) (runner : Runner) (first : disks.State) (old new 
             let at = r.at lists limits in
             makes_store seed count h result first old new (content before lists) (content after later_lists) same le both.0 r.is r.fits
             (subst (λ (text : List ℕ). Makes count begin text result old new (content before lists) (content after later_lists)) (script_here seed count runner h before limits lists at) (begins begin at))),
-      ))) (grows_opened runner first old.desk.disk new.desk.disk same ready grows))
-      (λ before after both. (both.0.0, both.0.1, (both.0.2, both.1)))))
+      ))) (grows_opened seed count runner first old new same ready grows))
+      (λ before after both. (both.0.0, both.0.1, (both.0.2, both.1 both.0.0 both.0.1.0)))))
       (λ before after h. (
         h.0,
         h.1,

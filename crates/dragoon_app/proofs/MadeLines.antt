@@ -17,12 +17,12 @@ use Rattle.drill_core.specs.World.{StoresWorld, AreBetween}
 use Rattle.dragoon_app.specs.declared.make.LastTwo.{LastTwo}
 use Rattle.dragoon_app.specs.declared.runner.Runner.{Runner}
 use Rattle.dragoon_app.specs.Devices.{content, desk, site}
-use Rattle.dragoon_app.specs.Running.{Running, Timed, carried}
-use Rattle.dragoon_app.specs.Ran.{IsSettled, lines_in, text_before, Takes}
+use Rattle.dragoon_app.specs.Running.{Running, Timed, carried, Takes}
+use Rattle.dragoon_app.specs.Ran.{IsSettled, lines_in, text_before}
 use Rattle.dragoon_app.specs.Carrying.{Wherever, IsLineOf, Replies, RepliesFrom, SoundFrom}
 use Rattle.dragoon_app.specs.Made.{all_but_two}
 use Rattle.dragoon_app.specs.MakingLines.{AreLastTwo, Reaches, MakesLinesFrom, line_status}
-use Rattle.dragoon_app.proofs.Growing.{MadeGrown}
+use Rattle.dragoon_app.proofs.GrownLines.{MadeFrom}
 use Rattle.dragoon_app.proofs.Reading.{take_first}
 use Rattle.dragoon_app.proofs.Faults.{uses_made}
 use Rattle.dragoon_app.proofs.Seconds.{takes_none, takes_then, takes_blank}
@@ -76,7 +76,7 @@ pub record IsMaking (start runner : Runner) (old now : disks.State) (filed later
 -- the same, with what becomes of the store alone
 pub record IsMakingGrown (start runner : Runner) (old now : disks.State) (filed later : notaries.State) (clock ahead : clocks.State) (all rest : List (List ℕ)) (first second : List ℕ) : Type 0 where
   pub making : IsMaking start runner old now filed later clock ahead all rest first second
-  pub grows : MadeGrown start runner old now
+  pub grows : MadeFrom start runner (site old filed clock) (site now later ahead) all rest
 
 pub begins : (runner : Runner) (s : disks.State) (filed : notaries.State) (clock : clocks.State) (all : List (List ℕ)) (first second : List ℕ) → ((c : List ℕ) → s.was_image (disks.turn s) c → s.is_image c)
     → runner.is_scripted ≡ true → first ≡ [] → second ≡ [] → IsMaking runner runner s s filed filed clock clock all all first second

@@ -5,6 +5,7 @@ use Rattle.std.proofs.lemmas.List.{append-nil}
 use Rattle.outside_words.proofs.Told.{told_map}
 use Rattle.disk_words.specs.Disk.{State}
 use Rattle.outside_io.specs.Clock as clocks
+use Rattle.notary_link.specs.declared.notary.NotaryLimits.{NotaryLimits}
 use Rattle.notary_link.specs.Notary as notaries
 use Rattle.stmt_text.specs.declared.error.ParseFail.{ParseFail}
 use Rattle.stmt_text.specs.declared.line.Line.{Line}
@@ -28,17 +29,38 @@ use Rattle.stmt_text.specs.declared.kind.WorldPart.{WorldPart}
 use Rattle.stmt_text.specs.declared.kind.WorldPart.TheVariants as parts
 use Rattle.stmt_text.specs.Kinds.{stmt_kind, line_kind}
 use Rattle.stmt_text.specs.Numbers.{max_u64}
-use Rattle.dragoon_app.specs.Running.{Running, Timed, carry, counted, answered, said_by, seconds_of, stepped, set_moment, refused_line, refused_text, MayFindBy}
+use Rattle.dragoon_app.specs.Running.{Running, Timed, carry, counted, answered, said_by, seconds_of, stepped, set_moment, refused_line, refused_text, MayFindBy, Takes}
 use Rattle.dragoon_app.specs.Failing.{HasStored, MayEndOn, MayEndBy}
-use Rattle.dragoon_app.specs.Ran.{Takes}
 use Rattle.dragoon_app.specs.Devices.{content, desk, site}
-use Rattle.dragoon_app.specs.Carrying.{Wherever, Goes, GoesTo, StepsFrom, LineFrom, RepliesFrom, IsLineOf, TakesFor, GivesSeconds, refusing, SetsMoment}
+use Rattle.dragoon_app.specs.Carrying.{IsAt, Wherever, Goes, GoesTo, StepsFrom, LineFrom, RepliesFrom, IsLineOf, TakesFor, GivesSeconds, refusing, moved, SetsMoment}
 use Rattle.dragoon_app.proofs.Faults.{ends_wanting, ends_refused}
 use Rattle.dragoon_app.proofs.Seconds.{takes_blank, takes_second}
 use Rattle.dragoon_app.proofs.Nothing.{no_finding, nothing, blank_nothing, blank_answer, carry_is, carry_nothing, nothing_found}
 use Rattle.dragoon_app.proofs.Worlds.{step_limits, stands_of}
 use Rattle.dragoon_app.proofs.Wherever.{told_both, wherever_map, wherever_same}
 use Rattle.dragoon_app.proofs.Standing.{IsStill, goes_still}
+
+-- ---- where a run stands whose world stays
+
+-- behind a refusal
+pub at_refusal : (r : Running) (runner later : Runner) (name bytes : List ℕ) (limits : NotaryLimits) (lists : notaries.Lists) → later ≡ refusing runner → IsAt r runner bytes limits lists → IsAt (refused_line r name) later bytes limits lists
+at_refusal r runner later name bytes limits lists is at = record {
+  stands = subst (λ (held : Held). IsIn r.world held bytes lists) (sym (ap (λ (x : Runner). x.world) is)) at.stands;
+  within = at.within;
+  epoch = ap (λ (x : Runner). x.epoch) is ∙ at.epoch;
+  moment = ap (λ (x : Runner). x.moment) is ∙ at.moment;
+  refused = ap (λ (x : Runner). x.refused) is ∙ ap (counted true) at.refused;
+}
+
+-- at another moment
+pub at_moment : (r : Running) (runner later : Runner) (moment : ℕ) (bytes : List ℕ) (limits : NotaryLimits) (lists : notaries.Lists) → later ≡ moved runner moment → IsAt r runner bytes limits lists → IsAt (set_moment true r moment) later bytes limits lists
+at_moment r runner later moment bytes limits lists is at = record {
+  stands = subst (λ (held : Held). IsIn r.world held bytes lists) (sym (ap (λ (x : Runner). x.world) is)) at.stands;
+  within = at.within;
+  epoch = ap (λ (x : Runner). x.epoch) is ∙ at.epoch;
+  moment = ap (λ (x : Runner). x.moment) is;
+  refused = ap (λ (x : Runner). x.refused) is ∙ at.refused;
+}
 
 -- ---- where the disk and the notary are left alone
 
@@ -55,24 +77,12 @@ module _ (runner later : Runner) (s : State) (filed : notaries.State) (still : I
   -- a line is refused
   pub refuses_goes : (name text : List ℕ) → text ≡ refused_text name → later ≡ refusing runner → Still (λ r. refused_line r name) (Ok text)
   refuses_goes name text spelled is = wherever_same filed.limits runner s filed (GoesTo (λ r. refused_line r name) (Ok text) later s s)
-      (λ r bytes lists at. goes_still r (refused_line r name) (Ok text) runner later s bytes filed.limits lists still at refl (ap (λ (x : List ℕ). r.text ++ x) (sym spelled)) (record {
-        stands = subst (λ (held : Held). IsIn r.world held bytes lists) (sym (ap (λ (x : Runner). x.world) is)) at.stands;
-        within = at.within;
-        epoch = ap (λ (x : Runner). x.epoch) is ∙ at.epoch;
-        moment = ap (λ (x : Runner). x.moment) is ∙ at.moment;
-        refused = ap (λ (x : Runner). x.refused) is ∙ ap (counted true) at.refused;
-      }))
+      (λ r bytes lists at. goes_still r (refused_line r name) (Ok text) runner later s bytes filed.limits lists still at refl (ap (λ (x : List ℕ). r.text ++ x) (sym spelled)) (at_refusal r runner later name bytes filed.limits lists is at))
 
   -- the moment is set
   pub sets_goes : (E : Type 0) (scripted : Bool) (moment : ℕ) (text : List ℕ) → SetsMoment {E = E} scripted moment (Ok text) runner later → Still (λ r. set_moment scripted r moment) (Ok text)
   sets_goes E true moment text sets = wherever_same filed.limits runner s filed (GoesTo (λ r. set_moment true r moment) (Ok text) later s s)
-      (λ r bytes lists at. goes_still r (set_moment true r moment) (Ok text) runner later s bytes filed.limits lists still at refl (ap (λ (x : List ℕ). r.text ++ x) (sym sets.text)) (record {
-        stands = subst (λ (held : Held). IsIn r.world held bytes lists) (sym (ap (λ (x : Runner). x.world) sets.later_is)) at.stands;
-        within = at.within;
-        epoch = ap (λ (x : Runner). x.epoch) sets.later_is ∙ at.epoch;
-        moment = ap (λ (x : Runner). x.moment) sets.later_is;
-        refused = ap (λ (x : Runner). x.refused) sets.later_is ∙ at.refused;
-      }))
+      (λ r bytes lists at. goes_still r (set_moment true r moment) (Ok text) runner later s bytes filed.limits lists still at refl (ap (λ (x : List ℕ). r.text ++ x) (sym sets.text)) (at_moment r runner later moment bytes filed.limits lists sets.later_is at))
   sets_goes E false moment text sets = refuses_goes (codes "NotScripted") text sets.text sets.later_is
 
 pub moment_same : (scripted : Bool) (moment : ℕ) (r : Running) → (set_moment scripted r moment).world ≡ r.world
@@ -220,7 +230,7 @@ filled_stmt stmts.Validate e = cc
 filled_stmt (stmts.Analyse algorithm) e = cc
 filled_stmt (stmts.Now moment) e = cc
 
-takes_filled : (kind : LineKind) (scripted : Bool) (t : Timed) (clock ahead : clocks.State) → (kind ≡ kinds.Blank → ⊥) → is_blank (without_return t.line) ≡ false → TakesFor kind scripted t.second clock ahead → Takes scripted (t ∷ []) clock ahead
+pub takes_filled : (kind : LineKind) (scripted : Bool) (t : Timed) (clock ahead : clocks.State) → (kind ≡ kinds.Blank → ⊥) → is_blank (without_return t.line) ≡ false → TakesFor kind scripted t.second clock ahead → Takes scripted (t ∷ []) clock ahead
 takes_filled kinds.Blank scripted t clock ahead ne filled takes = absurd (ne refl)
 takes_filled (kinds.InWorld part) true t clock ahead ne filled takes = takes
 takes_filled (kinds.InWorld part) false t clock ahead ne filled takes = takes_second t clock ahead filled takes
@@ -229,13 +239,13 @@ takes_filled (kinds.SetsMoment m) false t clock ahead ne filled takes = takes_se
 takes_filled kinds.OutsideScripts true t clock ahead ne filled takes = takes
 takes_filled kinds.OutsideScripts false t clock ahead ne filled takes = takes_second t clock ahead filled takes
 
-takes_line : (scripted : Bool) (t : Timed) (l : Line) (clock ahead : clocks.State) → SaysLine in_range t.line l → TakesFor (line_kind l) scripted t.second clock ahead → Takes scripted (t ∷ []) clock ahead
+pub takes_line : (scripted : Bool) (t : Timed) (l : Line) (clock ahead : clocks.State) → SaysLine in_range t.line l → TakesFor (line_kind l) scripted t.second clock ahead → Takes scripted (t ∷ []) clock ahead
 takes_line scripted t lines.Blank clock ahead said takes = takes_blank scripted t clock ahead said takes
 takes_line scripted t (lines.Plain stmt) clock ahead said takes = takes_filled (stmt_kind stmt) scripted t clock ahead (filled_stmt stmt) said.filled takes
 takes_line scripted t (lines.InSession n stmt) clock ahead said takes = takes_filled (kinds.InWorld parts.Sessions) scripted t clock ahead (λ e. cc) said.filled takes
 takes_line scripted t (lines.Drill event) clock ahead said takes = takes_filled kinds.OutsideScripts scripted t clock ahead (λ e. cc) said.filled takes
 
-line_of : (bytes : List ℕ) (result : Result (List ℕ) LineFail) → IsLineOf bytes result bytes
+pub line_of : (bytes : List ℕ) (result : Result (List ℕ) LineFail) → IsLineOf bytes result bytes
 line_of bytes (Ok text) = refl
 line_of bytes (Err line_fails.DiskFault) = refl
 line_of bytes (Err line_fails.NotaryFault) = refl
@@ -256,7 +266,7 @@ replies_by bytes l result runner last old new filed later clock ahead is said to
           (subst (λ (n : Running). IfErr result (MayEndBy (Ok l) r.world (seconds_of runner.is_scripted r g.second) (HasStored r n))) (sym (carry_is runner.is_scripted r t (Ok l) is)) g.only);
     })
 
-filled_answer : (bytes : List ℕ) (b : Bool) (fail : ParseFail) → is_blank (without_return bytes) ≡ b → answer bytes ≡ Err fail → is_blank (without_return bytes) ≡ false
+pub filled_answer : (bytes : List ℕ) (b : Bool) (fail : ParseFail) → is_blank (without_return bytes) ≡ b → answer bytes ≡ Err fail → is_blank (without_return bytes) ≡ false
 filled_answer bytes true fail e is = let no = sym (blank_answer bytes e) ∙ is in absurd cc
 filled_answer bytes false fail e is = e
 

@@ -1,5 +1,5 @@
--- What becomes of a store's bytes in a run, whatever the notary tells.
-use Rattle.std.proofs.Common.{◌≡◌, ℕ, true, List, [], ◌∷◌, ◌++◌, Result, Ok, Err, refl, sym, ap, subst, ⊎_elim}
+-- What a run does, as far as the store alone says it, whatever the notary tells.
+use Rattle.std.proofs.Common.{◌≡◌, ◌∙◌, ℕ, Bool, true, List, [], ◌∷◌, ◌++◌, Some, Result, Ok, Err, inl, refl, sym, ap, subst, append_assoc, ⊎_elim}
 use Rattle.std.specs.Prelude.{IfSome}
 use Rattle.outside_words.specs.Told.{WhereTold, TellsAlike}
 use Rattle.outside_words.proofs.Told.{told_map, told_then, told_same}
@@ -9,17 +9,14 @@ use Rattle.outside_io.specs.Sink as sinks
 use Rattle.outside_io.specs.Source as sources
 use Rattle.outside_io.specs.declared.sink.StreamFail.{StreamFail}
 use Rattle.outside_io.specs.declared.sink.StreamFail.TheVariants as streams
-use Rattle.outside_io.proofs.Out.{nothing_out, out_then, out_then_front, front_of_first, front_of_all}
+use Rattle.outside_io.proofs.Out.{nothing_out, out_then_front, front_of_first, front_of_all}
 use Rattle.line_input.specs.declared.fail.InputFail.{InputFail}
 use Rattle.line_input.specs.declared.fail.InputFail.TheVariants as inputs
-use Rattle.line_input.specs.Front.{AreFirst}
-use Rattle.line_input.specs.Lines.{IsFeedless}
+use Rattle.line_input.specs.Lines.{IsFeedless, lines_of}
 use Rattle.line_input.specs.Reader as readers
 use Rattle.line_input.specs.Reader.{Reading, Tells}
+use Rattle.tuple_bytes.specs.declared.header.Header.{Header}
 use Rattle.history_model.specs.Stored.{stored}
-use Rattle.drill_core.specs.Acknowledged.{StoresMore}
-use Rattle.drill_core.specs.World.{StandsFor}
-use Rattle.drill_core.proofs.Growing.{no_lists, empty_notary, in_stands}
 use Rattle.drill_core.specs.declared.fail.LineFail.{LineFail}
 use Rattle.drill_core.specs.declared.fail.LineFail.TheVariants as lines
 use Rattle.dragoon_app.specs.declared.run_fail.RunFail.{RunFail}
@@ -27,79 +24,83 @@ use Rattle.dragoon_app.specs.declared.run_fail.RunFail.TheVariants as fails
 use Rattle.dragoon_app.specs.declared.runner.Runner.{Runner}
 use Rattle.dragoon_app.specs.declared.status.Status.{Status}
 use Rattle.dragoon_app.specs.declared.status.Status.TheVariants as statuses
-use Rattle.dragoon_app.specs.Carrying.{EndsWith, IsReady, of_input, of_output, of_line, WhereStands, ReplyGrows, WritesReplies, CarryGrowsFrom, RunGrowsFrom}
-use Rattle.dragoon_app.specs.Devices.{Devices, devices}
-use Rattle.dragoon_app.specs.Growing.{Replied, lines_replied, all_replies, RunGrows, OnlyGrows}
+use Rattle.dragoon_app.specs.Carrying.{EndsWith, IsReady, of_input, of_output, of_line, ReplyGrowsFrom, WritesReplies, CarryGrowsFrom, RunGrowsFrom, MakesAloneFrom}
+use Rattle.dragoon_app.specs.Devices.{Site, Devices, devices, site, site_of}
+use Rattle.dragoon_app.specs.Growing.{Replied, lines_replied, behind_all, LinesAlone, RunGrows, nothing_filed, opened_alone}
 use Rattle.dragoon_app.specs.Outcome.{Said, CutsOff, refused}
+use Rattle.dragoon_app.specs.Running.{Running}
 use Rattle.dragoon_app.specs.Texts.{fault_line}
-use Rattle.dragoon_app.specs.Running.{start, world_of}
 use Rattle.dragoon_app.proofs.CarriedLines.{read_on}
-use Rattle.dragoon_app.proofs.Growing.{Here, Counts, GrownFrom, grown_first, grown_more, appends_failed, replied_failed, replied_between, lines_more, text_more}
+use Rattle.dragoon_app.proofs.GrownLines.{Counts, far_first, far_more, far_ended, far_failed, none_replied, lines_more, text_more, first_ones, perhaps_next, GrownFrom, ReadBy, MadeFrom, as_seen}
 use Rattle.dragoon_app.proofs.OnStore.{told_from, only_before, every_image_from, at_disk}
 use Rattle.dragoon_app.proofs.Reading.{IsRead, read_none, first_of}
+use Rattle.dragoon_app.proofs.RepliedAlone.{keeps_alone}
+use Rattle.dragoon_app.proofs.Standing.{IsStill}
 use Rattle.validator.proofs.Telling.{told_any}
 
--- ---- the loop
+-- ---- the loop of a run
 
-pub run_first : (runner : Runner) (s : State) (input : sources.State) (reader : Reading) (out : sinks.State) → Here s → reader ≡ record { line = []; pending = []; taken = 0 } → GrownFrom runner runner s s input input reader out out
-run_first runner s input reader out only_now fresh = told_same s.reads s.reads _ refl (λ bytes stands. record {
-  replied = [];
+pub run_first : (runner : Runner) (s : Site) (input : sources.State) (reader : Reading) (out : sinks.State) → IsStill s.desk.disk → reader ≡ record { line = []; pending = []; taken = 0 } → GrownFrom runner runner s s input input reader (λ text. sinks.IsOut text out out)
+run_first runner s input reader out still fresh = told_same s.desk.disk.reads s.desk.disk.reads _ refl (λ bytes begin at. record {
+  done = [];
   read = told_same input.rest input.rest _ refl (λ all. read_none reader all (ap (λ (r : Reading). r.pending) fresh) (ap (λ (r : Reading). r.taken) fresh));
-  is_out = nothing_out out out refl;
-  grown = grown_first runner.world s bytes only_now stands;
+  is_out = λ silent. subst (λ (text : List ℕ). sinks.IsOut text out out) (sym silent) (nothing_out out out refl);
+  far = far_first runner.is_scripted begin runner s bytes still at;
 })
 
--- a line and its reply
-abbrev reply_of : Reading → List ℕ → Replied
-reply_of reader text = record { line = reader.line; text = text }
+module _ (first runner last : Runner) (old mid new : Site) (scripted : runner.is_scripted ≡ first.is_scripted) (alike : TellsAlike old.desk.disk.reads mid.desk.disk.reads) (clock_alike : TellsAlike old.clock.answers mid.clock.answers)
+    (input left rest : sources.State) (reads_on : TellsAlike input.rest left.rest) (reader next : Reading) (tells : Tells (Ok true) reader next left rest) (clear : IsFeedless next.line) (takes : readers.Takes reader next left rest)
+    (Written : List ℕ → Type 0) (g : GrownFrom first runner old mid input left reader Written) where
+  -- a line more was read
+  read_one : (done : List Replied) → ReadBy input left reader (lines_replied done) → ReadBy input rest next (lines_replied done ++ next.line ∷ [])
+  read_one done read = read_on (lines_replied done) reader next input left rest reads_on read tells clear takes
 
-module _ (first runner last : Runner) (old mid new : State) (alike : TellsAlike old.reads mid.reads) (input left rest : sources.State) (reads_on : TellsAlike input.rest left.rest) (reader next : Reading)
-    (tells : Tells (Ok true) reader next left rest) (clear : IsFeedless next.line) (takes : readers.Takes reader next left rest) (out wrote : sinks.State) (g : GrownFrom first runner old mid input left reader out wrote) where
-  -- one more was read
-  read_one : (replied : List Replied) (text : List ℕ) → WhereTold input.rest left.rest (IsRead (lines_replied replied) reader) → WhereTold input.rest rest.rest (IsRead (lines_replied (replied ++ reply_of next text ∷ [])) next)
-  read_one replied text read = subst (λ (ls : List (List ℕ)). WhereTold input.rest rest.rest (IsRead ls next)) (sym (lines_more replied (reply_of next text))) (read_on (lines_replied replied) reader next input left rest reads_on read tells clear takes)
-
-  pub run_more : (text : List ℕ) (written : sinks.State) → ReplyGrows (Ok text) runner last mid new → sinks.IsOut text wrote written → GrownFrom first last old new input rest next out written
-  run_more text written reply writes = told_then old.reads mid.reads new.reads _ _ _ alike g reply (λ before here after so_far grows stands.
-      let at = so_far stands in
-      let r : Replied = reply_of next text in
+  -- and replied to
+  pub run_more : (text : List ℕ) (After : List ℕ → Type 0) → ReplyGrowsFrom next.line (Ok text) runner last mid new → ((xs : List ℕ) → Written xs → After (xs ++ text)) → GrownFrom first last old new input rest next After
+  run_more text After reply writes = told_then old.desk.disk.reads mid.desk.disk.reads new.desk.disk.reads _ _ _ alike g (as_seen first.is_scripted next.line (Ok text) runner last mid new scripted reply) (λ before here after so_far grows begin at.
+      let s = so_far begin at in
+      let x = grows (behind_all begin s.done) s.far.at in
       record {
-        replied = at.replied ++ r ∷ [];
-        read = read_one at.replied text at.read;
-        is_out = subst (λ (xs : List ℕ). sinks.IsOut xs out written) (sym (text_more at.replied r)) (out_then (all_replies at.replied) text out wrote written at.is_out writes);
-        grown = grown_more runner.world at.replied old mid before here at.grown last.world new after r (grows at.grown.stands);
+        done = s.done ++ x.replied ∷ [];
+        read = subst (ReadBy input rest next) (sym (lines_more s.done x.replied next.line x.line_is)) (read_one s.done s.read);
+        is_out = λ silent. subst After (sym (text_more first.is_scripted begin s.done runner old mid before here s.far next.line last new after clock_alike text x)) (writes (behind_all begin s.done).text (s.is_out silent));
+        far = far_more first.is_scripted begin s.done runner old mid before here s.far next.line last new after clock_alike text x;
       })
 
 -- ---- exits
 
-module _ (first runner : Runner) (old now : Devices) (left : sources.State) (reader : Reading) (reads_on : TellsAlike old.input.rest left.rest) (wrote : sinks.State) (g : GrownFrom first runner old.desk.disk now.desk.disk old.input left reader old.out wrote) where
-  first_lines : (ls : List (List ℕ)) → WhereTold old.input.rest left.rest (IsRead ls reader) → WhereTold old.input.rest now.input.rest (λ all others. AreFirst ls all)
-  first_lines ls read = told_then old.input.rest left.rest now.input.rest (IsRead ls reader) (λ b a. Unit {0}) (λ all others. AreFirst ls all) reads_on read (told_any left.rest now.input.rest) (λ all others behind so_far any. first_of ls reader all others so_far)
-
+module _ (first runner : Runner) (old now : Devices) (left : sources.State) (reader : Reading) (reads_on : TellsAlike old.input.rest left.rest) (clock_alike : TellsAlike old.clock.answers now.clock.answers)
+    (Written : List ℕ → Type 0) (g : GrownFrom first runner (site_of old) (site_of now) old.input left reader Written) where
   -- between two lines
-  pub run_between : (result : Result (Unit {0}) RunFail) → ((text : List ℕ) → sinks.IsOut text old.out wrote → WritesReplies result text old.out now.out) → CarryGrowsFrom result first old now
-  run_between result writes = told_map old.desk.disk.reads now.desk.disk.reads _ _ g (λ before after so_far stands.
-      let at = so_far stands in
+  pub run_between : (result : Result (Unit {0}) RunFail) → ((text : List ℕ) → Written text → WritesReplies result text old.out now.out) → CarryGrowsFrom result first old now
+  run_between result writes = told_map old.desk.disk.reads now.desk.disk.reads _ _ g (λ before after so_far begin at.
+      let s = so_far begin at in
       record {
-        replied = at.replied;
-        lines = first_lines (lines_replied at.replied) at.read;
-        out = writes (all_replies at.replied) at.is_out;
-        appends = at.grown.appends;
-        acknowledged = replied_between runner.world at.replied old.desk.disk now.desk.disk before after at.grown;
+        done = s.done;
+        next = none_replied (behind_all begin s.done);
+        lines = told_then old.input.rest left.rest now.input.rest (IsRead (lines_replied s.done) reader) (λ b a. Unit {0}) _ reads_on s.read (told_any left.rest now.input.rest) (λ all others behind so_far any. record { first = first_of (lines_replied s.done) reader all others so_far; under_way = inl refl });
+        alone = far_ended first.is_scripted begin s.done runner (site_of old) (site_of now) before after s.far clock_alike;
+        out = λ silent. writes (behind_all begin s.done).text (s.is_out silent);
       })
 
-module _ (first runner last : Runner) (old now : Devices) (mid : State) (alike : TellsAlike old.desk.disk.reads mid.reads) (left : sources.State) (reads_on : TellsAlike old.input.rest left.rest) (reader : Reading) where
+module _ (first runner last : Runner) (old now : Devices) (mid : Site) (scripted : runner.is_scripted ≡ first.is_scripted) (alike : TellsAlike old.desk.disk.reads mid.desk.disk.reads) (clock_alike : TellsAlike old.clock.answers mid.clock.answers)
+    (left : sources.State) (reads_on : TellsAlike old.input.rest left.rest) (reader next : Reading) (tells : Tells (Ok true) reader next left now.input) (clear : IsFeedless next.line) (takes : readers.Takes reader next left now.input) (wrote : sinks.State)
+    (g : GrownFrom first runner (site_of old) mid old.input left reader (λ text. sinks.IsOut text old.out wrote)) where
   -- the line failed
-  pub run_failed : (wrote : sinks.State) → GrownFrom first runner old.desk.disk mid old.input left reader old.out wrote → (fail : LineFail) → Counts now.desk.disk → ReplyGrows (Err fail) runner last mid now.desk.disk → now.out ≡ wrote → CarryGrowsFrom (Err (of_line fail)) first old now
-  run_failed wrote g fail counts reply same = told_then old.desk.disk.reads mid.reads now.desk.disk.reads _ _ _ alike g reply (λ before here after so_far grows stands.
-      let at = so_far stands in
-      let next_grows = grows at.grown.stands in
+  pub run_failed : (fail : LineFail) → Counts now.desk.disk → ReplyGrowsFrom next.line (Err fail) runner last mid (site_of now) → now.out ≡ wrote → CarryGrowsFrom (Err (of_line fail)) first old now
+  run_failed fail counts reply same = told_then old.desk.disk.reads mid.desk.disk.reads now.desk.disk.reads _ _ _ alike g (as_seen first.is_scripted next.line (Err fail) runner last mid (site_of now) scripted reply) (λ before here after so_far grows begin at.
+      let s = so_far begin at in
+      let x = grows (behind_all begin s.done) s.far.at in
+      let ls = lines_replied s.done in
       record {
-        replied = at.replied;
-        lines = told_then old.input.rest left.rest now.input.rest (IsRead (lines_replied at.replied) reader) (λ b a. Unit {0}) (λ all others. AreFirst (lines_replied at.replied) all) reads_on at.read (told_any left.rest now.input.rest) (λ all others behind so_far any. first_of (lines_replied at.replied) reader all others so_far);
-        out = subst (λ (s : sinks.State). WritesReplies (Err (of_line fail)) (all_replies at.replied) old.out s) (sym same) (by fail (all_replies at.replied) at.is_out);
-        appends = appends_failed runner.world at.replied old.desk.disk mid before here at.grown last.world now.desk.disk after fail next_grows;
-        acknowledged = replied_failed runner.world at.replied old.desk.disk mid before here at.grown last.world now.desk.disk after fail counts next_grows;
+        done = s.done;
+        next = x.replied;
+        lines = told_map old.input.rest now.input.rest _ _ (read_on ls reader next old.input left now.input reads_on s.read tells clear takes) (λ all others read. record {
+          first = first_ones ls (next.line ∷ lines_of (next.pending ++ others)) all (read.lines ∙ append_assoc ls (next.line ∷ []) (lines_of (next.pending ++ others)));
+          under_way = perhaps_next fail next.line s.done x.replied all x.line_is (first_of (ls ++ next.line ∷ []) next all others read);
+        });
+        alone = far_failed first.is_scripted begin s.done runner (site_of old) mid before here s.far next.line last (site_of now) after clock_alike fail counts x;
+        out = λ silent. subst (λ (w : sinks.State). WritesReplies (Err (of_line fail)) (behind_all begin s.done).text old.out w) (sym same) (by fail (behind_all begin s.done).text (s.is_out silent));
       })
     where
       by : (fail : LineFail) (text : List ℕ) → sinks.IsOut text old.out wrote → WritesReplies (Err (of_line fail)) text old.out wrote
@@ -108,23 +109,15 @@ module _ (first runner last : Runner) (old now : Devices) (mid : State) (alike :
       by lines.NoMemory text is = front_of_all text old.out wrote is
 
   -- its reply could not be written
-  pub run_unwritten : (next : Reading) (wrote : sinks.State) → GrownFrom first runner old.desk.disk mid old.input left reader old.out wrote → (fail : StreamFail) (text : List ℕ) → Tells (Ok true) reader next left now.input → IsFeedless next.line → readers.Takes reader next left now.input → ReplyGrows (Ok text) runner last mid now.desk.disk → sinks.FrontIsOut text wrote now.out → CarryGrowsFrom (Err (of_output fail)) first old now
-  run_unwritten next wrote g fail text tells clear takes reply front = told_then old.desk.disk.reads mid.reads now.desk.disk.reads _ _ _ alike g reply (λ before here after so_far grows stands.
-      let at = so_far stands in
-      let r : Replied = reply_of next text in
-      let grown = grown_more runner.world at.replied old.desk.disk mid before here at.grown last.world now.desk.disk after r (grows at.grown.stands) in
-      let all : List Replied = at.replied ++ r ∷ [] in
-      record {
-        replied = all;
-        lines = told_map old.input.rest now.input.rest _ _ (subst (λ (ls : List (List ℕ)). WhereTold old.input.rest now.input.rest (IsRead ls next)) (sym (lines_more at.replied r)) (read_on (lines_replied at.replied) reader next old.input left now.input reads_on at.read tells clear takes)) (λ b a so_far. first_of (lines_replied all) next b a so_far);
-        out = by fail (all_replies all) (subst (λ (xs : List ℕ). sinks.FrontIsOut xs old.out now.out) (sym (text_more at.replied r)) (out_then_front (all_replies at.replied) text old.out wrote now.out at.is_out front));
-        appends = grown.appends;
-        acknowledged = replied_between last.world all old.desk.disk now.desk.disk before after grown;
-      })
+  pub run_unwritten : (fail : StreamFail) (text : List ℕ) → TellsAlike old.clock.answers now.clock.answers → TellsAlike old.input.rest now.input.rest → ReplyGrowsFrom next.line (Ok text) runner last mid (site_of now) → sinks.FrontIsOut text wrote now.out → CarryGrowsFrom (Err (of_output fail)) first old now
+  run_unwritten fail text clock_on input_on reply front = run_between first last old now now.input next input_on clock_on (λ xs. sinks.FrontIsOut xs old.out now.out)
+      (run_more first runner last (site_of old) mid (site_of now) scripted alike clock_alike old.input left now.input reads_on reader next tells clear takes (λ xs. sinks.IsOut xs old.out wrote) g text (λ xs. sinks.FrontIsOut xs old.out now.out) reply
+      (λ xs is. out_then_front xs text old.out wrote now.out is front))
+      (Err (of_output fail)) (by fail)
     where
-      by : (fail : StreamFail) (text : List ℕ) → sinks.FrontIsOut text old.out now.out → WritesReplies (Err (of_output fail)) text old.out now.out
-      by streams.Failed text is = is
-      by streams.NoMemory text is = is
+      by : (fail : StreamFail) (xs : List ℕ) → sinks.FrontIsOut xs old.out now.out → WritesReplies (Err (of_output fail)) xs old.out now.out
+      by streams.Failed xs is = is
+      by streams.NoMemory xs is = is
 
 -- the input failed
 pub written_input : (fail : InputFail) (text : List ℕ) (out now : sinks.State) → sinks.IsOut text out now → WritesReplies (Err (of_input fail)) text out now
@@ -143,9 +136,9 @@ module _ (first : Runner) (old new : Devices) (written : sinks.State) where
   Told text = (s : Status) × sinks.FrontIsOut (text ++ fault_line s) old.out written
 
   ends : (result : Result (Unit {0}) RunFail) → ((text : List ℕ) → WritesReplies result text old.out new.out → Told text) → CarryGrowsFrom result first old new → End
-  ends result writes told = told_map old.desk.disk.reads new.desk.disk.reads _ _ told (λ before after carried stands.
-      let c = carried stands in
-      record { replied = c.replied; lines = c.lines; out = writes (all_replies c.replied) c.out; appends = c.appends; acknowledged = c.acknowledged })
+  ends result writes told = told_map old.desk.disk.reads new.desk.disk.reads _ _ told (λ before after carried begin at.
+      let c = carried begin at in
+      record { done = c.done; next = c.next; lines = c.lines; alone = c.alone; out = λ silent. writes (behind_all begin c.done).text (c.out silent) })
 
   -- the line of a fault is out, or a front of it
   fault_told : (s result : Status) (text : List ℕ) → Said (refused s) result new.out written → sinks.IsOut text old.out new.out → Told text
@@ -171,29 +164,82 @@ module _ (first : Runner) (old new : Devices) (written : sinks.State) where
 pub ends_well : (first : Runner) (old new : Devices) → CarryGrowsFrom (Ok tt) first old new → RunGrowsFrom first old new
 ends_well first old new told = ends first old new new.out (Ok tt) (λ text is. none_told first old new new.out text refl (front_of_all text old.out new.out is)) told
 
--- ---- the store was opened before
+-- ---- the loop of a text at hand
 
-only_grows_from : (first old new : State) (before : List ℕ) → disks.Unchanged first old → OnlyGrows old new before → OnlyGrows first new before
-only_grows_from first old new before same grows only = every_image_from first old new (StoresMore (stored before).items) same (grows (only_before first old before same only))
+pub made_first : (runner : Runner) (s : Site) (all : List (List ℕ)) → IsStill s.desk.disk → MadeFrom runner runner s s all all
+made_first runner s all still = told_same s.desk.disk.reads s.desk.disk.reads _ refl (λ bytes begin at. record { done = []; lines = refl; far = far_first true begin runner s bytes still at })
 
--- a runner that was just opened stands
-ready_stands : (runner : Runner) (bytes : List ℕ) → IsReady runner bytes → StandsFor runner.world bytes
-ready_stands runner bytes r =
-    let at = r.at no_lists empty_notary.limits in
-    in_stands (start (world_of r.header bytes) no_lists empty_notary.limits).world runner.world bytes no_lists at.stands
+module _ (first runner last : Runner) (old mid new : Site) (scripted : runner.is_scripted ≡ true) (alike : TellsAlike old.desk.disk.reads mid.desk.disk.reads) (clock_alike : TellsAlike old.clock.answers mid.clock.answers)
+    (all rest : List (List ℕ)) (line : List ℕ) (g : MadeFrom first runner old mid all (line ∷ rest)) where
+  -- a line more, whichever comes behind it
+  behind_line : (ls : List (List ℕ)) → all ≡ ls ++ line ∷ rest → all ≡ (ls ++ line ∷ []) ++ rest
+  behind_line ls is = is ∙ sym (append_assoc ls (line ∷ []) rest)
 
-pub run_opened : (runner : Runner) (first : State) (old new : Devices) → disks.Unchanged first old.desk.disk → IfSome first.reads (IsReady runner) → RunGrowsFrom runner old new
-    → WhereTold first.reads new.desk.disk.reads (λ before after. RunGrows (at_disk first old) new before)
-run_opened runner first old new same ready told = told_from first.reads old.desk.disk.reads new.desk.disk.reads (IsReady runner) _ _ same.reads ready told (λ before after r from.
-    let g = from (ready_stands runner before r) in
+  pub made_more : (text : List ℕ) → ReplyGrowsFrom line (Ok text) runner last mid new → MadeFrom first last old new all rest
+  made_more text reply = told_then old.desk.disk.reads mid.desk.disk.reads new.desk.disk.reads _ _ _ alike g (as_seen true line (Ok text) runner last mid new scripted reply) (λ before here after so_far grows begin at.
+      let s = so_far begin at in
+      let x = grows (behind_all begin s.done) s.far.at in
+      record {
+        done = s.done ++ x.replied ∷ [];
+        lines = subst (λ (ls : List (List ℕ)). all ≡ ls ++ rest) (sym (lines_more s.done x.replied line x.line_is)) (behind_line (lines_replied s.done) s.lines);
+        far = far_more true begin s.done runner old mid before here s.far line last new after clock_alike text x;
+      })
+
+  pub made_failed : (fail : LineFail) (text : List ℕ) → lines_of text ≡ all → Counts new.desk.disk → ReplyGrowsFrom line (Err fail) runner last mid new → MakesAloneFrom text first old new
+  made_failed fail text is counts reply = told_then old.desk.disk.reads mid.desk.disk.reads new.desk.disk.reads _ _ _ alike g (as_seen true line (Err fail) runner last mid new scripted reply) (λ before here after so_far grows begin at.
+      let s = so_far begin at in
+      let x = grows (behind_all begin s.done) s.far.at in
+      let ls = lines_replied s.done in
+      record {
+        done = s.done;
+        next = x.replied;
+        lines = record {
+          first = first_ones ls (line ∷ rest) text (is ∙ s.lines);
+          under_way = perhaps_next fail line s.done x.replied text x.line_is (first_ones (ls ++ line ∷ []) rest text (is ∙ behind_line ls s.lines));
+        };
+        alone = far_failed true begin s.done runner old mid before here s.far line last new after clock_alike fail counts x;
+      })
+
+-- no line is under way
+pub made_all : (first runner : Runner) (old now : Site) (rest : List (List ℕ)) (text : List ℕ) → TellsAlike old.clock.answers now.clock.answers → MadeFrom first runner old now (lines_of text) rest → MakesAloneFrom text first old now
+made_all first runner old now rest text clock_alike made = told_map old.desk.disk.reads now.desk.disk.reads _ _ made (λ before after so_far begin at.
+    let s = so_far begin at in
     record {
-      replied = g.replied;
-      lines = g.lines;
-      out = g.out;
-      appends = only_grows_from first old.desk.disk new.desk.disk before same g.appends;
-      acknowledged = λ only. g.acknowledged (only_before first old.desk.disk before same only);
+      done = s.done;
+      next = none_replied (behind_all begin s.done);
+      lines = record { first = first_ones (lines_replied s.done) rest text s.lines; under_way = inl refl };
+      alone = far_ended true begin s.done runner old now before after s.far clock_alike;
     })
 
-pub grows_opened : (runner : Runner) (first old new : State) → disks.Unchanged first old → IfSome first.reads (IsReady runner) → WhereStands runner old new (λ before after. OnlyGrows old new before)
-    → WhereTold first.reads new.reads (λ before after. OnlyGrows first new before)
-grows_opened runner first old new same ready told = told_from first.reads old.reads new.reads (IsReady runner) _ _ same.reads ready told (λ before after r from. only_grows_from first old new before same (from (ready_stands runner before r)))
+-- nothing was carried out
+pub made_none : (runner : Runner) (s : Site) (text : List ℕ) → IsStill s.desk.disk → MakesAloneFrom text runner s s
+made_none runner s text still = made_all runner runner s s (lines_of text) text refl (made_first runner s (lines_of text) still)
+
+-- ---- the store was opened before
+
+pub alone_from : (scripted : Bool) (begin : Running) (done : List Replied) (next : Replied) (first : State) (old new : Site) (before : List ℕ) → disks.Unchanged first old.desk.disk → LinesAlone scripted begin done next old new before
+    → LinesAlone scripted begin done next (site first old.desk.notary old.clock) new before
+alone_from scripted begin done next first old new before same a = record {
+  replies = a.replies;
+  seconds = a.seconds;
+  images = λ only. every_image_from first old.desk.disk new.desk.disk _ same (a.images (only_before first old.desk.disk before same only));
+  kept = λ only. a.kept (only_before first old.desk.disk before same only);
+}
+
+-- of each header that the bytes have
+pub run_opened : (runner : Runner) (first : State) (old new : Devices) → disks.Unchanged first old.desk.disk → IfSome first.reads (IsReady runner) → RunGrowsFrom runner old new
+    → WhereTold first.reads new.desk.disk.reads (λ before after. (h : Header) → (stored before).header ≡ Some h → RunGrows runner.is_scripted h (at_disk first old) new before)
+run_opened runner first old new same ready told = told_from first.reads old.desk.disk.reads new.desk.disk.reads (IsReady runner) _ _ same.reads ready told (λ before after r from h is.
+    let ready_is = r.is in
+    let header_is : r.header ≡ h = cc in
+    let begin : Running = opened_alone r.header before in
+    let g = from begin (r.at nothing_filed begin.world.limits) in
+    let alone = alone_from runner.is_scripted begin g.done g.next first (site_of old) (site_of new) before same g.alone in
+    subst (λ (x : Header). RunGrows runner.is_scripted x (at_disk first old) new before) header_is (record {
+      done = g.done;
+      next = g.next;
+      lines = g.lines;
+      alone = alone;
+      out = g.out refl;
+      keeps = keeps_alone runner.is_scripted r.header before g.done g.next (site_of (at_disk first old)) (site_of new) alone;
+    }))

@@ -24,9 +24,9 @@ use Rattle.drill_run.specs.declared.fail.DrillFail.TheVariants as drills
 use Rattle.drill_core.specs.Found.{Found}
 use Rattle.drill_core.specs.declared.fail.LineFail.{LineFail}
 use Rattle.drill_core.specs.declared.fail.LineFail.TheVariants as lines
-use Rattle.drill_core.specs.Growing.{GrowsBy}
-use Rattle.drill_core.specs.World.{IsIn, StandsFor, StoresWorld, StoresEither, AreBetween}
-use Rattle.drill_core.specs.Steps.{step, MayFind}
+use Rattle.drill_core.specs.Alone.{StepsAlone}
+use Rattle.drill_core.specs.World.{IsIn, StoresWorld, StoresEither, AreBetween}
+use Rattle.drill_core.specs.Steps.{Step, step, MayFind}
 use Rattle.dragoon_app.specs.declared.status.Status.{Status}
 use Rattle.dragoon_app.specs.declared.status.Status.TheVariants as statuses
 use Rattle.dragoon_app.specs.declared.run_fail.RunFail.{RunFail}
@@ -37,11 +37,12 @@ use Rattle.stmt_text.specs.declared.kind.LineKind.TheVariants as kinds
 use Rattle.stmt_text.specs.Kinds.{line_kind}
 use Rattle.stmt_text.specs.Numbers.{max_u64}
 use Rattle.dragoon_app.specs.Outcome.{Said, refused}
-use Rattle.dragoon_app.specs.Devices.{Desk, Content, Site, Devices, content}
-use Rattle.dragoon_app.specs.Running.{Running, Timed, start, carry, carried, counted, stepped, world_of, seconds_of, said_by, refused_text, MayFindBy, AllMayFind}
+use Rattle.dragoon_app.specs.Devices.{Desk, Content, Site, Devices, content, site_of}
+use Rattle.dragoon_app.specs.Texts.{fault_line}
+use Rattle.dragoon_app.specs.Running.{Running, Timed, start, carry, carried, counted, stepped, world_of, seconds_of, said_by, refused_text, MayFindBy, AllMayFind, Takes}
 use Rattle.dragoon_app.specs.Failing.{HasStored, MayEndOn, MayEnd, EndsByUse}
-use Rattle.dragoon_app.specs.Growing.{Replied, lines_replied, all_replies, OnlyGrows, StoresReplied, RunGrows}
-use Rattle.dragoon_app.specs.Ran.{Runs, Reads, lines_in, text_before, StoresFront, Takes}
+use Rattle.dragoon_app.specs.Growing.{Replied, SaidAlone, RepliesAlone, behind_all, LinesAlone, AreOfInput}
+use Rattle.dragoon_app.specs.Ran.{Runs, Reads, lines_in, text_before, StoresFront}
 
 -- ---- failures
 
@@ -268,13 +269,52 @@ SoundFrom runner old new = Wherever old.notary.limits runner old.disk new.disk o
 
 -- ---- whatever the notary tells
 
--- where a runner stands for the bytes that the disk tells
-abbrev pub WhereStands : Runner → disks.State → disks.State → (List ℕ → List ℕ → Type 0) → Type 0
-WhereStands runner old new P = WhereTold old.reads new.reads (λ before after. StandsFor runner.world before → P before after)
+-- a run is where this runner stands, whatever the notary holds
+abbrev pub IsAtAlone : Running → Runner → List ℕ → Type 0
+IsAtAlone r runner bytes = IsAt r runner bytes r.world.limits r.world.lists
 
--- a line was replied so
-abbrev pub ReplyGrows : Result (List ℕ) LineFail → Runner → Runner → disks.State → disks.State → Type 0
-ReplyGrows result runner last old new = GrowsBy (λ text. text) result runner.world last.world old new
+-- of each run that is where this runner stands, where the disk tells its bytes
+abbrev pub WhereStands : Runner → disks.State → disks.State → (Running → List ℕ → List ℕ → Type 0) → Type 0
+WhereStands runner old new P = WhereTold old.reads new.reads (λ before after. (r : Running) → IsAtAlone r runner before → P r before after)
+
+-- On the way from r to next: what is replied, where the last runner stands then, and the store.
+pub record GoesAlone (r next : Running) (result : Result (List ℕ) LineFail) (last : Runner) (old new : disks.State) (before after : List ℕ) : Type 0 where
+  pub reply : IfOk result (λ text. next.text ≡ r.text ++ text)
+  pub stands : OnOk result (IsAtAlone next last after)
+  pub settled : disks.Only before old → OnOk result (disks.Only after new)
+  -- whatever was answered
+  pub images : disks.Only before old → EveryImage old new (StoresEither r.world next.world)
+
+-- a line of the world was carried out
+pub record StepGrows (line : Line) (now : ℕ) (result : Result (List ℕ) LineFail) (last : Runner) (old new : disks.State) (r : Running) (before after : List ℕ) : Type 0 where
+  pub step : Step
+  pub allowed : StepsAlone r.world line now step
+  pub goes : GoesAlone r (stepped r step) result last old new before after
+
+abbrev pub StepGrowsFrom : Line → ℕ → Result (List ℕ) LineFail → Runner → Runner → disks.State → disks.State → Type 0
+StepGrowsFrom line now result runner last old new = WhereStands runner old new (StepGrows line now result last old new)
+
+-- a line of the grammar was
+pub record LineGrows (line : Line) (scripted : Bool) (result : Result (List ℕ) LineFail) (last : Runner) (old new : Site) (r : Running) (before after : List ℕ) : Type 0 where
+  pub second : ℕ
+  pub next : Running
+  pub seconds : TakesFor (line_kind line) scripted second old.clock new.clock
+  pub said : SaidAlone (line_kind line) scripted (seconds_of scripted r second) r line next
+  pub goes : GoesAlone r next result last old.desk.disk new.desk.disk before after
+
+abbrev pub LineGrowsFrom : Line → Result (List ℕ) LineFail → Runner → Runner → Site → Site → Type 0
+LineGrowsFrom line result runner last old new = WhereStands runner old.desk.disk new.desk.disk (LineGrows line runner.is_scripted result last old new)
+
+-- a line was
+pub record ReplyGrows (line : List ℕ) (scripted : Bool) (result : Result (List ℕ) LineFail) (last : Runner) (old new : Site) (r : Running) (before after : List ℕ) : Type 0 where
+  pub replied : Replied
+  pub line_is : IsLineOf line result replied.line.line
+  pub seconds : Takes scripted (replied.line ∷ []) old.clock new.clock
+  pub alone : RepliesAlone scripted r replied.line replied.behind
+  pub goes : GoesAlone r replied.behind result last old.desk.disk new.desk.disk before after
+
+abbrev pub ReplyGrowsFrom : List ℕ → Result (List ℕ) LineFail → Runner → Runner → Site → Site → Type 0
+ReplyGrowsFrom line result runner last old new = WhereStands runner old.desk.disk new.desk.disk (ReplyGrows line runner.is_scripted result last old new)
 
 -- the replies are out before a fault is told; where the output failed or memory was wanting, a front of them
 abbrev pub WritesReplies : Result (Unit {0}) RunFail → List ℕ → sinks.State → sinks.State → Type 0
@@ -282,19 +322,30 @@ WritesReplies (Err fails.WriteFault) text out written = sinks.FrontIsOut text ou
 WritesReplies (Err fails.NoMemory) text out written = sinks.FrontIsOut text out written
 WritesReplies result text out written = sinks.IsOut text out written
 
--- lines were carried out
-pub record CarryGrows (result : Result (Unit {0}) RunFail) (old new : Devices) (before after : List ℕ) : Type 0 where
-  pub replied : List Replied
-  pub lines : WhereTold old.input.rest new.input.rest (λ all others. AreFirst (lines_replied replied) all)
-  pub out : WritesReplies result (all_replies replied) old.out new.out
-  pub appends : OnlyGrows old.desk.disk new.desk.disk before
-  pub acknowledged : StoresReplied replied old.desk.disk new.desk.disk before
+-- lines were carried out, and the text of their replies became of this
+pub record CarryGrows (Writes : List ℕ → Type 0) (scripted : Bool) (old new : Devices) (begin : Running) (before after : List ℕ) : Type 0 where
+  pub done : List Replied
+  pub next : Replied
+  pub lines : WhereTold old.input.rest new.input.rest (λ all others. AreOfInput done next all)
+  pub alone : LinesAlone scripted begin done next (site_of old) (site_of new) before
+  pub out : begin.text ≡ [] → Writes (behind_all begin done).text
 
 abbrev pub CarryGrowsFrom : Result (Unit {0}) RunFail → Runner → Devices → Devices → Type 0
-CarryGrowsFrom result runner old new = WhereStands runner old.desk.disk new.desk.disk (CarryGrows result old new)
+CarryGrowsFrom result runner old new = WhereStands runner old.desk.disk new.desk.disk (CarryGrows (λ text. WritesReplies result text old.out new.out) runner.is_scripted old new)
+
+-- and the line of a fault is out behind them, or a front of it
+abbrev pub WritesFault : Devices → Devices → List ℕ → Type 0
+WritesFault old new text = (s : Status) × sinks.FrontIsOut (text ++ fault_line s) old.out new.out
 
 abbrev pub RunGrowsFrom : Runner → Devices → Devices → Type 0
-RunGrowsFrom runner old new = WhereStands runner old.desk.disk new.desk.disk (λ before after. RunGrows old new before)
+RunGrowsFrom runner old new = WhereStands runner old.desk.disk new.desk.disk (CarryGrows (WritesFault old new) runner.is_scripted old new)
 
-abbrev pub OnlyGrowsFrom : Runner → disks.State → disks.State → Type 0
-OnlyGrowsFrom runner old new = WhereStands runner old new (λ before after. OnlyGrows old new before)
+-- the same of the lines of a text at hand, whose replies are kept
+pub record MakesAlone (text : List ℕ) (old new : Site) (begin : Running) (before after : List ℕ) : Type 0 where
+  pub done : List Replied
+  pub next : Replied
+  pub lines : AreOfInput done next text
+  pub alone : LinesAlone true begin done next old new before
+
+abbrev pub MakesAloneFrom : List ℕ → Runner → Site → Site → Type 0
+MakesAloneFrom text runner old new = WhereStands runner old.desk.disk new.desk.disk (MakesAlone text old new)

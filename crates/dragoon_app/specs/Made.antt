@@ -12,11 +12,11 @@ use Rattle.statement_core.specs.World as statements
 use Rattle.workload_make.specs.Script.{script}
 use Rattle.dragoon_app.specs.declared.status.Status.{Status}
 use Rattle.dragoon_app.specs.declared.status.Status.TheVariants as statuses
-use Rattle.dragoon_app.specs.Devices.{Content, Devices, Effect, WhereBothTell, site_of}
+use Rattle.dragoon_app.specs.Devices.{Content, Devices, Site, Effect, WhereBothTell, site_of}
 use Rattle.dragoon_app.specs.Outcome.{Outcome, Said, refused}
 use Rattle.dragoon_app.specs.Commands.{OnStore}
 use Rattle.dragoon_app.specs.Running.{Running, Timed, carry, carried}
-use Rattle.dragoon_app.specs.Growing.{OnlyGrows}
+use Rattle.dragoon_app.specs.Growing.{Replied, AreOfInput, LinesAlone, KeepsAlone, opened_alone}
 use Rattle.dragoon_app.specs.Ran.{IsNext, RunsLines, KeepsPromises, ending_of, lines_in, opened}
 
 -- ---- the summary
@@ -89,12 +89,20 @@ pub record MakesStore (seed count : ℕ) (header : Header) (result : Status) (ol
   pub makes : Makes count (opened header old before) (script header.width (last_moment (stored before.bytes).items) seed count) result old new before after
   pub promises : KeepsPromises true header makes.done makes.next old new before
 
+-- the same, as far as the store alone says it
+pub record MakeGrows (seed count : ℕ) (header : Header) (old new : Site) (before : List ℕ) : Type 0 where
+  pub done : List Replied
+  pub next : Replied
+  pub lines : AreOfInput done next (script header.width (last_moment (stored before).items) seed count)
+  pub alone : LinesAlone true (opened_alone header before) done next old new before
+  pub keeps : KeepsAlone header done old.desk.disk new.desk.disk before
+
 -- over a store that was opened
 pub record MakesHeader (seed count : ℕ) (header : Header) (result : Status) (old new : Devices) : Type 0 where
   -- where both tell what they hold
   pub makes : WhereBothTell old.desk new.desk (MakesStore seed count header result old new)
   -- whatever the notary tells
-  pub grows : WhereTold old.desk.disk.reads new.desk.disk.reads (λ before after. OnlyGrows old.desk.disk new.desk.disk before)
+  pub grows : WhereTold old.desk.disk.reads new.desk.disk.reads (λ before after. MakeGrows seed count header (site_of old) (site_of new) before)
 
 -- `make ID SEED N`
 abbrev pub MakesOn : ℕ → ℕ → ℕ → Effect

@@ -1,11 +1,10 @@
 -- What `run` leaves: what it wrote, what its store holds at every moment, and what it took from its input and the clock.
-use Rattle.std.specs.Prelude.{if◌then◌else◌, ◌≡◌, ◌≢◌, ◌⊎◌, ◌<◌, ◌+◌, ◌-◌, nat_lt, ℕ, Bool, true, false, List, [], ◌∷◌, ◌++◌, length, take, map, slice_index}
+use Rattle.std.specs.Prelude.{if◌then◌else◌, ◌≡◌, ◌≢◌, ◌⊎◌, ◌-◌, nat_lt, ℕ, Bool, List, [], ◌∷◌, ◌++◌, length, take, map}
 use Rattle.outside_words.specs.Told.{WhereTold}
 use Rattle.outside_words.specs.Faults.{Rose}
 use Rattle.disk_words.specs.Disk as disks
 use Rattle.disk_model.specs.Moments.{EveryImage}
 use Rattle.outside_io.specs.Sink as sinks
-use Rattle.outside_io.specs.Clock as clocks
 use Rattle.line_input.specs.Front.{AreFirst, AreAll, AreWithinLimit, AreEnded, TakesLittle, TakesFront}
 use Rattle.tuple_bytes.specs.declared.header.Header.{Header}
 use Rattle.notary_link.specs.Notary as notaries
@@ -20,7 +19,7 @@ use Rattle.dragoon_app.specs.Devices.{Desk, Content, Site, Devices, Effect, Wher
 use Rattle.dragoon_app.specs.Outcome.{CutsOff}
 use Rattle.dragoon_app.specs.Commands.{OnStore}
 use Rattle.dragoon_app.specs.Texts.{fault_line}
-use Rattle.dragoon_app.specs.Running.{Running, Timed, start, carried, world_of, seconds_taken, AllMayFind}
+use Rattle.dragoon_app.specs.Running.{Running, Timed, start, carried, world_of, AllMayFind, Takes}
 use Rattle.dragoon_app.specs.Failing.{EndsByUse}
 use Rattle.dragoon_app.specs.Laws.{AllTellNone}
 use Rattle.dragoon_app.specs.Acknowledged.{IsReplied}
@@ -104,18 +103,6 @@ Writes Idle Told before r s old new =
     ⊎ (Told s × sinks.IsOut (r.text ++ fault_line s) old new)
     ⊎ (CutsOff s × IsCutAtEnd Idle Told before r.text old new)
 
--- ---- the clock
-
--- these were the clock's next seconds, and those behind them are still to come
-abbrev pub Gave : List ℕ → clocks.State → clocks.State → Type 0
-Gave seconds old new = WhereTold old.answers new.answers (λ before after.
-    ((i : ℕ) → i < length seconds → slice_index seconds i ≡ before i) × ((i : ℕ) → after i ≡ before (length seconds + i)))
-
--- a scripted run asks no clock, and others take a second for each line that is not blank
-abbrev pub Takes : Bool → List Timed → clocks.State → clocks.State → Type 0
-Takes true timed old new = new ≡ old
-Takes false timed old new = Gave (seconds_taken timed) old new
-
 -- ---- the store and the notary
 
 -- the bytes store what they did after some first lines
@@ -184,7 +171,7 @@ pub record RunsHeader (scripted : Bool) (header : Header) (result : Status) (old
   -- where both tell what they hold
   pub runs : WhereBothTell old.desk new.desk (RunsStore scripted header result old new)
   -- whatever the notary tells
-  pub grows : WhereTold old.desk.disk.reads new.desk.disk.reads (λ before after. RunGrows old new before)
+  pub grows : WhereTold old.desk.disk.reads new.desk.disk.reads (λ before after. RunGrows scripted header old new before)
 
 abbrev pub RunsOn : Bool → ℕ → Effect
 RunsOn scripted id = OnStore id (RunsHeader scripted)

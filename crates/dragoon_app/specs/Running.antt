@@ -1,5 +1,7 @@
 -- What a script does, line by line.
-use Rattle.std.specs.Prelude.{ℕ, ◌+◌, min, Bool, true, false, List, [], ◌∷◌, ◌++◌, fold, filter, not, map, codes, Some, Result, Ok, Err}
+use Rattle.std.specs.Prelude.{◌≡◌, ◌<◌, ℕ, ◌+◌, length, slice_index, min, Bool, true, false, List, [], ◌∷◌, ◌++◌, fold, filter, not, map, codes, Some, Result, Ok, Err}
+use Rattle.outside_words.specs.Told.{WhereTold}
+use Rattle.outside_io.specs.Clock as clocks
 use Rattle.history_model.specs.Stored.{stored}
 use Rattle.history_model.specs.History.{last_moment}
 use Rattle.tuple_bytes.specs.declared.header.Header.{Header}
@@ -121,3 +123,15 @@ is_said t = not (is_blank (without_return t.line))
 
 abbrev pub seconds_taken : List Timed → List ℕ
 seconds_taken timed = map (λ t. t.second) (filter is_said timed)
+
+-- ---- the clock
+
+-- these were the clock's next seconds, and those behind them are still to come
+abbrev pub Gave : List ℕ → clocks.State → clocks.State → Type 0
+Gave seconds old new = WhereTold old.answers new.answers (λ before after.
+    ((i : ℕ) → i < length seconds → slice_index seconds i ≡ before i) × ((i : ℕ) → after i ≡ before (length seconds + i)))
+
+-- a scripted run asks no clock, and others take a second for each line that is not blank
+abbrev pub Takes : Bool → List Timed → clocks.State → clocks.State → Type 0
+Takes true timed old new = new ≡ old
+Takes false timed old new = Gave (seconds_taken timed) old new

@@ -14,7 +14,7 @@ ghost use Rattle.dragoon_app.specs.declared.command.Command.TheVariants as comma
 ghost use Rattle.dragoon_app.specs.Devices.{desk, site, devices, StaysSound, HasCauses, AllGoOn};
 ghost use Rattle.dragoon_app.specs.Ends.{Ends};
 ghost use Rattle.dragoon_app.specs.Outcome.{Said, WriteCause};
-ghost use Rattle.dragoon_app.specs.Carrying.{SoundFrom, OnlyGrowsFrom};
+ghost use Rattle.dragoon_app.specs.Carrying.{SoundFrom, MakesAloneFrom};
 ghost use Rattle.dragoon_app.specs.Ran.{ending_by};
 ghost use Rattle.dragoon_app.specs.Made.{made_line, MakesOn};
 ghost use Rattle.dragoon_app.specs.MakingLines.{script_for, stored_in, told_of, MakesLinesFrom, MakesTextFrom, MakesFrom};
@@ -50,7 +50,8 @@ fn make_lines<D: Disk, N: Notary, C: Clock>(
     text: &[u8],
 ) -> Result<LastTwo, LineFail>
     requires scripted { runner.old.is_scripted ≡ true }
-    ensures grows { OnlyGrowsFrom runner.old (D.state disk.old) (D.state disk.new) }
+    ensures grows { MakesAloneFrom text.now runner.old
+        (site (D.state disk.old) (N.state notary.old) (C.state clock.old)) (site (D.state disk.new) (N.state notary.new) (C.state clock.new)) }
     ensures told { MakesLinesFrom text.now result runner.old runner.new
         (site (D.state disk.old) (N.state notary.old) (C.state clock.old)) (site (D.state disk.new) (N.state notary.new) (C.state clock.new)) }
     ensures sound { SoundFrom runner.old (desk (D.state disk.old) (N.state notary.old)) (desk (D.state disk.new) (N.state notary.new)) }
@@ -153,7 +154,8 @@ fn make_text<D: Disk, N: Notary, C: Clock, O: Sink>(
     out: &mut O,
 ) -> Status
     requires scripted { runner.old.is_scripted ≡ true }
-    ensures grows { OnlyGrowsFrom runner.old (D.state disk.old) (D.state disk.new) }
+    ensures grows { MakesAloneFrom text.now runner.old
+        (site (D.state disk.old) (N.state notary.old) (C.state clock.old)) (site (D.state disk.new) (N.state notary.new) (C.state clock.new)) }
     ensures told { (input : sources.State) → MakesTextFrom count text.now runner.old result
         (devices (D.state disk.old) (N.state notary.old) (C.state clock.old) input (O.state out.old))
         (devices (D.state disk.new) (N.state notary.new) (C.state clock.new) input (O.state out.new)) }
@@ -187,7 +189,8 @@ fn make_opened<D: Disk, N: Notary, C: Clock, O: Sink>(
     requires store { IsSome runner.old.world.opened }
     requires some { 1 ≤ count }
     requires few { count ≤ max_steps }
-    ensures grows { OnlyGrowsFrom runner.old (D.state disk.old) (D.state disk.new) }
+    ensures grows { MakesAloneFrom (script_for runner.old seed count) runner.old
+        (site (D.state disk.old) (N.state notary.old) (C.state clock.old)) (site (D.state disk.new) (N.state notary.new) (C.state clock.new)) }
     ensures told { (input : sources.State) → MakesFrom seed count runner.old result
         (devices (D.state disk.old) (N.state notary.old) (C.state clock.old) input (O.state out.old))
         (devices (D.state disk.new) (N.state notary.new) (C.state clock.new) input (O.state out.new)) }

@@ -71,7 +71,7 @@ added_extends : (w new : statements.World) → Adds w new → Extends w new
 added_extends w new (inl same) = subst (Extends w) (sym same) (extends_same w)
 added_extends w new (inr more) = subst (Extends w) (sym more.is) (record { header = refl; more = items.Txn more.txn ∷ []; items = refl })
 
-reached_extends : (need : Option ℕ) (w : statements.World) → Extends w (reached need w)
+pub reached_extends : (need : Option ℕ) (w : statements.World) → Extends w (reached need w)
 reached_extends None w = extends_same w
 reached_extends (Some moment) w = record { header = refl; more = items.Frontier moment ∷ []; items = refl }
 
@@ -83,10 +83,10 @@ module _ (w : World) where
   none_stored : (s : Step) → s.world.store ≡ w.store → Appends s
   none_stored s is = subst (λ (o : Option statements.World). OnlyAppends w.store o) (sym is) (appends_none w.store)
 
-  some_stored : (store new : statements.World) → Some store ≡ w.store → Extends store new → OnlyAppends w.store (Some new)
+  pub some_stored : (store new : statements.World) → Some store ≡ w.store → Extends store new → OnlyAppends w.store (Some new)
   some_stored store new is more = subst (λ (o : Option statements.World). OnlyAppends o (Some new)) is more
 
-  tables_append : (o : Option statements.World) → o ≡ w.store → (line : Line) (now : ℕ) → Appends (on_tables w o line now)
+  pub tables_append : (o : Option statements.World) → o ≡ w.store → (line : Line) (now : ℕ) → Appends (on_tables w o line now)
   tables_append None is line now = appends_none w.store
   tables_append (Some store) is line now =
       let before : sessions.World = record { store = store; sessions = w.sessions } in
@@ -155,7 +155,7 @@ module _ (w : World) (digits : List ℕ) where
   says_else : (s : Step) → (SaysOk s.text → ⊥) → Acknowledges digits s
   says_else s never is = absurd (never (subst SaysOk (sym is) (says_ok digits)))
 
-  tables_acknowledge : (o : Option statements.World) (line : Line) (now : ℕ) → Acknowledges digits (on_tables w o line now)
+  pub tables_acknowledge : (o : Option statements.World) (line : Line) (now : ℕ) → Acknowledges digits (on_tables w o line now)
   tables_acknowledge None line now = says_else (on_tables w None line now) (refusal_no w (codes "NotAStore"))
   tables_acknowledge (Some store) line now = statement_acknowledges (record { store = store; sessions = w.sessions }) line now digits
 

@@ -13,6 +13,7 @@ use Rattle.session_model.specs.Standing.{IsOfStore}
 use Rattle.drill_core.specs.declared.answered.Answered.{Answered}
 use Rattle.drill_core.specs.declared.fail.LineFail.{LineFail}
 use Rattle.drill_core.specs.declared.fail.LineFail.TheVariants as fails
+use Rattle.drill_core.specs.Alone.{IsTold}
 use Rattle.drill_core.specs.Answers.{refusal, Replies, IsAnswer}
 use Rattle.drill_core.specs.Faults.{IsOfStoring, MayEndIn, EndsTimely}
 
@@ -78,6 +79,16 @@ early_of_clock t b now fail is =
     some_of_clock b audits.Closed fail _ tt
     (some_of_clock (is_back t now) (audits.ClockBack t.last) fail _ tt
     (some_of_clock (is_late t now) audits.TooLate fail None tt (λ none. absurd cc))) is
+
+-- such a cause is told
+clock_told : (fail : AuditFail) → IsOfClock fail → IsTold fail
+clock_told audits.Closed of_it = (refl, refl)
+clock_told (audits.ClockBack last) of_it = (refl, refl)
+clock_told audits.TooLate of_it = (refl, refl)
+clock_told fail of_it = absurd of_it
+
+pub early_is_told : (t : Tail) (b : Bool) (now : ℕ) (fail : AuditFail) → early_fault t b now ≡ Some fail → IsTold fail
+early_is_told t b now fail is = clock_told fail (early_of_clock t b now fail is)
 
 wants_only : (early : Option AuditFail) (name : List ℕ) (result : Result Answered LineFail) → Replies (refusal name) result → IfErr result (EndsTimely early)
 wants_only early name (Ok answered) replies = tt

@@ -17,7 +17,8 @@ use Rattle.drill_core.specs.World.{World}
 use Rattle.drill_core.specs.Found.{Found}
 use Rattle.drill_core.specs.LineCalls.{notarize_calls, validate_calls, notary_calls}
 use Rattle.drill_core.specs.Faults.{early_of}
-use Rattle.drill_core.specs.Steps.{step, on_tables, notarized, validated, analysed, algorithm_of, MayFind}
+use Rattle.drill_core.specs.Alone.{StepsAlone}
+use Rattle.drill_core.specs.Steps.{Step, step, on_tables, notarized, validated, analysed, algorithm_of, MayFind}
 
 -- what stands for a find where nothing is looked for
 abbrev pub none_found : Found
@@ -37,16 +38,18 @@ pub record GoesToTables (line : Line) : Type 0 where
   pub calls : (w : World) (now : ℕ) (found : Found) → notary_calls w line now found ≡ []
   pub early : (w : World) (now : ℕ) → early_of w line now ≡ None
   pub kind : IsOfStore (line_kind line)
+  pub alone : (w : World) (now : ℕ) (next : Step) → next ≡ on_tables w w.store line now → StepsAlone w line now next
+  pub only : (w : World) (now : ℕ) (next : Step) → StepsAlone w line now next → next ≡ on_tables w w.store line now
 
 stmt_goes : (stmt : Stmt) → IsStatementLine (lines.Plain stmt) → GoesToTables (lines.Plain stmt)
 unfolding step notary_calls
-stmt_goes (stmts.Create table columns) on = record { steps = λ w now found. refl; may = λ w found. tt; calls = λ w now found. refl; early = λ w now. refl; kind = tt }
-stmt_goes (stmts.Insert table row) on = record { steps = λ w now found. refl; may = λ w found. tt; calls = λ w now found. refl; early = λ w now. refl; kind = tt }
-stmt_goes (stmts.Update table row) on = record { steps = λ w now found. refl; may = λ w found. tt; calls = λ w now found. refl; early = λ w now. refl; kind = tt }
-stmt_goes (stmts.Delete table key) on = record { steps = λ w now found. refl; may = λ w found. tt; calls = λ w now found. refl; early = λ w now. refl; kind = tt }
-stmt_goes (stmts.Get table key moment) on = record { steps = λ w now found. refl; may = λ w found. tt; calls = λ w now found. refl; early = λ w now. refl; kind = tt }
-stmt_goes (stmts.Scan table filter moment) on = record { steps = λ w now found. refl; may = λ w found. tt; calls = λ w now found. refl; early = λ w now. refl; kind = tt }
-stmt_goes (stmts.History table key) on = record { steps = λ w now found. refl; may = λ w found. tt; calls = λ w now found. refl; early = λ w now. refl; kind = tt }
+stmt_goes (stmts.Create table columns) on = record { steps = λ w now found. refl; may = λ w found. tt; calls = λ w now found. refl; early = λ w now. refl; kind = tt; alone = λ w now next is. is; only = λ w now next is. is }
+stmt_goes (stmts.Insert table row) on = record { steps = λ w now found. refl; may = λ w found. tt; calls = λ w now found. refl; early = λ w now. refl; kind = tt; alone = λ w now next is. is; only = λ w now next is. is }
+stmt_goes (stmts.Update table row) on = record { steps = λ w now found. refl; may = λ w found. tt; calls = λ w now found. refl; early = λ w now. refl; kind = tt; alone = λ w now next is. is; only = λ w now next is. is }
+stmt_goes (stmts.Delete table key) on = record { steps = λ w now found. refl; may = λ w found. tt; calls = λ w now found. refl; early = λ w now. refl; kind = tt; alone = λ w now next is. is; only = λ w now next is. is }
+stmt_goes (stmts.Get table key moment) on = record { steps = λ w now found. refl; may = λ w found. tt; calls = λ w now found. refl; early = λ w now. refl; kind = tt; alone = λ w now next is. is; only = λ w now next is. is }
+stmt_goes (stmts.Scan table filter moment) on = record { steps = λ w now found. refl; may = λ w found. tt; calls = λ w now found. refl; early = λ w now. refl; kind = tt; alone = λ w now next is. is; only = λ w now next is. is }
+stmt_goes (stmts.History table key) on = record { steps = λ w now found. refl; may = λ w found. tt; calls = λ w now found. refl; early = λ w now. refl; kind = tt; alone = λ w now next is. is; only = λ w now next is. is }
 stmt_goes stmts.Begin on = absurd on
 stmt_goes stmts.Commit on = absurd on
 stmt_goes stmts.Abort on = absurd on
@@ -59,7 +62,7 @@ pub goes_to_tables : (line : Line) → IsStatementLine line → GoesToTables lin
 unfolding step notary_calls
 goes_to_tables (lines.Plain stmt) on = stmt_goes stmt on
 goes_to_tables lines.Blank on = absurd on
-goes_to_tables (lines.InSession session stmt) on = record { steps = λ w now found. refl; may = λ w found. tt; calls = λ w now found. refl; early = λ w now. refl; kind = tt }
+goes_to_tables (lines.InSession session stmt) on = record { steps = λ w now found. refl; may = λ w found. tt; calls = λ w now found. refl; early = λ w now. refl; kind = tt; alone = λ w now next is. is; only = λ w now next is. is }
 goes_to_tables (lines.Drill event) on = absurd on
 
 -- ---- the other lines of a world

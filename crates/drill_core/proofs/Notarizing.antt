@@ -30,7 +30,6 @@ use Rattle.session_model.specs.Standing.{Machine}
 use Rattle.validator.specs.Desk.{content, desk}
 use Rattle.validator.specs.declared.fail.AuditFail.{AuditFail}
 use Rattle.validator.specs.declared.fail.AuditFail.TheVariants as fails
-use Rattle.number_text.specs.Numbered.{numbered}
 use Rattle.validator.specs.Texts.{refusal_text}
 use Rattle.validator.specs.Notarizing.{Intent, early_fault, IsEarly, IsRefusedBy}
 use Rattle.validator.specs.Filing.{FilesFor, HasFiledMore}
@@ -45,7 +44,7 @@ use Rattle.store_engine.specs.Refusals.{tail_of}
 use Rattle.drill_core.proofs.Replies.{Answers, replies}
 use Rattle.drill_core.specs.Parts.{alone}
 use Rattle.drill_core.specs.CallsMade.{MakesLineCalls}
-use Rattle.drill_core.specs.Steps.{Step, step, intent_in, says, refuses, filed, reached, all_filed, sealed, unless, notarized}
+use Rattle.drill_core.specs.Steps.{Step, step, intent_in, says, refuses, filed, reached, sealed_text, all_filed, sealed, unless, notarized}
 use Rattle.drill_core.specs.Stepping.{Goes, Steps, StepsFor}
 use Rattle.drill_core.proofs.Between.{kept_between, keeps_then, filed_keeps, filed_between}
 use Rattle.drill_core.proofs.LineKinds.{none_found, notarize_step}
@@ -56,10 +55,6 @@ use Rattle.drill_core.proofs.NotaryCalls.{notarization_makes}
 use Rattle.drill_core.proofs.Sessions.{stands_still}
 use Rattle.drill_core.proofs.Tables.{HasStore, has_store, never_longer, items_stay}
 use Rattle.drill_core.proofs.Validating.{replies_as, given}
-
--- how many tiles are sealed
-abbrev pub sealed_text : ℕ → List ℕ
-sealed_text tiles = numbered (codes "sealed ") tiles
 
 -- after a failure it is no matter where the store stands
 pub wherever : (w : World) (next : Step) (fail : LineFail) (later other : Held) (old new : State) (before after : List ℕ) (lists : Lists)
@@ -175,7 +170,7 @@ module _ (now : ℕ) (s later_s : Opened) (old new : State) (before after : List
   of_ws : (c : List ℕ) → Stores s.header ws.items c → StoresOf w.id w.store c
   of_ws c stores = subst (λ (o : Option statements.World). StoresOf w.id o c) (sym has.is) (subst (λ (h : Header). Stores h ws.items c) has.stands.header stores)
 
-  either_of : (o : Option ℕ) (c : List ℕ) → StoresAround s.header ws.items o c → StoresOf w.id w.store c ⊎ StoresOf w.id (Some (reached o ws)) c
+  pub either_of : (o : Option ℕ) (c : List ℕ) → StoresAround s.header ws.items o c → StoresOf w.id w.store c ⊎ StoresOf w.id (Some (reached o ws)) c
   either_of None c stores = inl (of_ws c stores)
   either_of (Some moment) c (inl stores) = inl (of_ws c stores)
   either_of (Some moment) c (inr stores) = inr (subst (λ (h : Header). Stores h (reached (Some moment) ws).items c) has.stands.header stores)
@@ -183,7 +178,7 @@ module _ (now : ℕ) (s later_s : Opened) (old new : State) (before after : List
   stands_with : (o : Option ℕ) → txns (reached o ws).items ≡ txns ws.items → statements.IsIn (reached o ws) later_s after → sessions.IsIn (record { store = reached o ws; sessions = w.sessions }) kept_sessions later_s after
   stands_with o same stands = stands_still ws (reached o ws) w.sessions kept_sessions s later_s before after same stands has.with_sessions
 
-  stands_in : (o : Option ℕ) → IsReached o s later_s ws.items old new before after → sessions.IsIn (record { store = reached o ws; sessions = w.sessions }) kept_sessions later_s after × ((reached o ws).header.id ≡ w.id)
+  pub stands_in : (o : Option ℕ) → IsReached o s later_s ws.items old new before after → sessions.IsIn (record { store = reached o ws; sessions = w.sessions }) kept_sessions later_s after × ((reached o ws).header.id ≡ w.id)
   stands_in None r = (stands_with None refl (record { header = header ∙ has.stands.header; end = ap (λ (x : Opened). x.at.end) r.store_is ∙ has.stands.end; open_on = r.open_on }), has.own)
   stands_in (Some moment) r = (
     stands_with (Some moment) (txns_no_more ws.items moment) (record {
@@ -323,7 +318,7 @@ module _ (now : ℕ) (s later_s : Opened) (old new : State) (before after : List
       timely = subst (λ (e : Option AuditFail). IfErr result (EndsTimely e)) (sym (ap (λ (o : Option statements.World). early_over o now) has.is)) (subst (λ (e : Option AuditFail). IfErr result (EndsTimely e)) early_is (ends_timely sealed_text (tail_of s) s.at.is_closed now r result answer early));
     }
 
-told_known : {A : Type 0} (o n : Option A) (P Q : A → A → Type 0) → WhereTold o n P → ((b a : A) → o ≡ Some b → n ≡ Some a → P b a → Q b a) → WhereTold o n Q
+pub told_known : {A : Type 0} (o n : Option A) (P Q : A → A → Type 0) → WhereTold o n P → ((b a : A) → o ≡ Some b → n ≡ Some a → P b a → Q b a) → WhereTold o n Q
 told_known (Some b) (Some a) P Q told f = f b a refl refl told
 told_known (Some b) None P Q told f = tt
 told_known None n P Q told f = tt

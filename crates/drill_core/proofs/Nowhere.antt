@@ -16,6 +16,8 @@ use Rattle.drill_core.specs.declared.fail.LineFail.{LineFail}
 use Rattle.drill_core.specs.declared.fail.LineFail.TheVariants as fails
 use Rattle.drill_core.specs.World.{World, IsIn, StoreIsIn}
 use Rattle.drill_core.specs.Answers.{refusal}
+use Rattle.drill_core.specs.Alone.{NotarizesIn, StepsAlone}
+use Rattle.drill_core.specs.Growing.{GrowsFor}
 use Rattle.drill_core.specs.Faults.{early_of}
 use Rattle.drill_core.specs.Parts.{no_store}
 use Rattle.drill_core.specs.Unheld.{NeedsStore}
@@ -27,6 +29,7 @@ use Rattle.drill_core.proofs.Between.{kept_between}
 use Rattle.drill_core.proofs.CallsTold.{calls_none}
 use Rattle.drill_core.proofs.Faults.{ends_wanting, ends_wanting_early}
 use Rattle.drill_core.proofs.LineKinds.{none_found, GoesToTables, goes_to_tables, notarize_step, notarize_none}
+use Rattle.drill_core.proofs.Growing.{grows_left}
 use Rattle.drill_core.proofs.Left.{left}
 use Rattle.drill_core.proofs.Validating.{replies_as, given}
 
@@ -42,6 +45,7 @@ record Refuses (w : World) (now : ℕ) (line : Line) : Type 0 where
   pub may : MayFind w line none_found
   pub step_is : step w line now none_found ≡ has_no_store w
   pub calls : notary_calls w line now none_found ≡ []
+  pub alone : StepsAlone w line now (has_no_store w)
 
 module _ (w : World) (now : ℕ) (none : w.store ≡ None) where
   on_no_tables : (line : Line) → GoesToTables line → Refuses w now line
@@ -49,10 +53,11 @@ module _ (w : World) (now : ℕ) (none : w.store ≡ None) where
     may = goes.may w none_found;
     step_is = goes.steps w now none_found ∙ ap (λ (o : Option statements.World). on_tables w o line now) none;
     calls = goes.calls w now none_found;
+    alone = goes.alone w now (has_no_store w) (sym (ap (λ (o : Option statements.World). on_tables w o line now) none));
   }
 
   refuses_stmt : (stmt : Stmt) → NeedsStore (lines.Plain stmt) → Refuses w now (lines.Plain stmt)
-  refuses_stmt stmts.Notarize needs = record { may = tt; step_is = notarize_step w now ∙ ap (λ (o : Option statements.World). notarized w o now) none; calls = notarize_none w now none }
+  refuses_stmt stmts.Notarize needs = record { may = tt; step_is = notarize_step w now ∙ ap (λ (o : Option statements.World). notarized w o now) none; calls = notarize_none w now none; alone = subst (λ (o : Option statements.World). NotarizesIn w o now (has_no_store w)) (sym none) refl }
   refuses_stmt stmts.Validate needs = absurd needs
   refuses_stmt (stmts.Analyse algorithm) needs = absurd needs
   refuses_stmt (stmts.Create table columns) needs = on_no_tables (lines.Plain (stmts.Create table columns)) (goes_to_tables (lines.Plain (stmts.Create table columns)) tt)
@@ -93,3 +98,10 @@ nowhere line needs id now old only_now filed result reply only_memory =
       only = ends_wanting ((step w line now none_found).world.store ≢ w.store) (line_kind line) result only_memory;
       timely = ends_wanting_early (early_of w line now) result only_memory;
     }))
+
+-- the same of the store alone
+pub grows_nowhere : (line : Line) → NeedsStore line → (id now : ℕ) (old : State) → ((c : List ℕ) → old.was_image (turn old) c → old.is_image c) → (result : Result Answered LineFail)
+    → IfOk result (λ answered. answered ≡ refusal (codes "NotAStore")) → GrowsFor line now result (no_store id) (no_store id) old old
+grows_nowhere line needs id now old only_now result reply = grows_left line now result old old (unchanged_same old) only_now (no_store id) (λ w bytes i.
+    let r = refuses w now (has_none w id bytes w.lists i) line needs in
+    record { next = has_no_store w; stays = refl; allowed = r.alone; reply = replies_as (has_no_store w) (refusal (codes "NotAStore")) result refl refl reply })

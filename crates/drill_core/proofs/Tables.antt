@@ -38,6 +38,7 @@ use Rattle.drill_core.specs.Found.{Found}
 use Rattle.drill_core.specs.LineCalls.{items_added, appends, end_of_store, notary_calls}
 use Rattle.drill_core.specs.CallsMade.{MakesOfDisk, MakesOfNotary, MakesLineCalls}
 use Rattle.drill_core.specs.Faults.{IsOfStoring, MayEndIn, early_of}
+use Rattle.drill_core.specs.Growing.{GrowsFor}
 use Rattle.drill_core.specs.Parts.{alone, StepsBeside}
 use Rattle.drill_core.specs.Steps.{Step, on_tables, after_statement}
 use Rattle.drill_core.specs.Stepping.{Goes, Steps}
@@ -174,3 +175,20 @@ module _ (kept later_kept : Machine) (s later : Opened) (header : later.header �
 
     pub beside : WhereTold old.reads new.reads (StepsTo line now r kept later_kept s later old new) → StepsBeside line now result (alone kept s) (alone later_kept later) old new
     beside told filed = told_map old.reads new.reads _ _ told (λ b a does. told_same filed.lists filed.lists _ refl (λ lists w i limits. steps filed w lists b a i does))
+
+    -- the same of the store alone
+    pub grows_beside : WhereTold old.reads new.reads (StepsTo line now r kept later_kept s later old new) → GrowsFor line now result (alone kept s) (alone later_kept later) old new
+    grows_beside told = told_map old.reads new.reads _ _ told (λ b a does w i.
+        let has = has_store w kept s b w.lists i in
+        let before : sessions.World = record { store = has.world; sessions = w.sessions } in
+        let next = session_steps.step before line now in
+        let g = goes w w.lists b a i has next r result (does before has.with_sessions) answers in
+        record {
+          next = after_statement w next;
+          allowed = (goes_to_tables line on).alone w now (after_statement w next) (sym (ap (λ (o : Option statements.World). on_tables w o line now) has.is));
+          reply = g.reply;
+          stands = g.stands;
+          settled = g.settled;
+          images = g.images;
+          kept = g.kept;
+        })

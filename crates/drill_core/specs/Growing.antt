@@ -1,32 +1,33 @@
 -- What a line does to the store alone, whatever the notary tells.
-use Rattle.std.specs.Prelude.{◌≡◌, ℕ, List, Result, OnOk, IfOk}
+use Rattle.std.specs.Prelude.{ℕ, List, Result, OnOk, IfOk}
 use Rattle.outside_words.specs.Told.{WhereTold}
 use Rattle.disk_words.specs.Disk as disks
 use Rattle.disk_model.specs.Moments.{EveryImage}
-use Rattle.history_model.specs.Stored.{stored}
+use Rattle.stmt_text.specs.declared.line.Line.{Line}
 use Rattle.drill_core.specs.declared.answered.Answered.{Answered}
 use Rattle.drill_core.specs.declared.fail.LineFail.{LineFail}
-use Rattle.drill_core.specs.World.{Held, StandsFor}
-use Rattle.drill_core.specs.Acknowledged.{HasTxn, StoresMore, ok_text}
+use Rattle.drill_core.specs.World.{World, Held, IsIn, StoresEither}
+use Rattle.drill_core.specs.Steps.{Step}
+use Rattle.drill_core.specs.Stepping.{IsReply}
+use Rattle.drill_core.specs.Alone.{StepsAlone}
 
--- Over bytes that a machine stands for, by an answer of this text: what is stored stays, and what is acknowledged is stored.
-pub record Grows {A : Type 0} (text_of : A → List ℕ) (result : Result A LineFail) (later : Held) (old new : disks.State) (before after : List ℕ) : Type 0 where
-  -- the machine stands for the new bytes
-  pub stands : OnOk result (StandsFor later after)
+-- a machine over these bytes stands for this world, whatever the notary holds
+abbrev pub StandsAs : World → Held → List ℕ → Type 0
+StandsAs w held bytes = IsIn w held bytes w.lists
+
+-- On the way from a world to a next one that the store alone allows: what is replied, where the machine stands then, and the
+-- store.
+pub record Grows (line : Line) (now : ℕ) (w : World) (result : Result Answered LineFail) (later : Held) (old new : disks.State) (before after : List ℕ) : Type 0 where
+  pub next : Step
+  pub allowed : StepsAlone w line now next
+  pub reply : IfOk result (IsReply next)
+  pub stands : OnOk result (StandsAs next.world later after)
   pub settled : disks.Only before old → OnOk result (disks.Only after new)
-  -- a crash at any moment leaves all items, and perhaps more
-  pub images : disks.Only before old → EveryImage old new (StoresMore (stored before).items)
+  -- a crash at any moment leaves the store of one of the two
+  pub images : disks.Only before old → EveryImage old new (StoresEither w next.world)
   -- whatever was answered
-  pub kept : disks.Only before old → StoresMore (stored before).items after
-  -- a transaction of which `ok N` is replied is stored, by its number
-  pub acknowledged : IfOk result (λ a. (digits : List ℕ) → text_of a ≡ ok_text digits → HasTxn digits (stored after).items)
+  pub kept : disks.Only before old → StoresEither w next.world after
 
--- where the disk tells its bytes
-abbrev pub GrowsBy : {A : Type 0} → (A → List ℕ) → Result A LineFail → Held → Held → disks.State → disks.State → Type 0
-GrowsBy text_of result held later old new = WhereTold old.reads new.reads (λ before after. StandsFor held before → Grows text_of result later old new before after)
-
-abbrev pub text_in : Answered → List ℕ
-text_in answered = answered.text
-
-abbrev pub GrowsFor : Result Answered LineFail → Held → Held → disks.State → disks.State → Type 0
-GrowsFor result held later old new = GrowsBy text_in result held later old new
+-- whatever world the machine stands for, where the disk tells its bytes
+abbrev pub GrowsFor : Line → ℕ → Result Answered LineFail → Held → Held → disks.State → disks.State → Type 0
+GrowsFor line now result held later old new = WhereTold old.reads new.reads (λ before after. (w : World) → StandsAs w held before → Grows line now w result later old new before after)

@@ -11,4 +11,5 @@ pub mod Reported
 pub mod Unheld
 pub mod Laws
 pub mod Acknowledged
+pub mod Alone
 pub mod Growing

@@ -81,10 +81,14 @@ filed_for w = w.lists.batches w.id
 abbrev pub filed : World → List Batch → World
 filed w batches = with_lists w (with_batches w.id (take (fitting (room_in w.limits w.lists) batches) batches) w.lists)
 
--- how many tiles are sealed, or that there was no room for all
+-- how many tiles are sealed
+abbrev pub sealed_text : ℕ → List ℕ
+sealed_text tiles = numbered (codes "sealed ") tiles
+
+-- or that there was no room for all
 abbrev pub all_filed : World → World → List Batch → ℕ → Step
 all_filed w new batches tiles =
-    if fitting (room_in w.limits w.lists) batches == length batches then says new (numbered (codes "sealed ") tiles)
+    if fitting (room_in w.limits w.lists) batches == length batches then says new (sealed_text tiles)
     else refuses new (refusal_text fails.Full)
 
 -- what a notarization is to do

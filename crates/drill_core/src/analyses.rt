@@ -65,7 +65,7 @@ pub(crate) fn answer_analysis<D: Disk, N: Notary>(
 ) -> Result<Answered, LineFail>
     ensures report { TellsReport id (algorithm_of algorithm) now result
         (desk (D.state disk.old) (N.state notary.old)) (desk (D.state disk.new) (N.state notary.new)) }
-    ensures grows { (held : Held) → GrowsFor result held held (D.state disk.old) (D.state disk.new) }
+    ensures grows { (held : Held) → held.id ≡ id → GrowsFor (lines.Plain (stmts.Analyse algorithm)) now result held held (D.state disk.old) (D.state disk.new) }
     ensures told { StepsWithout (lines.Plain (stmts.Analyse algorithm)) now result id
         (D.state disk.old) (D.state disk.new) (N.state notary.old) (N.state notary.new) }
     ensures sound { KeepsSound (λ before. ⊤)

@@ -55,7 +55,7 @@ pub(crate) fn answer_notarization<D: Disk, N: Notary>(
     requires open { store.old.at.is_closed ≡ false }
     ensures open { OnOk result (store.new.at.is_closed ≡ false) }
     ensures header { store.new.header ≡ store.old.header }
-    ensures grows { (kept : Machine) → GrowsFor result (alone kept store.old) (alone kept store.new) (D.state disk.old) (D.state disk.new) }
+    ensures grows { (kept : Machine) → GrowsFor (lines.Plain stmts.Notarize) now result (alone kept store.old) (alone kept store.new) (D.state disk.old) (D.state disk.new) }
     ensures told { (kept : Machine) → StepsFor (lines.Plain stmts.Notarize) now result (alone kept store.old) (alone kept store.new)
         (desk (D.state disk.old) (N.state notary.old)) (desk (D.state disk.new) (N.state notary.new)) }
     ensures sound { KeepsSound (λ before. (items : List Item) × IsOpenOn store.old items before)
@@ -82,7 +82,7 @@ pub(crate) fn answer_validation<D: Disk, N: Notary>(
     now: u64,
 ) -> Result<Answered, LineFail>
     ensures bytes { GoesByBytes id now result (D.state disk.old) (D.state disk.new) (N.state notary.old) (N.state notary.new) }
-    ensures grows { (held : Held) → GrowsFor result held held (D.state disk.old) (D.state disk.new) }
+    ensures grows { (held : Held) → GrowsFor (lines.Plain stmts.Validate) now result held held (D.state disk.old) (D.state disk.new) }
     ensures told { StepsWithout (lines.Plain stmts.Validate) now result id
         (D.state disk.old) (D.state disk.new) (N.state notary.old) (N.state notary.new) }
     ensures sound { KeepsSound (λ before. ⊤)

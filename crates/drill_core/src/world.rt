@@ -108,7 +108,7 @@ impl World {
             (desk (D.state disk.old) (N.state notary.old)) (desk (D.state disk.new) (N.state notary.new)) }
         ensures unasked { IsStatementLine line.now → N.state notary.new ≡ N.state notary.old }
         ensures only { IfErr result (MayEndIn (line_kind line.now) ⊤) }
-        ensures grows { GrowsFor result self.old self.new (D.state disk.old) (D.state disk.new) }
+        ensures grows { GrowsFor line.now now result self.old self.new (D.state disk.old) (D.state disk.new) }
         ensures told { StepsFor line.now now result self.old self.new
             (desk (D.state disk.old) (N.state notary.old)) (desk (D.state disk.new) (N.state notary.new)) }
         ensures sound { KeepsSound (StandsFor self.old)

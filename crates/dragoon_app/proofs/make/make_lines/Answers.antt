@@ -5,11 +5,13 @@ use Rattle.notary_link.proofs.Frame as notary_frames
 use Rattle.line_input.specs.Lines.{lines_of}
 use Rattle.dragoon_app.proofs.CarriedLines.{clock_then}
 use Rattle.dragoon_app.proofs.MadeLines.{IsMaking, begins, goes_on, under_way, all_made, sound_all, sound_under_way, no_lines}
-use Rattle.dragoon_app.proofs.Growing.{made_first, made_more, made_failed, made_all}
+use Rattle.dragoon_app.specs.Devices.{site}
+use Rattle.dragoon_app.proofs.GrownLines.{MadeFrom}
+use Rattle.dragoon_app.proofs.RunGrowing.{made_first, made_more, made_failed, made_all}
 use Rattle.dragoon_app.proofs.make.make_lines.Goals as goal
 
 pub lines-init : goal.lines-init
-lines-init g c = record { making = begins c.args.runner.now (g.D.Disk.state c.args.disk.now) (g.N.Notary.state c.args.notary.now) (g.C.Clock.state c.args.clock.now) (lines_of c.args.text.now) c.new-first.result c.new-second.result (g.met.D.Disk.only_now c.args.disk.now) c.requires.scripted c.new-first.ensures.value c.new-second.ensures.value; grows = made_first c.args.runner.now (g.D.Disk.state c.args.disk.now) (g.met.D.Disk.only_now c.args.disk.now) }
+lines-init g c = record { making = begins c.args.runner.now (g.D.Disk.state c.args.disk.now) (g.N.Notary.state c.args.notary.now) (g.C.Clock.state c.args.clock.now) (lines_of c.args.text.now) c.new-first.result c.new-second.result (g.met.D.Disk.only_now c.args.disk.now) c.requires.scripted c.new-first.ensures.value c.new-second.ensures.value; grows = made_first c.args.runner.now (site (g.D.Disk.state c.args.disk.now) (g.N.Notary.state c.args.notary.now) (g.C.Clock.state c.args.clock.now)) (lines_of c.args.text.now) (g.met.D.Disk.only_now c.args.disk.now) }
 
 pub lines-preserved : goal.lines-preserved
 lines-preserved g c =
@@ -17,11 +19,13 @@ lines-preserved g c =
     let N = g.N.Notary.state in
     let C = g.C.Clock.state in
     let going = subst (λ (ls : List (List ℕ)). IsMaking c.args.runner.now c.lines.runner (D c.args.disk.now) (D c.lines.disk) (N c.args.notary.now) (N c.lines.notary) (C c.args.clock.now) (C c.lines.clock) (lines_of c.args.text.now) ls c.lines.first c.lines.second) c.first_line.ensures.value c.lines.invariant.making in
+    let grown = subst (λ (ls : List (List ℕ)). MadeFrom c.args.runner.now c.lines.runner (site (D c.args.disk.now) (N c.args.notary.now) (C c.args.clock.now)) (site (D c.lines.disk) (N c.lines.notary) (C c.lines.clock)) (lines_of c.args.text.now) ls) c.first_line.ensures.value c.lines.invariant.grows in
     record {
       making = goes_on c.args.runner.now c.lines.runner c.reply.new.self (D c.args.disk.now) (D c.lines.disk) (D c.reply.new.disk) (N c.args.notary.now) (N c.lines.notary) (N c.reply.new.notary) (C c.args.clock.now) (C c.lines.clock) (C c.reply.new.clock)
           (lines_of c.args.text.now) (lines_of c.first_line.result.1.now) c.first_line.result.0.now c.lines.first c.lines.second c.in_ok-reply.reply going
           c.in_ok-reply.ensures.told c.reply.ensures.scripted c.reply.ensures.disk_frame c.reply.ensures.notary_frame c.reply.ensures.clock_frame;
-      grows = made_more c.args.runner.now c.lines.runner c.reply.new.self (D c.args.disk.now) (D c.lines.disk) (D c.reply.new.disk) c.lines.invariant.making.disk_frame.told c.first_line.result.0.now c.in_ok-reply.reply c.lines.invariant.grows c.in_ok-reply.ensures.grows;
+      grows = made_more c.args.runner.now c.lines.runner c.reply.new.self (site (D c.args.disk.now) (N c.args.notary.now) (C c.args.clock.now)) (site (D c.lines.disk) (N c.lines.notary) (C c.lines.clock)) (site (D c.reply.new.disk) (N c.reply.new.notary) (C c.reply.new.clock))
+          c.lines.invariant.making.scripted c.lines.invariant.making.disk_frame.told c.lines.invariant.making.clock_frame.told (lines_of c.args.text.now) (lines_of c.first_line.result.1.now) c.first_line.result.0.now grown c.in_ok-reply.reply c.in_ok-reply.ensures.grows;
     }
 
 pub returns-in_err-reply-clause-told : goal.returns-in_err-reply-clause-told
@@ -79,8 +83,13 @@ lines-smaller g c = c.first_line.ensures.less
 pub returns-in_err-reply-clause-grows : goal.returns-in_err-reply-clause-grows
 returns-in_err-reply-clause-grows g c =
     let D = g.D.Disk.state in
-    let fail = c.in_err-reply.field-0.0 in
-    made_failed c.args.runner.now c.lines.runner c.reply.new.self (D c.args.disk.now) (D c.lines.disk) (D c.reply.new.disk) c.lines.invariant.making.disk_frame.told fail c.lines.invariant.grows c.in_err-reply.ensures.grows
+    let N = g.N.Notary.state in
+    let C = g.C.Clock.state in
+    let grown = subst (λ (ls : List (List ℕ)). MadeFrom c.args.runner.now c.lines.runner (site (D c.args.disk.now) (N c.args.notary.now) (C c.args.clock.now)) (site (D c.lines.disk) (N c.lines.notary) (C c.lines.clock)) (lines_of c.args.text.now) ls) c.first_line.ensures.value c.lines.invariant.grows in
+    made_failed c.args.runner.now c.lines.runner c.reply.new.self (site (D c.args.disk.now) (N c.args.notary.now) (C c.args.clock.now)) (site (D c.lines.disk) (N c.lines.notary) (C c.lines.clock)) (site (D c.reply.new.disk) (N c.reply.new.notary) (C c.reply.new.clock))
+    c.lines.invariant.making.scripted c.lines.invariant.making.disk_frame.told c.lines.invariant.making.clock_frame.told (lines_of c.args.text.now) (lines_of c.first_line.result.1.now) c.first_line.result.0.now grown
+    c.in_err-reply.field-0.0 c.args.text.now refl (g.met.D.Disk.counts_now c.reply.new.disk) c.in_err-reply.ensures.grows
 
 pub returns-clause-grows : goal.returns-clause-grows
-returns-clause-grows g c = made_all c.args.runner.now c.lines.runner (g.D.Disk.state c.args.disk.now) (g.D.Disk.state c.lines.disk) c.lines.invariant.grows
+returns-clause-grows g c = made_all c.args.runner.now c.lines.runner (site (g.D.Disk.state c.args.disk.now) (g.N.Notary.state c.args.notary.now) (g.C.Clock.state c.args.clock.now)) (site (g.D.Disk.state c.lines.disk) (g.N.Notary.state c.lines.notary) (g.C.Clock.state c.lines.clock))
+    (lines_of c.lines.rest.now) c.args.text.now c.lines.invariant.making.clock_frame.told c.lines.invariant.grows

@@ -5,11 +5,11 @@ use Rattle.outside_io.specs.Sink as sinks
 use Rattle.outside_io.proofs.Frame as sink_frames
 use Rattle.outside_io.proofs.Out.{out_then, out_but_end}
 use Rattle.dragoon_app.specs.Devices.{site, devices}
-use Rattle.dragoon_app.specs.Carrying.{RepliesFrom, of_input, of_output, of_line}
+use Rattle.dragoon_app.specs.Carrying.{RepliesFrom, ReplyGrowsFrom, of_input, of_output, of_line}
 use Rattle.dragoon_app.proofs.Ended.{front_out, none_out, out_more}
 use Rattle.dragoon_app.proofs.Nothing.{nothing}
 use Rattle.dragoon_app.proofs.Faults.{uses_input, uses_output}
-use Rattle.dragoon_app.proofs.CarriedLines.{begins, goes_on, goes_no_further, between, under_way, ended, reads_failed, reads_unwritten, written_failed, written_front}
+use Rattle.dragoon_app.proofs.CarriedLines.{clock_then, source_then, begins, goes_on, goes_no_further, between, under_way, ended, reads_failed, reads_unwritten, written_failed, written_front}
 use Rattle.dragoon_app.proofs.RunGrowing.{run_first, run_more, run_between, run_failed, run_unwritten, written_input}
 use Rattle.dragoon_app.proofs.run.carry_lines.Goals as goal
 
@@ -18,7 +18,7 @@ lines-init g c = record {
   going = begins c.args.runner.now (g.D.Disk.state c.args.disk.now) (g.N.Notary.state c.args.notary.now) (g.C.Clock.state c.args.clock.now) (g.I.Source.state c.args.input.now) c.new-reader.result (g.O.Sink.state c.args.out.now) (g.met.D.Disk.only_now c.args.disk.now) c.new-reader.ensures.fresh;
   out_frame = sink_frames.goes_on_same _;
   out_grows = none_out (g.O.Sink.state c.args.out.now) (g.O.Sink.state c.args.out.now) refl;
-  grows = run_first c.args.runner.now (g.D.Disk.state c.args.disk.now) (g.I.Source.state c.args.input.now) c.new-reader.result (g.O.Sink.state c.args.out.now) (g.met.D.Disk.only_now c.args.disk.now) c.new-reader.ensures.fresh;
+  grows = run_first c.args.runner.now (site (g.D.Disk.state c.args.disk.now) (g.N.Notary.state c.args.notary.now) (g.C.Clock.state c.args.clock.now)) (g.I.Source.state c.args.input.now) c.new-reader.result (g.O.Sink.state c.args.out.now) (g.met.D.Disk.only_now c.args.disk.now) c.new-reader.ensures.fresh;
 }
 
 pub lines-smaller : goal.lines-smaller
@@ -35,6 +35,7 @@ lines-preserved g c =
     let O = g.O.Sink.state in
     let text = c.in_ok-text.text in
     let replies = subst (λ (l : List ℕ). RepliesFrom l (Ok text) c.lines.runner c.reply.new.self (site (D c.lines.disk) (N c.lines.notary) (C c.lines.clock)) (site (D c.reply.new.disk) (N c.reply.new.notary) (C c.reply.new.clock))) c.line.ensures.value c.in_ok-text.ensures.told in
+    let grows = subst (λ (l : List ℕ). ReplyGrowsFrom l (Ok text) c.lines.runner c.reply.new.self (site (D c.lines.disk) (N c.lines.notary) (C c.lines.clock)) (site (D c.reply.new.disk) (N c.reply.new.notary) (C c.reply.new.clock))) c.line.ensures.value c.in_ok-text.ensures.grows in
     let wrote : sinks.IsOut text (O c.lines.out) (O c.write_whole.new.out) = subst (λ (l : List ℕ). sinks.IsOut l (O c.lines.out) (O c.write_whole.new.out)) c.as_slice.ensures.value c.in_ok-write_whole.ensures.ok in
     record {
       going = goes_on c.args.runner.now c.lines.runner c.reply.new.self (D c.args.disk.now) (D c.lines.disk) (D c.reply.new.disk) (N c.args.notary.now) (N c.lines.notary) (N c.reply.new.notary) (C c.args.clock.now) (C c.lines.clock) (C c.reply.new.clock) (I c.args.input.now) (I c.lines.input) (I c.read_line.new.input) c.lines.reader c.read_line.new.self text
@@ -44,8 +45,10 @@ lines-preserved g c =
           (λ before xs out. out_then xs text (O c.args.out.now) (O c.lines.out) (O c.write_whole.new.out) out wrote);
       out_frame = sink_frames.goes_on_then (O c.args.out.now) (O c.lines.out) (O c.write_whole.new.out) c.lines.invariant.out_frame c.write_whole.ensures.frame;
       out_grows = out_more (O c.args.out.now) (O c.lines.out) (O c.write_whole.new.out) c.lines.invariant.out_grows (text, wrote);
-      grows = run_more c.args.runner.now c.lines.runner c.reply.new.self (D c.args.disk.now) (D c.lines.disk) (D c.reply.new.disk) c.lines.invariant.going.disk_frame.told (I c.args.input.now) (I c.lines.input) (I c.read_line.new.input) c.lines.invariant.going.input_frame.told c.lines.reader c.read_line.new.self
-          (rw c.if-branch.true at c.in_ok-read_line.ensures.told) c.read_line.ensures.feedless c.read_line.ensures.taken (O c.args.out.now) (O c.lines.out) c.lines.invariant.grows text (O c.write_whole.new.out) c.in_ok-text.ensures.grows wrote;
+      grows = run_more c.args.runner.now c.lines.runner c.reply.new.self (site (D c.args.disk.now) (N c.args.notary.now) (C c.args.clock.now)) (site (D c.lines.disk) (N c.lines.notary) (C c.lines.clock)) (site (D c.reply.new.disk) (N c.reply.new.notary) (C c.reply.new.clock))
+          c.lines.invariant.going.scripted c.lines.invariant.going.disk_frame.told c.lines.invariant.going.clock_frame.told (I c.args.input.now) (I c.lines.input) (I c.read_line.new.input) c.lines.invariant.going.input_frame.told c.lines.reader c.read_line.new.self
+          (rw c.if-branch.true at c.in_ok-read_line.ensures.told) c.read_line.ensures.feedless c.read_line.ensures.taken (λ xs. sinks.IsOut xs (O c.args.out.now) (O c.lines.out)) c.lines.invariant.grows
+          text (λ xs. sinks.IsOut xs (O c.args.out.now) (O c.write_whole.new.out)) grows (λ xs out. out_then xs text (O c.args.out.now) (O c.lines.out) (O c.write_whole.new.out) out wrote);
     }
 
 pub returns-in_err-read_line-clause-told : goal.returns-in_err-read_line-clause-told
@@ -118,35 +121,52 @@ returns-in_err-write_whole-clause-notary_frame g c = notary_frames.goes_on_then 
 
 pub returns-in_err-read_line-clause-grows : goal.returns-in_err-read_line-clause-grows
 returns-in_err-read_line-clause-grows g c =
+    let D = g.D.Disk.state in
+    let N = g.N.Notary.state in
+    let C = g.C.Clock.state in
+    let I = g.I.Source.state in
+    let O = g.O.Sink.state in
     let fail = c.in_err-read_line.field-0.0 in
     let same : c.from_residual.result ≡ Err (of_input fail) = search rules in
-    rw same (run_between c.args.runner.now c.lines.runner (devices (g.D.Disk.state c.args.disk.now) (g.N.Notary.state c.args.notary.now) (g.C.Clock.state c.args.clock.now) (g.I.Source.state c.args.input.now) (g.O.Sink.state c.args.out.now))
-    (devices (g.D.Disk.state c.lines.disk) (g.N.Notary.state c.lines.notary) (g.C.Clock.state c.lines.clock) (g.I.Source.state c.read_line.new.input) (g.O.Sink.state c.lines.out))
-    (g.I.Source.state c.lines.input) c.lines.reader c.lines.invariant.going.input_frame.told (g.O.Sink.state c.lines.out) c.lines.invariant.grows (Err (of_input fail)) (λ text is. written_input fail text (g.O.Sink.state c.args.out.now) (g.O.Sink.state c.lines.out) is))
+    rw same (run_between c.args.runner.now c.lines.runner (devices (D c.args.disk.now) (N c.args.notary.now) (C c.args.clock.now) (I c.args.input.now) (O c.args.out.now)) (devices (D c.lines.disk) (N c.lines.notary) (C c.lines.clock) (I c.read_line.new.input) (O c.lines.out))
+    (I c.lines.input) c.lines.reader c.lines.invariant.going.input_frame.told c.lines.invariant.going.clock_frame.told (λ xs. sinks.IsOut xs (O c.args.out.now) (O c.lines.out)) c.lines.invariant.grows (Err (of_input fail)) (λ text is. written_input fail text (O c.args.out.now) (O c.lines.out) is))
 
 pub returns-in_err-text-clause-grows : goal.returns-in_err-text-clause-grows
 returns-in_err-text-clause-grows g c =
+    let D = g.D.Disk.state in
+    let N = g.N.Notary.state in
+    let C = g.C.Clock.state in
+    let I = g.I.Source.state in
+    let O = g.O.Sink.state in
     let fail = c.in_err-text.field-0.0 in
     let same : c.from_residual-in_err-text.result ≡ Err (of_line fail) = search rules in
-    rw same (run_failed c.args.runner.now c.lines.runner c.reply.new.self (devices (g.D.Disk.state c.args.disk.now) (g.N.Notary.state c.args.notary.now) (g.C.Clock.state c.args.clock.now) (g.I.Source.state c.args.input.now) (g.O.Sink.state c.args.out.now))
-    (devices (g.D.Disk.state c.reply.new.disk) (g.N.Notary.state c.reply.new.notary) (g.C.Clock.state c.reply.new.clock) (g.I.Source.state c.read_line.new.input) (g.O.Sink.state c.lines.out))
-    (g.D.Disk.state c.lines.disk) c.lines.invariant.going.disk_frame.told (g.I.Source.state c.lines.input) c.lines.invariant.going.input_frame.told c.lines.reader (g.O.Sink.state c.lines.out) c.lines.invariant.grows fail (g.met.D.Disk.counts_now c.reply.new.disk) c.in_err-text.ensures.grows refl)
+    let grows = subst (λ (l : List ℕ). ReplyGrowsFrom l (Err fail) c.lines.runner c.reply.new.self (site (D c.lines.disk) (N c.lines.notary) (C c.lines.clock)) (site (D c.reply.new.disk) (N c.reply.new.notary) (C c.reply.new.clock))) c.line.ensures.value c.in_err-text.ensures.grows in
+    rw same (run_failed c.args.runner.now c.lines.runner c.reply.new.self (devices (D c.args.disk.now) (N c.args.notary.now) (C c.args.clock.now) (I c.args.input.now) (O c.args.out.now)) (devices (D c.reply.new.disk) (N c.reply.new.notary) (C c.reply.new.clock) (I c.read_line.new.input) (O c.lines.out))
+    (site (D c.lines.disk) (N c.lines.notary) (C c.lines.clock)) c.lines.invariant.going.scripted c.lines.invariant.going.disk_frame.told c.lines.invariant.going.clock_frame.told (I c.lines.input) c.lines.invariant.going.input_frame.told c.lines.reader c.read_line.new.self
+    (rw c.if-branch.true at c.in_ok-read_line.ensures.told) c.read_line.ensures.feedless c.read_line.ensures.taken (O c.lines.out) c.lines.invariant.grows fail (g.met.D.Disk.counts_now c.reply.new.disk) grows refl)
 
 pub returns-in_err-write_whole-clause-grows : goal.returns-in_err-write_whole-clause-grows
 returns-in_err-write_whole-clause-grows g c =
+    let D = g.D.Disk.state in
+    let N = g.N.Notary.state in
+    let C = g.C.Clock.state in
+    let I = g.I.Source.state in
+    let O = g.O.Sink.state in
     let fail = c.in_err-write_whole.field-0.0 in
     let same : c.from_residual-in_err-write_whole.result ≡ Err (of_output fail) = search rules in
     let text = c.in_ok-text.text in
-    let wrote = subst (λ (l : List ℕ). sinks.FrontIsOut l (g.O.Sink.state c.lines.out) (g.O.Sink.state c.write_whole.new.out)) c.as_slice.ensures.value c.in_err-write_whole.ensures.err in
-    rw same (run_unwritten c.args.runner.now c.lines.runner c.reply.new.self (devices (g.D.Disk.state c.args.disk.now) (g.N.Notary.state c.args.notary.now) (g.C.Clock.state c.args.clock.now) (g.I.Source.state c.args.input.now) (g.O.Sink.state c.args.out.now))
-    (devices (g.D.Disk.state c.reply.new.disk) (g.N.Notary.state c.reply.new.notary) (g.C.Clock.state c.reply.new.clock) (g.I.Source.state c.read_line.new.input) (g.O.Sink.state c.write_whole.new.out))
-    (g.D.Disk.state c.lines.disk) c.lines.invariant.going.disk_frame.told (g.I.Source.state c.lines.input) c.lines.invariant.going.input_frame.told c.lines.reader c.read_line.new.self (g.O.Sink.state c.lines.out) c.lines.invariant.grows fail text
-    (rw c.if-branch.true at c.in_ok-read_line.ensures.told) c.read_line.ensures.feedless c.read_line.ensures.taken c.in_ok-text.ensures.grows wrote)
+    let grows = subst (λ (l : List ℕ). ReplyGrowsFrom l (Ok text) c.lines.runner c.reply.new.self (site (D c.lines.disk) (N c.lines.notary) (C c.lines.clock)) (site (D c.reply.new.disk) (N c.reply.new.notary) (C c.reply.new.clock))) c.line.ensures.value c.in_ok-text.ensures.grows in
+    let wrote = subst (λ (l : List ℕ). sinks.FrontIsOut l (O c.lines.out) (O c.write_whole.new.out)) c.as_slice.ensures.value c.in_err-write_whole.ensures.err in
+    let clock_on = clock_then _ _ _ c.lines.invariant.going.clock_frame c.reply.ensures.clock_frame in
+    let input_on = source_then _ _ _ c.lines.invariant.going.input_frame c.read_line.ensures.frame in
+    rw same (run_unwritten c.args.runner.now c.lines.runner c.reply.new.self (devices (D c.args.disk.now) (N c.args.notary.now) (C c.args.clock.now) (I c.args.input.now) (O c.args.out.now)) (devices (D c.reply.new.disk) (N c.reply.new.notary) (C c.reply.new.clock) (I c.read_line.new.input) (O c.write_whole.new.out))
+    (site (D c.lines.disk) (N c.lines.notary) (C c.lines.clock)) c.lines.invariant.going.scripted c.lines.invariant.going.disk_frame.told c.lines.invariant.going.clock_frame.told (I c.lines.input) c.lines.invariant.going.input_frame.told c.lines.reader c.read_line.new.self
+    (rw c.if-branch.true at c.in_ok-read_line.ensures.told) c.read_line.ensures.feedless c.read_line.ensures.taken (O c.lines.out) c.lines.invariant.grows fail text clock_on.told input_on.told grows wrote)
 
 pub returns-clause-grows : goal.returns-clause-grows
 returns-clause-grows g c = run_between c.args.runner.now c.lines.runner (devices (g.D.Disk.state c.args.disk.now) (g.N.Notary.state c.args.notary.now) (g.C.Clock.state c.args.clock.now) (g.I.Source.state c.args.input.now) (g.O.Sink.state c.args.out.now))
     (devices (g.D.Disk.state c.lines.disk) (g.N.Notary.state c.lines.notary) (g.C.Clock.state c.lines.clock) (g.I.Source.state c.read_line.new.input) (g.O.Sink.state c.lines.out))
-    (g.I.Source.state c.lines.input) c.lines.reader c.lines.invariant.going.input_frame.told (g.O.Sink.state c.lines.out) c.lines.invariant.grows (Ok tt) (λ text is. is)
+    (g.I.Source.state c.lines.input) c.lines.reader c.lines.invariant.going.input_frame.told c.lines.invariant.going.clock_frame.told (λ xs. sinks.IsOut xs (g.O.Sink.state c.args.out.now) (g.O.Sink.state c.lines.out)) c.lines.invariant.grows (Ok tt) (λ text is. is)
 
 pub returns-in_err-write_whole-clause-out_grows : goal.returns-in_err-write_whole-clause-out_grows
 returns-in_err-write_whole-clause-out_grows g c = out_more (g.O.Sink.state c.args.out.now) (g.O.Sink.state c.lines.out) (g.O.Sink.state c.write_whole.new.out) c.lines.invariant.out_grows (front_out _ (g.O.Sink.state c.lines.out) (g.O.Sink.state c.write_whole.new.out) c.in_err-write_whole.ensures.err)

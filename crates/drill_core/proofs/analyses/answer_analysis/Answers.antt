@@ -1,4 +1,4 @@
-use Rattle.std.proofs.Common.{subst}
+use Rattle.std.proofs.Common.{subst, sym, ◌∙◌}
 use Rattle.std.specs.Prelude.{IfErr}
 use Rattle.validator.specs.Desk.{desk}
 use Rattle.forensic_report.specs.declared.algorithm.Algorithm.{Algorithm}
@@ -6,8 +6,10 @@ use Rattle.forensic_report.specs.Finding.{IsOfAnalysis}
 use Rattle.forensic_report.specs.Reporting.{Analyses}
 use Rattle.drill_core.specs.Steps.{algorithm_of}
 use Rattle.drill_core.proofs.Analysing.{unchanged_sound, analysis_shown, analysed_without}
-use Rattle.drill_core.specs.Growing.{text_in}
-use Rattle.drill_core.proofs.Growing.{grows_left, report_else}
+use Rattle.drill_core.proofs.Alone.{analysis_leaves, begins_so}
+use Rattle.drill_core.proofs.Growing.{grows_left}
+use Rattle.stmt_text.specs.declared.stmt.Stmt.TheVariants as stmts
+use Rattle.stmt_text.specs.declared.line.Line.TheVariants as lines
 use Rattle.drill_core.proofs.analyses.answer_analysis.Goals as goal
 
 pub returns-clause-report : goal.returns-clause-report
@@ -36,8 +38,11 @@ pub returns-clause-sound : goal.returns-clause-sound
 returns-clause-sound g c = unchanged_sound _ _ _ _ c.analyse-answer.ensures.same c.analyse-answer.ensures.unchanged
 
 pub returns-clause-grows : goal.returns-clause-grows
-returns-clause-grows g c held =
+returns-clause-grows g c held own =
     let D = g.D.Disk.state in
     let N = g.N.Notary.state in
-    grows_left (D c.args.disk.now) (D c.analyse-answer.new.disk) c.analyse-answer.ensures.same (g.met.D.Disk.only_now c.args.disk.now) text_in c.answer_to.result
-    (report_else c.algorithm_of.result c.args.id c.args.now (D c.args.disk.now) (N c.args.notary.now) (N c.analyse-answer.new.notary) c.analyse-answer.result c.answer_to.result c.analyse-answer.ensures.told c.answer_to.ensures.value) held
+    let report = subst (λ (a : Algorithm). Analyses a c.args.id c.args.now (D c.args.disk.now) (N c.args.notary.now) (N c.analyse-answer.new.notary) c.analyse-answer.result) c.algorithm_of.ensures.value c.analyse-answer.ensures.told in
+    let none_other = subst (λ (a : Algorithm). IfErr c.analyse-answer.result (IsOfAnalysis a)) c.algorithm_of.ensures.value c.analyse-answer.ensures.none_other in
+    grows_left (lines.Plain (stmts.Analyse c.args.algorithm)) c.args.now c.answer_to.result (D c.args.disk.now) (D c.analyse-answer.new.disk) c.analyse-answer.ensures.same (g.met.D.Disk.only_now c.args.disk.now) held
+    (λ w bytes i. analysis_leaves w c.args.algorithm c.args.now c.analyse-answer.result c.answer_to.result c.answer_to.ensures.value
+    (begins_so w c.args.algorithm c.args.now c.args.id (sym own ∙ i.id) (D c.args.disk.now) (N c.args.notary.now) (N c.analyse-answer.new.notary) c.analyse-answer.result report) none_other)

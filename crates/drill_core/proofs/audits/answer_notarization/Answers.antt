@@ -2,7 +2,7 @@ use Rattle.std.proofs.Common.{Ok, Err, ◌∙◌}
 use Rattle.std.proofs.lemmas.Result.{err_from_is_err_and}
 use Rattle.drill_core.specs.declared.fail.LineFail.TheVariants.{NoMemory}
 use Rattle.drill_core.proofs.Notarizing.{notarization, stays_header}
-use Rattle.drill_core.proofs.Growing.{grows_notarized, sealed_else, open_behind}
+use Rattle.drill_core.proofs.Growing.{grows_notarized, open_behind}
 use Rattle.drill_core.proofs.audits.answer_notarization.Goals as goal
 
 pub returns-in_err-sealed-in-Ok-clause-told : goal.returns-in_err-sealed-in-Ok-clause-told
@@ -31,17 +31,17 @@ returns-in-Err-clause-told g c =
 pub returns-in_err-sealed-in-Ok-clause-grows : goal.returns-in_err-sealed-in-Ok-clause-grows
 returns-in_err-sealed-in-Ok-clause-grows g c kept =
     let p = err_from_is_err_and c.from_residual.result c.from_residual.ensures.1 in
-    rw (p.1, p.2) (grows_notarized c.args.store.now c.notarize.new.store c.in-Ok.ensures.open.0 (g.D.Disk.state c.args.disk.now) (g.D.Disk.state c.notarize.new.disk) kept (Err NoMemory) tt tt c.in-Ok.ensures.grows)
+    rw (p.1, p.2) (grows_notarized c.args.now c.args.store.now c.notarize.new.store c.in-Ok.ensures.open.0 c.requires.open (g.D.Disk.state c.args.disk.now) (g.D.Disk.state c.notarize.new.disk) (g.met.D.Disk.only_now c.args.disk.now) kept
+    (Ok c.in-Ok.tiles) (Err NoMemory) tt tt c.in-Ok.ensures.early (λ some. (c.in-Ok.ensures.untouched some).0) c.in-Ok.ensures.grows)
 
 pub returns-in_ok-sealed-in-Ok-clause-grows : goal.returns-in_ok-sealed-in-Ok-clause-grows
 returns-in_ok-sealed-in-Ok-clause-grows g c kept =
-    let result = c.in_ok-sealed-in-Ok.field-0 in
-    grows_notarized c.args.store.now c.notarize.new.store c.in-Ok.ensures.open.0 (g.D.Disk.state c.args.disk.now) (g.D.Disk.state c.notarize.new.disk) kept (Ok result) (c.in-Ok.ensures.open.1 ∙ c.requires.open)
-    (sealed_else (Ok c.in-Ok.tiles) (Ok result) c.in_ok-sealed-in-Ok.ensures.value) c.in-Ok.ensures.grows
+    grows_notarized c.args.now c.args.store.now c.notarize.new.store c.in-Ok.ensures.open.0 c.requires.open (g.D.Disk.state c.args.disk.now) (g.D.Disk.state c.notarize.new.disk) (g.met.D.Disk.only_now c.args.disk.now) kept
+    (Ok c.in-Ok.tiles) (Ok c.in_ok-sealed-in-Ok.field-0) c.in_ok-sealed-in-Ok.ensures.value (c.in-Ok.ensures.open.1 ∙ c.requires.open) c.in-Ok.ensures.early (λ some. (c.in-Ok.ensures.untouched some).0) c.in-Ok.ensures.grows
 
 pub returns-in-Err-clause-grows : goal.returns-in-Err-clause-grows
 returns-in-Err-clause-grows g c kept =
     let fail = c.in-Err.fail in
-    grows_notarized c.args.store.now c.notarize.new.store (stays_header (Err fail) c.args.store.now c.notarize.new.store c.in-Err.ensures.open) (g.D.Disk.state c.args.disk.now) (g.D.Disk.state c.notarize.new.disk) kept c.answer_to.result
-    (open_behind fail c.answer_to.result c.args.store.now c.notarize.new.store c.answer_to.ensures.value c.in-Err.ensures.open c.requires.open)
-    (sealed_else (Err fail) c.answer_to.result c.answer_to.ensures.value) c.in-Err.ensures.grows
+    grows_notarized c.args.now c.args.store.now c.notarize.new.store (stays_header (Err fail) c.args.store.now c.notarize.new.store c.in-Err.ensures.open) c.requires.open (g.D.Disk.state c.args.disk.now) (g.D.Disk.state c.notarize.new.disk) (g.met.D.Disk.only_now c.args.disk.now) kept
+    (Err fail) c.answer_to.result c.answer_to.ensures.value (open_behind fail c.answer_to.result c.args.store.now c.notarize.new.store c.answer_to.ensures.value c.in-Err.ensures.open c.requires.open)
+    c.in-Err.ensures.early (λ some. (c.in-Err.ensures.untouched some).0) c.in-Err.ensures.grows

@@ -2,8 +2,10 @@ use Rattle.std.proofs.Common.{Ok, Err}
 use Rattle.std.proofs.lemmas.Result.{err_from_is_err_and}
 use Rattle.drill_core.specs.declared.fail.LineFail.TheVariants.{NoMemory}
 use Rattle.drill_core.proofs.Validating.{without}
-use Rattle.drill_core.specs.Growing.{text_in}
-use Rattle.drill_core.proofs.Growing.{grows_left, verdict_else}
+use Rattle.drill_core.proofs.Alone.{validation_leaves}
+use Rattle.drill_core.proofs.Growing.{grows_left}
+use Rattle.stmt_text.specs.declared.stmt.Stmt.TheVariants as stmts
+use Rattle.stmt_text.specs.declared.line.Line.TheVariants as lines
 use Rattle.drill_core.proofs.audits.answer_validation.Goals as goal
 
 pub returns-in_err-found-in-Ok-clause-told : goal.returns-in_err-found-in-Ok-clause-told
@@ -31,13 +33,16 @@ returns-in-Err-clause-told g c =
 pub returns-in_err-found-in-Ok-clause-grows : goal.returns-in_err-found-in-Ok-clause-grows
 returns-in_err-found-in-Ok-clause-grows g c held =
     let p = err_from_is_err_and c.from_residual.result c.from_residual.ensures.1 in
-    rw (p.1, p.2) (grows_left (g.D.Disk.state c.args.disk.now) (g.D.Disk.state c.validate.new.disk) c.in-Ok.ensures.same (g.met.D.Disk.only_now c.args.disk.now) text_in (Err NoMemory) tt held)
+    rw (p.1, p.2) (grows_left (lines.Plain stmts.Validate) c.args.now (Err NoMemory) (g.D.Disk.state c.args.disk.now) (g.D.Disk.state c.validate.new.disk) c.in-Ok.ensures.same (g.met.D.Disk.only_now c.args.disk.now) held
+    (λ w bytes i. validation_leaves w c.args.now (Ok c.in-Ok.verdict) (Err NoMemory) tt tt))
 
 pub returns-in_ok-found-in-Ok-clause-grows : goal.returns-in_ok-found-in-Ok-clause-grows
 returns-in_ok-found-in-Ok-clause-grows g c held =
     let result = c.in_ok-found-in-Ok.field-0 in
-    grows_left (g.D.Disk.state c.args.disk.now) (g.D.Disk.state c.validate.new.disk) c.in-Ok.ensures.same (g.met.D.Disk.only_now c.args.disk.now) text_in (Ok result) (verdict_else (Ok c.in-Ok.verdict) (Ok result) c.in_ok-found-in-Ok.ensures.value) held
+    grows_left (lines.Plain stmts.Validate) c.args.now (Ok result) (g.D.Disk.state c.args.disk.now) (g.D.Disk.state c.validate.new.disk) c.in-Ok.ensures.same (g.met.D.Disk.only_now c.args.disk.now) held
+    (λ w bytes i. validation_leaves w c.args.now (Ok c.in-Ok.verdict) (Ok result) c.in_ok-found-in-Ok.ensures.value tt)
 
 pub returns-in-Err-clause-grows : goal.returns-in-Err-clause-grows
 returns-in-Err-clause-grows g c held =
-    grows_left (g.D.Disk.state c.args.disk.now) (g.D.Disk.state c.validate.new.disk) c.in-Err.ensures.same (g.met.D.Disk.only_now c.args.disk.now) text_in c.answer_to.result (verdict_else (Err c.in-Err.fail) c.answer_to.result c.answer_to.ensures.value) held
+    grows_left (lines.Plain stmts.Validate) c.args.now c.answer_to.result (g.D.Disk.state c.args.disk.now) (g.D.Disk.state c.validate.new.disk) c.in-Err.ensures.same (g.met.D.Disk.only_now c.args.disk.now) held
+    (λ w bytes i. validation_leaves w c.args.now (Err c.in-Err.fail) c.answer_to.result c.answer_to.ensures.value c.in-Err.ensures.none_other)

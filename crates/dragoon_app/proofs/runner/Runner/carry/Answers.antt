@@ -5,7 +5,7 @@ use Rattle.drill_core.specs.declared.fail.LineFail.TheVariants as lines
 use Rattle.stmt_text.specs.declared.kind.LineKind.TheVariants as kinds
 use Rattle.dragoon_app.specs.Running.{set_moment, refused_line}
 use Rattle.dragoon_app.proofs.Replying.{goes_by, steps_by, blank_goes, refuses_goes, sets_goes, fails_goes, moment_same, takes_for}
-use Rattle.dragoon_app.proofs.Growing.{refusal_left, wants_left, blank_left, moment_left}
+use Rattle.dragoon_app.proofs.Growing.{line_alone, line_steps, blank_alone, refuses_alone, sets_alone, fails_alone}
 use Rattle.dragoon_app.proofs.runner.Runner.carry.Goals as goal
 
 pub returns-in_err-set_moment-in-SetsMoment-clause-disk_frame : goal.returns-in_err-set_moment-in-SetsMoment-clause-disk_frame
@@ -79,20 +79,50 @@ returns-in-InWorld-clause-told g c =
     (sym c.kind.ensures.value ∙ c.in-InWorld.is) c.seconds-now.ensures.value c.step.ensures.told
 
 pub returns-in-Blank-clause-grows : goal.returns-in-Blank-clause-grows
-returns-in-Blank-clause-grows g c = blank_left c.new.result c.args.self.now (g.D.Disk.state c.args.disk.now) (g.met.D.Disk.only_now c.args.disk.now) c.new.ensures.value
+returns-in-Blank-clause-grows g c =
+    line_alone c.args.line.now (Ok c.new.result) c.args.self.now c.args.self.now (g.N.Notary.state c.args.notary.now) (g.N.Notary.state c.args.notary.now) (g.C.Clock.state c.args.clock.now) (g.C.Clock.state c.args.clock.now)
+    kinds.Blank 0 (g.D.Disk.state c.args.disk.now) (sym c.kind.ensures.value ∙ c.in-Blank.is) (λ part e. cc) refl (λ r. r) (λ found r. refl)
+    (blank_alone c.new.result c.args.self.now (g.D.Disk.state c.args.disk.now) (g.met.D.Disk.only_now c.args.disk.now) c.new.ensures.value)
+
+pub returns-in-InWorld-clause-grows : goal.returns-in-InWorld-clause-grows
+returns-in-InWorld-clause-grows g c =
+    line_steps c.args.line.now c.step.result c.args.self.now c.step.new.self (g.N.Notary.state c.args.notary.now) (g.N.Notary.state c.step.new.notary) (g.C.Clock.state c.args.clock.now) (g.C.Clock.state c.seconds-now.new.clock)
+    c.in-InWorld.part c.seconds-now.result (g.D.Disk.state c.args.disk.now) (g.D.Disk.state c.step.new.disk) (sym c.kind.ensures.value ∙ c.in-InWorld.is) c.seconds-now.ensures.value c.step.ensures.grows
 
 pub returns-in_ok-set_moment-in-SetsMoment-clause-grows : goal.returns-in_ok-set_moment-in-SetsMoment-clause-grows
-returns-in_ok-set_moment-in-SetsMoment-clause-grows g c = moment_left _ c.args.self.now.is_scripted c.in-SetsMoment.moment c.in_ok-set_moment-in-SetsMoment.field-0 c.args.self.now c.set_moment.new.self (g.D.Disk.state c.args.disk.now) (g.met.D.Disk.only_now c.args.disk.now) c.in_ok-set_moment-in-SetsMoment.ensures.value
+returns-in_ok-set_moment-in-SetsMoment-clause-grows g c =
+    let text = c.in_ok-set_moment-in-SetsMoment.field-0 in
+    let kind = kinds.SetsMoment c.in-SetsMoment.moment in
+    line_alone c.args.line.now (Ok text) c.args.self.now c.set_moment.new.self (g.N.Notary.state c.args.notary.now) (g.N.Notary.state c.args.notary.now) (g.C.Clock.state c.args.clock.now) (g.C.Clock.state c.seconds.new.clock)
+    kind c.seconds.result (g.D.Disk.state c.args.disk.now) (sym c.kind.ensures.value ∙ c.in-SetsMoment.is) (λ part e. cc)
+    (takes_for kind c.args.self.now.is_scripted c.args.self.now c.seconds.result (g.C.Clock.state c.args.clock.now) (g.C.Clock.state c.seconds.new.clock) (λ e. cc) c.seconds.ensures.value)
+    (λ r. set_moment c.args.self.now.is_scripted r c.in-SetsMoment.moment) (λ found r. refl)
+    (sets_alone c.args.self.now c.set_moment.new.self (g.D.Disk.state c.args.disk.now) (g.met.D.Disk.only_now c.args.disk.now) _ c.args.self.now.is_scripted c.in-SetsMoment.moment text c.in_ok-set_moment-in-SetsMoment.ensures.value)
 
 pub returns-in_err-set_moment-in-SetsMoment-clause-grows : goal.returns-in_err-set_moment-in-SetsMoment-clause-grows
 returns-in_err-set_moment-in-SetsMoment-clause-grows g c =
     let same : c.from_residual.result ≡ Err lines.NoMemory = search rules in
-    rw same (wants_left c.args.self.now c.set_moment.new.self (g.D.Disk.state c.args.disk.now) (g.met.D.Disk.only_now c.args.disk.now))
+    let kind = kinds.SetsMoment c.in-SetsMoment.moment in
+    rw same (line_alone c.args.line.now (Err lines.NoMemory) c.args.self.now c.set_moment.new.self (g.N.Notary.state c.args.notary.now) (g.N.Notary.state c.args.notary.now) (g.C.Clock.state c.args.clock.now) (g.C.Clock.state c.seconds.new.clock)
+    kind c.seconds.result (g.D.Disk.state c.args.disk.now) (sym c.kind.ensures.value ∙ c.in-SetsMoment.is) (λ part e. cc)
+    (takes_for kind c.args.self.now.is_scripted c.args.self.now c.seconds.result (g.C.Clock.state c.args.clock.now) (g.C.Clock.state c.seconds.new.clock) (λ e. cc) c.seconds.ensures.value)
+    (λ r. set_moment c.args.self.now.is_scripted r c.in-SetsMoment.moment) (λ found r. refl)
+    (fails_alone c.args.self.now c.set_moment.new.self (g.D.Disk.state c.args.disk.now) (g.met.D.Disk.only_now c.args.disk.now) (λ r. set_moment c.args.self.now.is_scripted r c.in-SetsMoment.moment) lines.NoMemory (moment_same c.args.self.now.is_scripted c.in-SetsMoment.moment)))
 
 pub returns-in_ok-refuse-in-OutsideScripts-clause-grows : goal.returns-in_ok-refuse-in-OutsideScripts-clause-grows
-returns-in_ok-refuse-in-OutsideScripts-clause-grows g c = refusal_left (codes "Syntax") c.in_ok-refuse-in-OutsideScripts.field-0 c.args.self.now c.refuse.new.self (g.D.Disk.state c.args.disk.now) (g.met.D.Disk.only_now c.args.disk.now) c.in_ok-refuse-in-OutsideScripts.ensures.value c.in_ok-refuse-in-OutsideScripts.ensures.change
+returns-in_ok-refuse-in-OutsideScripts-clause-grows g c =
+    let text = c.in_ok-refuse-in-OutsideScripts.field-0 in
+    line_alone c.args.line.now (Ok text) c.args.self.now c.refuse.new.self (g.N.Notary.state c.args.notary.now) (g.N.Notary.state c.args.notary.now) (g.C.Clock.state c.args.clock.now) (g.C.Clock.state c.seconds-in-OutsideScripts.new.clock)
+    kinds.OutsideScripts c.seconds-in-OutsideScripts.result (g.D.Disk.state c.args.disk.now) (sym c.kind.ensures.value ∙ c.in-OutsideScripts.is) (λ part e. cc)
+    (takes_for kinds.OutsideScripts c.args.self.now.is_scripted c.args.self.now c.seconds-in-OutsideScripts.result (g.C.Clock.state c.args.clock.now) (g.C.Clock.state c.seconds-in-OutsideScripts.new.clock) (λ e. cc) c.seconds-in-OutsideScripts.ensures.value)
+    (λ r. refused_line r (codes "Syntax")) (λ found r. refl)
+    (refuses_alone c.args.self.now c.refuse.new.self (g.D.Disk.state c.args.disk.now) (g.met.D.Disk.only_now c.args.disk.now) (codes "Syntax") text c.in_ok-refuse-in-OutsideScripts.ensures.value c.in_ok-refuse-in-OutsideScripts.ensures.change)
 
 pub returns-in_err-refuse-in-OutsideScripts-clause-grows : goal.returns-in_err-refuse-in-OutsideScripts-clause-grows
 returns-in_err-refuse-in-OutsideScripts-clause-grows g c =
     let same : c.from_residual-in_err-refuse-in-OutsideScripts.result ≡ Err lines.NoMemory = search rules in
-    rw same (wants_left c.args.self.now c.refuse.new.self (g.D.Disk.state c.args.disk.now) (g.met.D.Disk.only_now c.args.disk.now))
+    rw same (line_alone c.args.line.now (Err lines.NoMemory) c.args.self.now c.refuse.new.self (g.N.Notary.state c.args.notary.now) (g.N.Notary.state c.args.notary.now) (g.C.Clock.state c.args.clock.now) (g.C.Clock.state c.seconds-in-OutsideScripts.new.clock)
+    kinds.OutsideScripts c.seconds-in-OutsideScripts.result (g.D.Disk.state c.args.disk.now) (sym c.kind.ensures.value ∙ c.in-OutsideScripts.is) (λ part e. cc)
+    (takes_for kinds.OutsideScripts c.args.self.now.is_scripted c.args.self.now c.seconds-in-OutsideScripts.result (g.C.Clock.state c.args.clock.now) (g.C.Clock.state c.seconds-in-OutsideScripts.new.clock) (λ e. cc) c.seconds-in-OutsideScripts.ensures.value)
+    (λ r. refused_line r (codes "Syntax")) (λ found r. refl)
+    (fails_alone c.args.self.now c.refuse.new.self (g.D.Disk.state c.args.disk.now) (g.met.D.Disk.only_now c.args.disk.now) (λ r. refused_line r (codes "Syntax")) lines.NoMemory (λ r. refl)))

@@ -5,7 +5,7 @@ use Rattle.drill_core.specs.declared.fail.LineFail.TheVariants as lines
 use Rattle.stmt_text.specs.declared.error.ParseFail.TheVariants as parses
 use Rattle.dragoon_app.specs.Running.{refused_line}
 use Rattle.dragoon_app.proofs.Replying.{replies_by, replies_refused, replies_none, refuses_goes, fails_goes}
-use Rattle.dragoon_app.proofs.Growing.{refusal_left, wants_left}
+use Rattle.dragoon_app.proofs.Growing.{reply_alone, refused_alone, none_alone, refuses_alone, fails_alone}
 use Rattle.dragoon_app.proofs.runner.Runner.reply.Goals as goal
 
 pub returns-in_err-refuse-in-Err-Syntax-clause-disk_frame : goal.returns-in_err-refuse-in-Err-Syntax-clause-disk_frame
@@ -74,21 +74,38 @@ returns-in_err-refuse-in-Err-NumberTooWide-clause-told g c =
     (rw c.in-Err-NumberTooWide.field-0-is at c.in-Err-NumberTooWide.ensures.value) (λ s n r. refl) c.seconds-in-Err-NumberTooWide.ensures.value refl
     (fails_goes c.args.self.now c.refuse-in-Err-NumberTooWide.new.self (g.D.Disk.state c.args.disk.now) (g.N.Notary.state c.args.notary.now) (g.met.D.Disk.only_now c.args.disk.now) (λ r. refused_line r (codes "NumberTooWide")) lines.NoMemory (λ r. refl)))
 
+pub returns-in-Ok-clause-grows : goal.returns-in-Ok-clause-grows
+returns-in-Ok-clause-grows g c =
+    reply_alone c.args.line.now c.carry.result c.args.self.now c.carry.new.self (g.N.Notary.state c.args.notary.now) (g.N.Notary.state c.carry.new.notary) (g.C.Clock.state c.args.clock.now) (g.C.Clock.state c.carry.new.clock)
+    c.in-Ok.line (g.D.Disk.state c.args.disk.now) (g.D.Disk.state c.carry.new.disk) c.in-Ok.ensures.value c.in-Ok.ensures.spelled c.carry.ensures.grows
+
+pub returns-in-Err-NoMemory-clause-grows : goal.returns-in-Err-NoMemory-clause-grows
+returns-in-Err-NoMemory-clause-grows g c = none_alone c.args.line.now c.args.self.now c.args.self.now (g.D.Disk.state c.args.disk.now) (g.N.Notary.state c.args.notary.now) (g.C.Clock.state c.args.clock.now) (g.met.D.Disk.only_now c.args.disk.now)
+
 pub returns-in_ok-refuse-in-Err-Syntax-clause-grows : goal.returns-in_ok-refuse-in-Err-Syntax-clause-grows
-returns-in_ok-refuse-in-Err-Syntax-clause-grows g c = refusal_left (codes "Syntax") c.in_ok-refuse-in-Err-Syntax.field-0 c.args.self.now c.refuse.new.self (g.D.Disk.state c.args.disk.now) (g.met.D.Disk.only_now c.args.disk.now) c.in_ok-refuse-in-Err-Syntax.ensures.value c.in_ok-refuse-in-Err-Syntax.ensures.change
+returns-in_ok-refuse-in-Err-Syntax-clause-grows g c =
+    let text = c.in_ok-refuse-in-Err-Syntax.field-0 in
+    refused_alone c.args.line.now (Ok text) c.args.self.now c.refuse.new.self (g.N.Notary.state c.args.notary.now) (g.N.Notary.state c.args.notary.now) (g.C.Clock.state c.args.clock.now) (g.C.Clock.state c.seconds.new.clock)
+    (codes "Syntax") parses.Syntax c.seconds.result (g.D.Disk.state c.args.disk.now) (rw c.in-Err-Syntax.field-0-is at c.in-Err-Syntax.ensures.value) (λ s n f r. refl) c.seconds.ensures.value
+    (refuses_alone c.args.self.now c.refuse.new.self (g.D.Disk.state c.args.disk.now) (g.met.D.Disk.only_now c.args.disk.now) (codes "Syntax") text c.in_ok-refuse-in-Err-Syntax.ensures.value c.in_ok-refuse-in-Err-Syntax.ensures.change)
 
 pub returns-in_err-refuse-in-Err-Syntax-clause-grows : goal.returns-in_err-refuse-in-Err-Syntax-clause-grows
 returns-in_err-refuse-in-Err-Syntax-clause-grows g c =
     let same : c.from_residual.result ≡ Err lines.NoMemory = search rules in
-    rw same (wants_left c.args.self.now c.refuse.new.self (g.D.Disk.state c.args.disk.now) (g.met.D.Disk.only_now c.args.disk.now))
+    rw same (refused_alone c.args.line.now (Err lines.NoMemory) c.args.self.now c.refuse.new.self (g.N.Notary.state c.args.notary.now) (g.N.Notary.state c.args.notary.now) (g.C.Clock.state c.args.clock.now) (g.C.Clock.state c.seconds.new.clock)
+    (codes "Syntax") parses.Syntax c.seconds.result (g.D.Disk.state c.args.disk.now) (rw c.in-Err-Syntax.field-0-is at c.in-Err-Syntax.ensures.value) (λ s n f r. refl) c.seconds.ensures.value
+    (fails_alone c.args.self.now c.refuse.new.self (g.D.Disk.state c.args.disk.now) (g.met.D.Disk.only_now c.args.disk.now) (λ r. refused_line r (codes "Syntax")) lines.NoMemory (λ r. refl)))
 
 pub returns-in_ok-refuse-in-Err-NumberTooWide-clause-grows : goal.returns-in_ok-refuse-in-Err-NumberTooWide-clause-grows
-returns-in_ok-refuse-in-Err-NumberTooWide-clause-grows g c = refusal_left (codes "NumberTooWide") c.in_ok-refuse-in-Err-NumberTooWide.field-0 c.args.self.now c.refuse-in-Err-NumberTooWide.new.self (g.D.Disk.state c.args.disk.now) (g.met.D.Disk.only_now c.args.disk.now) c.in_ok-refuse-in-Err-NumberTooWide.ensures.value c.in_ok-refuse-in-Err-NumberTooWide.ensures.change
+returns-in_ok-refuse-in-Err-NumberTooWide-clause-grows g c =
+    let text = c.in_ok-refuse-in-Err-NumberTooWide.field-0 in
+    refused_alone c.args.line.now (Ok text) c.args.self.now c.refuse-in-Err-NumberTooWide.new.self (g.N.Notary.state c.args.notary.now) (g.N.Notary.state c.args.notary.now) (g.C.Clock.state c.args.clock.now) (g.C.Clock.state c.seconds-in-Err-NumberTooWide.new.clock)
+    (codes "NumberTooWide") parses.NumberTooWide c.seconds-in-Err-NumberTooWide.result (g.D.Disk.state c.args.disk.now) (rw c.in-Err-NumberTooWide.field-0-is at c.in-Err-NumberTooWide.ensures.value) (λ s n f r. refl) c.seconds-in-Err-NumberTooWide.ensures.value
+    (refuses_alone c.args.self.now c.refuse-in-Err-NumberTooWide.new.self (g.D.Disk.state c.args.disk.now) (g.met.D.Disk.only_now c.args.disk.now) (codes "NumberTooWide") text c.in_ok-refuse-in-Err-NumberTooWide.ensures.value c.in_ok-refuse-in-Err-NumberTooWide.ensures.change)
 
 pub returns-in_err-refuse-in-Err-NumberTooWide-clause-grows : goal.returns-in_err-refuse-in-Err-NumberTooWide-clause-grows
 returns-in_err-refuse-in-Err-NumberTooWide-clause-grows g c =
     let same : c.from_residual-in_err-refuse-in-Err-NumberTooWide.result ≡ Err lines.NoMemory = search rules in
-    rw same (wants_left c.args.self.now c.refuse-in-Err-NumberTooWide.new.self (g.D.Disk.state c.args.disk.now) (g.met.D.Disk.only_now c.args.disk.now))
-
-pub returns-in-Err-NoMemory-clause-grows : goal.returns-in-Err-NoMemory-clause-grows
-returns-in-Err-NoMemory-clause-grows g c = wants_left c.args.self.now c.args.self.now (g.D.Disk.state c.args.disk.now) (g.met.D.Disk.only_now c.args.disk.now)
+    rw same (refused_alone c.args.line.now (Err lines.NoMemory) c.args.self.now c.refuse-in-Err-NumberTooWide.new.self (g.N.Notary.state c.args.notary.now) (g.N.Notary.state c.args.notary.now) (g.C.Clock.state c.args.clock.now) (g.C.Clock.state c.seconds-in-Err-NumberTooWide.new.clock)
+    (codes "NumberTooWide") parses.NumberTooWide c.seconds-in-Err-NumberTooWide.result (g.D.Disk.state c.args.disk.now) (rw c.in-Err-NumberTooWide.field-0-is at c.in-Err-NumberTooWide.ensures.value) (λ s n f r. refl) c.seconds-in-Err-NumberTooWide.ensures.value
+    (fails_alone c.args.self.now c.refuse-in-Err-NumberTooWide.new.self (g.D.Disk.state c.args.disk.now) (g.met.D.Disk.only_now c.args.disk.now) (λ r. refused_line r (codes "NumberTooWide")) lines.NoMemory (λ r. refl)))

@@ -45,7 +45,7 @@ returns-in_err-answered-in-Some-clause-grows g c =
     let p = err_from_is_err_and c.from_residual.result c.from_residual.ensures.1 in
     let is : c.args.self.now.opened ≡ Some c.in-Some.open = search rules in
     let own : c.args.self.now.id ≡ c.in-Some.open.store.header.id = search rules in
-    rw (p.1, p.2) (grows_stopped (S c.args.disk.now) (S c.answer_with_store.new.disk)
+    rw (p.1, p.2) (grows_stopped c.args.line.now c.args.now (S c.args.disk.now) (S c.answer_with_store.new.disk)
     c.in_err-answered-in-Some.field-0.0 c.in-Some.open (alone c.answer_with_store.new.sessions c.answer_with_store.new.store) c.args.self.now _ is own c.in_err-answered-in-Some.ensures.grows)
 
 pub returns-in_ok-answered-in-Some-clause-grows : goal.returns-in_ok-answered-in-Some-clause-grows
@@ -54,7 +54,7 @@ returns-in_ok-answered-in-Some-clause-grows g c =
     let is : c.args.self.now.opened ≡ Some c.in-Some.open = search rules in
     let own : c.args.self.now.id ≡ c.in-Some.open.store.header.id = search rules in
     let other : c.self.inside.id ≡ c.answer_with_store.new.store.header.id = search rules in
-    grows_open (S c.args.disk.now) (S c.answer_with_store.new.disk) (Ok c.in_ok-answered-in-Some.answered)
+    grows_open c.args.line.now c.args.now (S c.args.disk.now) (S c.answer_with_store.new.disk) (Ok c.in_ok-answered-in-Some.answered)
     c.in-Some.open (record { store = c.answer_with_store.new.store; sessions = c.answer_with_store.new.sessions }) c.self.inside.id c.args.self.now is own other c.in_ok-answered-in-Some.ensures.grows
 
 pub returns-in_err-answered-in-Some-clause-sound : goal.returns-in_err-answered-in-Some-clause-sound
