@@ -127,6 +127,10 @@ def tell(text):
 
 def build(names, room):
     crates = crates_below(names)
+    unknown = [it for it in names if it not in crates]
+    if unknown:
+        tell(f"crates.txt has no crate {', '.join(unknown)}")
+        return 2
     ways, below = ways_above(crates), {it: all_below(it, crates) for it in crates}
     processors, memory = len(os.sched_getaffinity(0)), free_memory()
     lanes = [Lane(room / str(it), crates) for it in range(max(1, min(processors, int(memory / PROOF))))]
