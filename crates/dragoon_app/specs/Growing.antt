@@ -1,4 +1,4 @@
--- What a run does and replies, as far as the store alone says it, whatever the notary tells.
+-- What a run does and replies whatever the notary tells: a part of what the store alone says.
 use Rattle.std.specs.Prelude.{◌≡◌, ◌⊎◌, ℕ, Bool, List, [], ◌∷◌, ◌++◌, fold, map, Result, Ok, Err}
 use Rattle.outside_words.specs.Told.{WhereTold}
 use Rattle.disk_words.specs.Disk as disks

@@ -64,14 +64,14 @@
 //! | no text is out but these replies, one behind another, and a fault line behind them, or a front of that | `out` |
 //! | each line goes on from where the run stands, over a store beside a notary that holds nothing: as it is defined, or by `RepliesAlone` where it asks the notary | `replies` of `alone` |
 //! | so a statement on tables, a line of a session, `now`, a blank line and a line outside the language are replied exactly what is defined | there |
-//! | `notarize` is replied `sealed N` or a refusal, where the clock decides that exactly that one, and stores at most a Frontier | `NotarizesAlone` |
+//! | `notarize` is replied `sealed N` or a refusal, where the clock decides that exactly that one, and stores at most a Frontier, of any moment | `NotarizesAlone` |
 //! | `validate` is replied a verdict or a refusal of a validation, and `analyse` a refusal of its algorithm or a report, of which only the first line is said; neither changes the store | `ValidatesAlone`, `AnalysesAlone` |
 //! | a scripted run asks no clock, and others take one second for each line that isn't blank, the one under way too | `seconds` of `alone` |
 //! | on a settled store a crash at any moment leaves what stood there behind some first lines; now at least what the lines left that were replied to | `images`, `kept` of `alone` |
 //! | on a settled store a crash at any moment leaves all items that were stored, and perhaps more | `appends` of `keeps` |
 //! | on a settled store each transaction of which `ok N` was replied stands in every image, as the N-th | `acknowledged` of `keeps` |
 //!
-//! Of `make` the same is said, of the lines of its script (`MakeGrows`).
+//! Of `make` `alone` and `keeps` are said, of the lines of its script (`MakeGrows`), and nothing of what is out.
 //!
 //! `notarize` is `NotarizesOn` in `leaves`: the store is opened, the clock's second taken, and the tiles that have
 //! ended by then are filed, as `validator` says it; the notary is asked at most two questions, whatever is answered

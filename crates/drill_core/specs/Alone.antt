@@ -1,4 +1,4 @@
--- What a line may do to a world and may be replied, as far as the store alone says it, whatever the notary tells.
+-- What a line may do to a world and may be replied whatever the notary tells: a part of what the store alone says.
 use Rattle.std.specs.Prelude.{◌≡◌, ℕ, false, List, Option, Some, None, IsSome, Result, Ok, Err, IfOk, IfErr}
 use Rattle.stmt_text.specs.declared.stmt.Stmt.TheVariants as stmts
 use Rattle.stmt_text.specs.declared.line.Line.{Line}
