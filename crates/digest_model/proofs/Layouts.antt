@@ -156,30 +156,32 @@ same_tile_of l m n g same inside =
 module _ (h : History) where
   -- tiles of one size
   pub even : (n : ℕ) → first_granule (layout h) n ≡ n * 2 ^ h.header.k
-  unfolding first_granule exponent
+  unfolding first_granule exponent layout
   even zero = omega arith
   even (suc n) = (let before = even n in omega (arith, before))
 
   pub one_exponent : (tile : ℕ) → exponent (layout h) tile ≡ h.header.k
-  unfolding exponent
+  unfolding exponent layout
   one_exponent tile = refl
 
   pub one_chains : (tile other : ℕ) → has_tile_chains (layout h) tile ≡ has_tile_chains (layout h) other
-  unfolding has_tile_chains
+  unfolding has_tile_chains layout
   one_chains tile other = refl
 
   pub one_tree : (tile other : ℕ) → has_tree (layout h) tile ≡ has_tree (layout h) other
-  unfolding has_tree
+  unfolding has_tree layout
   one_tree tile other = refl
 
   pub exponents_fit : (tile : ℕ) → FitsHeader h.header → exponent (layout h) tile ≤ 10
-  unfolding exponent
+  unfolding exponent layout
   exponents_fit tile fits = fits.k
 
 -- items more leave all tiles where they were
 pub tiles_stay : (header : Header) (items more : List Item) (n : ℕ) → SameTiles n (layout (history header items)) (layout (history header (items ++ more)))
+unfolding layout
 tiles_stay header items more n tile below = record { exponent = refl; algorithms = refl }
 
 -- the header says all
 pub header_alike : (h s : History) → h.header ≡ s.header → (n : ℕ) → SameTiles n (layout h) (layout s)
+unfolding layout
 header_alike h s one n tile below = record { exponent = ap (λ (header : Header). header.k) one; algorithms = ap (λ (header : Header). header.algs) one }

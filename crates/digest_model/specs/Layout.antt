@@ -11,7 +11,7 @@ pub record Layout : Type 0 where
   pub algorithms : ℕ → ℕ
 
 -- the layout of a history: all tiles are alike
-abbrev pub layout : History → Layout
+unfoldable pub layout : History → Layout
 layout h = record { exponents = λ tile. h.header.k; algorithms = λ tile. h.header.algs }
 
 -- a tile has the same exponent and the same chains in two layouts

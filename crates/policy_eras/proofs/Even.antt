@@ -2,7 +2,7 @@
 use Rattle.std.proofs.Common.{◌≡◌, ℕ, ◌+◌, ◌-◌, ◌*◌, ◌/◌, ◌^◌, ◌<◌, ◌≤◌, [], sym, ap, ◌∙◌, arith}
 use Rattle.std.proofs.lemmas.Nat.{div-mul-add}
 use Rattle.history_model.specs.History.{History, history}
-use Rattle.digest_model.specs.Layout.{exponent, first_granule, tile_of}
+use Rattle.digest_model.specs.Layout.{layout, exponent, first_granule, tile_of}
 use Rattle.digest_model.proofs.Layouts as layouts
 use Rattle.policy_eras.specs.Policy.{Policy, layout_by}
 
@@ -12,11 +12,11 @@ of_policy p = history (record { id = 0; epoch = 0; width = 1; k = p.k; algs = p.
 
 module _ (p : Policy) where
   pub even : (n : ℕ) → first_granule (layout_by p) n ≡ n * 2 ^ p.k
-  unfolding of_policy
+  unfolding of_policy layout
   even n = layouts.even (of_policy p) n
 
   pub one_exponent : (tile : ℕ) → exponent (layout_by p) tile ≡ p.k
-  unfolding of_policy
+  unfolding of_policy layout
   one_exponent tile = layouts.one_exponent (of_policy p) tile
 
 -- the one tile that a granule lies in

@@ -1,10 +1,11 @@
 use Rattle.std.proofs.Common.{◌≡◌, ℕ, ◌≤◌, Bool, true, false, Err, refl, sym, ap, ◌∙◌, arith}
 use Rattle.outside_words.proofs.Told.{told_map, told_same}
 use Rattle.history_model.specs.History.{History, history}
-use Rattle.digest_model.specs.Layout.{layout}
+use Rattle.digest_model.specs.Layout.{Layout, layout}
 use Rattle.notary_link.proofs.Frame.{goes_on_same}
 use Rattle.notary_link.specs.Notary.{Lists}
 use Rattle.policy_eras.specs.Policy.{Policy, policy_of, layout_by, first_past}
+use Rattle.policy_eras.proofs.Histories.{layout_is}
 use Rattle.notary_link.specs.declared.name.Name.TheVariants as names
 use Rattle.forensic_report.specs.declared.algorithm.Algorithm.{Algorithm}
 use Rattle.forensic_report.specs.declared.fail.AnalyseFail.TheVariants as fails
@@ -15,12 +16,12 @@ use Rattle.forensic_report.proofs.Counted.{found_with_chains, few_granules, foun
 use Rattle.forensic_report.proofs.finding.find_tiles.Goals as goal
 
 past_is : (eras : Policy) (s : History) (past : ℕ) → eras ≡ policy_of s → past ≡ first_past (layout_by eras) → past ≡ first_past (layout s)
-past_is eras s past policy is = is ∙ ap (λ (p : Policy). first_past (layout_by p)) policy
+past_is eras s past policy is = is ∙ ap (λ (l : Layout). first_past l) (layout_is s policy)
 
 -- the chains are those of the history's tiles
 chains_are : (eras : Policy) (s : History) (algorithm : Algorithm) (tiles : ℕ) (is b : Bool) → eras ≡ policy_of s → is ≡ has_chains algorithm (layout_by eras) tiles → is ≡ b
     → has_chains algorithm (layout s) tiles ≡ b
-chains_are eras s algorithm tiles is b policy value test = ap (λ (p : Policy). has_chains algorithm (layout_by p) tiles) (sym policy) ∙ sym value ∙ test
+chains_are eras s algorithm tiles is b policy value test = ap (λ (l : Layout). has_chains algorithm l tiles) (sym (layout_is s policy)) ∙ sym value ∙ test
 
 pub returns-then-not-has_chains-clause-value : goal.returns-then-not-has_chains-clause-value
 returns-then-not-has_chains-clause-value g c =

@@ -1,20 +1,20 @@
-use Rattle.std.proofs.Common.{◌≡◌, ℕ, ◌≤◌, List, length, map, sym, ap, subst, ◌∙◌, arith}
+use Rattle.std.proofs.Common.{ℕ, List, length, map, sym, ap, subst, ◌∙◌, arith}
 use Rattle.std.specs.List.{range_with_len, All}
 use Rattle.std.specs.List.Sorted.{IsStrictlyIncreasing}
 use Rattle.std.proofs.lemmas.List.FromFn.{length-map-range_with_len}
 use Rattle.history_model.specs.History.{history}
 use Rattle.digest_model.specs.Digests.{granule_over}
-use Rattle.digest_model.specs.Layout.{layout, first_granule}
-use Rattle.policy_eras.specs.Policy.{Policy, policy_of, layout_by}
+use Rattle.digest_model.specs.Layout.{Layout, layout, first_granule}
+use Rattle.policy_eras.proofs.Histories.{layout_is}
 use Rattle.cumulative_chain.specs.Tiles.{Granule, numbers_of, link_at, spelled_below}
 use Rattle.digest_model.specs.Plain.{IsShort}
-use Rattle.seal_plan.specs.Grouped.{numbered, spelled_rows}
+use Rattle.seal_plan.specs.Grouped.{spelled_rows}
 use Rattle.seal_plan.proofs.Cums.{numbers_ascend, cums_are, leaves_are, all_short}
 use Rattle.seal_plan.proofs.Seen.{few_below, few_all}
 use Rattle.seal_plan.proofs.plan.hash_txns.Goals as goal
 
 pub links_at_tiles-requires-clause-within : goal.links_at_tiles-requires-clause-within
-links_at_tiles-requires-clause-within g c = (let is = ap (λ (p : Policy). first_granule (layout_by p) c.args.tiles) c.requires.eras in omega (arith, is, c.requires.within))
+links_at_tiles-requires-clause-within g c = (let is = ap (λ (l : Layout). first_granule l c.args.tiles) (layout_is (history c.args.header.now c.args.items.now) c.requires.eras) in omega (arith, is, c.requires.within))
 
 pub links_at_tiles-requires-clause-ascend : goal.links_at_tiles-requires-clause-ascend
 links_at_tiles-requires-clause-ascend g c =
@@ -25,7 +25,7 @@ pub returns-in_err-links-clause-steps : goal.returns-in_err-links-clause-steps
 returns-in_err-links-clause-steps g c =
     let is = c.in_ok-granules.ensures.value in
     let few = few_below c.args.header.now c.args.items.now (first_granule (layout (history c.args.header.now c.args.items.now)) c.args.tiles) c.in_ok-granules.granules is in
-    let ends = ap (λ (p : Policy). length (spelled_below c.in_ok-granules.granules (first_granule (layout_by p) c.args.tiles))) c.requires.eras in
+    let ends = ap (λ (l : Layout). length (spelled_below c.in_ok-granules.granules (first_granule l c.args.tiles))) (layout_is (history c.args.header.now c.args.items.now) c.requires.eras) in
     omega (arith, few, ends, c.links_at_tiles.ensures.few)
 
 pub leaves-requires : goal.leaves-requires
@@ -37,7 +37,7 @@ pub returns-in_err-digests-clause-steps : goal.returns-in_err-digests-clause-ste
 returns-in_err-digests-clause-steps g c =
     let is = c.in_ok-granules.ensures.value in
     let few = few_below c.args.header.now c.args.items.now (first_granule (layout (history c.args.header.now c.args.items.now)) c.args.tiles) c.in_ok-granules.granules is in
-    let ends = ap (λ (p : Policy). length (spelled_below c.in_ok-granules.granules (first_granule (layout_by p) c.args.tiles))) c.requires.eras in
+    let ends = ap (λ (l : Layout). length (spelled_below c.in_ok-granules.granules (first_granule l c.args.tiles))) (layout_is (history c.args.header.now c.args.items.now) c.requires.eras) in
     let all = few_all c.args.header.now c.args.items.now (first_granule (layout (history c.args.header.now c.args.items.now)) c.args.tiles) c.in_ok-granules.granules is in
     omega (arith, few, ends, all, c.links_at_tiles.ensures.few, c.leaves.ensures.steps)
 
@@ -45,7 +45,7 @@ pub returns-clause-links : goal.returns-clause-links
 returns-clause-links g c =
     let is = c.in_ok-granules.ensures.value in
     c.in_ok-links.ensures.value
-    ∙ ap (λ (p : Policy). map (link_at c.args.header.now (layout_by p) c.in_ok-granules.granules) (range_with_len 0 c.args.tiles)) c.requires.eras
+    ∙ ap (λ (l : Layout). map (link_at c.args.header.now l c.in_ok-granules.granules) (range_with_len 0 c.args.tiles)) (layout_is (history c.args.header.now c.args.items.now) c.requires.eras)
     ∙ ap (λ (x : List Granule). map (link_at c.args.header.now (layout (history c.args.header.now c.args.items.now)) x) (range_with_len 0 c.args.tiles)) is
     ∙ cums_are (history c.args.header.now c.args.items.now) c.args.tiles
 
@@ -67,6 +67,6 @@ pub returns-clause-steps : goal.returns-clause-steps
 returns-clause-steps g c =
     let is = c.in_ok-granules.ensures.value in
     let few = few_below c.args.header.now c.args.items.now (first_granule (layout (history c.args.header.now c.args.items.now)) c.args.tiles) c.in_ok-granules.granules is in
-    let ends = ap (λ (p : Policy). length (spelled_below c.in_ok-granules.granules (first_granule (layout_by p) c.args.tiles))) c.requires.eras in
+    let ends = ap (λ (l : Layout). length (spelled_below c.in_ok-granules.granules (first_granule l c.args.tiles))) (layout_is (history c.args.header.now c.args.items.now) c.requires.eras) in
     let all = few_all c.args.header.now c.args.items.now (first_granule (layout (history c.args.header.now c.args.items.now)) c.args.tiles) c.in_ok-granules.granules is in
     omega (arith, few, ends, all, c.links_at_tiles.ensures.few, c.leaves.ensures.steps)

@@ -2,9 +2,10 @@ use Rattle.std.proofs.Common.{◌≡◌, ℕ, List, Option, Some, sym, ap, subst
 use Rattle.std.specs.List.{slice_get}
 use Rattle.notary_link.specs.declared.name.Name.TheVariants as names
 use Rattle.history_model.specs.History.{History, history}
-use Rattle.digest_model.specs.Layout.{exponent}
+use Rattle.digest_model.specs.Layout.{Layout, exponent}
 use Rattle.digest_model.proofs.Layouts.{one_exponent}
 use Rattle.policy_eras.specs.Policy.{Policy, policy_of, layout_by}
+use Rattle.policy_eras.proofs.Histories.{layout_is}
 use Rattle.audit_model.specs.Names.{digest}
 use Rattle.seal_plan.specs.Plan.{planned_of}
 use Rattle.seal_plan.specs.Places.{planned_parts}
@@ -14,7 +15,7 @@ use Rattle.seal_plan.proofs.plan.Plan.digest.Goals as goal
 
 -- the exponent that was asked for
 asked : (h : History) (eras : Policy) (k tile : ℕ) → k ≡ exponent (layout_by eras) tile → eras ≡ policy_of h → k ≡ h.header.k
-asked h eras k tile is policy = is ∙ ap (λ (p : Policy). exponent (layout_by p) tile) policy ∙ one_exponent h tile
+asked h eras k tile is policy = is ∙ ap (λ (l : Layout). exponent l tile) (layout_is h policy) ∙ one_exponent h tile
 
 pub returns-in-Header-clause-value : goal.returns-in-Header-clause-value
 unfolding digest

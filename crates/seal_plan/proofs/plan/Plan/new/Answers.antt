@@ -3,19 +3,20 @@ use Rattle.std.proofs.lemmas.List.FromFn.{length-map-range_with_len}
 use Rattle.tuple_bytes.specs.declared.item.Item.{Item}
 use Rattle.history_model.specs.History.{history}
 use Rattle.digest_model.specs.Digests.{granule_digest}
-use Rattle.digest_model.specs.Layout.{layout, first_granule}
-use Rattle.policy_eras.specs.Policy.{Policy, layout_by}
+use Rattle.digest_model.specs.Layout.{Layout, layout, first_granule}
+use Rattle.policy_eras.specs.Policy.{Policy}
+use Rattle.policy_eras.proofs.Histories.{layout_is}
 use Rattle.seal_plan.specs.Plan.{Keeps}
 use Rattle.seal_plan.proofs.plan.Plan.new.Goals as goal
 
 pub planned_parts-requires-clause-within : goal.planned_parts-requires-clause-within
-planned_parts-requires-clause-within g c = (let is = ap (λ (p : Policy). first_granule (layout_by p) c.args.tiles) c.eras-eras.ensures.value in omega (arith, is, c.requires.within))
+planned_parts-requires-clause-within g c = (let is = ap (λ (l : Layout). first_granule l c.args.tiles) (layout_is (history c.args.header.now c.args.items.now) c.eras-eras.ensures.value) in omega (arith, is, c.requires.within))
 
 pub planned_parts-requires-clause-granules : goal.planned_parts-requires-clause-granules
 planned_parts-requires-clause-granules g c = λ some.
     ap length (c.in_ok-links.ensures.leaves (λ none. some (ap (λ (p : Policy). p.algs) c.eras-eras.ensures.value ∙ none)))
     ∙ length-map-range_with_len (granule_digest (history c.args.header.now c.args.items.now)) 0 (first_granule (layout (history c.args.header.now c.args.items.now)) c.args.tiles)
-    ∙ ap (λ (p : Policy). first_granule (layout_by p) c.args.tiles) (sym c.eras-eras.ensures.value)
+    ∙ ap (λ (l : Layout). first_granule l c.args.tiles) (sym (layout_is (history c.args.header.now c.args.items.now) c.eras-eras.ensures.value))
 
 pub invariant_of-result : goal.invariant_of-result
 invariant_of-result g c =

@@ -5,8 +5,8 @@ use Rattle.std.proofs.lemmas.List.Concat.{flat_map_single}
 use Rattle.notary_link.specs.declared.name.Name.{Name}
 use Rattle.notary_link.specs.declared.name.Name.TheVariants as names
 use Rattle.notary_link.specs.declared.seal.Seal.{Seal}
-use Rattle.digest_model.specs.Layout.{layout, exponent, whole}
-use Rattle.policy_eras.specs.Policy.{Policy, layout_by}
+use Rattle.digest_model.specs.Layout.{Layout, layout, exponent, whole}
+use Rattle.policy_eras.proofs.Histories.{layout_is}
 use Rattle.audit_model.specs.Names.{seal, tile_names}
 use Rattle.audit_model.proofs.Planned.{part_planned}
 use Rattle.seal_plan.proofs.Sealing.{more_sealed}
@@ -17,7 +17,7 @@ seal-requires c = part_planned (layout c.args.self.now.history) c.args.self.now.
 
 pub seal-requires-in-loop-part : goal.seal-requires-in-loop-part
 seal-requires-in-loop-part c =
-    let same = c.exponent-k.ensures.value ∙ ap (λ (p : Policy). exponent (layout_by p) c.args.tile) c.eras.ensures.value in
+    let same = c.exponent-k.ensures.value ∙ ap (λ (l : Layout). exponent l c.args.tile) (layout_is c.args.self.now.history c.eras.ensures.value) in
     part_planned (layout c.args.self.now.history) c.args.self.now.tiles c.args.tile c.loop-part.part c.requires.chains c.requires.below (inr (omega (arith, same)))
 
 pub loop-part-preserved : goal.loop-part-preserved
@@ -31,7 +31,7 @@ pub returns : goal.returns
 unfolding tile_names
 returns c =
     let h = c.args.self.now.history in
-    let same = c.exponent-k.ensures.value ∙ ap (λ (p : Policy). exponent (layout_by p) c.args.tile) c.eras.ensures.value in
+    let same = c.exponent-k.ensures.value ∙ ap (λ (l : Layout). exponent l c.args.tile) (layout_is c.args.self.now.history c.eras.ensures.value) in
     let all : c.loop-part.part ≡ exponent (layout c.args.self.now.history) c.args.tile = omega (arith, same) in
     let parts : List Name = map (λ (part : ℕ). names.Tile c.args.tile part) (range_with_len 0 (exponent (layout c.args.self.now.history) c.args.tile)) in
     c.loop-part.invariant
