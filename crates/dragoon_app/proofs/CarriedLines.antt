@@ -85,7 +85,7 @@ pub record IsCarrying (first runner : Runner) (old now : disks.State) (filed lat
   pub going : IsGoing first runner old now filed later clock ahead input left reader (λ before text. sinks.IsOut text out written)
   pub out_frame : sinks.GoesOn out written
   pub out_grows : SomeIsOut out written
-  pub grows : GrownFrom first runner (site old filed clock) (site now later ahead) input left reader (λ text. sinks.IsOut text out written)
+  pub grows : GrownFrom first runner (site old filed clock) (site now later ahead) input left reader (λ before text. sinks.IsOut text out written)
 
 pub begins : (runner : Runner) (s : disks.State) (filed : notaries.State) (clock : clocks.State) (input : sources.State) (reader : Reading) (out : sinks.State)
     → ((c : List ℕ) → s.was_image (disks.turn s) c → s.is_image c) → reader ≡ record { line = []; pending = []; taken = 0 }
@@ -115,6 +115,13 @@ pub read_on : (done : List (List ℕ)) (reader later : Reading) (input left rest
 read_on done reader later input left rest alike read tells clear takes =
     told_then input.rest left.rest rest.rest _ _ _ alike read (told_both left.rest rest.rest _ _ tells takes.as_lost)
     (λ all others left so_far next. read_more done reader later all others left so_far next.0 clear next.1 takes.within)
+
+-- the same lines, where none was read
+pub read_off : (done : List (List ℕ)) (reader later : Reading) (input left rest : sources.State) → TellsAlike input.rest left.rest → WhereTold input.rest left.rest (IsRead done reader)
+    → WhereTold left.rest rest.rest (λ before after. later.pending ++ after ≡ reader.pending ++ before) → readers.Takes reader later left rest → WhereTold input.rest rest.rest (IsRead done later)
+read_off done reader later input left rest alike read same takes =
+    told_then input.rest left.rest rest.rest _ _ _ alike read (told_both left.rest rest.rest _ _ same takes.as_lost)
+    (λ all others behind so_far n. read_same done reader later all others behind so_far n.0 n.1 takes.within)
 
 -- what is said of a reply within the limits, and of a run that is scripted so
 abbrev Within : NotaryLimits → Bool → List ℕ → Result (List ℕ) LineFail → Runner → Runner → disks.State → disks.State → notaries.State → notaries.State → clocks.State → clocks.State → Type 0
@@ -163,8 +170,7 @@ module _ (runner : Runner) (old now : disks.State) (clock ahead : clocks.State) 
       → Along scripted runner limits old now clock ahead input left reader Written begin before after lists later_lists → Along scripted runner limits old now clock ahead input rest next Written begin before after lists later_lists
   along_rest scripted limits begin before after lists later_lists alike same takes a = record {
     done = a.done;
-    read = told_then input.rest left.rest rest.rest _ _ _ alike a.read (told_both left.rest rest.rest _ _ same takes.as_lost)
-        (λ all others behind so_far n. read_same (lines_in a.done) reader next all others behind so_far n.0 n.1 takes.within);
+    read = read_off (lines_in a.done) reader next input left rest alike a.read same takes;
     takes = a.takes;
     stands = a.stands;
     said = a.said;
@@ -237,6 +243,13 @@ reads_all reader left done all r none below =
     let h = all_read (lines_in done) reader all left r none in
     record { lines = (h.0, h.1, omega (arith, r.count, ap length h.1, below)); under_way = inl refl; little = tt; front = takes_front (lines_in done) reader all left r }
 
+-- what was read where the input ended
+pub reads_ended : (reader next : Reading) (input left rest : sources.State) (done : List Timed) → TellsAlike input.rest left.rest → WhereTold input.rest left.rest (IsRead (lines_in done) reader)
+    → Tells (Ok false) reader next left rest → readers.Takes reader next left rest → next.taken < input_limit → WhereTold input.rest rest.rest (Reads statuses.Ok done nothing)
+reads_ended reader next input left rest done alike read tells takes below =
+    told_then input.rest left.rest rest.rest _ _ _ alike read (told_both left.rest rest.rest _ _ tells takes.as_lost) (λ all others behind so_far n.
+    reads_all next behind done all (read_same (lines_in done) reader next all others behind so_far (at_end (reader.pending ++ others) (next.pending ++ behind) n.0) n.1 takes.within) n.0.end below)
+
 pub ended : (first runner : Runner) (old now : disks.State) (filed later : notaries.State) (clock ahead : clocks.State) (input left rest : sources.State) (reader next : Reading) (out written : sinks.State)
     → IsGoing first runner old now filed later clock ahead input left reader (λ before text. sinks.IsOut text out written)
     → Tells (Ok false) reader next left rest → readers.Takes reader next left rest → next.taken < input_limit
@@ -248,8 +261,7 @@ ended first runner old now filed later clock ahead input left rest reader next o
     wherever_map filed.limits first old now filed later _ _ g.told (λ begin before after lists later_lists at a.
     between_with (Ok tt) first.is_scripted runner (devices old filed clock input out) (devices now later ahead rest written) next Out begin before after lists later_lists g.clock_frame
     (along_rest runner old now clock ahead input left rest reader next Out first.is_scripted filed.limits begin before after lists later_lists g.input_frame.told same takes a)
-    (told_then input.rest left.rest rest.rest _ _ _ g.input_frame.told a.read (told_both left.rest rest.rest _ _ tells takes.as_lost) (λ all others behind so_far n.
-    reads_all next behind a.done all (read_same (lines_in a.done) reader next all others behind so_far (at_end (reader.pending ++ others) (next.pending ++ behind) n.0) n.1 takes.within) n.0.end below))
+    (reads_ended reader next input left rest a.done g.input_frame.told a.read tells takes below)
     (λ before text is. is) (λ r. tt))
 
 -- the input failed
@@ -280,17 +292,17 @@ written_front streams.Failed before text out later is = (refl, is)
 written_front streams.NoMemory before text out later is = inl (refl, is)
 
 -- the line failed
-not_between : (fail : LineFail) → IsBetween (Err (of_line fail)) → ⊥
+pub not_between : (fail : LineFail) → IsBetween (Err (of_line fail)) → ⊥
 not_between lines.DiskFault h = h
 not_between lines.NotaryFault h = h
 not_between lines.NoMemory h = h
 
-written_under_way : (fail : LineFail) (Idle : Type 0) (before text : List ℕ) (out written : sinks.State) → sinks.IsOut text out written → IsWritten Idle before text (Err (of_line fail)) out written
+pub written_under_way : (fail : LineFail) (Idle : Type 0) (before text : List ℕ) (out written : sinks.State) → sinks.IsOut text out written → IsWritten Idle before text (Err (of_line fail)) out written
 written_under_way lines.DiskFault Idle before text out written is = is
 written_under_way lines.NotaryFault Idle before text out written is = is
 written_under_way lines.NoMemory Idle before text out written is = inr is
 
-first_before : (done : List (List ℕ)) (line : List ℕ) (all : List ℕ) → AreFirst (done ++ line ∷ []) all → AreFirst done all
+pub first_before : (done : List (List ℕ)) (line : List ℕ) (all : List ℕ) → AreFirst (done ++ line ∷ []) all → AreFirst done all
 first_before done line all h =
     let e : take (length done) (take (length (done ++ line ∷ [])) (lines_of all)) ≡ take (length done) (lines_of all) = take_front (length done) (length (done ++ line ∷ [])) (lines_of all) (omega (arith, length-append done (line ∷ []))) in
     sym (sym e ∙ ap (take (length done)) (sym h) ∙ take_first done (line ∷ []))
@@ -310,7 +322,7 @@ module _ (done : List Timed) (t : Timed) (line : List ℕ) (reader : Reading) (a
         front = takes_front (lines_in done ++ line ∷ []) reader all others r;
       }
 
-  reads_under_way : (fail : LineFail) → IsLineOf {A = List ℕ} line (Err fail) t.line → Reads (ending (Err (of_line fail))) done t all others
+  pub reads_under_way : (fail : LineFail) → IsLineOf {A = List ℕ} line (Err fail) t.line → Reads (ending (Err (of_line fail))) done t all others
   reads_under_way lines.DiskFault is = reads_begun statuses.DiskFault is (λ f. f) (λ n. n) (λ l. l)
   reads_under_way lines.NotaryFault is = reads_begun statuses.NotaryFault is (λ f. f) (λ n. n) (λ l. l)
   reads_under_way lines.NoMemory is = record {

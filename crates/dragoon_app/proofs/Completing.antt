@@ -26,7 +26,7 @@ use Rattle.dragoon_app.specs.Linked.{Links, link_under, link_outcome}
 use Rattle.dragoon_app.specs.Init.{Inits, init_outcome, says_ready}
 use Rattle.dragoon_app.specs.Running.{Running, Timed, carried}
 use Rattle.dragoon_app.specs.Ran.{CauseOf, IsToTell, Reads, RunsOn, RunsHeader, RunsStore, Writes, lines_in, opened, text_before}
-use Rattle.dragoon_app.specs.Made.{MakesOn, MakesHeader, MakesStore, Tells, TellsFault, made_outcome}
+use Rattle.dragoon_app.specs.Made.{MakesOn, MakesHeader, MakesStore, Tells, TellsFault, made_outcome, all_but_two}
 use Rattle.dragoon_app.specs.Drilled.{DrillsBeside, EndsDrill}
 use Rattle.dragoon_app.specs.Completes.{NoneFailed, TellsBytes, DeskTells, EndsInTime, HasHeader, EndsDone, EndsReplied, MayLink, MayInit, MayRun, MayMake, MayDrill}
 
@@ -143,15 +143,14 @@ module _ (result : Status) (old new : Devices) (none : NoneFailed old new) (goes
           ran_by (r.next.line ≡ []) (IsToTell r.done r.next old new) (text_before scripted (opened header old held) r.done) (carried scripted (opened header old held) r.done)
           (λ told. cause_none may.input r.done r.next told.read told.cause) r.said
 
-  told_made : (count : ℕ) (begin : Running) (done : List Timed) (next : Timed) (text : List ℕ) → Tells count begin done next text result old new → EndsReplied result
-  told_made count begin done next text (inl (all, said)) = said_well EndsReplied result (none_written result old new none causes) tt (made_outcome count begin done) old.out new.out
-      (λ e. subst EndsReplied (sym e) (ends_replied (nat_lt 0 (carried true begin done).refused))) said
-  told_made count begin done next text (inr (inl (under_way, failed))) = fault failed
+  told_made : (made : Outcome) (done : List Timed) (next : Timed) (text : List ℕ) → EndsReplied made.status → Tells made done next text result old new → EndsReplied result
+  told_made made done next text ended (inl (all, said)) = said_well EndsReplied result (none_written result old new none causes) tt made old.out new.out (λ e. subst EndsReplied (sym e) ended) said
+  told_made made done next text ended (inr (inl (under_way, failed))) = fault failed
     where
       fault : TellsFault result old new → EndsReplied result
       fault (inl (rose, said)) = absurd (none.disk rose)
       fault (inr (rose, said)) = absurd (none.notary rose)
-  told_made count begin done next text (inr (inr (perhaps, (wanting, none_out)))) = subst EndsReplied (sym wanting) tt
+  told_made made done next text ended (inr (inr (perhaps, (wanting, none_out)))) = subst EndsReplied (sym wanting) tt
 
   pub make_completes : (id seed count : ℕ) → MakesOn id seed count result old new → (header : Header) (held : Content) → MayMake id header held old new → EndsReplied result
   make_completes id seed count on header held may = by (on_store id (MakesHeader seed count) result old new none goes header held.bytes may.desk.store may.is_store on)
@@ -161,7 +160,9 @@ module _ (result : Status) (old new : Devices) (none : NoneFailed old new) (goes
       by (inr makes) =
           let at = both_told old new held (MakesStore seed count header result old new) none goes may.desk makes.makes in
           let m = at.1.makes in
-          told_made count (opened header old held) m.done m.next (script header.width (last_moment (stored held.bytes).items) seed count) m.tells
+          let begin : Running = opened header old held in
+          let r : Running = carried true begin m.done in
+          told_made (made_outcome count (all_but_two begin m.done) r) m.done m.next (script header.width (last_moment (stored held.bytes).items) seed count) (ends_replied (nat_lt 0 r.refused)) m.tells
 
   drill_ended : EndsInTime old.input → (replied : sinks.State) (answer : Result Bool DrillFail) (taken : List (List ℕ)) → WhereTold old.input.rest new.input.rest (drilled.Reads taken answer) → EndsDrill answer result replied new.out → EndsReplied result
   drill_ended short replied (Ok refused) taken read (is, same) = subst EndsReplied (sym is) (ends_replied refused)

@@ -12,9 +12,11 @@ use Rattle.line_input.specs.Reader.{Reading}
 use Rattle.drill_core.specs.declared.fail.LineFail.{LineFail}
 use Rattle.drill_core.specs.declared.fail.LineFail.TheVariants as line_fails
 use Rattle.drill_core.specs.World.{StoresWorld, StoresEither}
+use Rattle.dragoon_app.specs.declared.make.LastTwo.{LastTwo}
 use Rattle.dragoon_app.specs.declared.runner.Runner.{Runner}
 use Rattle.dragoon_app.specs.Devices.{Site}
-use Rattle.dragoon_app.specs.Growing.{Replied, timed_of, lines_replied, behind_all, AreReplied, StoresBehind, LinesAlone, IsNextOrNone}
+use Rattle.dragoon_app.specs.Growing.{Replied, timed_of, lines_replied, behind_all, behind_but, AreReplied, StoresBehind, LinesAlone, IsNextOrNone}
+use Rattle.dragoon_app.specs.Ran.{lines_in}
 use Rattle.dragoon_app.specs.Running.{Running, Timed, Takes}
 use Rattle.dragoon_app.specs.Carrying.{IsAtAlone, WhereStands, IsLineOf, ReplyGrows, ReplyGrowsFrom}
 use Rattle.dragoon_app.proofs.Growing.{nothing_alone}
@@ -22,7 +24,9 @@ use Rattle.dragoon_app.proofs.Nothing.{nothing, blank_nothing}
 use Rattle.dragoon_app.proofs.Reading.{IsRead, take_first}
 use Rattle.dragoon_app.proofs.RepliedAlone.{behind_more, replied_more}
 use Rattle.dragoon_app.proofs.Seconds.{takes_none, takes_then, takes_blank}
+use Rattle.dragoon_app.specs.MakingLines.{AreLastTwo}
 use Rattle.dragoon_app.proofs.Standing.{IsStill, stores_in}
+use Rattle.dragoon_app.proofs.Written.{two_of}
 
 abbrev pub Counts : State → Type 0
 Counts s = (t : ℕ) (c : List ℕ) → t ≤ turn s → s.is_image c → s.was_image t c
@@ -35,7 +39,7 @@ timed_more : (done : List Replied) (d : Replied) → timed_of (done ++ d ∷ [])
 timed_more done d = map-append (λ (x : Replied). x.line) done (d ∷ [])
 
 pub lines_more : (done : List Replied) (d : Replied) (line : List ℕ) → d.line.line ≡ line → lines_replied (done ++ d ∷ []) ≡ lines_replied done ++ line ∷ []
-lines_more done d line is = map-append (λ (x : Replied). x.line.line) done (d ∷ []) ∙ ap (λ (l : List ℕ). lines_replied done ++ l ∷ []) is
+lines_more done d line is = ap lines_in (timed_more done d) ∙ map-append (λ (t : Timed). t.line) (timed_of done) (d.line ∷ []) ∙ ap (λ (l : List ℕ). lines_replied done ++ l ∷ []) is
 
 pub last_behind : (begin : Running) (done : List Replied) (d : Replied) → behind_all begin (done ++ d ∷ []) ≡ d.behind
 last_behind begin done d = behind_more begin done (d ∷ [])
@@ -138,28 +142,29 @@ module _ (scripted : Bool) (begin : Running) (done : List Replied) (runner : Run
 
 -- ---- what a turn of a loop keeps
 
--- of a run: these lines were read, and their replies are out
-pub record GrownAt (scripted : Bool) (runner : Runner) (old now : Site) (Read : List (List ℕ) → Type 0) (Written : List ℕ → Type 0) (begin : Running) (before after : List ℕ) : Type 0 where
+-- of a run: these lines were read; Written is what is said of the text before the last reply, and of all
+pub record GrownAt (scripted : Bool) (runner : Runner) (old now : Site) (Read : List (List ℕ) → Type 0) (Written : List ℕ → List ℕ → Type 0) (begin : Running) (before after : List ℕ) : Type 0 where
   pub done : List Replied
   pub read : Read (lines_replied done)
-  pub is_out : begin.text ≡ [] → Written (behind_all begin done).text
+  pub said : begin.text ≡ [] → Written (behind_but 1 begin done).text (behind_all begin done).text
   pub far : Far scripted begin done runner old now before after
 
 -- of an input by a reader
 abbrev pub ReadBy : sources.State → sources.State → Reading → List (List ℕ) → Type 0
 ReadBy input left reader ls = WhereTold input.rest left.rest (IsRead ls reader)
 
-abbrev pub GrownFrom : Runner → Runner → Site → Site → sources.State → sources.State → Reading → (List ℕ → Type 0) → Type 0
+abbrev pub GrownFrom : Runner → Runner → Site → Site → sources.State → sources.State → Reading → (List ℕ → List ℕ → Type 0) → Type 0
 GrownFrom first runner old now input left reader Written = WhereStands first old.desk.disk now.desk.disk (GrownAt first.is_scripted runner old now (ReadBy input left reader) Written)
 
 -- of a text at hand: these of its lines were carried out, and the rest is to come
-pub record MadeAt (runner : Runner) (old now : Site) (all rest : List (List ℕ)) (begin : Running) (before after : List ℕ) : Type 0 where
+pub record MadeAt (runner : Runner) (old now : Site) (all rest : List (List ℕ)) (last : LastTwo) (begin : Running) (before after : List ℕ) : Type 0 where
   pub done : List Replied
   pub lines : all ≡ lines_replied done ++ rest
   pub far : Far true begin done runner old now before after
+  pub two : AreLastTwo (behind_but 2 begin done).text (behind_but 1 begin done).text (behind_all begin done).text last
 
-abbrev pub MadeFrom : Runner → Runner → Site → Site → List (List ℕ) → List (List ℕ) → Type 0
-MadeFrom first runner old now all rest = WhereStands first old.desk.disk now.desk.disk (MadeAt runner old now all rest)
+abbrev pub MadeFrom : Runner → Runner → Site → Site → List (List ℕ) → List (List ℕ) → List ℕ → List ℕ → Type 0
+MadeFrom start runner old now all rest first second = WhereStands start old.desk.disk now.desk.disk (MadeAt runner old now all rest (two_of first second))
 
 -- a reply to a line of a run that is scripted so
 abbrev pub ReplySeen : Bool → List ℕ → Result (List ℕ) LineFail → Runner → Runner → Site → Site → Type 0

@@ -38,3 +38,4 @@ pub mod MadeEnding
 pub mod Completing
 pub mod CompletingAudits
 pub mod Completed
+pub mod RunEnds

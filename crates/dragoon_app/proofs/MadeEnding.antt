@@ -28,20 +28,21 @@ use Rattle.dragoon_app.specs.declared.status.Status.TheVariants as statuses
 use Rattle.dragoon_app.specs.Outcome.{Outcome, Said, CutsOff, refused}
 use Rattle.dragoon_app.specs.Devices.{Desk, Content, Site, Devices, AllIsLeft, content, desk, site_of}
 use Rattle.dragoon_app.specs.Running.{Running, Timed, start, carried, world_of}
-use Rattle.dragoon_app.specs.Ran.{IsSettled, RunsLines, ending_by, opened}
+use Rattle.dragoon_app.specs.Ran.{IsSettled, RunsLines, ending_by, opened, text_before}
 use Rattle.dragoon_app.specs.Failing.{EndsByUse}
-use Rattle.dragoon_app.specs.Growing.{AreOfInput, nothing_filed, opened_alone}
+use Rattle.dragoon_app.specs.Growing.{timed_of, behind_all, behind_but, nothing_filed, opened_alone}
 use Rattle.dragoon_app.proofs.RepliedAlone.{keeps_alone}
-use Rattle.dragoon_app.proofs.RunGrowing.{alone_from}
-use Rattle.dragoon_app.specs.Carrying.{IsReady, IsAt, EndsWith, FromWhere, SoundFrom, of_line, MakesAloneFrom}
-use Rattle.dragoon_app.specs.Made.{Makes, MakesStore, MakeGrows, MakesHeader, MakesOn, Tells, made_line, made_outcome, last_two, all_but_two, txns_in}
-use Rattle.dragoon_app.specs.MakingLines.{AreLastTwo, MakesLines, MakesLinesFrom, MakesFrom, script_for, width_of, stored_in, told_of, line_status}
+use Rattle.dragoon_app.proofs.RunGrowing.{alone_from, stands_from}
+use Rattle.dragoon_app.specs.Carrying.{IsReady, IsAt, EndsWith, FromWhere, SoundFrom, of_line}
+use Rattle.dragoon_app.specs.Made.{Makes, MakesStore, MakesAlone, MakeGrows, MakesHeader, MakesOn, Tells, made_line, made_outcome, added, all_but_two, txns_in}
+use Rattle.dragoon_app.specs.MakingLines.{AreLastTwo, Reaches, MakesLines, MakesLinesFrom, MakesFrom, MakesLinesAloneFrom, MakesAloneFrom, script_for, width_of, stored_in, told_of, line_status}
 use Rattle.dragoon_app.proofs.OnStore.{IsHeaderOf, at_disk, told_from, opened_on, telling, wanting}
 use Rattle.dragoon_app.proofs.Answering.{said_is}
 use Rattle.dragoon_app.proofs.Faults.{KeepsUse}
 use Rattle.dragoon_app.proofs.Wherever.{wherever_map, wherever_same}
 use Rattle.dragoon_app.proofs.LastTwo.{drop_front}
-use Rattle.dragoon_app.proofs.Ending.{lines_from, promises_kept, rose_before}
+use Rattle.dragoon_app.proofs.Ending.{lines_from, promises_kept, rose_before, settled_from}
+use Rattle.dragoon_app.proofs.Standing.{stores_in}
 
 -- ---- what is told behind all lines
 
@@ -51,21 +52,18 @@ txns_told id (Some w) begun (Some o) bytes h = sym h.0.store.open_on.knows.count
 txns_told id (Some w) begun None bytes h = absurd h
 txns_told id None begun (Some o) bytes h = absurd h
 
-two_told : (begin : Running) (done : List Timed) (two : LastTwo) → AreLastTwo begin done two → last_two begin done ≡ two.first ++ two.second
-two_told begin done two are =
-    let before : List ℕ = (all_but_two begin done).text in
-    ap (drop (length before)) (are.second ∙ ap (λ (xs : List ℕ). xs ++ two.second) are.first ∙ append_assoc before two.first two.second) ∙ drop_front before (two.first ++ two.second)
+two_told : (before r : Running) (one : List ℕ) (two : LastTwo) → AreLastTwo before.text one r.text two → added before r ≡ two.first ++ two.second
+two_told before r one two are = ap (drop (length before.text)) (are.second ∙ ap (λ (xs : List ℕ). xs ++ two.second) are.first ∙ append_assoc before.text two.first two.second) ∙ drop_front before.text (two.first ++ two.second)
 
 abbrev telling_so : ℕ → ℕ → ℕ → List ℕ → Outcome
 telling_so count refusals stored replies = record { status = ending_by refusals; text = made_line count refusals stored ++ replies }
 
-outcome_told : (count : ℕ) (begin : Running) (done : List Timed) (last : Runner) (two : LastTwo) (bytes : List ℕ) (limits : NotaryLimits) (lists : notaries.Lists) → IsAt (carried true begin done) last bytes limits lists → AreLastTwo begin done two
-    → made_outcome count begin done ≡ told_of count last two
-outcome_told count begin done last two bytes limits lists at are =
-    let r : Running = carried true begin done in
-    ap (λ (n : ℕ). telling_so count n (txns_in r.world.store) (last_two begin done)) (sym at.refused)
-    ∙ ap (λ (n : ℕ). telling_so count last.refused n (last_two begin done)) (txns_told r.world.id r.world.store r.world.sessions last.world.opened bytes at.stands.store)
-    ∙ ap (telling_so count last.refused (stored_in last.world.opened)) (two_told begin done two are)
+outcome_told : (count : ℕ) (before r : Running) (one : List ℕ) (last : Runner) (two : LastTwo) (bytes : List ℕ) (limits : NotaryLimits) (lists : notaries.Lists) → IsAt r last bytes limits lists → AreLastTwo before.text one r.text two
+    → made_outcome count before r ≡ told_of count last two
+outcome_told count before r one last two bytes limits lists at are =
+    ap (λ (n : ℕ). telling_so count n (txns_in r.world.store) (added before r)) (sym at.refused)
+    ∙ ap (λ (n : ℕ). telling_so count last.refused n (added before r)) (txns_told r.world.id r.world.store r.world.sessions last.world.opened bytes at.stands.store)
+    ∙ ap (telling_so count last.refused (stored_in last.world.opened)) (two_told before r one two are)
 
 -- it ends well, or by a refusal
 module _ (P : Status → Type 0) (ok : P statuses.Ok) (refuses : P statuses.Refused) where
@@ -108,7 +106,7 @@ module _ (count : ℕ) (text : List ℕ) (first last : Runner) (old new : Device
   Lines r = MakesLinesFrom text r first last (site_of old) (site_of new)
 
   made : (r : Result LastTwo LineFail) → (IsSettled result old.desk new.desk → IsSettled (line_status r) old.desk new.desk) → KeepsUse (line_status r) result
-      → ((begin : Running) (before after : Content) → (m : MakesLines text r last (site_of old) (site_of new) begin before after) → Tells count begin m.done m.next text result old new) → Lines r → Made
+      → ((begin : Running) (before after : Content) → (m : MakesLines text r last (site_of old) (site_of new) begin before after) → Tells (made_outcome count (all_but_two begin m.done) (carried true begin m.done)) m.done m.next text result old new) → Lines r → Made
   made r settles uses tells told = wherever_map old.desk.notary.limits first old.desk.disk new.desk.disk old.desk.notary new.desk.notary _ _ told (λ begin before after lists later_lists at m. record {
     done = m.done;
     next = m.next;
@@ -119,7 +117,7 @@ module _ (count : ℕ) (text : List ℕ) (first last : Runner) (old new : Device
 
   pub made_all : (two : LastTwo) → Lines (Ok two) → Said (told_of count last two) result old.out new.out → Made
   made_all two told said = made (Ok two) (λ s. ok_settled old.desk new.desk) (λ scripted x t used. let P : Status → Type 0 = λ n. EndsByUse n scripted x t in said_is P (told_of count last two) result old.out new.out (ending_is P tt tt last.refused) tt tt said)
-      (λ begin before after m. inl (m.reaches, subst (λ (o : Outcome). Said o result old.out new.out) (sym (outcome_told count begin m.done last two after.bytes old.desk.notary.limits after.lists m.stands m.two)) said)) told
+      (λ begin before after m. inl (m.reaches, subst (λ (o : Outcome). Said o result old.out new.out) (sym (outcome_told count (all_but_two begin m.done) (carried true begin m.done) (text_before true begin m.done) last two after.bytes old.desk.notary.limits after.lists m.stands m.two)) said)) told
 
   -- a line was under way where a device failed
   unsettled_disk : Rose old.desk.disk.faults new.desk.disk.faults → Said (refused statuses.DiskFault) result old.out new.out → IsSettled result old.desk new.desk → ⊥
@@ -130,21 +128,74 @@ module _ (count : ℕ) (text : List ℕ) (first last : Runner) (old new : Device
   unsettled_notary rose said s = ⊎_elim (λ (h : (result ≡ statuses.NotaryFault) × IsOut (refused statuses.NotaryFault).text old.out new.out). s.notary h.0)
       (λ (h : CutsOff result × FrontIsOut (refused statuses.NotaryFault).text old.out new.out). ⊎_elim (λ (e : result ≡ statuses.WriteFault). (s.write e).1 rose) s.memory h.0) said
 
+  abbrev HasCauses : LineFail → Type 0
+  HasCauses fail = (IsErrOf {T = LastTwo} (Err fail) lines.DiskFault → Rose old.desk.disk.faults new.desk.disk.faults) × (IsErrOf {T = LastTwo} (Err fail) lines.NotaryFault → Rose old.desk.notary.faults new.desk.notary.faults)
+
+  unsettled : (fail : LineFail) → HasCauses fail → EndsWith (of_line fail) result old.out new.out → IsSettled result old.desk new.desk → ⊥
+  unsettled lines.DiskFault causes said s = unsettled_disk (causes.0 refl) said s
+  unsettled lines.NotaryFault causes said s = unsettled_notary (causes.1 refl) said s
+  unsettled lines.NoMemory causes said s = s.memory said.0
+
+  -- how it is told
+  failed_tells : (outcome : Outcome) (done : List Timed) (next : Timed) (fail : LineFail) → HasCauses fail → EndsWith (of_line fail) result old.out new.out → Reaches {A = LastTwo} text done next (Err fail) → Tells outcome done next text result old new
+  failed_tells outcome done next lines.DiskFault causes said reaches = inr (inl (reaches, inl (causes.0 refl, said)))
+  failed_tells outcome done next lines.NotaryFault causes said reaches = inr (inl (reaches, inr (causes.1 refl, said)))
+  failed_tells outcome done next lines.NoMemory causes said reaches = inr (inr (reaches, (said.0, ap (λ (x : State). x.held) said.1)))
+
+  failed_uses : (fail : LineFail) → EndsWith (of_line fail) result old.out new.out → KeepsUse (line_status {A = LastTwo} (Err fail)) result
+  failed_uses lines.DiskFault said = λ scripted x t used. said_is (λ n. EndsByUse n scripted x t) (refused statuses.DiskFault) result old.out new.out used tt tt said
+  failed_uses lines.NotaryFault said = λ scripted x t used. said_is (λ n. EndsByUse n scripted x t) (refused statuses.NotaryFault) result old.out new.out used tt tt said
+  failed_uses lines.NoMemory said = λ scripted x t used. subst (λ (n : Status). EndsByUse n scripted x t) (sym said.0) tt
+
   pub made_failed : (fail : LineFail) → Lines (Err fail) → (IsErrOf {T = LastTwo} (Err fail) lines.DiskFault → Rose old.desk.disk.faults new.desk.disk.faults) → (IsErrOf {T = LastTwo} (Err fail) lines.NotaryFault → Rose old.desk.notary.faults new.desk.notary.faults)
       → EndsWith (of_line fail) result old.out new.out → Made
-  made_failed lines.DiskFault told disk notary said = made (Err lines.DiskFault) (λ s. absurd (unsettled_disk (disk refl) said s)) (λ scripted x t used. said_is (λ n. EndsByUse n scripted x t) (refused statuses.DiskFault) result old.out new.out used tt tt said) (λ begin before after m. inr (inl (m.reaches, inl (disk refl, said)))) told
-  made_failed lines.NotaryFault told disk notary said = made (Err lines.NotaryFault) (λ s. absurd (unsettled_notary (notary refl) said s)) (λ scripted x t used. said_is (λ n. EndsByUse n scripted x t) (refused statuses.NotaryFault) result old.out new.out used tt tt said) (λ begin before after m. inr (inl (m.reaches, inr (notary refl, said)))) told
-  made_failed lines.NoMemory told disk notary said = made (Err lines.NoMemory) (λ s. absurd (s.memory said.0)) (λ scripted x t used. subst (λ (n : Status). EndsByUse n scripted x t) (sym said.0) tt)
-      (λ begin before after m. inr (inr (m.reaches, (said.0, ap (λ (x : State). x.held) said.1)))) told
+  made_failed fail told disk notary said = made (Err fail) (λ s. absurd (unsettled fail (disk, notary) said s)) (failed_uses fail said)
+      (λ begin before after m. failed_tells (made_outcome count (all_but_two begin m.done) (carried true begin m.done)) m.done m.next fail (disk, notary) said m.reaches) told
+
+  -- ---- whatever the notary tells
+
+  abbrev Grown : Type 0
+  Grown = MakesAloneFrom count text first result old new
+
+  abbrev LinesGrown : Result LastTwo LineFail → Type 0
+  LinesGrown r = MakesLinesAloneFrom text r first last (site_of old) (site_of new)
+
+  pub grown_all : (two : LastTwo) → LinesGrown (Ok two) → Said (told_of count last two) result old.out new.out → Grown
+  grown_all two told said = told_map old.desk.disk.reads new.desk.disk.reads _ _ told (λ before after lines begin at.
+      let m = lines begin at in
+      let r : Running = behind_all begin m.done in
+      record {
+        done = m.done;
+        next = m.next;
+        first = m.first;
+        lines = m.lines;
+        stands = λ z. record { none = m.none; stores = stores_in r last after r.world.limits r.world.lists m.stands; settled = m.settled };
+        tells = inl (m.reaches, subst (λ (o : Outcome). Said o result old.out new.out) (sym (outcome_told count (behind_but 2 begin m.done) r (behind_but 1 begin m.done).text last two after r.world.limits r.world.lists m.stands m.two)) said);
+        none_read = unread;
+      })
+
+  pub grown_failed : (fail : LineFail) → LinesGrown (Err fail) → (IsErrOf {T = LastTwo} (Err fail) lines.DiskFault → Rose old.desk.disk.faults new.desk.disk.faults) → (IsErrOf {T = LastTwo} (Err fail) lines.NotaryFault → Rose old.desk.notary.faults new.desk.notary.faults)
+      → EndsWith (of_line fail) result old.out new.out → Grown
+  grown_failed fail told disk notary said = told_map old.desk.disk.reads new.desk.disk.reads _ _ told (λ before after lines begin at.
+      let m = lines begin at in
+      record {
+        done = m.done;
+        next = m.next;
+        first = m.first;
+        lines = m.lines;
+        stands = λ z. absurd (unsettled fail (disk, notary) said z);
+        tells = failed_tells (made_outcome count (behind_but 2 begin m.done) (behind_all begin m.done)) (timed_of m.done) m.next.line fail (disk, notary) said m.reaches;
+        none_read = unread;
+      })
 
 -- ---- the store was opened before
 
-tells_from : (count : ℕ) (begin : Running) (done : List Timed) (next : Timed) (text : List ℕ) (result : Status) (first : disks.State) (old new : Devices) → first.faults ≤ old.desk.disk.faults
-    → Tells count begin done next text result old new → Tells count begin done next text result (at_disk first old) new
-tells_from count begin done next text result first old new le (inl all) = inl all
-tells_from count begin done next text result first old new le (inr (inl (is, inl (rose, said)))) = inr (inl (is, inl (rose_before first old new le rose, said)))
-tells_from count begin done next text result first old new le (inr (inl (is, inr notary))) = inr (inl (is, inr notary))
-tells_from count begin done next text result first old new le (inr (inr wants)) = inr (inr wants)
+tells_from : (outcome : Outcome) (done : List Timed) (next : Timed) (text : List ℕ) (result : Status) (first : disks.State) (old new : Devices) → first.faults ≤ old.desk.disk.faults
+    → Tells outcome done next text result old new → Tells outcome done next text result (at_disk first old) new
+tells_from outcome done next text result first old new le (inl all) = inl all
+tells_from outcome done next text result first old new le (inr (inl (is, inl (rose, said)))) = inr (inl (is, inl (rose_before first old new le rose, said)))
+tells_from outcome done next text result first old new le (inr (inl (is, inr notary))) = inr (inl (is, inr notary))
+tells_from outcome done next text result first old new le (inr (inr wants)) = inr (inr wants)
 
 makes_store : (seed count : ℕ) (header : Header) (result : Status) (first : disks.State) (old new : Devices) (before after : Content) → disks.Unchanged first old.desk.disk → first.faults ≤ old.desk.disk.faults
     → first.is_image before.bytes → (stored before.bytes).header ≡ Some header → FitsHeader header
@@ -158,7 +209,7 @@ makes_store seed count header result first old new before after same le here has
         done = m.done;
         next = m.next;
         lines = lines;
-        tells = tells_from count begin m.done m.next text result first old new le m.tells;
+        tells = tells_from (made_outcome count (all_but_two begin m.done) (carried true begin m.done)) m.done m.next text result first old new le m.tells;
         none_read = m.none_read;
       };
       promises = promises_kept true header m.done m.next result (at_disk first old) new before after here has fits lines;
@@ -181,21 +232,28 @@ left_before first old new same left = record {
 }
 
 -- the lines of the script, whatever the notary tells, of each header that the bytes have
-grows_opened : (seed count : ℕ) (runner : Runner) (first : disks.State) (old new : Devices) → disks.Unchanged first old.desk.disk → IfSome first.reads (IsReady runner) → MakesAloneFrom (script_for runner seed count) runner (site_of old) (site_of new)
-    → WhereTold first.reads new.desk.disk.reads (λ before after. (h : Header) → (stored before).header ≡ Some h → MakeGrows seed count h (site_of (at_disk first old)) (site_of new) before)
-grows_opened seed count runner first old new same ready told = told_from first.reads old.desk.disk.reads new.desk.disk.reads (IsReady runner) _ _ same.reads ready told (λ before after r from h is.
+grows_opened : (seed count : ℕ) (runner : Runner) (result : Status) (first : disks.State) (old new : Devices) → disks.Unchanged first old.desk.disk → first.faults ≤ old.desk.disk.faults → IfSome first.reads (IsReady runner)
+    → MakesAloneFrom count (script_for runner seed count) runner result old new
+    → WhereTold first.reads new.desk.disk.reads (λ before after. (h : Header) → (stored before).header ≡ Some h → MakeGrows seed count h result (at_disk first old) new before after)
+grows_opened seed count runner result first old new same le ready told = told_from first.reads old.desk.disk.reads new.desk.disk.reads (IsReady runner) _ _ same.reads ready told (λ before after r from h is.
     let ready_is = r.is in
     let header_is : r.header ≡ h = cc in
     let begin : Running = opened_alone r.header before in
+    let text : List ℕ = script r.header.width (last_moment (stored before).items) seed count in
     let at = r.at nothing_filed begin.world.limits in
-    let g = from begin at in
-    let alone = alone_from true begin g.done g.next first (site_of old) (site_of new) before same g.alone in
-    subst (λ (x : Header). MakeGrows seed count x (site_of (at_disk first old)) (site_of new) before) header_is (record {
-      done = g.done;
-      next = g.next;
-      lines = subst (AreOfInput g.done g.next) (script_here seed count runner r.header before begin.world.limits nothing_filed at) g.lines;
-      alone = alone;
-      keeps = keeps_alone true r.header before g.done g.next (site_of (at_disk first old)) (site_of new) alone;
+    let g : MakesAlone count begin text result old new before after = subst (λ (xs : List ℕ). MakesAlone count begin xs result old new before after) (script_here seed count runner r.header before begin.world.limits nothing_filed at) (from begin at) in
+    let lines = alone_from true begin g.done g.next first (site_of old) (site_of new) before same g.lines in
+    subst (λ (x : Header). MakeGrows seed count x result (at_disk first old) new before after) header_is (record {
+      makes = record {
+        done = g.done;
+        next = g.next;
+        first = g.first;
+        lines = lines;
+        stands = λ z. stands_from begin g.done g.next first old.desk.disk new.desk.disk before after same (g.stands (settled_from first old new le result z));
+        tells = tells_from (made_outcome count (behind_but 2 begin g.done) (behind_all begin g.done)) (timed_of g.done) g.next.line text result first old new le g.tells;
+        none_read = g.none_read;
+      };
+      keeps = keeps_alone true r.header before g.done g.next (site_of (at_disk first old)) (site_of new) lines;
     }))
 
 module _ (id seed count : ℕ) (runner : Runner) (first : disks.State) (old new : Devices) (ready : IfSome first.reads (IsReady runner)) (is : runner.world.id ≡ id) (same : disks.Unchanged first old.desk.disk) where
@@ -205,13 +263,13 @@ module _ (id seed count : ℕ) (runner : Runner) (first : disks.State) (old new 
 
   -- and whatever it tells
   abbrev OverHeader : Status → Header → List ℕ → List ℕ → Type 0
-  OverHeader result h before after = Lists result h before after × MakeGrows seed count h (site_of (at_disk first old)) (site_of new) before
+  OverHeader result h before after = Lists result h before after × MakeGrows seed count h result (at_disk first old) new before after
 
-  pub made_opened : (result : Status) → IfSome first.reads first.is_image → first.faults ≤ old.desk.disk.faults → MakesFrom seed count runner result old new → MakesAloneFrom (script_for runner seed count) runner (site_of old) (site_of new) → MakesOn id seed count result (at_disk first old) new
+  pub made_opened : (result : Status) → IfSome first.reads first.is_image → first.faults ≤ old.desk.disk.faults → MakesFrom seed count runner result old new → MakesAloneFrom count (script_for runner seed count) runner result old new → MakesOn id seed count result (at_disk first old) new
   made_opened result image le (inl want) grows = wanting id (MakesHeader seed count) result (at_disk first old) new (left_before first old new same want.left) want.wanting want.none_out
   made_opened result image le (inr makes) grows = opened_on id (MakesHeader seed count) result (at_disk first old) new (told_map first.reads new.desk.disk.reads _ _
       (telling first.reads new.desk.disk.reads (IsHeaderOf id) (OverHeader result)
-      (told_map first.reads new.desk.disk.reads _ _ (told_both first.reads new.desk.disk.reads (λ before after. (h : Header) × IsHeaderOf id before h × Lists result h before after) (λ before after. (h : Header) → (stored before).header ≡ Some h → MakeGrows seed count h (site_of (at_disk first old)) (site_of new) before) (told_from first.reads old.desk.disk.reads new.desk.disk.reads _ _ _ same.reads (if_both first.reads first.is_image (IsReady runner) image ready) makes (λ before after both from.
+      (told_map first.reads new.desk.disk.reads _ _ (told_both first.reads new.desk.disk.reads (λ before after. (h : Header) × IsHeaderOf id before h × Lists result h before after) (λ before after. (h : Header) → (stored before).header ≡ Some h → MakeGrows seed count h result (at_disk first old) new before after) (told_from first.reads old.desk.disk.reads new.desk.disk.reads _ _ _ same.reads (if_both first.reads first.is_image (IsReady runner) image ready) makes (λ before after both from.
       let r = both.1 in
       let h : Header = r.header in
       let limits = old.desk.notary.limits in (
@@ -222,7 +280,7 @@ module _ (id seed count : ℕ) (runner : Runner) (first : disks.State) (old new 
             let at = r.at lists limits in
             makes_store seed count h result first old new (content before lists) (content after later_lists) same le both.0 r.is r.fits
             (subst (λ (text : List ℕ). Makes count begin text result old new (content before lists) (content after later_lists)) (script_here seed count runner h before limits lists at) (begins begin at))),
-      ))) (grows_opened seed count runner first old new same ready grows))
+      ))) (grows_opened seed count runner result first old new same le ready grows))
       (λ before after both. (both.0.0, both.0.1, (both.0.2, both.1 both.0.0 both.0.1.0)))))
       (λ before after h. (
         h.0,

@@ -1,6 +1,6 @@
 -- The lines of a text at hand are carried out: what a turn of the loop keeps, and its two ends.
-use Rattle.std.proofs.Common.{◌≡◌, ◌∙◌, ◌-◌, ◌≤◌, ℕ, Bool, true, List, [], ◌∷◌, ◌++◌, length, take, refl, sym, ap, subst, inl, inr, ⊎_elim, arith, append_assoc, append-nil, length-append, Result, Ok, Err}
-use Rattle.std.proofs.lemmas.List.{map-append, take-append-le}
+use Rattle.std.proofs.Common.{◌≡◌, ◌∙◌, ◌≤◌, ℕ, Bool, true, List, [], ◌∷◌, ◌++◌, length, take, refl, sym, ap, subst, inl, inr, ⊎_elim, arith, append_assoc, append-nil, Result, Ok, Err}
+use Rattle.std.proofs.lemmas.List.{map-append}
 use Rattle.notary_link.specs.declared.notary.NotaryLimits.{NotaryLimits}
 use Rattle.notary_link.specs.Notary as notaries
 use Rattle.notary_link.proofs.Frame as notary_frames
@@ -26,34 +26,12 @@ use Rattle.dragoon_app.proofs.GrownLines.{MadeFrom}
 use Rattle.dragoon_app.proofs.Reading.{take_first}
 use Rattle.dragoon_app.proofs.Faults.{uses_made}
 use Rattle.dragoon_app.proofs.Seconds.{takes_none, takes_then, takes_blank}
-use Rattle.dragoon_app.proofs.Written.{before_more}
+use Rattle.dragoon_app.proofs.Written.{before_more, but_two, two_of, two_none, two_more}
 use Rattle.dragoon_app.proofs.Nothing.{nothing, blank_nothing, nothing_found}
 use Rattle.dragoon_app.proofs.Worlds.{all_between}
 use Rattle.dragoon_app.proofs.Wherever.{wherever_map, wherever_same, wherever_then}
 use Rattle.dragoon_app.proofs.CarriedLines.{clock_then, clock_same, nothing_more}
 use Rattle.dragoon_app.proofs.Standing.{Stands, stands_first, stands_more, images_on, kept_on, ordered_on, between_on, sound_on, found_more, front_of_more, stores_in, carried_more}
-
--- ---- the last two replies
-
-abbrev pub two_of : List ℕ → List ℕ → LastTwo
-two_of first second = record { first = first; second = second }
-
-two_first : (begin : Running) → AreLastTwo begin [] (two_of [] [])
-two_first begin = record { second = sym (append-nil begin.text); first = sym (append-nil begin.text) }
-
-two_more : (begin : Running) (done : List Timed) (t : Timed) (first second text : List ℕ) → AreLastTwo begin done (two_of first second)
-    → (carried true begin (done ++ t ∷ [])).text ≡ (carried true begin done).text ++ text → AreLastTwo begin (done ++ t ∷ []) (two_of second text)
-two_more begin done t first second text two said =
-    let before : text_before true begin (done ++ t ∷ []) ≡ (carried true begin done).text = before_more true begin done t in
-    let n : ℕ = length done - 1 in
-    let less : length (done ++ t ∷ []) - 2 ≡ n = omega (arith, length-append done (t ∷ [])) in
-    let front : take (length (done ++ t ∷ []) - 2) (done ++ t ∷ []) ≡ take n done =
-    ap (λ (k : ℕ). take k (done ++ t ∷ [])) less ∙ take-append-le n done (t ∷ []) (omega arith) in
-    let but : (all_but_two begin (done ++ t ∷ [])).text ≡ text_before true begin done = ap (λ (ts : List Timed). (carried true begin ts).text) front in
-    record {
-      second = said ∙ ap (λ (xs : List ℕ). xs ++ text) (sym before);
-      first = before ∙ two.second ∙ ap (λ (xs : List ℕ). xs ++ second) (sym but);
-    }
 
 -- ---- between two lines
 
@@ -63,7 +41,7 @@ pub record AlongLines (runner : Runner) (limits : NotaryLimits) (old now : disks
   pub lines : all ≡ lines_in done ++ rest
   pub takes : Takes true done clock ahead
   pub stands : Stands true begin done runner old now before after limits lists later_lists
-  pub two : AreLastTwo begin done (two_of first second)
+  pub two : AreLastTwo (all_but_two begin done).text (text_before true begin done) (carried true begin done).text (two_of first second)
 
 -- what a turn of the loop keeps
 pub record IsMaking (start runner : Runner) (old now : disks.State) (filed later : notaries.State) (clock ahead : clocks.State) (all rest : List (List ℕ)) (first second : List ℕ) : Type 0 where
@@ -76,7 +54,7 @@ pub record IsMaking (start runner : Runner) (old now : disks.State) (filed later
 -- the same, with what becomes of the store alone
 pub record IsMakingGrown (start runner : Runner) (old now : disks.State) (filed later : notaries.State) (clock ahead : clocks.State) (all rest : List (List ℕ)) (first second : List ℕ) : Type 0 where
   pub making : IsMaking start runner old now filed later clock ahead all rest first second
-  pub grows : MadeFrom start runner (site old filed clock) (site now later ahead) all rest
+  pub grows : MadeFrom start runner (site old filed clock) (site now later ahead) all rest first second
 
 pub begins : (runner : Runner) (s : disks.State) (filed : notaries.State) (clock : clocks.State) (all : List (List ℕ)) (first second : List ℕ) → ((c : List ℕ) → s.was_image (disks.turn s) c → s.is_image c)
     → runner.is_scripted ≡ true → first ≡ [] → second ≡ [] → IsMaking runner runner s s filed filed clock clock all all first second
@@ -87,7 +65,7 @@ begins runner s filed clock all first second only_now scripted one two = record 
     lines = refl;
     takes = takes_none true clock;
     stands = stands_first true begin runner s bytes filed.limits lists only_now at;
-    two = subst (λ (x : List ℕ). AreLastTwo begin [] (two_of x second)) (sym one) (subst (λ (x : List ℕ). AreLastTwo begin [] (two_of [] x)) (sym two) (two_first begin));
+    two = two_none begin.text first second one two;
   });
   disk_frame = disk_frames.goes_on_same s;
   notary_frame = notary_frames.goes_on_same filed;
@@ -100,6 +78,13 @@ lines_more done t line rest is =
 
 first_lines : (done : List Timed) (more : List (List ℕ)) (text : List ℕ) → lines_of text ≡ lines_in done ++ more → AreFirst (lines_in done) text
 first_lines done more text all = sym (ap (take (length (lines_in done))) all ∙ take_first (lines_in done) more)
+
+-- how far the lines come where one failed
+pub reached : (line : List ℕ) (rest : List (List ℕ)) (text : List ℕ) (fail : LineFail) (done : List Timed) (t : Timed) → lines_of text ≡ lines_in done ++ line ∷ rest → IsLineOf {A = List ℕ} line (Err fail) t.line → Reaches {A = LastTwo} text done t (Err fail)
+reached line rest text lines.DiskFault done t all is = first_lines (done ++ t ∷ []) rest text (all ∙ lines_more done t line rest is)
+reached line rest text lines.NotaryFault done t all is = first_lines (done ++ t ∷ []) rest text (all ∙ lines_more done t line rest is)
+reached line rest text lines.NoMemory done t all is = ⊎_elim (λ (e : t.line ≡ []). inl (e, first_lines done (line ∷ rest) text all))
+    (λ (e : t.line ≡ line). inr (first_lines (done ++ t ∷ []) rest text (all ∙ lines_more done t line rest e))) is
 
 -- what is said of a reply within the limits, and of a run that is scripted
 abbrev Within : NotaryLimits → Bool → List ℕ → Result (List ℕ) LineFail → Runner → Runner → disks.State → disks.State → notaries.State → notaries.State → clocks.State → clocks.State → Type 0
@@ -122,13 +107,15 @@ module _ (start runner last : Runner) (old mid new : disks.State) (filed half la
         (λ begin before here after lists here_lists later_lists a from.
         let r : Running = carried true begin a.done in
         let x = from r a.stands.at in
-        let said : (carried true begin (a.done ++ x.timed ∷ [])).text ≡ r.text ++ text = ap (λ (y : Running). y.text) (carried_more true begin a.done x.timed) ∙ x.goes.reply in
+        let more : List Timed = a.done ++ x.timed ∷ [] in
+        let said : (carried true begin more).text ≡ r.text ++ text = ap (λ (y : Running). y.text) (carried_more true begin a.done x.timed) ∙ x.goes.reply in
         record {
-          done = a.done ++ x.timed ∷ [];
+          done = more;
           lines = a.lines ∙ lines_more a.done x.timed line rest x.line_is;
           takes = takes_then true a.done (x.timed ∷ []) clock tick tock g.clock_frame.told a.takes x.seconds;
           stands = stands_more true begin a.done x.timed runner last old mid new before here after filed.limits lists here_lists later_lists text a.stands x.may x.goes;
-          two = two_more begin a.done x.timed first second text a.two said;
+          two = two_more (all_but_two begin a.done).text (text_before true begin a.done) r.text (all_but_two begin more).text (text_before true begin more) (carried true begin more).text first second text a.two said
+              (before_more true begin a.done x.timed) (ap (λ (ts : List Timed). (carried true begin ts).text) (but_two a.done x.timed));
         });
     disk_frame = disk_frames.goes_on_then old mid new g.disk_frame disk_on;
     notary_frame = notary_frames.goes_on_then filed half later g.notary_frame notary_on;
@@ -141,12 +128,6 @@ module _ (start runner last : Runner) (old mid new : disks.State) (filed half la
   unsettled lines.NotaryFault s = s.notary refl
   unsettled lines.NoMemory s = s.memory refl
 
-  reached : (text : List ℕ) (fail : LineFail) (done : List Timed) (t : Timed) → lines_of text ≡ lines_in done ++ line ∷ rest → IsLineOf {A = List ℕ} line (Err fail) t.line → Reaches {A = LastTwo} text done t (Err fail)
-  reached text lines.DiskFault done t all is = first_lines (done ++ t ∷ []) rest text (all ∙ lines_more done t line rest is)
-  reached text lines.NotaryFault done t all is = first_lines (done ++ t ∷ []) rest text (all ∙ lines_more done t line rest is)
-  reached text lines.NoMemory done t all is = ⊎_elim (λ (e : t.line ≡ []). inl (e, first_lines done (line ∷ rest) text all))
-      (λ (e : t.line ≡ line). inr (first_lines (done ++ t ∷ []) rest text (all ∙ lines_more done t line rest e))) is
-
   pub under_way : (text : List ℕ) (fail : LineFail) → lines_of text ≡ all → IsMaking start runner old mid filed half clock tick all (line ∷ rest) first second
       → ((n : ℕ) (c : List ℕ) → n ≤ disks.turn new → new.is_image c → new.was_image n c)
       → RepliesFrom line (Err fail) runner last (site mid half tick) (site new later tock) → notaries.GoesOn half later
@@ -158,7 +139,7 @@ module _ (start runner last : Runner) (old mid new : disks.State) (filed half la
       record {
         done = a.done;
         next = x.timed;
-        reaches = reached text fail a.done x.timed (whole ∙ a.lines) x.line_is;
+        reaches = reached line rest text fail a.done x.timed (whole ∙ a.lines) x.line_is;
         lines = record {
           none = λ settled. absurd (unsettled fail settled);
           found = found_more true begin a.done x.timed a.stands.found x.may;

@@ -38,11 +38,10 @@ use Rattle.stmt_text.specs.Kinds.{line_kind}
 use Rattle.stmt_text.specs.Numbers.{max_u64}
 use Rattle.dragoon_app.specs.Outcome.{Said, refused}
 use Rattle.dragoon_app.specs.Devices.{Desk, Content, Site, Devices, content, site_of}
-use Rattle.dragoon_app.specs.Texts.{fault_line}
 use Rattle.dragoon_app.specs.Running.{Running, Timed, start, carry, carried, counted, stepped, world_of, seconds_of, said_by, refused_text, MayFindBy, AllMayFind, Takes}
 use Rattle.dragoon_app.specs.Failing.{HasStored, MayEndOn, MayEnd, EndsByUse}
-use Rattle.dragoon_app.specs.Growing.{Replied, SaidAlone, RepliesAlone, behind_all, LinesAlone, AreOfInput}
-use Rattle.dragoon_app.specs.Ran.{Runs, Reads, lines_in, text_before, StoresFront}
+use Rattle.dragoon_app.specs.Growing.{Replied, SaidAlone, RepliesAlone, timed_of, lines_replied, behind_all, behind_but, LinesAlone}
+use Rattle.dragoon_app.specs.Ran.{Runs, RunsAlone, Reads, lines_in, text_before, StoresFront}
 
 -- ---- failures
 
@@ -316,36 +315,21 @@ pub record ReplyGrows (line : List ℕ) (scripted : Bool) (result : Result (List
 abbrev pub ReplyGrowsFrom : List ℕ → Result (List ℕ) LineFail → Runner → Runner → Site → Site → Type 0
 ReplyGrowsFrom line result runner last old new = WhereStands runner old.desk.disk new.desk.disk (ReplyGrows line runner.is_scripted result last old new)
 
--- the replies are out before a fault is told; where the output failed or memory was wanting, a front of them
-abbrev pub WritesReplies : Result (Unit {0}) RunFail → List ℕ → sinks.State → sinks.State → Type 0
-WritesReplies (Err fails.WriteFault) text out written = sinks.FrontIsOut text out written
-WritesReplies (Err fails.NoMemory) text out written = sinks.FrontIsOut text out written
-WritesReplies result text out written = sinks.IsOut text out written
-
--- lines were carried out, and the text of their replies became of this
-pub record CarryGrows (Writes : List ℕ → Type 0) (scripted : Bool) (old new : Devices) (begin : Running) (before after : List ℕ) : Type 0 where
+-- The lines of an input were carried out from this beginning on, up to its end or a failure.
+pub record CarryGrows (scripted : Bool) (result : Result (Unit {0}) RunFail) (last : Runner) (old new : Devices) (begin : Running) (before after : List ℕ) : Type 0 where
   pub done : List Replied
   pub next : Replied
-  pub lines : WhereTold old.input.rest new.input.rest (λ all others. AreOfInput done next all)
+  pub first : WhereTold old.input.rest new.input.rest (λ all others. AreFirst (lines_replied done) all)
+  pub read : WhereTold old.input.rest new.input.rest (Reads (ending result) (timed_of done) next.line)
+  pub none : IsBetween result → next.line.line ≡ []
   pub alone : LinesAlone scripted begin done next (site_of old) (site_of new) before
-  pub out : begin.text ≡ [] → Writes (behind_all begin done).text
+  pub settled : IsBetween result → disks.Only before old.desk.disk → disks.Only after new.desk.disk
+  pub stands : IsBetween result → IsAtAlone (behind_all begin done) last after
+  pub said : begin.text ≡ [] → IsWritten (next.line.line ≡ []) (behind_but 1 begin done).text (behind_all begin done).text result old.out new.out
 
-abbrev pub CarryGrowsFrom : Result (Unit {0}) RunFail → Runner → Devices → Devices → Type 0
-CarryGrowsFrom result runner old new = WhereStands runner old.desk.disk new.desk.disk (CarryGrows (λ text. WritesReplies result text old.out new.out) runner.is_scripted old new)
+abbrev pub CarryGrowsFrom : Result (Unit {0}) RunFail → Runner → Runner → Devices → Devices → Type 0
+CarryGrowsFrom result runner last old new = WhereStands runner old.desk.disk new.desk.disk (CarryGrows runner.is_scripted result last old new)
 
--- and the line of a fault is out behind them, or a front of it
-abbrev pub WritesFault : Devices → Devices → List ℕ → Type 0
-WritesFault old new text = (s : Status) × sinks.FrontIsOut (text ++ fault_line s) old.out new.out
-
-abbrev pub RunGrowsFrom : Runner → Devices → Devices → Type 0
-RunGrowsFrom runner old new = WhereStands runner old.desk.disk new.desk.disk (CarryGrows (WritesFault old new) runner.is_scripted old new)
-
--- the same of the lines of a text at hand, whose replies are kept
-pub record MakesAlone (text : List ℕ) (old new : Site) (begin : Running) (before after : List ℕ) : Type 0 where
-  pub done : List Replied
-  pub next : Replied
-  pub lines : AreOfInput done next text
-  pub alone : LinesAlone true begin done next old new before
-
-abbrev pub MakesAloneFrom : List ℕ → Runner → Site → Site → Type 0
-MakesAloneFrom text runner old new = WhereStands runner old.desk.disk new.desk.disk (MakesAlone text old new)
+-- before the first reply of a run
+abbrev pub RunGrowsFrom : Status → Runner → Devices → Devices → Type 0
+RunGrowsFrom result runner old new = WhereStands runner old.desk.disk new.desk.disk (λ begin before after. begin.text ≡ [] → RunsAlone runner.is_scripted begin result old new before after)

@@ -1,9 +1,7 @@
 -- What a run does and replies whatever the notary tells: a part of what the store alone says.
-use Rattle.std.specs.Prelude.{◌≡◌, ◌⊎◌, ℕ, Bool, List, [], ◌∷◌, ◌++◌, fold, map, Result, Ok, Err}
-use Rattle.outside_words.specs.Told.{WhereTold}
+use Rattle.std.specs.Prelude.{◌≡◌, ◌⊎◌, ◌-◌, ℕ, Bool, List, [], ◌∷◌, ◌++◌, length, take, fold, map, Result, Ok, Err}
 use Rattle.disk_words.specs.Disk as disks
 use Rattle.disk_model.specs.Moments.{EveryImage}
-use Rattle.outside_io.specs.Sink as sinks
 use Rattle.line_input.specs.Front.{AreFirst}
 use Rattle.tuple_bytes.specs.declared.header.Header.{Header}
 use Rattle.history_model.specs.Stored.{stored}
@@ -20,10 +18,8 @@ use Rattle.drill_core.specs.Alone.{StepsAlone}
 use Rattle.drill_core.specs.Found.{Found}
 use Rattle.drill_core.specs.Steps.{Step}
 use Rattle.drill_core.specs.World.{StoresWorld}
-use Rattle.dragoon_app.specs.declared.status.Status.{Status}
-use Rattle.dragoon_app.specs.Devices.{Devices, Site, site_of}
+use Rattle.dragoon_app.specs.Devices.{Site}
 use Rattle.dragoon_app.specs.Running.{Running, Timed, start, world_of, seconds_of, stepped, said_by, answered, Takes}
-use Rattle.dragoon_app.specs.Texts.{fault_line}
 
 -- ---- a line
 
@@ -52,11 +48,15 @@ abbrev pub timed_of : List Replied → List Timed
 timed_of replied = map (λ r. r.line) replied
 
 abbrev pub lines_replied : List Replied → List (List ℕ)
-lines_replied replied = map (λ r. r.line.line) replied
+lines_replied replied = map (λ t. t.line) (timed_of replied)
 
 -- where it stands behind all of them
 abbrev pub behind_all : Running → List Replied → Running
 behind_all begin replied = fold (λ (r : Running) (d : Replied). d.behind) begin replied
+
+-- behind all but the last n
+abbrev pub behind_but : ℕ → Running → List Replied → Running
+behind_but n begin replied = behind_all begin (take (length replied - n) replied)
 
 -- each goes on from where the run stands
 abbrev pub AreReplied : Bool → Running → List Replied → Type 0
@@ -87,6 +87,12 @@ pub record LinesAlone (scripted : Bool) (begin : Running) (done : List Replied) 
   -- and now at least what the lines left that were replied to
   pub kept : disks.Only before old.desk.disk → (c : List ℕ) → new.desk.disk.is_image c → StoresWorld (behind_all begin done).world c ⊎ StoresWorld next.behind.world c
 
+-- No line was under way, and the store is the one behind all lines that were replied to.
+pub record StandsBehind (begin : Running) (done : List Replied) (next : Replied) (old new : disks.State) (before after : List ℕ) : Type 0 where
+  pub none : next.line.line ≡ []
+  pub stores : StoresWorld (behind_all begin done).world after
+  pub settled : disks.Only before old → disks.Only after new
+
 -- ---- over a store
 
 -- a notary that holds nothing: the store alone says no more of it
@@ -107,7 +113,7 @@ pub record KeepsAlone (header : Header) (done : List Replied) (old new : disks.S
   -- on a settled disk each transaction of which `ok N` was replied stands in every image of now, by its number
   pub acknowledged : disks.Only before old → (digits : List ℕ) → IsReplyTo (ok_text digits) (opened_alone header before) done → (c : List ℕ) → new.is_image c → HasTxn digits (stored c).items
 
--- ---- a run
+-- ---- the lines of a text
 
 -- this line comes behind those, or none was under way, which an empty one stands for
 abbrev pub IsNextOrNone : List Replied → Replied → List ℕ → Type 0
@@ -117,12 +123,3 @@ IsNextOrNone done next input = (next.line.line ≡ []) ⊎ AreFirst (lines_repli
 pub record AreOfInput (done : List Replied) (next : Replied) (input : List ℕ) : Type 0 where
   pub first : AreFirst (lines_replied done) input
   pub under_way : IsNextOrNone done next input
-
--- The first lines of the input were replied to. No text is out but these replies and the line of a fault behind them.
-pub record RunGrows (scripted : Bool) (header : Header) (old new : Devices) (before : List ℕ) : Type 0 where
-  pub done : List Replied
-  pub next : Replied
-  pub lines : WhereTold old.input.rest new.input.rest (λ all others. AreOfInput done next all)
-  pub alone : LinesAlone scripted (opened_alone header before) done next (site_of old) (site_of new) before
-  pub out : (s : Status) × sinks.FrontIsOut ((behind_all (opened_alone header before) done).text ++ fault_line s) old.out new.out
-  pub keeps : KeepsAlone header done old.desk.disk new.desk.disk before

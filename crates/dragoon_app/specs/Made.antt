@@ -12,12 +12,12 @@ use Rattle.statement_core.specs.World as statements
 use Rattle.workload_make.specs.Script.{script}
 use Rattle.dragoon_app.specs.declared.status.Status.{Status}
 use Rattle.dragoon_app.specs.declared.status.Status.TheVariants as statuses
-use Rattle.dragoon_app.specs.Devices.{Content, Devices, Site, Effect, WhereBothTell, site_of}
+use Rattle.dragoon_app.specs.Devices.{Content, Devices, Effect, WhereBothTell, site_of}
 use Rattle.dragoon_app.specs.Outcome.{Outcome, Said, refused}
 use Rattle.dragoon_app.specs.Commands.{OnStore}
 use Rattle.dragoon_app.specs.Running.{Running, Timed, carry, carried}
-use Rattle.dragoon_app.specs.Growing.{Replied, AreOfInput, LinesAlone, KeepsAlone, opened_alone}
-use Rattle.dragoon_app.specs.Ran.{IsNext, RunsLines, KeepsPromises, ending_of, lines_in, opened}
+use Rattle.dragoon_app.specs.Growing.{Replied, timed_of, behind_all, behind_but, AreOfInput, LinesAlone, StandsBehind, KeepsAlone, opened_alone}
+use Rattle.dragoon_app.specs.Ran.{IsNext, IsSettled, RunsLines, KeepsPromises, ending_of, lines_in, opened}
 
 -- ---- the summary
 
@@ -34,18 +34,21 @@ made_line count refused stored = codes "made " ++ (decimal count ++ (codes " ref
 abbrev pub all_but_two : Running → List Timed → Running
 all_but_two begin done = carried true begin (take (length done - 2) done)
 
--- the replies to the last two lines: what those add to the text
-abbrev pub last_two : Running → List Timed → List ℕ
-last_two begin done = drop (length (all_but_two begin done).text) (carried true begin done).text
+-- the replies between: what the text has more
+abbrev pub added : Running → Running → List ℕ
+added before r = drop (length before.text) r.text
 
-abbrev pub summary : ℕ → Running → List Timed → List ℕ
-summary count begin done =
-    let r : Running = carried true begin done in
-    made_line count r.refused (txns_in r.world.store) ++ last_two begin done
+-- the replies to the last two lines
+abbrev pub last_two : Running → List Timed → List ℕ
+last_two begin done = added (all_but_two begin done) (carried true begin done)
+
+-- the summary of a run, with the replies since it stood before
+abbrev pub summary : ℕ → Running → Running → List ℕ
+summary count before r = made_line count r.refused (txns_in r.world.store) ++ added before r
 
 -- a run whose lines were all carried out tells its summary, and ends by whether some reply is a refusal
-abbrev pub made_outcome : ℕ → Running → List Timed → Outcome
-made_outcome count begin done = record { status = ending_of (carried true begin done); text = summary count begin done }
+abbrev pub made_outcome : ℕ → Running → Running → Outcome
+made_outcome count before r = record { status = ending_of r; text = summary count before r }
 
 -- ---- how it ends
 
@@ -67,10 +70,10 @@ IsPerhapsNext done next text = ((next.line ≡ []) × AreFirst (lines_in done) t
 abbrev pub TellsNothing : Status → Devices → Devices → Type 0
 TellsNothing result old new = (result ≡ statuses.NoMemory) × sinks.Unchanged old.out new.out
 
--- No reply is written but in the summary, behind all lines. A line that failed is the next of the text.
-abbrev pub Tells : ℕ → Running → List Timed → Timed → List ℕ → Status → Devices → Devices → Type 0
-Tells count begin done next text result old new =
-    (AreAll done text × Said (made_outcome count begin done) result old.out new.out)
+-- No reply is written but in what was made, behind all lines. A line that failed is the next of the text.
+abbrev pub Tells : Outcome → List Timed → Timed → List ℕ → Status → Devices → Devices → Type 0
+Tells made done next text result old new =
+    (AreAll done text × Said made result old.out new.out)
     ⊎ (IsNext done next text × TellsFault result old new)
     ⊎ (IsPerhapsNext done next text × TellsNothing result old new)
 
@@ -81,7 +84,7 @@ pub record Makes (count : ℕ) (begin : Running) (text : List ℕ) (result : Sta
   pub done : List Timed
   pub next : Timed
   pub lines : RunsLines true begin done next result (site_of old) (site_of new) before after
-  pub tells : Tells count begin done next text result old new
+  pub tells : Tells (made_outcome count (all_but_two begin done) (carried true begin done)) done next text result old new
   pub none_read : new.input ≡ old.input
 
 -- over a store of this header: the script is that of its granule width and its last moment
@@ -89,20 +92,31 @@ pub record MakesStore (seed count : ℕ) (header : Header) (result : Status) (ol
   pub makes : Makes count (opened header old before) (script header.width (last_moment (stored before.bytes).items) seed count) result old new before after
   pub promises : KeepsPromises true header makes.done makes.next old new before
 
--- the same, as far as the store alone says it
-pub record MakeGrows (seed count : ℕ) (header : Header) (old new : Site) (before : List ℕ) : Type 0 where
+-- ---- whatever the notary tells
+
+-- The lines of this text were replied to from this beginning on, and this one was perhaps under way.
+pub record MakesAlone (count : ℕ) (begin : Running) (text : List ℕ) (result : Status) (old new : Devices) (before after : List ℕ) : Type 0 where
   pub done : List Replied
   pub next : Replied
-  pub lines : AreOfInput done next (script header.width (last_moment (stored before).items) seed count)
-  pub alone : LinesAlone true (opened_alone header before) done next old new before
-  pub keeps : KeepsAlone header done old.desk.disk new.desk.disk before
+  pub first : AreOfInput done next text
+  pub lines : LinesAlone true begin done next (site_of old) (site_of new) before
+  pub stands : IsSettled result old.desk new.desk → StandsBehind begin done next old.desk.disk new.desk.disk before after
+  pub tells : Tells (made_outcome count (behind_but 2 begin done) (behind_all begin done)) (timed_of done) next.line text result old new
+  pub none_read : new.input ≡ old.input
+
+-- over a store of this header, with the script as above
+pub record MakeGrows (seed count : ℕ) (header : Header) (result : Status) (old new : Devices) (before after : List ℕ) : Type 0 where
+  pub makes : MakesAlone count (opened_alone header before) (script header.width (last_moment (stored before).items) seed count) result old new before after
+  pub keeps : KeepsAlone header makes.done old.desk.disk new.desk.disk before
+
+-- ---- all of it
 
 -- over a store that was opened
 pub record MakesHeader (seed count : ℕ) (header : Header) (result : Status) (old new : Devices) : Type 0 where
   -- where both tell what they hold
   pub makes : WhereBothTell old.desk new.desk (MakesStore seed count header result old new)
   -- whatever the notary tells
-  pub grows : WhereTold old.desk.disk.reads new.desk.disk.reads (λ before after. MakeGrows seed count header (site_of old) (site_of new) before)
+  pub grows : WhereTold old.desk.disk.reads new.desk.disk.reads (MakeGrows seed count header result old new)
 
 -- `make ID SEED N`
 abbrev pub MakesOn : ℕ → ℕ → ℕ → Effect

@@ -1,5 +1,6 @@
 -- How the parts of `make` carry out the lines of a text at hand, and what they hand on.
-use Rattle.std.specs.Prelude.{◌≡◌, ◌⊎◌, ℕ, true, List, ◌++◌, Option, Some, None, Result, Ok, Err, OnOk, IfOk}
+use Rattle.std.specs.Prelude.{◌≡◌, ◌⊎◌, ℕ, true, List, [], ◌++◌, Option, Some, None, Result, Ok, Err, OnOk, IfOk}
+use Rattle.disk_words.specs.Disk as disks
 use Rattle.drill_core.specs.declared.fail.LineFail.{LineFail}
 use Rattle.drill_core.specs.declared.fail.LineFail.TheVariants as lines
 use Rattle.drill_core.specs.declared.open_store.OpenStore.{OpenStore}
@@ -13,8 +14,9 @@ use Rattle.dragoon_app.specs.Outcome.{Outcome}
 use Rattle.dragoon_app.specs.Commands.{EndsWanting}
 use Rattle.dragoon_app.specs.Running.{Running, Timed, carried}
 use Rattle.dragoon_app.specs.Ran.{RunsLines, IsNext, ending_by, text_before}
-use Rattle.dragoon_app.specs.Carrying.{IsAt, FromWhere}
-use Rattle.dragoon_app.specs.Made.{Makes, AreAll, IsPerhapsNext, made_line, all_but_two}
+use Rattle.dragoon_app.specs.Carrying.{IsAt, FromWhere, IsAtAlone, WhereStands}
+use Rattle.dragoon_app.specs.Growing.{Replied, timed_of, behind_all, behind_but, AreOfInput, LinesAlone}
+use Rattle.dragoon_app.specs.Made.{Makes, MakesAlone, AreAll, IsPerhapsNext, made_line, all_but_two}
 
 -- the script for a store that is open, of this runner's moment
 abbrev pub width_of : Option OpenStore → ℕ
@@ -36,10 +38,10 @@ told_of count runner two = record {
   text = made_line count runner.refused (stored_in runner.world.opened) ++ (two.first ++ two.second);
 }
 
--- the replies to the last two lines
-pub record AreLastTwo (begin : Running) (done : List Timed) (two : LastTwo) : Type 0 where
-  pub second : (carried true begin done).text ≡ text_before true begin done ++ two.second
-  pub first : text_before true begin done ≡ (all_but_two begin done).text ++ two.first
+-- the replies to the last two lines, between the text without these, the text without the last, and all
+pub record AreLastTwo (without_two without_last all : List ℕ) (two : LastTwo) : Type 0 where
+  pub second : all ≡ without_last ++ two.second
+  pub first : without_last ≡ without_two ++ two.first
 
 -- the status that stands for how the lines ended
 abbrev pub line_status : {A : Type 0} → Result A LineFail → Status
@@ -61,7 +63,7 @@ pub record MakesLines (text : List ℕ) (result : Result LastTwo LineFail) (last
   pub reaches : Reaches text done next result
   pub lines : RunsLines true begin done next (line_status result) old new before after
   pub stands : OnOk result (IsAt (carried true begin done) last after.bytes old.desk.notary.limits after.lists)
-  pub two : IfOk result (AreLastTwo begin done)
+  pub two : IfOk result (AreLastTwo (all_but_two begin done).text (text_before true begin done) (carried true begin done).text)
 
 abbrev pub MakesLinesFrom : List ℕ → Result LastTwo LineFail → Runner → Runner → Site → Site → Type 0
 MakesLinesFrom text result runner last old new = FromWhere runner old.desk new.desk (MakesLines text result last old new)
@@ -73,3 +75,24 @@ MakesTextFrom count text runner result old new = FromWhere runner old.desk new.d
 -- the script was, or memory was wanting for it
 abbrev pub MakesFrom : ℕ → ℕ → Runner → Effect
 MakesFrom seed count runner result old new = EndsWanting result old new ⊎ MakesTextFrom count (script_for runner seed count) runner result old new
+
+-- ---- whatever the notary tells
+
+-- The lines of a text were replied to from this beginning on, up to its end or a failure.
+pub record MakesLinesAlone (text : List ℕ) (result : Result LastTwo LineFail) (last : Runner) (old new : Site) (begin : Running) (before after : List ℕ) : Type 0 where
+  pub done : List Replied
+  pub next : Replied
+  pub first : AreOfInput done next text
+  pub reaches : Reaches text (timed_of done) next.line result
+  pub lines : LinesAlone true begin done next old new before
+  pub none : OnOk result (next.line.line ≡ [])
+  pub settled : disks.Only before old.desk.disk → OnOk result (disks.Only after new.desk.disk)
+  pub stands : OnOk result (IsAtAlone (behind_all begin done) last after)
+  pub two : IfOk result (AreLastTwo (behind_but 2 begin done).text (behind_but 1 begin done).text (behind_all begin done).text)
+
+abbrev pub MakesLinesAloneFrom : List ℕ → Result LastTwo LineFail → Runner → Runner → Site → Site → Type 0
+MakesLinesAloneFrom text result runner last old new = WhereStands runner old.desk.disk new.desk.disk (MakesLinesAlone text result last old new)
+
+-- a text was, and it was told of
+abbrev pub MakesAloneFrom : ℕ → List ℕ → Runner → Effect
+MakesAloneFrom count text runner result old new = WhereStands runner old.desk.disk new.desk.disk (λ begin before after. MakesAlone count begin text result old new before after)

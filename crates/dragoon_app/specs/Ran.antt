@@ -23,7 +23,7 @@ use Rattle.dragoon_app.specs.Running.{Running, Timed, start, carried, world_of, 
 use Rattle.dragoon_app.specs.Failing.{EndsByUse}
 use Rattle.dragoon_app.specs.Laws.{AllTellNone}
 use Rattle.dragoon_app.specs.Acknowledged.{IsReplied}
-use Rattle.dragoon_app.specs.Growing.{RunGrows}
+use Rattle.dragoon_app.specs.Growing.{Replied, timed_of, behind_all, behind_but, LinesAlone, StandsBehind, KeepsAlone, opened_alone}
 
 -- ---- which lines were carried out, of an input that told its bytes before and after
 
@@ -166,12 +166,31 @@ pub record RunsStore (scripted : Bool) (header : Header) (result : Status) (old 
   pub runs : Runs scripted (opened header old before) result old new before after
   pub promises : KeepsPromises scripted header runs.done runs.next old new before
 
+-- ---- whatever the notary tells
+
+-- A run whose store was opened, as far as the store alone says it.
+pub record RunsAlone (scripted : Bool) (begin : Running) (result : Status) (old new : Devices) (before after : List ℕ) : Type 0 where
+  -- the lines that were replied to, and the one under way
+  pub done : List Replied
+  pub next : Replied
+  pub lines : LinesAlone scripted begin done next (site_of old) (site_of new) before
+  pub stands : IsSettled result old.desk new.desk → StandsBehind begin done next old.desk.disk new.desk.disk before after
+  pub read : WhereTold old.input.rest new.input.rest (Reads result (timed_of done) next.line)
+  pub said : Writes (next.line.line ≡ []) (IsToTell (timed_of done) next.line old new) (behind_but 1 begin done).text (behind_all begin done) result old.out new.out
+
+-- over a store of this header
+pub record RunGrows (scripted : Bool) (header : Header) (result : Status) (old new : Devices) (before after : List ℕ) : Type 0 where
+  pub runs : RunsAlone scripted (opened_alone header before) result old new before after
+  pub keeps : KeepsAlone header runs.done old.desk.disk new.desk.disk before
+
+-- ---- all of it
+
 -- a run whose store was opened
 pub record RunsHeader (scripted : Bool) (header : Header) (result : Status) (old new : Devices) : Type 0 where
   -- where both tell what they hold
   pub runs : WhereBothTell old.desk new.desk (RunsStore scripted header result old new)
   -- whatever the notary tells
-  pub grows : WhereTold old.desk.disk.reads new.desk.disk.reads (λ before after. RunGrows scripted header old new before)
+  pub grows : WhereTold old.desk.disk.reads new.desk.disk.reads (RunGrows scripted header result old new)
 
 abbrev pub RunsOn : Bool → ℕ → Effect
 RunsOn scripted id = OnStore id (RunsHeader scripted)

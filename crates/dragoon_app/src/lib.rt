@@ -58,20 +58,24 @@
 //!
 //! Of the store alone it speaks where the store tells its bytes, whatever the notary tells:
 //!
-//! | The layer above may rely on | Field of `RunGrows` |
+//! | The layer above may rely on | Field of `RunsAlone` |
 //! |---|---|
-//! | the first lines of the input were replied to, each once, and the next was perhaps under way | `lines` |
-//! | no text is out but these replies, one behind another, and a fault line behind them, or a front of that | `out` |
-//! | each line goes on from where the run stands, over a store beside a notary that holds nothing: as it is defined, or by `RepliesAlone` where it asks the notary | `replies` of `alone` |
+//! | the first lines of the input were replied to, each once; after `Ok` and `Refused` all lines were; the one under way, and what was taken beyond them, is as above | `read` |
+//! | after `Ok` and `Refused` exactly these replies are out, one behind another, and it is `Refused` exactly where one of them is a refusal; else the end is as above: cut short, or with the line behind it of a fault that has its cause | `said` |
+//! | each line goes on from where the run stands, over a store beside a notary that holds nothing: as it is defined, or by `StepsAlone` where it asks the notary | `replies` of `lines` |
 //! | so a statement on tables, a line of a session, `now`, a blank line and a line outside the language are replied exactly what is defined | there |
 //! | `notarize` is replied `sealed N` or a refusal, where the clock decides that exactly that one, and stores at most a Frontier, of any moment | `NotarizesAlone` |
 //! | `validate` is replied a verdict or a refusal of a validation, and `analyse` a refusal of its algorithm or a report, of which only the first line is said; neither changes the store | `ValidatesAlone`, `AnalysesAlone` |
-//! | a scripted run asks no clock, and others take one second for each line that isn't blank, the one under way too | `seconds` of `alone` |
-//! | on a settled store a crash at any moment leaves what stood there behind some first lines; now at least what the lines left that were replied to | `images`, `kept` of `alone` |
-//! | on a settled store a crash at any moment leaves all items that were stored, and perhaps more | `appends` of `keeps` |
-//! | on a settled store each transaction of which `ok N` was replied stands in every image, as the N-th | `acknowledged` of `keeps` |
+//! | a scripted run asks no clock, and others take one second for each line that isn't blank, the one under way too | `seconds` of `lines` |
+//! | on a settled store a crash at any moment leaves what stood there behind some first lines; now at least what the lines left that were replied to | `images`, `kept` of `lines` |
+//! | unless the disk or the notary failed or memory was wanting, no line was under way, and the bytes store what the lines left that were replied to; on a settled store they are its only image | `stands` |
+//! | on a settled store a crash at any moment leaves all items that were stored, and perhaps more | `appends` of `KeepsAlone` |
+//! | on a settled store each transaction of which `ok N` was replied stands in every image, as the N-th | `acknowledged` of `KeepsAlone` |
 //!
-//! Of `make` `alone` and `keeps` are said, of the lines of its script (`MakeGrows`), and nothing of what is out.
+//! Of `make` the same is said of the lines of its script, by `first`, `lines` and `stands` of `MakesAlone` and by `KeepsAlone`.
+//! What is out is `Tells` of these replies. Behind all lines it is the summary: it counts the refusals among them and the
+//! transactions that are stored then, and ends with the last two. Else it is the line of a fault that has its cause. Of
+//! either a front is out where the output failed or memory was wanting, or nothing.
 //!
 //! `notarize` is `NotarizesOn` in `leaves`: the store is opened, the clock's second taken, and the tiles that have
 //! ended by then are filed, as `validator` says it; the notary is asked at most two questions, whatever is answered

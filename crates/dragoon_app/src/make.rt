@@ -14,10 +14,10 @@ ghost use Rattle.dragoon_app.specs.declared.command.Command.TheVariants as comma
 ghost use Rattle.dragoon_app.specs.Devices.{desk, site, devices, StaysSound, HasCauses, AllGoOn};
 ghost use Rattle.dragoon_app.specs.Ends.{Ends};
 ghost use Rattle.dragoon_app.specs.Outcome.{Said, WriteCause};
-ghost use Rattle.dragoon_app.specs.Carrying.{SoundFrom, MakesAloneFrom};
+ghost use Rattle.dragoon_app.specs.Carrying.{SoundFrom};
 ghost use Rattle.dragoon_app.specs.Ran.{ending_by};
 ghost use Rattle.dragoon_app.specs.Made.{made_line, MakesOn};
-ghost use Rattle.dragoon_app.specs.MakingLines.{script_for, stored_in, told_of, MakesLinesFrom, MakesTextFrom, MakesFrom};
+ghost use Rattle.dragoon_app.specs.MakingLines.{script_for, stored_in, told_of, MakesLinesFrom, MakesTextFrom, MakesFrom, MakesLinesAloneFrom, MakesAloneFrom};
 
 use crate::Status;
 use crate::run_fail::{RunFail, end};
@@ -50,7 +50,7 @@ fn make_lines<D: Disk, N: Notary, C: Clock>(
     text: &[u8],
 ) -> Result<LastTwo, LineFail>
     requires scripted { runner.old.is_scripted ≡ true }
-    ensures grows { MakesAloneFrom text.now runner.old
+    ensures grows { MakesLinesAloneFrom text.now result runner.old runner.new
         (site (D.state disk.old) (N.state notary.old) (C.state clock.old)) (site (D.state disk.new) (N.state notary.new) (C.state clock.new)) }
     ensures told { MakesLinesFrom text.now result runner.old runner.new
         (site (D.state disk.old) (N.state notary.old) (C.state clock.old)) (site (D.state disk.new) (N.state notary.new) (C.state clock.new)) }
@@ -154,8 +154,9 @@ fn make_text<D: Disk, N: Notary, C: Clock, O: Sink>(
     out: &mut O,
 ) -> Status
     requires scripted { runner.old.is_scripted ≡ true }
-    ensures grows { MakesAloneFrom text.now runner.old
-        (site (D.state disk.old) (N.state notary.old) (C.state clock.old)) (site (D.state disk.new) (N.state notary.new) (C.state clock.new)) }
+    ensures grows { (input : sources.State) → MakesAloneFrom count text.now runner.old result
+        (devices (D.state disk.old) (N.state notary.old) (C.state clock.old) input (O.state out.old))
+        (devices (D.state disk.new) (N.state notary.new) (C.state clock.new) input (O.state out.new)) }
     ensures told { (input : sources.State) → MakesTextFrom count text.now runner.old result
         (devices (D.state disk.old) (N.state notary.old) (C.state clock.old) input (O.state out.old))
         (devices (D.state disk.new) (N.state notary.new) (C.state clock.new) input (O.state out.new)) }
@@ -189,8 +190,9 @@ fn make_opened<D: Disk, N: Notary, C: Clock, O: Sink>(
     requires store { IsSome runner.old.world.opened }
     requires some { 1 ≤ count }
     requires few { count ≤ max_steps }
-    ensures grows { MakesAloneFrom (script_for runner.old seed count) runner.old
-        (site (D.state disk.old) (N.state notary.old) (C.state clock.old)) (site (D.state disk.new) (N.state notary.new) (C.state clock.new)) }
+    ensures grows { (input : sources.State) → MakesAloneFrom count (script_for runner.old seed count) runner.old result
+        (devices (D.state disk.old) (N.state notary.old) (C.state clock.old) input (O.state out.old))
+        (devices (D.state disk.new) (N.state notary.new) (C.state clock.new) input (O.state out.new)) }
     ensures told { (input : sources.State) → MakesFrom seed count runner.old result
         (devices (D.state disk.old) (N.state notary.old) (C.state clock.old) input (O.state out.old))
         (devices (D.state disk.new) (N.state notary.new) (C.state clock.new) input (O.state out.new)) }

@@ -36,7 +36,7 @@ fn carry_lines<D: Disk, N: Notary, C: Clock, I: Source, O: Sink>(
     input: &mut I,
     out: &mut O,
 ) -> Result<(), RunFail>
-    ensures grows { CarryGrowsFrom result runner.old
+    ensures grows { CarryGrowsFrom result runner.old runner.new
         (devices (D.state disk.old) (N.state notary.old) (C.state clock.old) (I.state input.old) (O.state out.old))
         (devices (D.state disk.new) (N.state notary.new) (C.state clock.new) (I.state input.new) (O.state out.new)) }
     ensures told { CarriesFrom result runner.old runner.new
@@ -71,7 +71,7 @@ fn run_opened<D: Disk, N: Notary, C: Clock, I: Source, O: Sink>(
     input: &mut I,
     out: &mut O,
 ) -> Status
-    ensures grows { RunGrowsFrom runner.old
+    ensures grows { RunGrowsFrom result runner.old
         (devices (D.state disk.old) (N.state notary.old) (C.state clock.old) (I.state input.old) (O.state out.old))
         (devices (D.state disk.new) (N.state notary.new) (C.state clock.new) (I.state input.new) (O.state out.new)) }
     ensures told { RunsFrom result runner.old

@@ -38,8 +38,11 @@
 //! | a failure is a fault of the disk or of the notary, or want of memory; behind a reply, a refusal too, neither counted a fault | `disk_cause` and `notary_cause`, `disk_counted` and `notary_counted` |
 //! | only a line that the notary answers ends in a fault of the notary; only such a line, or one that stores, in one of the disk | `only` of `World::line` and of `told`, by `MayEndIn` |
 //! | where the clock speaks against a notarization before anything is asked, it ends in no fault | `timely` of `told`, by `EndsTimely` |
-//! | of the store alone, whatever the notary tells: a line goes on by a step that the store alone allows, and a crash leaves the history before the line or the one after it | `grows` of `World::line`, by `Grows` |
-//! | such a step of a statement or a line of a session is the one that is defined; of a notarization it stores at most a Frontier, and what the clock refuses is refused exactly so; of a validation and an analysis it leaves the world | `allowed` of `Grows`, by `StepsAlone` |
+//! | whatever the notary tells, where the disk tells its bytes: a line goes on by a step that the store alone allows. What is replied is that step's reply, and then the machine stands for its world | `grows` of `World::line`: `allowed`, `reply`, `stands` of `Grows` |
+//! | and on a settled disk a crash at any moment leaves the store before the line or behind that step. The bytes are one of the two, whatever was answered, and the only image behind a reply | `images`, `kept`, `settled` of `Grows` |
+//! | such a step of a statement or a line of a session is the one that is defined | `StepsAlone` |
+//! | of a notarization it tells some number of sealed tiles or a refusal, and stores no Frontier or one, of any moment. Where the clock speaks against it, it is refused so and stores nothing; else no refusal of the clock is told | `NotarizesAlone` |
+//! | of a validation and of an analysis it leaves the world. It tells some verdict, or a report that begins as that of some analysis, or a refusal of a validation or of the algorithm | `ValidatesAlone`, `AnalysesAlone` |
 //! | the store of the id is opened, or there is none | `value` of `World::enter` |
 //! | a world whose store is what was filed stays so at every line, and no line tells of an alteration | [`sound_worlds_stay_sound`] |
 //! | a line that is replied `ok N` leaves a store that has the transaction N, and no line takes an item away | [`steps_acknowledge`], [`steps_only_append`] |

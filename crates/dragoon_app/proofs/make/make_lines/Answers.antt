@@ -11,7 +11,7 @@ use Rattle.dragoon_app.proofs.RunGrowing.{made_first, made_more, made_failed, ma
 use Rattle.dragoon_app.proofs.make.make_lines.Goals as goal
 
 pub lines-init : goal.lines-init
-lines-init g c = record { making = begins c.args.runner.now (g.D.Disk.state c.args.disk.now) (g.N.Notary.state c.args.notary.now) (g.C.Clock.state c.args.clock.now) (lines_of c.args.text.now) c.new-first.result c.new-second.result (g.met.D.Disk.only_now c.args.disk.now) c.requires.scripted c.new-first.ensures.value c.new-second.ensures.value; grows = made_first c.args.runner.now (site (g.D.Disk.state c.args.disk.now) (g.N.Notary.state c.args.notary.now) (g.C.Clock.state c.args.clock.now)) (lines_of c.args.text.now) (g.met.D.Disk.only_now c.args.disk.now) }
+lines-init g c = record { making = begins c.args.runner.now (g.D.Disk.state c.args.disk.now) (g.N.Notary.state c.args.notary.now) (g.C.Clock.state c.args.clock.now) (lines_of c.args.text.now) c.new-first.result c.new-second.result (g.met.D.Disk.only_now c.args.disk.now) c.requires.scripted c.new-first.ensures.value c.new-second.ensures.value; grows = made_first c.args.runner.now (site (g.D.Disk.state c.args.disk.now) (g.N.Notary.state c.args.notary.now) (g.C.Clock.state c.args.clock.now)) (lines_of c.args.text.now) c.new-first.result c.new-second.result c.new-first.ensures.value c.new-second.ensures.value (g.met.D.Disk.only_now c.args.disk.now) }
 
 pub lines-preserved : goal.lines-preserved
 lines-preserved g c =
@@ -19,13 +19,13 @@ lines-preserved g c =
     let N = g.N.Notary.state in
     let C = g.C.Clock.state in
     let going = subst (λ (ls : List (List ℕ)). IsMaking c.args.runner.now c.lines.runner (D c.args.disk.now) (D c.lines.disk) (N c.args.notary.now) (N c.lines.notary) (C c.args.clock.now) (C c.lines.clock) (lines_of c.args.text.now) ls c.lines.first c.lines.second) c.first_line.ensures.value c.lines.invariant.making in
-    let grown = subst (λ (ls : List (List ℕ)). MadeFrom c.args.runner.now c.lines.runner (site (D c.args.disk.now) (N c.args.notary.now) (C c.args.clock.now)) (site (D c.lines.disk) (N c.lines.notary) (C c.lines.clock)) (lines_of c.args.text.now) ls) c.first_line.ensures.value c.lines.invariant.grows in
+    let grown = subst (λ (ls : List (List ℕ)). MadeFrom c.args.runner.now c.lines.runner (site (D c.args.disk.now) (N c.args.notary.now) (C c.args.clock.now)) (site (D c.lines.disk) (N c.lines.notary) (C c.lines.clock)) (lines_of c.args.text.now) ls c.lines.first c.lines.second) c.first_line.ensures.value c.lines.invariant.grows in
     record {
       making = goes_on c.args.runner.now c.lines.runner c.reply.new.self (D c.args.disk.now) (D c.lines.disk) (D c.reply.new.disk) (N c.args.notary.now) (N c.lines.notary) (N c.reply.new.notary) (C c.args.clock.now) (C c.lines.clock) (C c.reply.new.clock)
           (lines_of c.args.text.now) (lines_of c.first_line.result.1.now) c.first_line.result.0.now c.lines.first c.lines.second c.in_ok-reply.reply going
           c.in_ok-reply.ensures.told c.reply.ensures.scripted c.reply.ensures.disk_frame c.reply.ensures.notary_frame c.reply.ensures.clock_frame;
       grows = made_more c.args.runner.now c.lines.runner c.reply.new.self (site (D c.args.disk.now) (N c.args.notary.now) (C c.args.clock.now)) (site (D c.lines.disk) (N c.lines.notary) (C c.lines.clock)) (site (D c.reply.new.disk) (N c.reply.new.notary) (C c.reply.new.clock))
-          c.lines.invariant.making.scripted c.lines.invariant.making.disk_frame.told c.lines.invariant.making.clock_frame.told (lines_of c.args.text.now) (lines_of c.first_line.result.1.now) c.first_line.result.0.now grown c.in_ok-reply.reply c.in_ok-reply.ensures.grows;
+          c.lines.invariant.making.scripted c.lines.invariant.making.disk_frame.told c.lines.invariant.making.clock_frame.told (lines_of c.args.text.now) (lines_of c.first_line.result.1.now) c.first_line.result.0.now c.lines.first c.lines.second grown c.in_ok-reply.reply c.in_ok-reply.ensures.grows;
     }
 
 pub returns-in_err-reply-clause-told : goal.returns-in_err-reply-clause-told
@@ -85,11 +85,16 @@ returns-in_err-reply-clause-grows g c =
     let D = g.D.Disk.state in
     let N = g.N.Notary.state in
     let C = g.C.Clock.state in
-    let grown = subst (λ (ls : List (List ℕ)). MadeFrom c.args.runner.now c.lines.runner (site (D c.args.disk.now) (N c.args.notary.now) (C c.args.clock.now)) (site (D c.lines.disk) (N c.lines.notary) (C c.lines.clock)) (lines_of c.args.text.now) ls) c.first_line.ensures.value c.lines.invariant.grows in
-    made_failed c.args.runner.now c.lines.runner c.reply.new.self (site (D c.args.disk.now) (N c.args.notary.now) (C c.args.clock.now)) (site (D c.lines.disk) (N c.lines.notary) (C c.lines.clock)) (site (D c.reply.new.disk) (N c.reply.new.notary) (C c.reply.new.clock))
-    c.lines.invariant.making.scripted c.lines.invariant.making.disk_frame.told c.lines.invariant.making.clock_frame.told (lines_of c.args.text.now) (lines_of c.first_line.result.1.now) c.first_line.result.0.now grown
-    c.in_err-reply.field-0.0 c.args.text.now refl (g.met.D.Disk.counts_now c.reply.new.disk) c.in_err-reply.ensures.grows
+    let fail = c.in_err-reply.field-0.0 in
+    let same : c.from_residual.result ≡ Err fail = search rules in
+    let grown = subst (λ (ls : List (List ℕ)). MadeFrom c.args.runner.now c.lines.runner (site (D c.args.disk.now) (N c.args.notary.now) (C c.args.clock.now)) (site (D c.lines.disk) (N c.lines.notary) (C c.lines.clock)) (lines_of c.args.text.now) ls c.lines.first c.lines.second) c.first_line.ensures.value c.lines.invariant.grows in
+    rw same (made_failed c.args.runner.now c.lines.runner c.reply.new.self (site (D c.args.disk.now) (N c.args.notary.now) (C c.args.clock.now)) (site (D c.lines.disk) (N c.lines.notary) (C c.lines.clock)) (site (D c.reply.new.disk) (N c.reply.new.notary) (C c.reply.new.clock))
+    c.lines.invariant.making.scripted c.lines.invariant.making.disk_frame.told c.lines.invariant.making.clock_frame.told (lines_of c.args.text.now) (lines_of c.first_line.result.1.now) c.first_line.result.0.now c.lines.first c.lines.second grown
+    fail c.args.text.now refl (g.met.D.Disk.counts_now c.reply.new.disk) c.in_err-reply.ensures.grows)
 
 pub returns-clause-grows : goal.returns-clause-grows
-returns-clause-grows g c = made_all c.args.runner.now c.lines.runner (site (g.D.Disk.state c.args.disk.now) (g.N.Notary.state c.args.notary.now) (g.C.Clock.state c.args.clock.now)) (site (g.D.Disk.state c.lines.disk) (g.N.Notary.state c.lines.notary) (g.C.Clock.state c.lines.clock))
-    (lines_of c.lines.rest.now) c.args.text.now c.lines.invariant.making.clock_frame.told c.lines.invariant.grows
+returns-clause-grows g c =
+    let rest = c.lines.rest.now in
+    let none : length rest ≡ 0 = eqb-true (length rest) 0 (sym c.is_empty.ensures ∙ c.lines-test.false) in
+    made_all c.args.runner.now c.lines.runner (site (g.D.Disk.state c.args.disk.now) (g.N.Notary.state c.args.notary.now) (g.C.Clock.state c.args.clock.now)) (site (g.D.Disk.state c.lines.disk) (g.N.Notary.state c.lines.notary) (g.C.Clock.state c.lines.clock))
+    (lines_of rest) c.args.text.now c.lines.first c.lines.second (no_lines rest none) c.lines.invariant.making.clock_frame.told c.lines.invariant.grows

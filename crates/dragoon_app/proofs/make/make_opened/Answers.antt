@@ -1,10 +1,9 @@
 use Rattle.std.proofs.Common.{List, ℕ, Some, subst, refl, arith, inl, inr, ◌∙◌}
 use Rattle.disk_words.proofs.Frame as disk_frames
-use Rattle.dragoon_app.specs.Devices.{devices, site}
-use Rattle.dragoon_app.specs.MakingLines.{MakesTextFrom, script_for}
+use Rattle.dragoon_app.specs.Devices.{devices}
+use Rattle.dragoon_app.specs.MakingLines.{MakesTextFrom, MakesAloneFrom, script_for}
 use Rattle.dragoon_app.proofs.Behaving.{goes_on_beside, all_left, unchanged_same}
 use Rattle.dragoon_app.proofs.MadeEnding.{sound_same}
-use Rattle.dragoon_app.specs.Carrying.{MakesAloneFrom}
 use Rattle.dragoon_app.proofs.RunGrowing.{made_none}
 use Rattle.dragoon_app.specs.declared.command.Command.TheVariants as commands
 use Rattle.dragoon_app.specs.declared.status.Status.TheVariants as statuses
@@ -27,12 +26,14 @@ pub returns-in-Err-clause-goes_on : goal.returns-in-Err-clause-goes_on
 returns-in-Err-clause-goes_on g c = λ input. goes_on_beside _ _ _ (disk_frames.goes_on_same _) (record { told = refl; faults = omega arith })
 
 pub returns-in-Err-clause-grows : goal.returns-in-Err-clause-grows
-returns-in-Err-clause-grows g c = made_none c.args.runner.now (site (g.D.Disk.state c.args.disk.now) (g.N.Notary.state c.args.notary.now) (g.C.Clock.state c.args.clock.now)) (script_for c.args.runner.now c.args.seed c.args.count) (g.met.D.Disk.only_now c.args.disk.now)
+returns-in-Err-clause-grows g c = λ input. made_none c.args.count (script_for c.args.runner.now c.args.seed c.args.count) c.args.runner.now
+    (devices (g.D.Disk.state c.args.disk.now) (g.N.Notary.state c.args.notary.now) (g.C.Clock.state c.args.clock.now) input (g.O.Sink.state c.args.out.now)) (g.met.D.Disk.only_now c.args.disk.now)
 
 pub returns-in-Ok-clause-grows : goal.returns-in-Ok-clause-grows
-returns-in-Ok-clause-grows g c = subst (λ (text : List ℕ). MakesAloneFrom text c.args.runner.now
-    (site (g.D.Disk.state c.args.disk.now) (g.N.Notary.state c.args.notary.now) (g.C.Clock.state c.args.clock.now)) (site (g.D.Disk.state c.make_text.new.disk) (g.N.Notary.state c.make_text.new.notary) (g.C.Clock.state c.make_text.new.clock)))
-    (c.as_slice.ensures.value ∙ c.in-Ok.ensures.value) c.make_text.ensures.grows
+returns-in-Ok-clause-grows g c = λ input. subst (λ (text : List ℕ). MakesAloneFrom c.args.count text c.args.runner.now c.make_text.result
+    (devices (g.D.Disk.state c.args.disk.now) (g.N.Notary.state c.args.notary.now) (g.C.Clock.state c.args.clock.now) input (g.O.Sink.state c.args.out.now))
+    (devices (g.D.Disk.state c.make_text.new.disk) (g.N.Notary.state c.make_text.new.notary) (g.C.Clock.state c.make_text.new.clock) input (g.O.Sink.state c.make_text.new.out)))
+    (c.as_slice.ensures.value ∙ c.in-Ok.ensures.value) (c.make_text.ensures.grows input)
 
 pub returns-in-Ok-clause-ends : goal.returns-in-Ok-clause-ends
 returns-in-Ok-clause-ends g c = c.make_text.ensures.ends

@@ -14,7 +14,7 @@ pub returns-in-Ok-clause-leaves : goal.returns-in-Ok-clause-leaves
 returns-in-Ok-clause-leaves g c = λ input. made_opened c.args.id c.args.seed c.args.count c.in-Ok.runner (g.D.Disk.state c.args.disk.now)
     (devices (g.D.Disk.state c.open.new.disk) (g.N.Notary.state c.args.notary.now) (g.C.Clock.state c.args.clock.now) input (g.O.Sink.state c.args.out.now))
     (devices (g.D.Disk.state c.make_opened.new.disk) (g.N.Notary.state c.make_opened.new.notary) (g.C.Clock.state c.make_opened.new.clock) input (g.O.Sink.state c.make_opened.new.out))
-    c.in-Ok.ensures.value c.in-Ok.ensures.id c.open.ensures.same c.make_opened.result (g.met.D.Disk.reads_image c.args.disk.now) c.open.ensures.frame.faults (c.make_opened.ensures.told input) c.make_opened.ensures.grows
+    c.in-Ok.ensures.value c.in-Ok.ensures.id c.open.ensures.same c.make_opened.result (g.met.D.Disk.reads_image c.args.disk.now) c.open.ensures.frame.faults (c.make_opened.ensures.told input) (c.make_opened.ensures.grows input)
 
 pub returns-in-Ok-clause-sound : goal.returns-in-Ok-clause-sound
 returns-in-Ok-clause-sound g c = opened_sound c.args.id c.in-Ok.runner (g.D.Disk.state c.args.disk.now)

@@ -10,7 +10,7 @@ use Rattle.dragoon_app.proofs.Ended.{front_out, none_out, out_more}
 use Rattle.dragoon_app.proofs.Nothing.{nothing}
 use Rattle.dragoon_app.proofs.Faults.{uses_input, uses_output}
 use Rattle.dragoon_app.proofs.CarriedLines.{clock_then, source_then, begins, goes_on, goes_no_further, between, under_way, ended, reads_failed, reads_unwritten, written_failed, written_front}
-use Rattle.dragoon_app.proofs.RunGrowing.{run_first, run_more, run_between, run_failed, run_unwritten, written_input}
+use Rattle.dragoon_app.proofs.RunGrowing.{run_first, run_more, run_ended, run_unread, run_failed, run_unwritten}
 use Rattle.dragoon_app.proofs.run.carry_lines.Goals as goal
 
 pub lines-init : goal.lines-init
@@ -47,8 +47,8 @@ lines-preserved g c =
       out_grows = out_more (O c.args.out.now) (O c.lines.out) (O c.write_whole.new.out) c.lines.invariant.out_grows (text, wrote);
       grows = run_more c.args.runner.now c.lines.runner c.reply.new.self (site (D c.args.disk.now) (N c.args.notary.now) (C c.args.clock.now)) (site (D c.lines.disk) (N c.lines.notary) (C c.lines.clock)) (site (D c.reply.new.disk) (N c.reply.new.notary) (C c.reply.new.clock))
           c.lines.invariant.going.scripted c.lines.invariant.going.disk_frame.told c.lines.invariant.going.clock_frame.told (I c.args.input.now) (I c.lines.input) (I c.read_line.new.input) c.lines.invariant.going.input_frame.told c.lines.reader c.read_line.new.self
-          (rw c.if-branch.true at c.in_ok-read_line.ensures.told) c.read_line.ensures.feedless c.read_line.ensures.taken (λ xs. sinks.IsOut xs (O c.args.out.now) (O c.lines.out)) c.lines.invariant.grows
-          text (λ xs. sinks.IsOut xs (O c.args.out.now) (O c.write_whole.new.out)) grows (λ xs out. out_then xs text (O c.args.out.now) (O c.lines.out) (O c.write_whole.new.out) out wrote);
+          (rw c.if-branch.true at c.in_ok-read_line.ensures.told) c.read_line.ensures.feedless c.read_line.ensures.taken (λ before xs. sinks.IsOut xs (O c.args.out.now) (O c.lines.out)) c.lines.invariant.grows
+          text (λ before xs. sinks.IsOut xs (O c.args.out.now) (O c.write_whole.new.out)) grows (λ before xs out. out_then xs text (O c.args.out.now) (O c.lines.out) (O c.write_whole.new.out) out wrote);
     }
 
 pub returns-in_err-read_line-clause-told : goal.returns-in_err-read_line-clause-told
@@ -128,8 +128,9 @@ returns-in_err-read_line-clause-grows g c =
     let O = g.O.Sink.state in
     let fail = c.in_err-read_line.field-0.0 in
     let same : c.from_residual.result ≡ Err (of_input fail) = search rules in
-    rw same (run_between c.args.runner.now c.lines.runner (devices (D c.args.disk.now) (N c.args.notary.now) (C c.args.clock.now) (I c.args.input.now) (O c.args.out.now)) (devices (D c.lines.disk) (N c.lines.notary) (C c.lines.clock) (I c.read_line.new.input) (O c.lines.out))
-    (I c.lines.input) c.lines.reader c.lines.invariant.going.input_frame.told c.lines.invariant.going.clock_frame.told (λ xs. sinks.IsOut xs (O c.args.out.now) (O c.lines.out)) c.lines.invariant.grows (Err (of_input fail)) (λ text is. written_input fail text (O c.args.out.now) (O c.lines.out) is))
+    rw same (run_unread c.args.runner.now c.lines.runner (devices (D c.args.disk.now) (N c.args.notary.now) (C c.args.clock.now) (I c.args.input.now) (O c.args.out.now)) (devices (D c.lines.disk) (N c.lines.notary) (C c.lines.clock) (I c.read_line.new.input) (O c.lines.out))
+    (I c.lines.input) c.lines.reader c.read_line.new.self c.lines.invariant.going.input_frame.told c.lines.invariant.going.clock_frame.told c.read_line.ensures.taken c.lines.invariant.grows fail
+    c.in_err-read_line.ensures.told c.in_err-read_line.ensures.input_limit c.in_err-read_line.ensures.read_fault)
 
 pub returns-in_err-text-clause-grows : goal.returns-in_err-text-clause-grows
 returns-in_err-text-clause-grows g c =
@@ -143,7 +144,7 @@ returns-in_err-text-clause-grows g c =
     let grows = subst (λ (l : List ℕ). ReplyGrowsFrom l (Err fail) c.lines.runner c.reply.new.self (site (D c.lines.disk) (N c.lines.notary) (C c.lines.clock)) (site (D c.reply.new.disk) (N c.reply.new.notary) (C c.reply.new.clock))) c.line.ensures.value c.in_err-text.ensures.grows in
     rw same (run_failed c.args.runner.now c.lines.runner c.reply.new.self (devices (D c.args.disk.now) (N c.args.notary.now) (C c.args.clock.now) (I c.args.input.now) (O c.args.out.now)) (devices (D c.reply.new.disk) (N c.reply.new.notary) (C c.reply.new.clock) (I c.read_line.new.input) (O c.lines.out))
     (site (D c.lines.disk) (N c.lines.notary) (C c.lines.clock)) c.lines.invariant.going.scripted c.lines.invariant.going.disk_frame.told c.lines.invariant.going.clock_frame.told (I c.lines.input) c.lines.invariant.going.input_frame.told c.lines.reader c.read_line.new.self
-    (rw c.if-branch.true at c.in_ok-read_line.ensures.told) c.read_line.ensures.feedless c.read_line.ensures.taken (O c.lines.out) c.lines.invariant.grows fail (g.met.D.Disk.counts_now c.reply.new.disk) grows refl)
+    (rw c.if-branch.true at c.in_ok-read_line.ensures.told) c.read_line.ensures.feedless c.read_line.ensures.taken c.in_ok-read_line.ensures.at_once.little_more (O c.lines.out) c.lines.invariant.grows fail (g.met.D.Disk.counts_now c.reply.new.disk) grows refl)
 
 pub returns-in_err-write_whole-clause-grows : goal.returns-in_err-write_whole-clause-grows
 returns-in_err-write_whole-clause-grows g c =
@@ -161,12 +162,13 @@ returns-in_err-write_whole-clause-grows g c =
     let input_on = source_then _ _ _ c.lines.invariant.going.input_frame c.read_line.ensures.frame in
     rw same (run_unwritten c.args.runner.now c.lines.runner c.reply.new.self (devices (D c.args.disk.now) (N c.args.notary.now) (C c.args.clock.now) (I c.args.input.now) (O c.args.out.now)) (devices (D c.reply.new.disk) (N c.reply.new.notary) (C c.reply.new.clock) (I c.read_line.new.input) (O c.write_whole.new.out))
     (site (D c.lines.disk) (N c.lines.notary) (C c.lines.clock)) c.lines.invariant.going.scripted c.lines.invariant.going.disk_frame.told c.lines.invariant.going.clock_frame.told (I c.lines.input) c.lines.invariant.going.input_frame.told c.lines.reader c.read_line.new.self
-    (rw c.if-branch.true at c.in_ok-read_line.ensures.told) c.read_line.ensures.feedless c.read_line.ensures.taken (O c.lines.out) c.lines.invariant.grows fail text clock_on.told input_on.told grows wrote)
+    (rw c.if-branch.true at c.in_ok-read_line.ensures.told) c.read_line.ensures.feedless c.read_line.ensures.taken c.in_ok-read_line.ensures.at_once.little_more (O c.lines.out) c.lines.invariant.grows fail text clock_on.told input_on.told grows wrote)
 
 pub returns-clause-grows : goal.returns-clause-grows
-returns-clause-grows g c = run_between c.args.runner.now c.lines.runner (devices (g.D.Disk.state c.args.disk.now) (g.N.Notary.state c.args.notary.now) (g.C.Clock.state c.args.clock.now) (g.I.Source.state c.args.input.now) (g.O.Sink.state c.args.out.now))
+returns-clause-grows g c = run_ended c.args.runner.now c.lines.runner (devices (g.D.Disk.state c.args.disk.now) (g.N.Notary.state c.args.notary.now) (g.C.Clock.state c.args.clock.now) (g.I.Source.state c.args.input.now) (g.O.Sink.state c.args.out.now))
     (devices (g.D.Disk.state c.lines.disk) (g.N.Notary.state c.lines.notary) (g.C.Clock.state c.lines.clock) (g.I.Source.state c.read_line.new.input) (g.O.Sink.state c.lines.out))
-    (g.I.Source.state c.lines.input) c.lines.reader c.lines.invariant.going.input_frame.told c.lines.invariant.going.clock_frame.told (λ xs. sinks.IsOut xs (g.O.Sink.state c.args.out.now) (g.O.Sink.state c.lines.out)) c.lines.invariant.grows (Ok tt) (λ text is. is)
+    (g.I.Source.state c.lines.input) c.lines.reader c.read_line.new.self c.lines.invariant.going.input_frame.told c.lines.invariant.going.clock_frame.told c.read_line.ensures.taken c.lines.invariant.grows
+    (rw c.if-branch.false at c.in_ok-read_line.ensures.told) (rw c.if-branch.false at c.in_ok-read_line.ensures.end refl)
 
 pub returns-in_err-write_whole-clause-out_grows : goal.returns-in_err-write_whole-clause-out_grows
 returns-in_err-write_whole-clause-out_grows g c = out_more (g.O.Sink.state c.args.out.now) (g.O.Sink.state c.lines.out) (g.O.Sink.state c.write_whole.new.out) c.lines.invariant.out_grows (front_out _ (g.O.Sink.state c.lines.out) (g.O.Sink.state c.write_whole.new.out) c.in_err-write_whole.ensures.err)

@@ -1,21 +1,21 @@
-use Rattle.std.proofs.Common.{Ok, Err, Some, refl, rules}
+use Rattle.std.proofs.Common.{true, false, Ok, Err, Some, refl, rules}
 use Rattle.dragoon_app.specs.Devices.{devices}
-use Rattle.dragoon_app.proofs.Ending.{some_refused, none_refused, ran_ok, ran_refused, ran_failed, ran_sound, written_cause}
-use Rattle.dragoon_app.proofs.RunGrowing.{ends_well, ends_failed}
+use Rattle.dragoon_app.proofs.Ending.{some_refused, none_refused, ran_well, ran_failed, ran_sound, written_cause}
+use Rattle.dragoon_app.proofs.RunGrowing.{grown_well, grown_failed}
 use Rattle.dragoon_app.specs.declared.command.Command.TheVariants as commands
 use Rattle.dragoon_app.proofs.Ended.{ended, ends_behind, run_may}
 use Rattle.dragoon_app.proofs.run.run_opened.Goals as goal
 
 pub returns-then-runner-gt0-clause-told : goal.returns-then-runner-gt0-clause-told
 returns-then-runner-gt0-clause-told g c =
-    ran_refused c.args.runner.now c.carry_lines.new.runner (devices (g.D.Disk.state c.args.disk.now) (g.N.Notary.state c.args.notary.now) (g.C.Clock.state c.args.clock.now) (g.I.Source.state c.args.input.now) (g.O.Sink.state c.args.out.now))
-    (devices (g.D.Disk.state c.carry_lines.new.disk) (g.N.Notary.state c.carry_lines.new.notary) (g.C.Clock.state c.carry_lines.new.clock) (g.I.Source.state c.carry_lines.new.input) (g.O.Sink.state c.carry_lines.new.out))
+    ran_well c.args.runner.now c.carry_lines.new.runner (devices (g.D.Disk.state c.args.disk.now) (g.N.Notary.state c.args.notary.now) (g.C.Clock.state c.args.clock.now) (g.I.Source.state c.args.input.now) (g.O.Sink.state c.args.out.now))
+    (devices (g.D.Disk.state c.carry_lines.new.disk) (g.N.Notary.state c.carry_lines.new.notary) (g.C.Clock.state c.carry_lines.new.clock) (g.I.Source.state c.carry_lines.new.input) (g.O.Sink.state c.carry_lines.new.out)) true
     c.in-Ok.ensures.told (some_refused c.carry_lines.new.runner.refused c.if-runner-gt0.true)
 
 pub returns-else-runner-gt0-clause-told : goal.returns-else-runner-gt0-clause-told
 returns-else-runner-gt0-clause-told g c =
-    ran_ok c.args.runner.now c.carry_lines.new.runner (devices (g.D.Disk.state c.args.disk.now) (g.N.Notary.state c.args.notary.now) (g.C.Clock.state c.args.clock.now) (g.I.Source.state c.args.input.now) (g.O.Sink.state c.args.out.now))
-    (devices (g.D.Disk.state c.carry_lines.new.disk) (g.N.Notary.state c.carry_lines.new.notary) (g.C.Clock.state c.carry_lines.new.clock) (g.I.Source.state c.carry_lines.new.input) (g.O.Sink.state c.carry_lines.new.out))
+    ran_well c.args.runner.now c.carry_lines.new.runner (devices (g.D.Disk.state c.args.disk.now) (g.N.Notary.state c.args.notary.now) (g.C.Clock.state c.args.clock.now) (g.I.Source.state c.args.input.now) (g.O.Sink.state c.args.out.now))
+    (devices (g.D.Disk.state c.carry_lines.new.disk) (g.N.Notary.state c.carry_lines.new.notary) (g.C.Clock.state c.carry_lines.new.clock) (g.I.Source.state c.carry_lines.new.input) (g.O.Sink.state c.carry_lines.new.out)) false
     c.in-Ok.ensures.told (none_refused c.carry_lines.new.runner.refused c.if-runner-gt0.false)
 
 pub returns-in-Err-clause-told : goal.returns-in-Err-clause-told
@@ -52,13 +52,22 @@ returns-in-Err-clause-sound g c =
     c.in-Err.ensures.told
 
 pub returns-then-runner-gt0-clause-grows : goal.returns-then-runner-gt0-clause-grows
-returns-then-runner-gt0-clause-grows g c = ends_well c.args.runner.now (devices (g.D.Disk.state c.args.disk.now) (g.N.Notary.state c.args.notary.now) (g.C.Clock.state c.args.clock.now) (g.I.Source.state c.args.input.now) (g.O.Sink.state c.args.out.now)) (devices (g.D.Disk.state c.carry_lines.new.disk) (g.N.Notary.state c.carry_lines.new.notary) (g.C.Clock.state c.carry_lines.new.clock) (g.I.Source.state c.carry_lines.new.input) (g.O.Sink.state c.carry_lines.new.out)) c.in-Ok.ensures.grows
+returns-then-runner-gt0-clause-grows g c =
+    grown_well c.args.runner.now c.carry_lines.new.runner (devices (g.D.Disk.state c.args.disk.now) (g.N.Notary.state c.args.notary.now) (g.C.Clock.state c.args.clock.now) (g.I.Source.state c.args.input.now) (g.O.Sink.state c.args.out.now))
+    (devices (g.D.Disk.state c.carry_lines.new.disk) (g.N.Notary.state c.carry_lines.new.notary) (g.C.Clock.state c.carry_lines.new.clock) (g.I.Source.state c.carry_lines.new.input) (g.O.Sink.state c.carry_lines.new.out)) true
+    c.in-Ok.ensures.grows (some_refused c.carry_lines.new.runner.refused c.if-runner-gt0.true)
 
 pub returns-else-runner-gt0-clause-grows : goal.returns-else-runner-gt0-clause-grows
-returns-else-runner-gt0-clause-grows g c = ends_well c.args.runner.now (devices (g.D.Disk.state c.args.disk.now) (g.N.Notary.state c.args.notary.now) (g.C.Clock.state c.args.clock.now) (g.I.Source.state c.args.input.now) (g.O.Sink.state c.args.out.now)) (devices (g.D.Disk.state c.carry_lines.new.disk) (g.N.Notary.state c.carry_lines.new.notary) (g.C.Clock.state c.carry_lines.new.clock) (g.I.Source.state c.carry_lines.new.input) (g.O.Sink.state c.carry_lines.new.out)) c.in-Ok.ensures.grows
+returns-else-runner-gt0-clause-grows g c =
+    grown_well c.args.runner.now c.carry_lines.new.runner (devices (g.D.Disk.state c.args.disk.now) (g.N.Notary.state c.args.notary.now) (g.C.Clock.state c.args.clock.now) (g.I.Source.state c.args.input.now) (g.O.Sink.state c.args.out.now))
+    (devices (g.D.Disk.state c.carry_lines.new.disk) (g.N.Notary.state c.carry_lines.new.notary) (g.C.Clock.state c.carry_lines.new.clock) (g.I.Source.state c.carry_lines.new.input) (g.O.Sink.state c.carry_lines.new.out)) false
+    c.in-Ok.ensures.grows (none_refused c.carry_lines.new.runner.refused c.if-runner-gt0.false)
 
 pub returns-in-Err-clause-grows : goal.returns-in-Err-clause-grows
-returns-in-Err-clause-grows g c = ends_failed c.args.runner.now (devices (g.D.Disk.state c.args.disk.now) (g.N.Notary.state c.args.notary.now) (g.C.Clock.state c.args.clock.now) (g.I.Source.state c.args.input.now) (g.O.Sink.state c.args.out.now)) (devices (g.D.Disk.state c.carry_lines.new.disk) (g.N.Notary.state c.carry_lines.new.notary) (g.C.Clock.state c.carry_lines.new.clock) (g.I.Source.state c.carry_lines.new.input) (g.O.Sink.state c.carry_lines.new.out)) (g.O.Sink.state c.end.new.out) c.in-Err.fail c.end.result c.end.ensures.value c.in-Err.ensures.grows
+returns-in-Err-clause-grows g c =
+    grown_failed c.args.runner.now c.carry_lines.new.runner (devices (g.D.Disk.state c.args.disk.now) (g.N.Notary.state c.args.notary.now) (g.C.Clock.state c.args.clock.now) (g.I.Source.state c.args.input.now) (g.O.Sink.state c.args.out.now))
+    (devices (g.D.Disk.state c.carry_lines.new.disk) (g.N.Notary.state c.carry_lines.new.notary) (g.C.Clock.state c.carry_lines.new.clock) (g.I.Source.state c.carry_lines.new.input) (g.O.Sink.state c.carry_lines.new.out)) (g.O.Sink.state c.end.new.out)
+    c.in-Err.fail c.end.result c.in-Err.ensures.grows c.in-Err.ensures.disk_cause c.in-Err.ensures.notary_cause c.in-Err.ensures.read_cause c.end.ensures.value
 
 pub returns-then-runner-gt0-clause-ends : goal.returns-then-runner-gt0-clause-ends
 returns-then-runner-gt0-clause-ends g c = λ id scripted. record { status = refl; named = λ fault. absurd fault }
