@@ -1,5 +1,5 @@
 -- One key more in a scan.
-use Rattle.std.proofs.Common.{◌≡◌, ℕ, Option, Some, None, List, [], ◌∷◌, ◌++◌, refl, ap, ◌∙◌, Bool, true, false, cond}
+use Rattle.std.proofs.Common.{◌≡◌, ℕ, Option, Some, None, List, [], ◌∷◌, ◌++◌, refl, Bool, true, false, cond}
 use Rattle.std.specs.List.{filter, cons_option}
 use Rattle.std.specs.Option.{option_to_list}
 use Rattle.tuple_bytes.specs.declared.value.Value.{Value}

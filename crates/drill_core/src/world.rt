@@ -1,20 +1,18 @@
 //! A world of the code: the store of an id with its sessions, as lines find them.
 
 ghost use Rattle.std.proofs.Props.{props};
-ghost use Rattle.std.specs.Prelude.{◌≡◌, ◌≤◌, ◌+◌, ⊤, None, false, true, IfSome, IsSome, IfOk, IfErr, MatchOption, MatchResult, OnErr, OnOk, is_some, option_map};
+ghost use Rattle.std.specs.Prelude.{◌≡◌, ⊤, None, false, IfSome, IsSome, IfErr, OnErr, OnOk, option_map};
 ghost use Rattle.std.specs.Option.{option_copied};
 ghost use Rattle.outside_words.specs.Faults.{HasCause, HidesNoFault};
 ghost use Rattle.disk_words.specs.Disk as disks;
 ghost use Rattle.notary_link.specs.Notary as notaries;
-ghost use Rattle.history_model.specs.Stored.{stored};
 ghost use Rattle.stmt_text.specs.Fits.{FitsParts};
 ghost use Rattle.stmt_text.specs.Kinds.{line_kind};
 ghost use Rattle.stmt_text.specs.declared.line.Line.TheVariants as lines;
 ghost use Rattle.stmt_text.specs.declared.stmt.Stmt.TheVariants as stmts;
 ghost use Rattle.session_model.specs.Standing.{IsStatementLine, NoneKept};
 ghost use Rattle.store_engine.specs.declared.fail.StoreFail.TheVariants as stores;
-ghost use Rattle.store_engine.specs.Opened.{IsOpenOn};
-ghost use Rattle.store_engine.specs.Refusals.{IsNoStore, IsOfOpening};
+ghost use Rattle.store_engine.specs.Refusals.{IsOfOpening};
 ghost use Rattle.validator.specs.Desk.{KeepsSound, desk};
 ghost use Rattle.drill_core.specs.declared.fail.LineFail.TheVariants.{DiskFault, NotaryFault};
 ghost use Rattle.drill_core.specs.World.{StandsFor, IsEntered};

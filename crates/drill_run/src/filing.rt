@@ -1,6 +1,6 @@
 //! How many changing calls of the disk come before those of the notary.
 
-ghost use Rattle.std.specs.Prelude.{◌≡◌, ◌↔◌, IsTrue, false, ℕ, List, length, None, OnOk, IfOk, IfSome};
+ghost use Rattle.std.specs.Prelude.{◌≡◌, ◌↔◌, IsTrue, false, List, length, None, OnOk, IfOk, IfSome};
 ghost use Rattle.tuple_bytes.specs.declared.item.Item.{Item};
 ghost use Rattle.notary_link.specs.Batches.{Batch};
 ghost use Rattle.stmt_text.specs.declared.line.Line.TheVariants as lines;

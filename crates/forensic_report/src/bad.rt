@@ -1,7 +1,7 @@
 //! Which tiles are bad, one after the other.
 
 ghost use Rattle.std.specs.Prelude.{◌≡◌, ◌≤◌, ◌<◌, [], ◌∷◌, ◌++◌, ℕ, List, All, map, length, slice_get, IfOk};
-ghost use Rattle.digest_model.specs.Layout.{first_granule, max_granules, tile_of};
+ghost use Rattle.digest_model.specs.Layout.{tile_of};
 ghost use Rattle.policy_eras.specs.Policy.{layout_by};
 ghost use Rattle.forensic_report.specs.Analysis.{bad_tiles, FitsFindings};
 ghost use Rattle.forensic_report.specs.Values.{findings_of};

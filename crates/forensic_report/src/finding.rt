@@ -1,6 +1,6 @@
 //! What a notary's answers show of what is stored.
 
-ghost use Rattle.std.specs.Prelude.{◌≡◌, ◌≤◌, ◌+◌, Some, IfOk, IfErr, IfSome, length};
+ghost use Rattle.std.specs.Prelude.{◌≡◌, ◌≤◌, ◌+◌, Some, IfOk, IfErr, IfSome};
 ghost use Rattle.outside_words.specs.Faults.{HasCause};
 ghost use Rattle.outside_words.specs.Shown.{ShowsFaults};
 ghost use Rattle.outside_words.specs.Told.{WhereTold};

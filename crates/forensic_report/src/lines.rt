@@ -3,7 +3,6 @@
 ghost use Rattle.std.specs.Prelude.{◌≡◌, ◌≤◌, ◌<◌, ◌^◌, ◌+◌, ◌++◌, map, OnOk};
 ghost use Rattle.digest_model.specs.Layout.{exponent, first_granule, max_granules};
 ghost use Rattle.policy_eras.specs.Policy.{layout_by};
-ghost use Rattle.number_text.specs.Numbered.{numbered};
 ghost use Rattle.forensic_report.specs.Texts.{algorithm_word, head_words, when_text, region_line_in, bits_text, list_text, candidates_by, target_line_in, granule_line_in, checks_line, first_line_in, every_granule};
 
 use crate::algorithm::Algorithm;

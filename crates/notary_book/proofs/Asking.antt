@@ -1,7 +1,6 @@
 -- What the calls that begin by a reading share: one that failed, and what stands behind one that did not.
 use Rattle.std.proofs.Common.{◌≡◌, ℕ, true, List, Option, None, Err, IsSome}
 use Rattle.std.specs.Option.{is_some}
-use Rattle.outside_words.specs.Told.{WhereTold}
 use Rattle.outside_words.proofs.Told.{told_map}
 use Rattle.disk_words.specs.Disk.{State}
 use Rattle.notary_link.specs.declared.fail.NotaryFail.{NotaryFail}

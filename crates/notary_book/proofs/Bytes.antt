@@ -1,14 +1,14 @@
 -- What the bytes of a device say.
 use Rattle.std.proofs.Common.{◌≡◌, ◌≢◌, ◌⊎◌, inl, inr, ◌<◌, ◌≤◌, ◌==◌, ltb, leb, cond, ℕ, Bool, true, false, List, [], length, take, Option, None, Some, refl, sym, ap, ◌∙◌, arith}
-use Rattle.std.specs.Prelude.{◌&&◌, ◌||◌, not, slice_index}
-use Rattle.std.proofs.lemmas.Bool.{and_from, and_right, or_from, or_left, or_right, ltb-true, lt-ltb, leb-true, ltb-false, le-leb, lt-leb, not_from_true, not_from_false}
+use Rattle.std.specs.Prelude.{◌&&◌, slice_index}
+use Rattle.std.proofs.lemmas.Bool.{and_from, and_right, or_from, ltb-true, lt-ltb, ltb-false, lt-leb, not_from_true}
 use Rattle.std.proofs.lemmas.Bool.Decides.{nat_tests, Decides-eqb}
 use Rattle.std.proofs.lemmas.List.{get_or-take, length-take}
 use Rattle.std.proofs.lemmas.Option.{same_Some}
 use Rattle.std.proofs.lemmas.Slice.Eq.{slice_eq-Decides}
 use Rattle.byte_grammar.specs.Gated.{open_gate}
 use Rattle.notary_link.specs.Notary.{Call}
-use Rattle.txn_journal.specs.Create.{is_free, IsFree, IsTaken, IsHalfMade}
+use Rattle.txn_journal.specs.Create.{is_free, IsFree, IsHalfMade}
 use Rattle.txn_journal.proofs.Free.{free_is, is_free_if}
 use Rattle.txn_journal.specs.Held.{Held, Standing, held_under, held_by}
 use Rattle.txn_journal.specs.Reading.{head_of, left}

@@ -28,7 +28,7 @@ pub struct Book<D: Disk> {
 }
 
 impl<D: Disk> Book<D> {
-    ghost use Rattle.std.specs.Prelude.{◌≡◌, ◌≤◌, ◌+◌, ◌∷◌, [], false, length, None, Some, IsSome, IfSome, IfOk, OnOk};
+    ghost use Rattle.std.specs.Prelude.{◌≡◌, ◌≤◌, ◌+◌, false, length, None, Some, IsSome, IfSome, IfOk, OnOk};
     ghost use Rattle.outside_words.specs.Faults.{HasCause};
     ghost use Rattle.outside_words.specs.Shown.{ShowsFaults};
     ghost use Rattle.outside_words.specs.Told.{WhereTold};

@@ -1,6 +1,6 @@
 //! Reading payloads into memory.
 
-ghost use Rattle.std.specs.Prelude.{◌≡◌, IfOk, IfSome};
+ghost use Rattle.std.specs.Prelude.{IfOk, IfSome};
 ghost use Rattle.byte_grammar.specs.Reading.{Gives, many};
 ghost use Rattle.notary_book.specs.Calls.{seal_at, seals_at, call_by, call_at, call_of};
 ghost use Rattle.notary_book.specs.Entries.{call_in};

@@ -1,6 +1,6 @@
 //! Reading a book.
 
-ghost use Rattle.std.specs.Prelude.{◌≡◌, IfSome, IfOk, OnOk, IfErr};
+ghost use Rattle.std.specs.Prelude.{◌≡◌, IfOk, OnOk};
 ghost use Rattle.outside_words.specs.Faults.{HasCause, HidesNoFault};
 ghost use Rattle.outside_words.specs.Told.{WhereTold};
 ghost use Rattle.disk_words.specs.declared.DiskFail.TheVariants.{Failed};

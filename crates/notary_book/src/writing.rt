@@ -1,6 +1,6 @@
 //! Writing payloads: each function appends the spelling of a part.
 
-ghost use Rattle.std.specs.Prelude.{◌≡◌, ◌++◌, ◌≤◌, IfOk, OnOk, length};
+ghost use Rattle.std.specs.Prelude.{◌≡◌, ◌++◌, IfOk, OnOk};
 ghost use Rattle.notary_link.specs.Batches.{IsName, IsBatch};
 ghost use Rattle.notary_link.specs.Notary.{file, note, batch_of};
 ghost use Rattle.notary_book.specs.Spelling.{spell_name, spell_seal, spell_seals, spell_outcome, FitsName, FitsSeal, FitsSeals, FitsOutcome, Spells};

@@ -1,10 +1,10 @@
 //! The digests of granules, and of tiles and their parts.
 
-ghost use Rattle.std.specs.Prelude.{◌≡◌, ◌≤◌, ◌+◌, ◌*◌, ◌^◌, ◌≢◌, ℕ, IfOk, length, map, take, drop};
-ghost use Rattle.std.specs.List.{All, flat_map, range_with_len};
+ghost use Rattle.std.specs.Prelude.{◌≡◌, ◌≤◌, ◌+◌, ◌*◌, ◌^◌, ◌≢◌, IfOk, length, map, take, drop};
+ghost use Rattle.std.specs.List.{All, flat_map};
 ghost use Rattle.history_model.specs.History.{History};
-ghost use Rattle.digest_model.specs.Layout.{layout, first_granule, max_granules};
-ghost use Rattle.digest_model.specs.Digests.{granule_over, granule_digest};
+ghost use Rattle.digest_model.specs.Layout.{max_granules};
+ghost use Rattle.digest_model.specs.Digests.{granule_over};
 ghost use Rattle.digest_model.specs.Plain.{IsShort};
 ghost use Rattle.seal_plan.specs.Places.{part_at, parts_of, leaves_of};
 

@@ -1,6 +1,6 @@
 //! Finding a digest by its place.
 
-ghost use Rattle.std.specs.Prelude.{◌≡◌, ◌≤◌, ◌<◌, ◌^◌, ℕ};
+ghost use Rattle.std.specs.Prelude.{◌≡◌, ◌≤◌, ◌<◌, ◌^◌};
 ghost use Rattle.std.specs.List.{slice_get};
 ghost use Rattle.seal_plan.specs.Found.{part_found, node_found};
 

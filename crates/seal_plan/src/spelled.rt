@@ -1,6 +1,6 @@
 //! The items of a store, each kept as its one spelling.
 
-ghost use Rattle.std.specs.Prelude.{◌≡◌, ◌<◌, ◌++◌, ◌∷◌, [], ℕ, IfOk, OnOk, OnErr, map};
+ghost use Rattle.std.specs.Prelude.{◌≡◌, ◌++◌, ◌∷◌, [], IfOk, OnOk, OnErr, map};
 ghost use Rattle.std.specs.List.{All, filter_map};
 ghost use Rattle.byte_grammar.specs.Gated.{FitsRecord};
 ghost use Rattle.tuple_bytes.specs.declared.item.Item.{Item};

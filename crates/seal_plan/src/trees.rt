@@ -1,7 +1,6 @@
 //! The digests of the nodes, level by level.
 
-ghost use Rattle.std.specs.Prelude.{◌≡◌, ◌≤◌, ◌<◌, ◌^◌, suc, ℕ, IfOk, length, map};
-ghost use Rattle.std.specs.List.{range_with_len};
+ghost use Rattle.std.specs.Prelude.{◌≡◌, ◌≤◌, ◌<◌, ◌^◌, suc, ℕ, IfOk, length};
 ghost use Rattle.history_model.specs.History.{History};
 ghost use Rattle.seal_plan.specs.Places.{level_of, levels_of, leaves_of};
 

@@ -1,6 +1,6 @@
 //! What transactions touch, by place.
 
-ghost use Rattle.std.specs.Prelude.{◌≡◌, ℕ, [], None, OnOk, nat_lt, length};
+ghost use Rattle.std.specs.Prelude.{◌≡◌, [], None, OnOk, nat_lt};
 ghost use Rattle.std.specs.List.{find};
 ghost use Rattle.std.specs.BTreeMap.{is_at};
 ghost use Rattle.std.specs.Map.{lookup};

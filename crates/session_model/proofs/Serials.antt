@@ -26,7 +26,7 @@ use Rattle.session_model.specs.Statements.{Said, say}
 use Rattle.session_model.specs.World.{Session, World, put_at, with_store, new_session, NoneBegun}
 use Rattle.session_model.specs.Steps.{Step, stored, store_pending, unless_conflict, conflict, heard, in_session, step}
 use Rattle.session_model.specs.Alone.{Alone, after_reply, alone_from, alone, Exchange, IsAlone}
-use Rattle.session_model.specs.Runs.{Turn, reached, opened, Logs, no_logs, logged, noted}
+use Rattle.session_model.specs.Runs.{Turn, reached, opened, Logs, no_logs, noted}
 use Rattle.session_model.specs.Serial.{WasAlone, IsSerialAt, Serial, RunsAreSerial}
 use Rattle.session_model.specs.Runs as turns
 use Rattle.session_model.specs.Later.{IsLater}

@@ -1,6 +1,6 @@
 //! What a statement is answered, and its text.
 
-ghost use Rattle.std.specs.Prelude.{◌≡◌, ◌++◌, ◌∷◌, [], IfOk, OnOk, length};
+ghost use Rattle.std.specs.Prelude.{◌≡◌, ◌++◌, ◌∷◌, [], IfOk, OnOk};
 ghost use Rattle.std.specs.List.{flat_map};
 ghost use Rattle.number_text.specs.Numbered.{numbered};
 ghost use Rattle.statement_core.specs.Replies.{reply_text, is_refusal, refusal_text, row_line, stop_text, version_line};

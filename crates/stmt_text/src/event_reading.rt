@@ -1,6 +1,6 @@
 //! Reading drill lines, each from what stands behind its first word. Their numbers are spelled in one way alone.
 
-ghost use Rattle.std.specs.Prelude.{◌≡◌, ◌≤◌, IfOk};
+ghost use Rattle.std.specs.Prelude.{◌≤◌, IfOk};
 ghost use Rattle.stmt_text.specs.Tokens.{tokens};
 ghost use Rattle.stmt_text.specs.Words.{algs};
 ghost use Rattle.stmt_text.specs.Numbers.{plain_number};

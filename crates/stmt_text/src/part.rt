@@ -1,10 +1,9 @@
 //! Parts of a line. A function `.._of` reads what a token, or all that is left, says; a function `.._at` reads what
 //! stands at the front, and hands back the bytes after it.
 
-ghost use Rattle.std.specs.Prelude.{◌≡◌, option_map};
 ghost use Rattle.byte_grammar.specs.Reading.{Gives};
 ghost use Rattle.stmt_text.specs.Tokens.{tokens};
-ghost use Rattle.stmt_text.specs.Parts.{Read, moment, kappa, value_in, name, front, ended, only, after_word, as_of};
+ghost use Rattle.stmt_text.specs.Parts.{Read, moment, kappa, value_in, name, front, ended, only, as_of};
 
 use crate::error::ReadFail;
 use crate::number::{Numbers, number_of};

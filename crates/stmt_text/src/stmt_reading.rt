@@ -1,11 +1,11 @@
 //! Reading statements, each from what stands behind its first word.
 
-ghost use Rattle.std.specs.Prelude.{◌≡◌, option_map, codes};
+ghost use Rattle.std.specs.Prelude.{option_map, codes};
 ghost use Rattle.byte_grammar.specs.Reading.{Gives};
 ghost use Rattle.stmt_text.specs.Tokens.{tokens};
 ghost use Rattle.stmt_text.specs.Words.{compare, algorithm_word};
 ghost use Rattle.stmt_text.specs.Parts.{Read, front, only, moment, kappa, after_word};
-ghost use Rattle.stmt_text.specs.Statements.{create, insert, update, delete, get, history, filter_at, unfiltered, filtered, scan, algorithm, alone, stmt_by};
+ghost use Rattle.stmt_text.specs.Statements.{create, insert, update, delete, get, history, filter_at, filtered, scan, algorithm, alone, stmt_by};
 
 use crate::error::ReadFail;
 use crate::number::Numbers;

@@ -1,6 +1,6 @@
 //! What the items of a store say, kept from item to item.
 
-ghost use Rattle.std.specs.Prelude.{◌≡◌, ◌+◌, ◌<◌, ◌≤◌, ◌^◌, ◌++◌, ◌∷◌, [], List, length, IsTrue, ◌↔◌, OnOk, OnErr};
+ghost use Rattle.std.specs.Prelude.{◌≡◌, ◌+◌, ◌<◌, ◌^◌, ◌++◌, ◌∷◌, [], List, IsTrue, ◌↔◌, OnOk, OnErr};
 ghost use Rattle.tuple_bytes.specs.declared.item.Item.{Item as AnItem};
 ghost use Rattle.tt_table.specs.Versions.{TablesVersions};
 ghost use Rattle.store_engine.specs.Contents.{Tells, FollowsTables, IsInTime, after_item, with_tables};

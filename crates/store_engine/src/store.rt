@@ -1,6 +1,6 @@
 //! A store that is open.
 
-ghost use Rattle.std.specs.Prelude.{◌≡◌, ◌+◌, ◌<◌, ◌≤◌, ℕ, List, [], None, true, false, length, IfOk, IsOk, IfErr, IfSome, IsSome, MatchOption, MatchResult, if◌then◌else◌};
+ghost use Rattle.std.specs.Prelude.{◌≡◌, ◌+◌, ◌<◌, ◌≤◌, ℕ, None, true, false, length, IfOk, IsOk, IfErr, IfSome, IsSome, MatchOption, MatchResult, if◌then◌else◌};
 ghost use Rattle.std.specs.List.{All};
 ghost use Rattle.outside_words.specs.Faults.{HasCause, HidesNoFault};
 ghost use Rattle.outside_words.specs.Shown.{ShowsFaults};

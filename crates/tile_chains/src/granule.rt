@@ -1,9 +1,8 @@
 //! The digest of a granule, fed spelling by spelling.
 
-ghost use Rattle.std.specs.Prelude.{◌≡◌, ◌≤◌, ◌+◌, length};
+ghost use Rattle.std.specs.Prelude.{◌≡◌, ◌+◌, length};
 ghost use Rattle.std.specs.List.{All};
 ghost use Rattle.digest_model.specs.Digests.{granule_over};
-ghost use Rattle.tuple_bytes.specs.Limits.{max_payload};
 ghost use Rattle.digest_model.specs.Plain.{IsShort};
 
 use sha2::{Digest, Sha256};

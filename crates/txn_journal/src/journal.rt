@@ -1,6 +1,6 @@
 //! A file of gated records that is open for appending.
 
-ghost use Rattle.std.specs.Prelude.{◌≡◌, ◌+◌, ◌≤◌, ℕ, List, false, length, IsTrue, ◌↔◌, if◌then◌else◌, IsErrOf, OnErr};
+ghost use Rattle.std.specs.Prelude.{◌≡◌, ℕ, List, false, length, IsTrue, ◌↔◌, if◌then◌else◌, IsErrOf, OnErr};
 ghost use Rattle.outside_words.specs.Faults.{HasCause, HidesNoFault};
 ghost use Rattle.outside_words.specs.Told.{WhereTold};
 ghost use Rattle.disk_words.specs.Disk.{GoesOn};

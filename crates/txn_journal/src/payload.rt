@@ -1,6 +1,6 @@
 //! The record at the front of some bytes.
 
-ghost use Rattle.std.specs.Prelude.{◌≡◌, ◌+◌, ◌≤◌, ◌<◌, length, IfSome};
+ghost use Rattle.std.specs.Prelude.{◌≡◌, IfSome};
 ghost use Rattle.byte_grammar.specs.Reading.{Gives};
 ghost use Rattle.byte_grammar.specs.Gated.{payload_at};
 ghost use Rattle.txn_journal.specs.Reading.{limited};

@@ -1,6 +1,6 @@
 //! Reading a gated file record by record.
 
-ghost use Rattle.std.specs.Prelude.{◌≡◌, ◌==◌, ◌≤◌, ◌-◌, ◌+◌, Bool, Some, false, IfOk, IfSome, IsTrue, OnOk, OnErr, List, ℕ, ◌<◌, take, slice_index};
+ghost use Rattle.std.specs.Prelude.{◌≡◌, ◌==◌, ◌≤◌, ◌+◌, false, IfOk, IfSome, IsTrue, OnOk, OnErr, ◌<◌, take, slice_index};
 ghost use Rattle.outside_words.specs.Faults.{HasCause, HidesNoFault};
 ghost use Rattle.disk_words.specs.declared.DiskFail.TheVariants.{Failed};
 ghost use Rattle.disk_words.specs.Disk.{Unchanged, GoesOn};

@@ -1,6 +1,6 @@
 //! Reaching the end of the last tile, and filing the batches up to it.
 
-ghost use Rattle.std.specs.Prelude.{◌≡◌, ◌≤◌, ◌<◌, ◌+◌, ◌-◌, ◌^◌, suc, false, ℕ, List, All, map, length, IfOk, IfErr};
+ghost use Rattle.std.specs.Prelude.{◌≡◌, ◌≤◌, ◌<◌, ◌-◌, ◌^◌, suc, false, List, map, length, IfOk, IfErr};
 ghost use Rattle.std.specs.List.{range_with_len};
 ghost use Rattle.outside_words.specs.Faults.{HasCause};
 ghost use Rattle.outside_words.specs.Shown.{ShowsFaults};
@@ -11,7 +11,6 @@ ghost use Rattle.tuple_bytes.specs.Spelling.{FitsHeader};
 ghost use Rattle.history_model.specs.History.{history};
 ghost use Rattle.digest_model.specs.Layout.{layout, first_granule, max_granules};
 ghost use Rattle.audit_model.specs.Names.{batch};
-ghost use Rattle.notary_link.specs.Batches.{IsBatch};
 ghost use Rattle.notary_link.specs.Notary as notaries;
 ghost use Rattle.store_engine.specs.Opened.{IsOpenOn};
 ghost use Rattle.validator.specs.Desk.{WhereBothTell, desk};

@@ -1,6 +1,6 @@
 //! Filing the digests of a store's tiles.
 
-ghost use Rattle.std.specs.Prelude.{◌≡◌, ◌≤◌, ◌<◌, ◌+◌, List, Some, IsSome, IfOk, IfErr, MatchResult};
+ghost use Rattle.std.specs.Prelude.{◌≤◌, ◌+◌, List, IsSome};
 ghost use Rattle.outside_words.specs.Faults.{HasCause};
 ghost use Rattle.outside_words.specs.Shown.{ShowsFaults};
 ghost use Rattle.disk_words.specs.Disk as disks;
@@ -13,9 +13,6 @@ ghost use Rattle.validator.specs.Fails.{disk_in_doubt, notary_in_doubt};
 ghost use Rattle.validator.specs.Notarizing.{early_fault, IsEarly};
 ghost use Rattle.validator.specs.Reaching.{Notarizes, IsLeft, StaysOpen, AsksNothing, StoreGrows};
 ghost use Rattle.validator.specs.Desk.{KeepsSound, WhereBothTell, desk};
-ghost use Rattle.validator.specs.Steps.{IsTimely, IsOfClock};
-ghost use Rattle.tuple_bytes.specs.Spelling.{FitsHeader};
-ghost use Rattle.digest_model.specs.Layout.{max_granules};
 
 use crate::ahead::granule_at;
 use crate::fail::AuditFail;
