@@ -90,8 +90,8 @@ const CLEAN: [Story; 3] = [
 const AT_500: &[u8] =
     b"first change in tile 0 when 480 to 500\ndiagram\n         480 N\n         500 X\n";
 
-/// A tile of eight granules, with a row in each. The last byte of granule g's row stands at 135 + 42 * g. Drills show
-/// more of such tiles.
+/// A tile of eight granules, with a row in each. The last byte of granule g's row stands at 135 + 42 * g, and the
+/// gate before granule 3's at 220.
 const OF_A_TILE: [Story; 2] = [
     (
         "each algorithm names the altered granules of a tile",
@@ -104,6 +104,26 @@ const OF_A_TILE: [Story; 2] = [
                 &[
                     b"report mono id 7 tiles 1 altered\n\
                       tiles 0 to 0 granules 0 to 7 when 480 to 500\n",
+                    AT_500,
+                ],
+            ),
+            Step::Damaged(
+                &[(345, 1)],
+                "analyse 7 tiled",
+                500,
+                &[
+                    b"report tiled id 7 tiles 1 altered\n\
+                      tile 0 target 101 candidates 5 7 when 480 to 500\n",
+                    AT_500,
+                ],
+            ),
+            Step::Damaged(
+                &[(345, 1)],
+                "analyse 7 tiled 1",
+                500,
+                &[
+                    b"report tiled id 7 tiles 1 altered\n\
+                      tile 0 target 101 candidates 5 when 480 to 500\n",
                     AT_500,
                 ],
             ),
@@ -128,6 +148,62 @@ const OF_A_TILE: [Story; 2] = [
                     AT_500,
                 ],
             ),
+            Step::Damaged(
+                &[(261, 1), (345, 1)],
+                "analyse 7 tiled",
+                500,
+                &[
+                    b"report tiled id 7 tiles 1 altered\n\
+                      tile 0 target 001 candidates 1 3 5 7 when 480 to 500\n",
+                    AT_500,
+                ],
+            ),
+            Step::Damaged(
+                &[(261, 1), (345, 1)],
+                "analyse 7 tiled 1",
+                500,
+                &[
+                    b"report tiled id 7 tiles 1 altered\n\
+                      tile 0 target 001 candidates 1 when 480 to 500\n",
+                    AT_500,
+                ],
+            ),
+            Step::Damaged(
+                &[(429, 1)],
+                "analyse 7 tiled",
+                500,
+                &[
+                    b"report tiled id 7 tiles 1 altered\n\
+                      tile 0 target 111 candidates 7 when 480 to 500\n",
+                    AT_500,
+                ],
+            ),
+            Step::Damaged(
+                &[(135, 1)],
+                "analyse 7 tiled",
+                500,
+                &[
+                    b"report tiled id 7 tiles 1 altered\n\
+                      tile 0 target 000 candidates 0 1 2 3 4 5 6 7 when 480 to 500\n",
+                    AT_500,
+                ],
+            ),
+            // a closed gate hides the rows behind it
+            Step::Damaged(
+                &[(220, 0)],
+                "analyse 7 a3d",
+                500,
+                &[
+                    b"report a3d id 7 tiles 1 altered\n\
+                      granule 3 when 480 to 500\n\
+                      granule 4 when 480 to 500\n\
+                      granule 5 when 480 to 500\n\
+                      granule 6 when 480 to 500\n\
+                      granule 7 when 480 to 500\n\
+                      checks 13\n",
+                    AT_500,
+                ],
+            ),
         ],
     ),
     (
@@ -146,28 +222,174 @@ const OF_A_TILE: [Story; 2] = [
     ),
 ];
 
-const OF_ANOTHER: [Story; 1] = [(
-    "under another header every sealed granule is named",
-    &[
-        Step::Sealed("init 7 60 0 ta", 3),
-        Step::Cut(0),
-        Step::Call("init 8 60 0 ta", &[0], b"", 0, b"ready 8\n"),
-        Step::Call(
-            "analyse 7 mono",
-            &[500],
-            b"",
-            1,
-            b"report mono id 7 tiles 3 header altered\nevery granule of tiles 0 to 2\n",
-        ),
-    ],
-)];
+/// How the report of a store of eight tiles goes on, up to its last line.
+const OF_EIGHT: &[u8] = b"first change in tile 5 when 480 to 500\n\
+    diagram\n\
+    \x20        480 N.......\n\
+    \x20        480 .N......\n\
+    \x20        480 ..N.....\n\
+    \x20        480 ...N....\n\
+    \x20        480 ....N...\n\
+    \x20        480 .....N..\n\
+    \x20        480 ......N.\n\
+    \x20        480 .......N\n\
+    \x20        500 vvvvvx??\n";
+
+/// How the report of a week goes on in which the tile 6 was changed, up to its last line.
+const OF_A_WEEK: &[u8] = b"first change in tile 6 when 432000 to 605000\n\
+    diagram\n\
+    \x20     432000 N....................\n\
+    \x20     432000 .N...................\n\
+    \x20     432000 ..N..................\n\
+    \x20     432000 ...N.................\n\
+    \x20     432000 ....N................\n\
+    \x20     432000 .....N...............\n\
+    \x20     432000 ......N..............\n\
+    \x20     432000 .......N.............\n\
+    \x20     432000 ........N............\n\
+    \x20     432000 .........N...........\n\
+    \x20     432000 ..........N..........\n\
+    \x20     432000 ...........N.........\n\
+    \x20     432000 ............N........\n\
+    \x20     432000 .............N.......\n\
+    \x20     432000 ..............N......\n\
+    \x20     432000 vvvvvvvvvvvvvvv......\n\
+    \x20     604800 ...............N.....\n\
+    \x20     604800 ................N....\n\
+    \x20     604800 .................N...\n\
+    \x20     604800 ..................N..\n\
+    \x20     604800 ...................N.\n\
+    \x20     604800 ....................N\n\
+    \x20     605000 vvvvvvx??????????????\n";
+
+const OF_TILES: [Story; 4] = [
+    (
+        "granules may be tiles",
+        &[
+            Step::Sealed("init 7 60 0 t", 8),
+            Step::Damaged(
+                &[(345, 1), (429, 1)],
+                "validate 7",
+                500,
+                &[b"altered 8 from 5\n"],
+            ),
+            Step::Damaged(
+                &[(345, 1), (429, 1)],
+                "analyse 7 mono",
+                510,
+                &[
+                    b"report mono id 7 tiles 8 altered\n\
+                      tiles 5 to 7 granules 5 to 7 when 480 to 510\n",
+                    OF_EIGHT,
+                    b"         510 .....XXX\n",
+                ],
+            ),
+            Step::Damaged(
+                &[(345, 1), (429, 1)],
+                "analyse 7 tiled",
+                510,
+                &[
+                    b"report tiled id 7 tiles 8 altered\n\
+                      tile 5 target - candidates 5 when 480 to 510\n\
+                      tile 7 target - candidates 7 when 480 to 510\n",
+                    OF_EIGHT,
+                    b"         510 .....X.X\n",
+                ],
+            ),
+        ],
+    ),
+    (
+        "twelve granules lie under two roots",
+        &[
+            Step::Sealed("init 7 60 2 a", 12),
+            Step::Damaged(
+                &[(345, 1), (513, 1)],
+                "analyse 7 a3d",
+                800,
+                &[
+                    b"report a3d id 7 tiles 3 altered\n\
+                      granule 5 when 720 to 800\n\
+                      granule 9 when 720 to 800\n\
+                      checks 12\n\
+                      first change in tile 1 when 720 to 800\n\
+                      diagram\n\
+                      \x20        720 N..\n\
+                      \x20        720 .N.\n\
+                      \x20        720 ..N\n\
+                      \x20        800 .XX\n",
+                ],
+            ),
+        ],
+    ),
+    (
+        // an entry of granule 50, which a validation finds before the analyses
+        "a changed entry of a week is found",
+        &[
+            Step::Week,
+            Step::Damaged(
+                &[(6764, 0xe9)],
+                "validate 18",
+                605_000,
+                &[b"altered 21 from 6\n"],
+            ),
+            Step::Damaged(
+                &[(6764, 0xe9)],
+                "analyse 18 mono",
+                605_000,
+                &[
+                    b"report mono id 18 tiles 21 altered\n\
+                      tiles 6 to 20 granules 48 to 167 when 432000 to 605000\n",
+                    OF_A_WEEK,
+                    b"      605000 ......XXXXXXXXXXXXXXX\n",
+                ],
+            ),
+            Step::Damaged(
+                &[(6764, 0xe9)],
+                "analyse 18 tiled",
+                605_000,
+                &[
+                    b"report tiled id 18 tiles 21 altered\n\
+                      tile 6 target 010 candidates 50 51 54 55 when 432000 to 605000\n",
+                    OF_A_WEEK,
+                    b"      605000 ......X..............\n",
+                ],
+            ),
+            Step::Damaged(
+                &[(6764, 0xe9)],
+                "analyse 18 a3d",
+                605_000,
+                &[
+                    b"report a3d id 18 tiles 21 altered\n\
+                      granule 50 when 432000 to 605000\nchecks 17\n",
+                    OF_A_WEEK,
+                    b"      605000 ......X..............\n",
+                ],
+            ),
+        ],
+    ),
+    (
+        "under another header every sealed granule is named",
+        &[
+            Step::Sealed("init 7 60 0 ta", 3),
+            Step::Cut(0),
+            Step::Call("init 8 60 0 ta", &[0], b"", 0, b"ready 8\n"),
+            Step::Call(
+                "analyse 7 mono",
+                &[500],
+                b"",
+                1,
+                b"report mono id 7 tiles 3 header altered\nevery granule of tiles 0 to 2\n",
+            ),
+        ],
+    ),
+];
 
 #[test]
 fn a_report_names_what_was_altered(rt: HostRuntime) -> Result<(), Fail> {
     let alloc = rt.alloc();
     tell(&rt, alloc, &CLEAN)?;
     tell(&rt, alloc, &OF_A_TILE)?;
-    tell(&rt, alloc, &OF_ANOTHER)
+    tell(&rt, alloc, &OF_TILES)
 }
 
 /// The report on a front of the store, of eight granules in one tile: whether its header is altered, and else how many
@@ -220,28 +442,29 @@ fn a_turned_header_is_told_by_a_validation(rt: HostRuntime) -> Result<(), Fail> 
     Ok(())
 }
 
-/// The seal of a name, over these bytes.
-fn seal(name: Name, bytes: &[u8]) -> Seal
+fn seal(name: Name, digest: [u8; 32]) -> Seal
     requires { IsName name }
     ensures { result.name ≡ name }
 {
-    Seal {
-        name,
-        digest: Sha256::digest(bytes),
-    }
+    Seal { name, digest }
 }
 
-/// A tile of two empty granules. The seal of the node above both is of no bytes that they have; and
-/// there is none.
+/// A tile of two empty granules. The seal of the node above both is 32 zero bytes; and there is none.
 #[test]
 fn a_notary_that_is_wrong_is_refused(rt: HostRuntime) -> Result<(), Fail> {
     let alloc = rt.alloc();
     let mut store = made(alloc, "init 7 60 1 a")?;
     let header = b"\x05\0\0\0\0\0\0\0\x07\0\0\0\0\0\0\0\0\0\0\0\x3c\x01\x02";
     let seals = [
-        seal(Name::Node { level: 0, index: 0 }, b"\x02\0\0\0\0"),
-        seal(Name::Node { level: 0, index: 1 }, b"\x02\0\0\0\x01"),
-        seal(Name::Node { level: 1, index: 0 }, b""),
+        seal(
+            Name::Node { level: 0, index: 0 },
+            Sha256::digest(b"\x02\0\0\0\0"),
+        ),
+        seal(
+            Name::Node { level: 0, index: 1 },
+            Sha256::digest(b"\x02\0\0\0\x01"),
+        ),
+        seal(Name::Node { level: 1, index: 0 }, [0; 32]),
     ];
     for (count, words, input, status, text) in [
         (
@@ -268,7 +491,7 @@ fn a_notary_that_is_wrong_is_refused(rt: HostRuntime) -> Result<(), Fail> {
         ),
     ] {
         let mut filed = notary(alloc);
-        filed.file(7, 0, 0, &[seal(Name::Header, header)])?;
+        filed.file(7, 0, 0, &[seal(Name::Header, Sha256::digest(header))])?;
         filed.file(7, 1, 120, &seals[..count])?;
         let answered = audit(alloc, &mut store, &mut filed, words, input, &[500])?;
         assert_eq!(rt; (answered.0, answered.1.as_slice()), (status, text));

@@ -105,3 +105,21 @@ pub fn altered(
     }
     Ok(MemDisk::holding(alloc, bytes))
 }
+
+/// 400 entries of a week in granules of an hour. The tiles that have ended are sealed on the fifth
+/// day, when a validation finds them clean, and at the week's end.
+pub fn week(alloc: Global, notary: &mut MemNotary) -> Result<MemDisk, AllocError> {
+    let mut script = b"create ledger id int name text cents int\n".to_vec(alloc)?;
+    for entry in 1u32..401 {
+        let moment = (entry - 1) * 1512;
+        let lines = format!(in alloc; "now {moment}\ninsert ledger {entry} 'entry' 1000\n")?;
+        script.extend_from_slice(lines.as_bytes())?;
+        if entry == 286 {
+            script.extend_from_slice(b"now 432000\nnotarize\nvalidate\n")?;
+        }
+    }
+    script.extend_from_slice(b"now 604800\nnotarize\n")?;
+    let mut store = made(alloc, "init 18 3600 3 ta")?;
+    let _filled = audit(alloc, &mut store, notary, "run 18 scripted", &script, &[])?;
+    Ok(store)
+}

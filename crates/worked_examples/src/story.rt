@@ -1,6 +1,6 @@
 //! Stories: what is done to a store and a notary in memory, step by step, and how each call ends.
 
-use crate::desk::{altered, audit, ended, notary, sealed};
+use crate::desk::{altered, audit, ended, notary, sealed, week};
 use disk_model::MemDisk;
 use notary_link::{MemNotary, Name, Notary, NotaryLimits, Seal};
 use outside_io::MemSource;
@@ -14,6 +14,8 @@ pub enum Step {
     /// The store is made by these words and has a row in each of so many granules of a minute; all its tiles
     /// are sealed.
     Sealed(&'static str, u32),
+    /// The store is the ledger of a week.
+    Week,
     /// The store has other bytes at these places.
     Altered(&'static [(usize, u8)]),
     /// The store ends at this length.
@@ -65,6 +67,7 @@ fn take(
             *filed = MemNotary::new(alloc, limits);
         }
         Step::Sealed(words, granules) => *store = sealed(alloc, words, *granules, filed)?,
+        Step::Week => *store = week(alloc, filed)?,
         Step::Altered(changes) => *store = altered(alloc, store, changes)?,
         Step::Cut(length) => {
             let mut bytes = store.bytes().to_vec(alloc)?;
