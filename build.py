@@ -17,7 +17,6 @@ import tempfile
 import time
 
 ROOT = pathlib.Path(__file__).resolve().parent
-RT = [sys.executable, ROOT / "rt_once.py"]
 # What a proof takes in memory, and what each further job of it takes, in GiB.
 PROOF, JOB = 2.5, 1.0
 # How often a line says how far the build is, in seconds.
@@ -96,7 +95,7 @@ class Lane:
         self.log = tempfile.TemporaryFile("w+", errors="replace")
         how = {"stdin": subprocess.DEVNULL, "stdout": self.log, "stderr": subprocess.STDOUT}
         self.name, self.jobs = name, jobs
-        self.call = subprocess.Popen([*RT, "lib", "--jobs", str(jobs)], cwd=self.crates / name, **how)
+        self.call = subprocess.Popen(["rt", "lib", "--jobs", str(jobs)], cwd=self.crates / name, **how)
 
     def end(self):
         """Brings home what was proved, and answers what was said where it wasn't."""

@@ -33,7 +33,7 @@ def prove(folder, libraries):
             if (folder / part).is_dir():
                 shutil.copytree(folder / part, crate / part)
         (crate / "stdin").write_bytes(b"")
-        done = subprocess.run([*build.RT, "run"], cwd=crate, stdout=subprocess.PIPE, stderr=subprocess.STDOUT, text=True, errors="replace")
+        done = subprocess.run(["rt", "run"], cwd=crate, stdout=subprocess.PIPE, stderr=subprocess.STDOUT, text=True, errors="replace")
         if done.returncode:
             return done.stdout
         shutil.copy2(crate / "out" / folder.name, folder / "program")
