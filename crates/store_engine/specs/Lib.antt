@@ -5,3 +5,4 @@ pub mod Appended
 pub mod Contents
 pub mod Replay
 pub mod Fail
+pub mod Texts

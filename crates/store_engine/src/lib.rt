@@ -35,6 +35,7 @@
 //! | on a settled disk a crash at any moment leaves the old items, with the new one or without | `images` of `told` |
 //! | the changing calls are those of one append, in order, and none after one that failed; a refusal makes none | `trace` of `told` |
 //! | on a settled disk the bytes before the gate are as they were, whatever is answered | `front` of `told` |
+//! | a refusal has one text, whoever tells it | `ok` of `put_refusal` |
 //! | a fault of the disk has its cause; behind Ok there was none, nor behind a refusal of `commit` or `frontier` | `cause`, `counted` |
 //!
 //! Of the bytes alone, without a disk, `appends_leave_old_or_new` says what the writes of an append leave,
@@ -55,9 +56,11 @@ mod contents;
 mod fail;
 mod laws;
 mod opening;
+mod printing;
 mod replay;
 mod store;
 
 pub use fail::StoreFail;
 pub use laws::appends_leave_old_or_new;
+pub use printing::put_refusal;
 pub use store::Store;
