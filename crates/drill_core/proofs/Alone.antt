@@ -13,13 +13,13 @@ use Rattle.validator.specs.declared.verdict.Verdict.TheVariants as verdicts
 use Rattle.validator.specs.declared.fail.AuditFail.{AuditFail}
 use Rattle.validator.specs.declared.fail.AuditFail.TheVariants as audits
 use Rattle.validator.specs.Texts.{verdict_text}
-use Rattle.validator.specs.Verdicts.{IsOfValidation}
+use Rattle.validator.specs.Verdicts.{IsOfValidation, ValidatesNone}
 use Rattle.forensic_report.specs.declared.report.Report.{Report}
 use Rattle.forensic_report.specs.declared.fail.AnalyseFail.{AnalyseFail}
 use Rattle.forensic_report.specs.declared.fail.AnalyseFail.TheVariants as analyses
 use Rattle.forensic_report.specs.Analysis.{Analysis, Unsealed}
 use Rattle.forensic_report.specs.Finding.{IsOfAnalysis}
-use Rattle.forensic_report.specs.Reporting.{Begins, Analyses}
+use Rattle.forensic_report.specs.Reporting.{Begins, Analyses, ReportsNone}
 use Rattle.forensic_report.specs.Texts.{head_line}
 use Rattle.drill_core.specs.declared.answered.Answered.{Answered}
 use Rattle.drill_core.specs.declared.fail.LineFail.{LineFail}
@@ -67,19 +67,19 @@ pub record LeavesWorld (w : World) (line : Line) (now : ℕ) (result : Result An
   pub allowed : StepsAlone w line now next
   pub reply : IfOk result (IsReply next)
 
-pub validation_leaves : (w : World) (now : ℕ) (r : Result Verdict AuditFail) (result : Result Answered LineFail) → IsAnswer verdict_text r result → IfErr r IsOfValidation → LeavesWorld w (lines.Plain stmts.Validate) now result
-validation_leaves w now r (Err fail) is none_other = record {
+pub validation_leaves : (w : World) (now : ℕ) (r : Result Verdict AuditFail) (result : Result Answered LineFail) → IsAnswer verdict_text r result → IfErr r IsOfValidation → (w.store ≡ None → ValidatesNone r) → LeavesWorld w (lines.Plain stmts.Validate) now result
+validation_leaves w now r (Err fail) is none_other nowhere = record {
   next = tells verdict_text w (Ok verdicts.Unsealed);
   stays = refl;
-  allowed = record { answer = Ok verdicts.Unsealed; next_is = refl; told = tt; none_other = tt };
+  allowed = record { answer = Ok verdicts.Unsealed; next_is = refl; told = tt; none_other = tt; nowhere = λ none. tt };
   reply = tt;
 }
-validation_leaves w now r (Ok answered) is none_other =
+validation_leaves w now r (Ok answered) is none_other nowhere =
     let answer = replies verdict_text r (Ok answered) is in
     record {
       next = tells verdict_text w r;
       stays = tells_world verdict_text w r;
-      allowed = record { answer = r; next_is = refl; told = told_as verdict_text r answered answer; none_other = none_other };
+      allowed = record { answer = r; next_is = refl; told = told_as verdict_text r answered answer; none_other = none_other; nowhere = nowhere };
       reply = tells_reply verdict_text w r answered answer;
     }
 
@@ -114,19 +114,20 @@ module _ (w : World) (algorithm : LineAlgorithm) (now : ℕ) where
   begins_so id own disk filed later (Ok report) told = subst (λ (n : ℕ). (a : Analysis) × Begins (head_line (algorithm_of algorithm) n a) report.text) own (told.0, told.2.begins)
   begins_so id own disk filed later (Err fail) told = tt
 
-  pub analysis_leaves : (r : Result Report AnalyseFail) (result : Result Answered LineFail) → IsReported r result → IfOk r BeginsSo → IfErr r (IsOfAnalysis (algorithm_of algorithm)) → LeavesWorld w (lines.Plain (stmts.Analyse algorithm)) now result
-  analysis_leaves r (Err fail) is begins none_other =
+  pub analysis_leaves : (r : Result Report AnalyseFail) (result : Result Answered LineFail) → IsReported r result → IfOk r BeginsSo → IfErr r (IsOfAnalysis (algorithm_of algorithm)) → (w.store ≡ None → ReportsNone (algorithm_of algorithm) w.id r) → LeavesWorld w (lines.Plain (stmts.Analyse algorithm)) now result
+  analysis_leaves r (Err fail) is begins none_other nowhere =
       let none : Report = record { altered = false; text = head_line (algorithm_of algorithm) w.id Unsealed } in
+      let front : Begins (head_line (algorithm_of algorithm) w.id Unsealed) none.text = record { rest = []; is = sym (append-nil none.text) } in
       record {
         next = reports_or w (Ok none);
         stays = refl;
-        allowed = record { answer = Ok none; next_is = refl; begins = (Unsealed, record { rest = []; is = sym (append-nil none.text) }); told = tt; none_other = tt };
+        allowed = record { answer = Ok none; next_is = refl; begins = (Unsealed, front); told = tt; none_other = tt; nowhere = λ empty. (Unsealed, tt, front) };
         reply = tt;
       }
-  analysis_leaves r (Ok answered) is begins none_other = record {
+  analysis_leaves r (Ok answered) is begins none_other nowhere = record {
     next = reports_or w r;
     stays = reports_world w r;
-    allowed = record { answer = r; next_is = refl; begins = begins; told = reported_told r answered is; none_other = none_other };
+    allowed = record { answer = r; next_is = refl; begins = begins; told = reported_told r answered is; none_other = none_other; nowhere = nowhere };
     reply = reports_reply w r answered is;
   }
 

@@ -1,12 +1,12 @@
 -- What a line does to the store alone, whatever the notary tells.
-use Rattle.std.proofs.Common.{◌≡◌, inl, ℕ, true, false, List, Option, Some, None, IsSome, Result, Ok, Err, OnOk, IfOk, IfErr, refl, sym, ap, subst, ◌∙◌}
+use Rattle.std.proofs.Common.{◌≡◌, inl, ℕ, Bool, true, false, List, [], Option, Some, None, IsSome, Result, Ok, Err, OnOk, IfOk, IfErr, IfSome, refl, sym, ap, subst, ◌∙◌}
 use Rattle.outside_words.proofs.Told.{told_map}
 use Rattle.disk_words.specs.Disk.{State, turn, Unchanged}
 use Rattle.disk_model.proofs.Moments.{weaker}
 use Rattle.tuple_bytes.specs.declared.header.Header.{Header}
 use Rattle.tuple_bytes.specs.declared.item.Item.{Item}
 use Rattle.store_engine.specs.Opened.{Opened, IsOpenOn}
-use Rattle.store_engine.specs.Refusals.{tail_of}
+use Rattle.store_engine.specs.Refusals.{Tail, tail_of, is_back, is_late}
 use Rattle.stmt_text.specs.declared.stmt.Stmt.TheVariants as stmts
 use Rattle.stmt_text.specs.declared.line.Line.{Line}
 use Rattle.stmt_text.specs.declared.line.Line.TheVariants as lines
@@ -14,13 +14,14 @@ use Rattle.statement_core.specs.World as statements
 use Rattle.session_model.specs.Standing.{Machine}
 use Rattle.validator.specs.declared.fail.AuditFail.{AuditFail}
 use Rattle.validator.specs.declared.fail.AuditFail.TheVariants as audits
-use Rattle.validator.specs.Notarizing.{early_fault, IsEarly}
-use Rattle.validator.specs.Reaching.{StoresAround, StaysOpen, IsReached, IsLeft, Grows as GrowsAround, StoreGrows}
-use Rattle.validator.proofs.Telling.{told_still, told_any}
+use Rattle.validator.specs.Notarizing.{Intent, intent_of, early_fault, where_true, room_fault, IsEarly}
+use Rattle.validator.specs.Reaching.{MayStore, StoresAround, StaysOpen, IsReached, IsLeft, Grows as GrowsAround, StoreGrows}
+use Rattle.validator.proofs.Grown.{StoresNone, none_refused, none_leaves}
+use Rattle.validator.proofs.Telling.{told_still, told_of, told_any}
 use Rattle.drill_core.specs.declared.answered.Answered.{Answered}
 use Rattle.drill_core.specs.declared.fail.LineFail.{LineFail}
 use Rattle.drill_core.specs.declared.open_store.OpenStore.{OpenStore}
-use Rattle.drill_core.specs.Alone.{tells, IsTold, NotarizesIn}
+use Rattle.drill_core.specs.Alone.{tells, intent_with, IsTold, NotarizesIn}
 use Rattle.drill_core.specs.Answers.{IsAnswerTo, IsAnswer}
 use Rattle.drill_core.specs.Faults.{early_over}
 use Rattle.drill_core.specs.Growing.{StandsAs, Grows, GrowsFor}
@@ -30,7 +31,7 @@ use Rattle.drill_core.specs.Steps.{Step, reached, sealed_text}
 use Rattle.drill_core.specs.World.{World, Held, IsIn, StoresWorld, StoresEither, with_store}
 use Rattle.drill_core.proofs.Alone.{LeavesWorld, tells_world, tells_reply, told_as}
 use Rattle.drill_core.proofs.Faults.{early_is_told}
-use Rattle.drill_core.proofs.Intents.{early_in}
+use Rattle.drill_core.proofs.Intents.{tail_is, intent_for, early_in}
 use Rattle.drill_core.proofs.Left.{stores_world, same_images}
 use Rattle.drill_core.proofs.Notarizing.{told_known, stands_in, either_of}
 use Rattle.drill_core.proofs.Replies.{replies}
@@ -62,11 +63,26 @@ module _ (line : Line) (now : ℕ) (result : Result Answered LineFail) (old new 
     kept = λ only. inl (subst (StoresWorld w) (sym bytes) (stores_world w held before w.lists i));
   }
 
+  -- by what is known of the bytes
+  pub grows_read : (P : List ℕ → Type 0) → IfSome old.reads P → ((w : World) (bytes : List ℕ) → P bytes → StandsAs w held bytes → LeavesWorld w line now result) → GrowsFor line now result held held old new
+  grows_read P known leaves = told_still old.reads new.reads (λ before after. P before) (λ before after. (w : World) → StandsAs w held before → Grows line now w result held old new before after) same.reads (told_of old.reads new.reads P (λ before after. P before) known (λ before after p. p))
+      (λ before after bytes p w i. left_at w before after bytes i (leaves w before p i))
+
   pub grows_left : ((w : World) (bytes : List ℕ) → StandsAs w held bytes → LeavesWorld w line now result) → GrowsFor line now result held held old new
   grows_left leaves = told_still old.reads new.reads (λ before after. Unit {0}) (λ before after. (w : World) → StandsAs w held before → Grows line now w result held old new before after) same.reads (told_any old.reads new.reads)
       (λ before after bytes any w i. left_at w before after bytes i (leaves w before i))
 
 -- ---- a notarization
+
+-- what speaks early against it is never that the store is full
+early_not_full : (t : Tail) (is_closed : Bool) (now : ℕ) → early_fault t is_closed now ≡ Some audits.StoreFull → ⊥
+early_not_full t is_closed now is = by is_closed (is_back t now) (is_late t now) is
+  where
+    by : (closed back late : Bool) → where_true closed audits.Closed (where_true back (audits.ClockBack t.last) (where_true late audits.TooLate None)) ≡ Some audits.StoreFull → ⊥
+    by true back late is = absurd cc
+    by false true late is = absurd cc
+    by false false true is = absurd cc
+    by false false false is = absurd cc
 
 none_is_some : (o : Option AuditFail) → o ≡ None → IsSome o → ⊥
 none_is_some None none is = let no : false ≡ true = is in cc
@@ -101,7 +117,13 @@ module _ (now : ℕ) (s later_s : Opened) (header : later_s.header ≡ s.header)
       stays = ap (λ (o : Option statements.World). record w { store = o }) (sym has.is);
       allowed = in_store (tells sealed_text (with_store w ws) (Err fail)) (record {
         answer = Err fail;
+        batches = none_stored.batches;
         frontier = None;
+        frontier_is = none_stored.none ∙ ap (λ (i : Intent). i.frontier) (intent_for now w ws kept s before w.lists i has.stands is_open none_stored.batches);
+        room = refl;
+        sealed = tt;
+        free = none_leaves (Err fail);
+        full = λ full. let same : fail ≡ audits.StoreFull = cc in absurd (early_not_full (statements.tail_of_world ws) false now (is ∙ ap Some same));
         next_is = refl;
         told = told;
         early = subst (λ (e : Option AuditFail). IsEarly {A = ℕ} e (Err fail)) (sym is) refl;
@@ -110,12 +132,15 @@ module _ (now : ℕ) (s later_s : Opened) (header : later_s.header ≡ s.header)
       reply = by x (subst (λ (y : Result ℕ AuditFail). IsAnswer sealed_text y x) answer_is answers);
     }
       where
+        none_stored : StoresNone now s ws.items (Err fail)
+        none_stored = none_refused now s ws.items fail
+
         by : (x : Result Answered LineFail) → IsAnswer sealed_text (Err fail) x → IfOk x (IsReply (tells sealed_text (with_store w ws) (Err fail)))
         by (Ok answered) is = tells_reply sealed_text (with_store w ws) (Err fail) answered (replies sealed_text (Err fail) (Ok answered) is)
         by (Err fault) is = tt
 
     -- nothing does
-    module _ (none : cause ≡ None) (grows : GrowsAround ws.items s later_s old new before after) where
+    module _ (none : cause ≡ None) (grows : GrowsAround now ws.items r s later_s old new before after) where
       abbrev world : World
       world = with_store w (reached grows.frontier ws)
 
@@ -126,12 +151,33 @@ module _ (now : ℕ) (s later_s : Opened) (header : later_s.header ≡ s.header)
         lists = record { batches = λ id. refl; marks = λ id. refl };
       }
 
-      with_answer : (a : Result ℕ AuditFail) → IfErr a IsTold → IsEarly None a → IfOk result (IsReply (tells sealed_text world a)) → Done later_s
-      with_answer a told first reply = record {
+      -- as many tiles as are sealed then
+      abbrev tiles : ℕ
+      tiles = (intent_with ws now grows.batches).sealed
+
+      intent_is : intent_of (tail_of s) s.at.is_closed now ws.items grows.batches ≡ intent_with ws now grows.batches
+      intent_is = intent_for now w ws kept s before w.lists i has.stands is_open grows.batches
+
+      -- the store is full only where the Frontier that a first batch needs has no room
+      abbrev FullFor : Result ℕ AuditFail → Type 0
+      FullFor a = a ≡ Err audits.StoreFull → room_fault (statements.tail_of_world ws) (intent_with ws now []).frontier ≡ Some audits.StoreFull
+
+      full_so : FullFor r
+      full_so is = subst (λ (t : Tail). room_fault t (intent_with ws now []).frontier ≡ Some audits.StoreFull) (tail_is now w ws kept s before w.lists i has.stands is_open)
+          (subst (λ (i : Intent). room_fault (tail_of s) i.frontier ≡ Some audits.StoreFull) (intent_for now w ws kept s before w.lists i has.stands is_open []) (grows.full is))
+
+      with_answer : (a : Result ℕ AuditFail) → IfOk a (λ n. n ≡ tiles) → MayStore a grows.frontier → FullFor a → IfErr a IsTold → IsEarly None a → IfOk result (IsReply (tells sealed_text world a)) → Done later_s
+      with_answer a sealed free full told first reply = record {
         next = tells sealed_text world a;
         allowed = in_store (tells sealed_text world a) (record {
           answer = a;
+          batches = grows.batches;
           frontier = grows.frontier;
+          frontier_is = grows.frontier_is ∙ ap (λ (i : Intent). i.frontier) intent_is;
+          room = subst (λ (t : Tail). room_fault t grows.frontier ≡ None) (tail_is now w ws kept s before w.lists i has.stands is_open) grows.room;
+          sealed = sealed;
+          free = free;
+          full = full;
           next_is = refl;
           told = told;
           early = subst (λ (e : Option AuditFail). IsEarly e a) (sym none) first;
@@ -153,10 +199,10 @@ module _ (now : ℕ) (s later_s : Opened) (header : later_s.header ≡ s.header)
           by : (x : Result Answered LineFail) → result ≡ x → Done later_s
           by (Ok answered) is =
               let told = replies sealed_text r (Ok answered) (subst (λ (x : Result Answered LineFail). IsAnswer sealed_text r x) is answer) in
-              with_answer r (told_as sealed_text r answered told) first (subst (λ (x : Result Answered LineFail). IfOk x (IsReply (tells sealed_text world r))) (sym is) (tells_reply sealed_text world r answered told))
-          by (Err fail) is = with_answer (Ok 0) tt tt (subst (λ (x : Result Answered LineFail). IfOk x (IsReply (tells sealed_text world (Ok 0)))) (sym is) tt)
+              with_answer r (subst (λ (i : Intent). IfOk r (λ n. n ≡ i.sealed)) intent_is grows.sealed) grows.free full_so (told_as sealed_text r answered told) first (subst (λ (x : Result Answered LineFail). IfOk x (IsReply (tells sealed_text world r))) (sym is) (tells_reply sealed_text world r answered told))
+          by (Err fail) is = with_answer (Ok tiles) refl tt (λ full. absurd cc) tt tt (subst (λ (x : Result Answered LineFail). IfOk x (IsReply (tells sealed_text world (Ok tiles)))) (sym is) tt)
 
-    notarized_at : GrowsAround ws.items s later_s old new before after → Done later_s
+    notarized_at : GrowsAround now ws.items r s later_s old new before after → Done later_s
     notarized_at grows = by cause refl
       where
         by : (e : Option AuditFail) → cause ≡ e → Done later_s
@@ -167,8 +213,8 @@ module _ (now : ℕ) (s later_s : Opened) (header : later_s.header ≡ s.header)
             subst Done (sym left.0) (left_at line now result old new left.1 only_now (alone kept s) w before after (reads left.1) i
             (refused_so fail is answer_is (early_is_told (tail_of s) s.at.is_closed now fail (cause_is ∙ is)) result answer))
 
-  pub grows_notarized : StoreGrows s later_s old new → GrowsFor line now result (alone kept s) (alone kept later_s) old new
-  grows_notarized told = told_known old.reads new.reads (λ before after. (is : List Item) → IsOpenOn s is before → GrowsAround is s later_s old new before after) (λ before after. (w : World) → StandsAs w (alone kept s) before → Grows line now w result (alone kept later_s) old new before after) told
+  pub grows_notarized : StoreGrows now r s later_s old new → GrowsFor line now result (alone kept s) (alone kept later_s) old new
+  grows_notarized told = told_known old.reads new.reads (λ before after. (is : List Item) → IsOpenOn s is before → GrowsAround now is r s later_s old new before after) (λ before after. (w : World) → StandsAs w (alone kept s) before → Grows line now w result (alone kept later_s) old new before after) told
       (λ before after was is grows w i.
       let has = has_store w kept s before w.lists i in
       notarized_at before after (λ same. same_bytes before after (sym is ∙ same.reads ∙ was)) w i has (grows has.world.items has.stands.open_on))

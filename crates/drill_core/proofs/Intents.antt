@@ -11,12 +11,13 @@ use Rattle.validator.specs.declared.fail.AuditFail.{AuditFail}
 use Rattle.validator.specs.Notarizing.{Intent, intent_of, early_fault}
 use Rattle.validator.specs.Reaching.{Does, Notarizes}
 use Rattle.drill_core.specs.World.{World, IsIn}
+use Rattle.drill_core.specs.Alone.{intent_with}
 use Rattle.drill_core.specs.Parts.{alone}
 use Rattle.drill_core.specs.Steps.{intent_in}
 
 module _ (now : ℕ) (w : World) (ws : statements.World) (kept : Machine) (s : Opened) (before : List ℕ) (lists : Lists)
     (i : IsIn w (alone kept s) before lists) (stands : statements.IsIn ws s before) (is_open : s.at.is_closed ≡ false) where
-  tail_is : tail_of s ≡ statements.tail_of_world ws
+  pub tail_is : tail_of s ≡ statements.tail_of_world ws
   tail_is =
       let h = stands.header in
       let end = stands.end in
@@ -24,10 +25,15 @@ module _ (now : ℕ) (w : World) (ws : statements.World) (kept : Machine) (s : O
       let last = stands.open_on.knows.last in
       cc
 
+  -- whatever batches are filed
+  pub intent_for : (batches : List Batch) → intent_of (tail_of s) s.at.is_closed now ws.items batches ≡ intent_with ws now batches
+  intent_for batches =
+      ap (λ (t : Tail). intent_of t s.at.is_closed now ws.items batches) tail_is
+      ∙ ap (λ (b : Bool). intent_of (statements.tail_of_world ws) b now ws.items batches) is_open
+
   intent_is : intent_of (tail_of s) s.at.is_closed now ws.items (lists.batches s.header.id) ≡ intent_in w ws now
   intent_is =
-      ap (λ (t : Tail). intent_of t s.at.is_closed now ws.items (lists.batches s.header.id)) tail_is
-      ∙ ap (λ (b : Bool). intent_of (statements.tail_of_world ws) b now ws.items (lists.batches s.header.id)) is_open
+      intent_for (lists.batches s.header.id)
       ∙ ap (λ (l : List Batch). intent_of (statements.tail_of_world ws) false now ws.items l) (ap lists.batches i.id ∙ i.lists.batches w.id)
 
   -- what speaks early against it

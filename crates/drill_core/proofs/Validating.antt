@@ -79,6 +79,10 @@ module _ (id : ℕ) where
   history_is (Some ws) begun None bytes i = absurd i
   history_is None begun (Some o) bytes i = absurd i
 
+-- bytes over which a machine stands for a world without a store have no history of its id
+pub none_stored : (w : World) (held : Held) (bytes : List ℕ) (lists : Lists) (id : ℕ) → held.id ≡ id → IsIn w held bytes lists → w.store ≡ None → history_with id (stored bytes) ≡ None
+none_stored w held bytes lists id own i none = subst (λ (n : ℕ). history_with n (stored bytes) ≡ None) (sym i.id ∙ own) (history_is w.id w.store w.sessions held.opened bytes i.store ∙ ap history_of none)
+
 -- the store and the batches stay
 pub with_validated : (w : World) (now : ℕ) (found : Result Verdict AuditFail) → ((validated w now found).world.store ≡ w.store) × ((id : ℕ) → (validated w now found).world.lists.batches id ≡ w.lists.batches id)
 with_validated w now (Err fail) = (refl, λ id. refl)

@@ -1,21 +1,24 @@
 -- What a line may do to a world and may be replied whatever the notary tells: a part of what the store alone says.
-use Rattle.std.specs.Prelude.{◌≡◌, ℕ, false, List, Option, Some, None, IsSome, Result, Ok, Err, IfOk, IfErr}
+use Rattle.std.specs.Prelude.{◌≡◌, ℕ, false, List, [], Option, Some, None, IsSome, Result, Ok, Err, IfOk, IfErr}
 use Rattle.stmt_text.specs.declared.stmt.Stmt.TheVariants as stmts
 use Rattle.stmt_text.specs.declared.line.Line.{Line}
 use Rattle.stmt_text.specs.declared.line.Line.TheVariants as lines
 use Rattle.statement_core.specs.World as statements
+use Rattle.notary_link.specs.Batches.{Batch}
 use Rattle.validator.specs.declared.verdict.Verdict.{Verdict}
 use Rattle.validator.specs.declared.fail.AuditFail.{AuditFail}
+use Rattle.validator.specs.declared.fail.AuditFail.TheVariants as fails
 use Rattle.validator.specs.Fails as audits
-use Rattle.validator.specs.Notarizing.{IsEarly}
+use Rattle.validator.specs.Notarizing.{Intent, intent_of, room_fault, IsEarly}
+use Rattle.validator.specs.Reaching.{MayStore}
 use Rattle.validator.specs.Texts.{verdict_text, refusal_text}
-use Rattle.validator.specs.Verdicts.{IsOfValidation}
+use Rattle.validator.specs.Verdicts.{IsOfValidation, ValidatesNone}
 use Rattle.forensic_report.specs.declared.algorithm.Algorithm.{Algorithm}
 use Rattle.forensic_report.specs.declared.report.Report.{Report}
 use Rattle.forensic_report.specs.declared.fail.AnalyseFail.{AnalyseFail}
 use Rattle.forensic_report.specs.Analysis.{Analysis}
 use Rattle.forensic_report.specs.Finding.{IsOfAnalysis}
-use Rattle.forensic_report.specs.Reporting.{Begins}
+use Rattle.forensic_report.specs.Reporting.{Begins, ReportsNone}
 use Rattle.forensic_report.specs.Texts.{head_line}
 use Rattle.forensic_report.specs.Fails as reports
 use Rattle.drill_core.specs.World.{World, with_store}
@@ -33,11 +36,24 @@ tells text w (Err fail) = refuses w (refusal_text fail)
 abbrev pub IsTold : AuditFail → Type 0
 IsTold fail = (audits.disk_in_doubt fail ≡ false) × (audits.notary_in_doubt fail ≡ false)
 
--- Some number of tiles is sealed, or it is refused. The store is as it was, or has a Frontier more. The sessions stay; the store
--- doesn't say what is filed, so the lists stay too.
+-- what a notarization of a store is to do, where these batches are filed and nothing speaks against it
+abbrev pub intent_with : statements.World → ℕ → List Batch → Intent
+intent_with store now batches = intent_of (statements.tail_of_world store) false now store.items batches
+
+-- Some number of batches counts as filed, and it needn't be the one that was told. By it so many tiles are sealed, or the line is
+-- refused. The store has a Frontier more, at the end of the last tile that has ended, or is as it was. The sessions stay. The
+-- store doesn't say what is filed, so the lists stay too.
 pub record NotarizesAlone (w : World) (store : statements.World) (now : ℕ) (next : Step) : Type 0 where
   pub answer : Result ℕ AuditFail
+  pub batches : List Batch
   pub frontier : Option ℕ
+  pub frontier_is : frontier ≡ (intent_with store now batches).frontier
+  -- there is room for it
+  pub room : room_fault (statements.tail_of_world store) frontier ≡ None
+  pub sealed : IfOk answer (λ n. n ≡ (intent_with store now batches).sealed)
+  pub free : MayStore answer frontier
+  -- StoreFull comes only where there is no room for the Frontier that is needed if nothing is filed
+  pub full : answer ≡ Err fails.StoreFull → room_fault (statements.tail_of_world store) (intent_with store now []).frontier ≡ Some fails.StoreFull
   pub next_is : next ≡ tells sealed_text (with_store w (reached frontier store)) answer
   pub told : IfErr answer IsTold
   -- what the clock decides is refused so, and then nothing is stored
@@ -56,6 +72,8 @@ pub record ValidatesAlone (w : World) (next : Step) : Type 0 where
   pub next_is : next ≡ tells verdict_text w answer
   pub told : IfErr answer IsTold
   pub none_other : IfErr answer IsOfValidation
+  -- without a store only that nothing was filed, that the header is altered, or that there is no room for its mark
+  pub nowhere : w.store ≡ None → ValidatesNone answer
 
 -- the report, or the name of the refusal
 abbrev pub reports_or : World → Result Report AnalyseFail → Step
@@ -72,6 +90,8 @@ pub record AnalysesAlone (w : World) (algorithm : Algorithm) (next : Step) : Typ
   pub begins : IfOk answer (λ report. (a : Analysis) × Begins (head_line algorithm w.id a) report.text)
   pub told : IfErr answer IsToldOf
   pub none_other : IfErr answer (IsOfAnalysis algorithm)
+  -- without a store it begins as that of nothing filed, or of an altered header
+  pub nowhere : w.store ≡ None → ReportsNone algorithm w.id answer
 
 -- ---- a line
 

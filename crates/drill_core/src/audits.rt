@@ -82,7 +82,7 @@ pub(crate) fn answer_validation<D: Disk, N: Notary>(
     now: u64,
 ) -> Result<Answered, LineFail>
     ensures bytes { GoesByBytes id now result (D.state disk.old) (D.state disk.new) (N.state notary.old) (N.state notary.new) }
-    ensures grows { (held : Held) → GrowsFor (lines.Plain stmts.Validate) now result held held (D.state disk.old) (D.state disk.new) }
+    ensures grows { (held : Held) → held.id ≡ id → GrowsFor (lines.Plain stmts.Validate) now result held held (D.state disk.old) (D.state disk.new) }
     ensures told { StepsWithout (lines.Plain stmts.Validate) now result id
         (D.state disk.old) (D.state disk.new) (N.state notary.old) (N.state notary.new) }
     ensures sound { KeepsSound (λ before. ⊤)

@@ -41,8 +41,12 @@
 //! | whatever the notary tells, where the disk tells its bytes: a line goes on by a step that the store alone allows. What is replied is that step's reply, and then the machine stands for its world | `grows` of `World::line`: `allowed`, `reply`, `stands` of `Grows` |
 //! | and on a settled disk a crash at any moment leaves the store before the line or behind that step. The bytes are one of the two, whatever was answered, and the only image behind a reply | `images`, `kept`, `settled` of `Grows` |
 //! | such a step of a statement or a line of a session is the one that is defined | `StepsAlone` |
-//! | of a notarization it tells some number of sealed tiles or a refusal, and stores no Frontier or one, of any moment. Where the clock speaks against it, it is refused so and stores nothing; else no refusal of the clock is told | `NotarizesAlone` |
+//! | of a notarization it stores no Frontier, or one at the end of the last tile that has ended by the clock. That lies past the last moment, and there is room for it | `frontier_is`, `room` of `NotarizesAlone` |
+//! | it tells a number of sealed tiles, at least that of the tiles that have ended, or a refusal. Where the number is larger, nothing is stored | `sealed`, `frontier_is` there |
+//! | a refusal other than `Full` and `OutOfTurn` stores nothing. `StoreFull` is told only where there is no room for the Frontier that is needed if nothing is filed | `free`, `full` there |
+//! | where the clock speaks against it, it is refused so and stores nothing; else no refusal of the clock is told | `early`, `untouched` there |
 //! | of a validation and of an analysis it leaves the world. It tells some verdict, or a report that begins as that of some analysis, or a refusal of a validation or of the algorithm | `ValidatesAlone`, `AnalysesAlone` |
+//! | where there is no store, an analysis tells only that nothing was filed or that the header is altered. A validation tells one of these, or `Full` | `nowhere` there |
 //! | the store of the id is opened, or there is none | `value` of `World::enter` |
 //! | a world whose store is what was filed stays so at every line, and no line tells of an alteration | [`sound_worlds_stay_sound`] |
 //! | a line that is replied `ok N` leaves a store that has the transaction N, and no line takes an item away | [`steps_acknowledge`], [`steps_only_append`] |

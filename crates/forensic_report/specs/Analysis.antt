@@ -41,6 +41,12 @@ is_altered Unsealed = false
 is_altered (HeaderAltered n) = true
 is_altered (Found l n findings) = is_some_bad (bad_tiles l n findings)
 
+-- of bytes that have no history of the id: nothing was filed, or the header is altered
+abbrev pub IsWithoutStore : Analysis → Type 0
+IsWithoutStore Unsealed = Unit {0}
+IsWithoutStore (HeaderAltered n) = Unit {0}
+IsWithoutStore (Found l n findings) = ⊥
+
 -- ---- what holds of them, whatever is told
 
 -- tiles that fail, each once, and targets of as many bits as the tile has

@@ -112,6 +112,13 @@ IsAnalysis algorithm id batches s found = IsAnalysisIn algorithm batches (histor
 
 -- ---- whatever is told
 
+-- a device failed, or memory was wanting
+abbrev pub IsGivingUp : AnalyseFail → Type 0
+IsGivingUp fails.DiskFault = Unit {0}
+IsGivingUp fails.NotaryFault = Unit {0}
+IsGivingUp fails.NoMemory = Unit {0}
+IsGivingUp fail = ⊥
+
 -- an algorithm is refused by no other cause
 abbrev pub IsOfAnalysis : Algorithm → AnalyseFail → Type 0
 IsOfAnalysis algorithm fails.DiskFault = Unit {0}

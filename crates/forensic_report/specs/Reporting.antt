@@ -8,8 +8,8 @@ use Rattle.forensic_report.specs.declared.algorithm.Algorithm.{Algorithm}
 use Rattle.forensic_report.specs.declared.report.Report.{Report}
 use Rattle.forensic_report.specs.declared.fail.AnalyseFail.{AnalyseFail}
 use Rattle.forensic_report.specs.declared.fail.AnalyseFail.TheVariants as fails
-use Rattle.forensic_report.specs.Analysis.{Analysis, is_altered, questions, Fits}
-use Rattle.forensic_report.specs.Finding.{IsAnalysis}
+use Rattle.forensic_report.specs.Analysis.{Analysis, IsWithoutStore, is_altered, questions, Fits}
+use Rattle.forensic_report.specs.Finding.{IsGivingUp, IsAnalysis}
 use Rattle.forensic_report.specs.Texts.{head_line, report_text, kept_of}
 
 -- one text begins another
@@ -38,3 +38,9 @@ Analyses algorithm id now disk filed later (Err fails.DiskFault) = Unit {0}
 Analyses algorithm id now disk filed later (Err fails.NotaryFault) = Unit {0}
 Analyses algorithm id now disk filed later (Err fails.NoMemory) = Unit {0}
 Analyses algorithm id now disk filed later (Err fail) = IsFoundOn algorithm id disk filed later (Err fail)
+
+-- Where no history is stored under the id, the report begins as that of nothing filed, or of an altered header. Only a failed
+-- device and want of memory refuse it.
+abbrev pub ReportsNone : Algorithm → ℕ → Result Report AnalyseFail → Type 0
+ReportsNone algorithm id (Ok report) = (a : Analysis) × IsWithoutStore a × Begins (head_line algorithm id a) report.text
+ReportsNone algorithm id (Err fail) = IsGivingUp fail

@@ -1,6 +1,6 @@
 //! What a notary's answers show of what is stored.
 
-ghost use Rattle.std.specs.Prelude.{◌≡◌, ◌≤◌, ◌+◌, Some, IfOk, IfErr, IfSome};
+ghost use Rattle.std.specs.Prelude.{◌≡◌, ◌≤◌, ◌+◌, None, Some, Ok, IfOk, IfErr, IfSome};
 ghost use Rattle.outside_words.specs.Faults.{HasCause};
 ghost use Rattle.outside_words.specs.Shown.{ShowsFaults};
 ghost use Rattle.outside_words.specs.Told.{WhereTold};
@@ -15,11 +15,12 @@ ghost use Rattle.policy_eras.specs.Policy.{policy_of};
 ghost use Rattle.validator.specs.Reading.{as_stored};
 ghost use Rattle.audit_model.specs.Altered.{history_in, history_with};
 ghost use Rattle.forensic_report.specs.declared.fail.AnalyseFail.TheVariants.{DiskFault, NotaryFault};
+ghost use Rattle.forensic_report.specs.declared.found.Analysis.TheVariants as analyses;
 ghost use Rattle.forensic_report.specs.Fails.{disk_in_doubt, notary_in_doubt};
 ghost use Rattle.forensic_report.specs.Analysis.{questions};
 ghost use Rattle.forensic_report.specs.Held.{HoldsFiled};
 ghost use Rattle.forensic_report.specs.Finding.{has_chains, IsFoundBy, IsFoundWith, IsFoundOf, IsAnalysis, IsOfAnalysis};
-ghost use Rattle.forensic_report.specs.Values.{analysis_of, found_as, OrGivesUp, FitsAnalysis, IsOfFinding};
+ghost use Rattle.forensic_report.specs.Values.{analysis_of, found_as, FindsNone, OrGivesUp, FitsAnalysis, IsOfFinding};
 
 use crate::algorithm::Algorithm;
 use crate::fail::AnalyseFail;
@@ -47,6 +48,7 @@ pub(crate) fn find<D: Disk, N: Notary>(
 ) -> Result<Analysis, AnalyseFail>
     ensures value { IfSome (D.state disk.old).reads (λ bytes. WhereTold (N.state notary.old).lists (N.state notary.new).lists (λ before after.
         OrGivesUp (IsAnalysis algorithm id (before.batches id) (stored bytes)) (found_as result))) }
+    ensures nowhere { IfSome (D.state disk.old).reads (λ bytes. history_with id (stored bytes) ≡ None → FindsNone result) }
     ensures held { IfOk result (λ a. HoldsFiled id (D.state disk.old) (N.state notary.old) (N.state notary.new)) }
     ensures fits { IfOk result FitsAnalysis }
     ensures none_other { IfErr result (IsOfAnalysis algorithm) }
@@ -77,6 +79,7 @@ fn find_stored<D: Disk, N: Notary>(
 ) -> Result<Analysis, AnalyseFail>
     ensures value { IfSome (D.state disk.old).reads (λ bytes. WhereTold (N.state notary.old).lists (N.state notary.new).lists (λ before after.
         OrGivesUp (IsFoundOf algorithm (before.batches id) tiles (history_with id (stored bytes))) (found_as result))) }
+    ensures nowhere { IfSome (D.state disk.old).reads (λ bytes. history_with id (stored bytes) ≡ None → FindsNone result) }
     ensures held { IfOk result (λ a. IfSome (D.state disk.old).reads (λ bytes. IfSome (history_in (stored bytes)) IsHistory)) }
     ensures fits { IfOk result FitsAnalysis }
     ensures none_other { IfErr result (IsOfAnalysis algorithm) }
@@ -106,6 +109,7 @@ fn find_in<N: Notary>(
     requires fits { IfSome stored.now.header (λ header. IsHistory (history header stored.now.items)) }
     ensures value { WhereTold (N.state notary.old).lists (N.state notary.new).lists (λ before after.
         OrGivesUp (IsFoundOf algorithm (before.batches id) tiles (history_with id (as_stored stored.now))) (found_as result)) }
+    ensures nowhere { history_with id (as_stored stored.now) ≡ None → result ≡ Ok (analyses.HeaderAltered tiles) }
     ensures fits { IfOk result FitsAnalysis }
     ensures none_other { IfErr result (IsOfFinding algorithm) }
     ensures same { Unchanged (N.state notary.old) (N.state notary.new) }

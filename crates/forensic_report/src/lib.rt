@@ -18,6 +18,7 @@
 //! | what is found is what the answers show of the stored bytes (`IsAnalysis`), and the text is the report of it (`report_text`) | `told` |
 //! | the verdict and the first line, and few questions, whatever is told: at most one for the header, and then those of the algorithm | `told`: `altered`, `begins`, `asked`, `fits` of `IsReport` |
 //! | bytes that were read and have a header hold a history | `held` |
+//! | where the bytes have no header of the id, whatever is told: a report begins as that of nothing filed or of an altered header. Only a failed device and want of memory refuse it | `nowhere` |
 //! | no other cause refuses | `none_other` |
 //! | the store and the notary are as they were | `same`, `unchanged` |
 //! | a fault is answered only where the disk or the notary counted it | `disk_cause`, `notary_cause` |

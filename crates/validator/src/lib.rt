@@ -16,6 +16,7 @@
 //! | what is found is what the answers to the questions show of what is stored (`IsFound`) | `told` |
 //! | then the mark of the verdict is added by one call, and nothing else; none where nothing was filed; a call that was refused had the mark of what was found, where both tell | `told`, `trace` |
 //! | `Full` comes only where there is no room for the mark, and no other cause refuses | `told`, `none_other` |
+//! | whatever the notary tells: where the bytes have no header of the id, only unsealed or an altered header is found. No seal is missing then | `nowhere` |
 //! | the disk is as it was, and a sound store stays sound | `same`, `sound` |
 //! | where a verdict is answered few questions were asked: one for the header, and where a tile is sealed the number of binary digits of the tiles and two more | `asked` |
 //! | a fault is answered only where the disk or the notary counted it | `disk_cause`, `notary_cause` |
@@ -37,6 +38,10 @@
 //! | no batch is filed before all changing calls of the disk | `told`: `order` |
 //! | a crash leaves the items, or those and the Frontier | `told`: `images`, `kept` |
 //! | whatever the notary tells: so it does, the bytes store them, and a store that stayed open stands for the new bytes | `grows` |
+//! | a Frontier that is stored is the end of the last tile that has ended by the clock. It lies past the last moment, and there is room for it | `grows`: `frontier_is`, `room` of `Grows` |
+//! | the answer is at least the number of tiles that have ended; where it is more, nothing is stored | `sealed`, `frontier_is` there |
+//! | a refusal stores nothing, unless it is `Full`, `OutOfTurn`, a fault or want of memory | `free` there |
+//! | `StoreFull` comes only where there is no room for the Frontier that is needed if nothing is filed | `full` there |
 //! | a sound store stays sound under each id, whatever is answered | `sound` |
 //! | at most two questions are asked | `asked` |
 //! | only a fault of the disk and want of memory close the store | `open` |

@@ -1,13 +1,16 @@
-use Rattle.std.proofs.Common.{subst, sym, ◌∙◌}
-use Rattle.std.specs.Prelude.{IfErr}
+use Rattle.std.proofs.Common.{◌≡◌, ℕ, None, subst, sym, ◌∙◌}
+use Rattle.std.specs.Prelude.{IfErr, IfSome}
+use Rattle.history_model.specs.Stored.{stored}
+use Rattle.audit_model.specs.Altered.{history_with}
 use Rattle.validator.specs.Desk.{desk}
 use Rattle.forensic_report.specs.declared.algorithm.Algorithm.{Algorithm}
 use Rattle.forensic_report.specs.Finding.{IsOfAnalysis}
-use Rattle.forensic_report.specs.Reporting.{Analyses}
+use Rattle.forensic_report.specs.Reporting.{Analyses, ReportsNone}
 use Rattle.drill_core.specs.Steps.{algorithm_of}
 use Rattle.drill_core.proofs.Analysing.{unchanged_sound, analysis_shown, analysed_without}
+use Rattle.drill_core.proofs.Validating.{none_stored}
 use Rattle.drill_core.proofs.Alone.{analysis_leaves, begins_so}
-use Rattle.drill_core.proofs.Growing.{grows_left}
+use Rattle.drill_core.proofs.Growing.{grows_read}
 use Rattle.stmt_text.specs.declared.stmt.Stmt.TheVariants as stmts
 use Rattle.stmt_text.specs.declared.line.Line.TheVariants as lines
 use Rattle.drill_core.proofs.analyses.answer_analysis.Goals as goal
@@ -43,6 +46,9 @@ returns-clause-grows g c held own =
     let N = g.N.Notary.state in
     let report = subst (λ (a : Algorithm). Analyses a c.args.id c.args.now (D c.args.disk.now) (N c.args.notary.now) (N c.analyse-answer.new.notary) c.analyse-answer.result) c.algorithm_of.ensures.value c.analyse-answer.ensures.told in
     let none_other = subst (λ (a : Algorithm). IfErr c.analyse-answer.result (IsOfAnalysis a)) c.algorithm_of.ensures.value c.analyse-answer.ensures.none_other in
-    grows_left (lines.Plain (stmts.Analyse c.args.algorithm)) c.args.now c.answer_to.result (D c.args.disk.now) (D c.analyse-answer.new.disk) c.analyse-answer.ensures.same (g.met.D.Disk.only_now c.args.disk.now) held
-    (λ w bytes i. analysis_leaves w c.args.algorithm c.args.now c.analyse-answer.result c.answer_to.result c.answer_to.ensures.value
-    (begins_so w c.args.algorithm c.args.now c.args.id (sym own ∙ i.id) (D c.args.disk.now) (N c.args.notary.now) (N c.analyse-answer.new.notary) c.analyse-answer.result report) none_other)
+    let nowhere = subst (λ (a : Algorithm). IfSome (D c.args.disk.now).reads (λ bytes. history_with c.args.id (stored bytes) ≡ None → ReportsNone a c.args.id c.analyse-answer.result)) c.algorithm_of.ensures.value c.analyse-answer.ensures.nowhere in
+    grows_read (lines.Plain (stmts.Analyse c.args.algorithm)) c.args.now c.answer_to.result (D c.args.disk.now) (D c.analyse-answer.new.disk) c.analyse-answer.ensures.same (g.met.D.Disk.only_now c.args.disk.now) held
+    (λ bytes. history_with c.args.id (stored bytes) ≡ None → ReportsNone (algorithm_of c.args.algorithm) c.args.id c.analyse-answer.result) nowhere
+    (λ w bytes says i. analysis_leaves w c.args.algorithm c.args.now c.analyse-answer.result c.answer_to.result c.answer_to.ensures.value
+    (begins_so w c.args.algorithm c.args.now c.args.id (sym own ∙ i.id) (D c.args.disk.now) (N c.args.notary.now) (N c.analyse-answer.new.notary) c.analyse-answer.result report) none_other
+    (λ none. subst (λ (n : ℕ). ReportsNone (algorithm_of c.args.algorithm) n c.analyse-answer.result) (sym own ∙ i.id) (says (none_stored w held bytes w.lists c.args.id own i none))))

@@ -1,9 +1,16 @@
-use Rattle.std.proofs.Common.{Ok, Err}
+use Rattle.std.proofs.Common.{◌≡◌, ℕ, List, None, Result, Ok, Err}
 use Rattle.std.proofs.lemmas.Result.{err_from_is_err_and}
 use Rattle.drill_core.specs.declared.fail.LineFail.TheVariants.{NoMemory}
-use Rattle.drill_core.proofs.Validating.{without}
+use Rattle.history_model.specs.Stored.{stored}
+use Rattle.audit_model.specs.Altered.{history_with}
+use Rattle.validator.specs.declared.verdict.Verdict.{Verdict}
+use Rattle.validator.specs.declared.fail.AuditFail.{AuditFail}
+use Rattle.validator.specs.Verdicts.{ValidatesNone}
+use Rattle.drill_core.specs.Growing.{StandsAs}
+use Rattle.drill_core.specs.World.{World, Held}
+use Rattle.drill_core.proofs.Validating.{without, none_stored}
 use Rattle.drill_core.proofs.Alone.{validation_leaves}
-use Rattle.drill_core.proofs.Growing.{grows_left}
+use Rattle.drill_core.proofs.Growing.{grows_read}
 use Rattle.stmt_text.specs.declared.stmt.Stmt.TheVariants as stmts
 use Rattle.stmt_text.specs.declared.line.Line.TheVariants as lines
 use Rattle.drill_core.proofs.audits.answer_validation.Goals as goal
@@ -30,19 +37,33 @@ returns-in-Err-clause-told g c =
     without c.args.id c.args.now (S c.args.disk.now) (S c.validate.new.disk) (N c.args.notary.now) (N c.validate.new.notary) (Err c.in-Err.fail) c.answer_to.result c.in-Err.ensures.same
     (g.met.D.Disk.only_now c.args.disk.now) c.answer_to.ensures.value c.in-Err.ensures.trace c.in-Err.ensures.told
 
+-- what is known of the bytes, for a world without a store
+module _ (id : ℕ) (r : Result Verdict AuditFail) where
+  abbrev SaysNone : List ℕ → Type 0
+  SaysNone bytes = history_with id (stored bytes) ≡ None → ValidatesNone r
+
+  without_store : (w : World) (held : Held) (bytes : List ℕ) → held.id ≡ id → SaysNone bytes → StandsAs w held bytes → w.store ≡ None → ValidatesNone r
+  without_store w held bytes own says i none = says (none_stored w held bytes w.lists id own i none)
+
 pub returns-in_err-found-in-Ok-clause-grows : goal.returns-in_err-found-in-Ok-clause-grows
-returns-in_err-found-in-Ok-clause-grows g c held =
+returns-in_err-found-in-Ok-clause-grows g c held own =
     let p = err_from_is_err_and c.from_residual.result c.from_residual.ensures.1 in
-    rw (p.1, p.2) (grows_left (lines.Plain stmts.Validate) c.args.now (Err NoMemory) (g.D.Disk.state c.args.disk.now) (g.D.Disk.state c.validate.new.disk) c.in-Ok.ensures.same (g.met.D.Disk.only_now c.args.disk.now) held
-    (λ w bytes i. validation_leaves w c.args.now (Ok c.in-Ok.verdict) (Err NoMemory) tt tt))
+    let r : Result Verdict AuditFail = Ok c.in-Ok.verdict in
+    rw (p.1, p.2) (grows_read (lines.Plain stmts.Validate) c.args.now (Err NoMemory) (g.D.Disk.state c.args.disk.now) (g.D.Disk.state c.validate.new.disk) c.in-Ok.ensures.same (g.met.D.Disk.only_now c.args.disk.now) held
+    (SaysNone c.args.id r) c.in-Ok.ensures.nowhere
+    (λ w bytes says i. validation_leaves w c.args.now r (Err NoMemory) tt tt (without_store c.args.id r w held bytes own says i)))
 
 pub returns-in_ok-found-in-Ok-clause-grows : goal.returns-in_ok-found-in-Ok-clause-grows
-returns-in_ok-found-in-Ok-clause-grows g c held =
+returns-in_ok-found-in-Ok-clause-grows g c held own =
     let result = c.in_ok-found-in-Ok.field-0 in
-    grows_left (lines.Plain stmts.Validate) c.args.now (Ok result) (g.D.Disk.state c.args.disk.now) (g.D.Disk.state c.validate.new.disk) c.in-Ok.ensures.same (g.met.D.Disk.only_now c.args.disk.now) held
-    (λ w bytes i. validation_leaves w c.args.now (Ok c.in-Ok.verdict) (Ok result) c.in_ok-found-in-Ok.ensures.value tt)
+    let r : Result Verdict AuditFail = Ok c.in-Ok.verdict in
+    grows_read (lines.Plain stmts.Validate) c.args.now (Ok result) (g.D.Disk.state c.args.disk.now) (g.D.Disk.state c.validate.new.disk) c.in-Ok.ensures.same (g.met.D.Disk.only_now c.args.disk.now) held
+    (SaysNone c.args.id r) c.in-Ok.ensures.nowhere
+    (λ w bytes says i. validation_leaves w c.args.now r (Ok result) c.in_ok-found-in-Ok.ensures.value tt (without_store c.args.id r w held bytes own says i))
 
 pub returns-in-Err-clause-grows : goal.returns-in-Err-clause-grows
-returns-in-Err-clause-grows g c held =
-    grows_left (lines.Plain stmts.Validate) c.args.now c.answer_to.result (g.D.Disk.state c.args.disk.now) (g.D.Disk.state c.validate.new.disk) c.in-Err.ensures.same (g.met.D.Disk.only_now c.args.disk.now) held
-    (λ w bytes i. validation_leaves w c.args.now (Err c.in-Err.fail) c.answer_to.result c.answer_to.ensures.value c.in-Err.ensures.none_other)
+returns-in-Err-clause-grows g c held own =
+    let r : Result Verdict AuditFail = Err c.in-Err.fail in
+    grows_read (lines.Plain stmts.Validate) c.args.now c.answer_to.result (g.D.Disk.state c.args.disk.now) (g.D.Disk.state c.validate.new.disk) c.in-Err.ensures.same (g.met.D.Disk.only_now c.args.disk.now) held
+    (SaysNone c.args.id r) c.in-Err.ensures.nowhere
+    (λ w bytes says i. validation_leaves w c.args.now r c.answer_to.result c.answer_to.ensures.value c.in-Err.ensures.none_other (without_store c.args.id r w held bytes own says i))
