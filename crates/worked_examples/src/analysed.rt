@@ -392,19 +392,37 @@ fn a_report_names_what_was_altered(rt: HostRuntime) -> Result<(), Fail> {
     tell(&rt, alloc, &OF_TILES)
 }
 
-/// The report on a front of the store, of eight granules in one tile: whether its header is altered, and else how many
-/// granules are, each with a line.
-fn named(alloc: Global, filed: &mut MemNotary, front: &[u8]) -> Result<Option<usize>, AllocError> {
-    let mut store = MemDisk::holding(alloc, front.to_vec(alloc)?);
-    let (_, text) = audit(alloc, &mut store, filed, "analyse 7 a3d", b"", &[500])?;
-    if text.starts_with(b"report a3d id 7 tiles 1 header altered\n") {
-        return Ok(None);
-    }
-    let lines = text.split(|byte| *byte == b'\n');
-    Ok(Some(lines.filter(|line| line.starts_with(b"granule ")).count()))
+/// The report of a store whose header was altered, of eight granules in one tile.
+const HEADER_ALTERED: &[u8] =
+    b"report a3d id 7 tiles 1 header altered\nevery granule of tiles 0 to 0\n";
+
+/// How a call over the store ends that asks for the report, as a command or by a line.
+fn asked(
+    alloc: Global,
+    store: &mut MemDisk,
+    filed: &mut MemNotary,
+    words: &str,
+    input: &[u8],
+) -> Result<(u8, Vec<u8>), AllocError> {
+    audit(alloc, store, filed, words, input, &[500])
 }
 
-/// A row is there where the gate behind it is, which stands at place 136 + 42 * g for granule g.
+/// How a report begins that names the granules from this one on, of eight.
+fn report_from(alloc: Global, first: usize) -> Result<Vec<u8>, AllocError> {
+    if first == 8 {
+        return b"report a3d id 7 tiles 1 clean\n".to_vec(alloc);
+    }
+    let mut text = b"report a3d id 7 tiles 1 altered\n".to_vec(alloc)?;
+    for granule in first..8 {
+        let line = format!(in alloc; "granule {granule} when 480 to 500\n")?;
+        text.extend_from_slice(line.as_bytes())?;
+    }
+    text.extend_from_slice(b"checks ")?;
+    Ok(text)
+}
+
+/// A row is there where the gate behind it is, which stands at place 136 + 42 * g for granule g. A run over a store
+/// without a header comes to no line.
 #[test]
 fn each_cut_alters_the_granules_behind_it(rt: HostRuntime) -> Result<(), Fail> {
     let alloc = rt.alloc();
@@ -414,30 +432,61 @@ fn each_cut_alters_the_granules_behind_it(rt: HostRuntime) -> Result<(), Fail> {
     assert_eq!(rt; bytes.len(), 445);
     for length in 0..446 {
         let front = bytes.get(..length).unwrap_or(bytes);
-        let wanted = match length {
-            0..=64 => None,
-            _ => Some((0..8usize).filter(|g| length < 137 + 42 * *g).count()),
-        };
-        assert_eq!(rt; named(alloc, &mut filed, front)?, wanted, "{length}");
+        let mut store = MemDisk::holding(alloc, front.to_vec(alloc)?);
+        let told = asked(alloc, &mut store, &mut filed, "analyse 7 a3d", b"")?;
+        let by_line = asked(alloc, &mut store, &mut filed, "run 7", b"analyse a3d\n")?;
+        if length <= 64 {
+            assert_eq!(rt;
+                (told.0, told.1.as_slice()),
+                (1, HEADER_ALTERED),
+                "{length}"
+            );
+            assert_eq!(rt;
+                (by_line.0, by_line.1.as_slice()),
+                (4, b"fault NotAStore\n".as_slice()),
+                "{length}"
+            );
+        } else {
+            let whole = (0..8usize).filter(|g| 137 + 42 * *g <= length).count();
+            let status = if whole == 8 { 0 } else { 1 };
+            assert_eq!(rt; told.0, status, "{length}");
+            assert!(rt; told.1.starts_with(&report_from(alloc, whole)?), "{length}");
+            assert_eq!(rt;
+                (by_line.0, by_line.1.as_slice()),
+                (0, told.1.as_slice()),
+                "{length}"
+            );
+        }
     }
     Ok(())
 }
 
-/// Each byte of the header turned over.
+/// Each byte of the header turned over. A run comes to its line where there is still a header of this id: one of
+/// another first second, or of wider granules.
 #[test]
-fn a_turned_header_is_told_by_a_validation(rt: HostRuntime) -> Result<(), Fail> {
+fn a_turned_header_is_told(rt: HostRuntime) -> Result<(), Fail> {
     let alloc = rt.alloc();
     let mut filed = notary(alloc);
     let store = sealed(alloc, "init 7 60 3 ta", 8, &mut filed)?;
     for place in 0usize..64 {
         let byte = store.bytes().get(place).copied().unwrap_or(0);
         let mut other = altered(alloc, &store, &[(place, byte ^ 0xff)])?;
-        let told = audit(alloc, &mut other, &mut filed, "validate 7", b"", &[500])?;
-        assert_eq!(rt;
-            (told.0, told.1.as_slice()),
-            (1, b"header altered 1\n".as_slice()),
-            "{place}"
-        );
+        let by_line = match place {
+            20..=24 | 27 | 28 => (0, HEADER_ALTERED),
+            _ => (4, b"fault NotAStore\n".as_slice()),
+        };
+        for (words, input, wanted) in [
+            (
+                "validate 7",
+                b"".as_slice(),
+                (1, b"header altered 1\n".as_slice()),
+            ),
+            ("analyse 7 a3d", b"", (1, HEADER_ALTERED)),
+            ("run 7", b"analyse a3d\n", by_line),
+        ] {
+            let told = asked(alloc, &mut other, &mut filed, words, input)?;
+            assert_eq!(rt; (told.0, told.1.as_slice()), wanted, "{place}: {words}");
+        }
     }
     Ok(())
 }
