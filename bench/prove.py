@@ -3,8 +3,10 @@
     python3 bench/prove.py FOLDER LIBRARY..
 
 FOLDER has its src/ and perhaps its proofs/, and its name is the crate's. The program is left at FOLDER/program. bench/all names
-a folder in BENCH_PROGRAMS, where each program is kept, so that it is proved once for all rounds.
+a folder in BENCH_PROGRAMS, where each program is kept under a sum of its sources and those of all crates. So it is proved once
+for all rounds.
 """
+import hashlib
 import os
 import pathlib
 import shutil
@@ -40,17 +42,28 @@ def prove(folder, libraries):
     return None
 
 
+def sum_of(folder):
+    """A sum of all that a program is made from."""
+    parts = [it for it in ROOT.glob("crates/*/*") if it.name in ("src", "specs", "proofs")] + [folder]
+    files = sorted(file for part in parts for file in part.rglob("*") if file.suffix in (".rt", ".antt"))
+    told = hashlib.sha256()
+    for file in [ROOT / "crates.txt", *files]:
+        told.update(repr((file.name, file.read_bytes())).encode())
+    return told.hexdigest()[:16]
+
+
 def main(folder, libraries):
     program, kept = folder / "program", os.environ.get("BENCH_PROGRAMS")
-    if kept and (pathlib.Path(kept) / folder.name).is_file():
-        shutil.copy2(pathlib.Path(kept) / folder.name, program)
+    kept = kept and pathlib.Path(kept) / f"{folder.name}-{sum_of(folder)}"
+    if kept and kept.is_file():
+        shutil.copy2(kept, program)
         return 0
     why = prove(folder, libraries)
     if why is not None:
         print("\n".join(why.splitlines()[-40:]), file=sys.stderr)
         return 1
     if kept:
-        shutil.copy2(program, pathlib.Path(kept) / folder.name)
+        shutil.copy2(program, kept)
     return 0
 
 
