@@ -15,7 +15,7 @@ use Rattle.history_model.specs.Values.{is_fit, same_name}
 use Rattle.history_model.specs.State.{Table, State, table_of}
 use Rattle.history_model.specs.Answers.{unless_fault, key_fault}
 use Rattle.tt_table.specs.declared.version.Version.{Version}
-use Rattle.tt_table.specs.Versions.{TableVersions, key_in}
+use Rattle.tt_table.specs.Tables.{TableVersions, key_in}
 
 -- whether a value that stands so to the filter's value passes; Null comes before all
 abbrev pub is_passing : Compare → Ordering → Bool

@@ -10,7 +10,7 @@ use Rattle.history_model.specs.Changes.{changes_of}
 use Rattle.history_model.specs.State.{Table, state, table_of}
 use Rattle.tt_table.specs.declared.version.Version.{Version}
 use Rattle.tt_table.specs.Stands.{versions_from}
-use Rattle.tt_table.specs.Versions.{TablesVersions, state_at, table_in}
+use Rattle.tt_table.specs.Tables.{TablesVersions, state_at, table_in}
 use Rattle.asof_query.specs.Filters.{scan_of, history_in}
 
 -- versions of a key, unless there is no such table or the key does not fit it
