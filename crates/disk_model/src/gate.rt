@@ -1,8 +1,8 @@
 //! A piece that a crash leaves whole or not at all.
-ghost use Rattle.std.specs.Prelude.{◌+◌, ◌<◌, ◌^◌, [], ◌∷◌};
+ghost use Rattle.std.specs.Prelude.{◌≡◌, ◌+◌, ◌<◌, ◌^◌, true, [], ◌∷◌, IsErrOf};
 ghost use Rattle.outside_words.specs.Faults.{HasCause, HidesNoFault};
 ghost use Rattle.outside_words.specs.Told.{WhereTold};
-ghost use Rattle.disk_words.specs.declared.DiskFail.TheVariants.{Failed};
+ghost use Rattle.disk_words.specs.declared.DiskFail.TheVariants.{Failed, NoMemory};
 ghost use Rattle.disk_words.specs.Disk.{GoesOn};
 ghost use Rattle.disk_model.specs.Moments.{Secures};
 ghost use Rattle.disk_model.specs.Gate.{gated_writes, ShowsAllOrNothing};
@@ -27,6 +27,7 @@ pub fn write_gated<D: Disk>(
     ensures frame { GoesOn (D.state disk.old) (D.state disk.new) }
     ensures cause { HasCause Failed (D.state disk.old).faults (D.state disk.new).faults result }
     ensures counted { HidesNoFault (D.state disk.old).faults (D.state disk.new).faults result }
+    ensures memory { IsErrOf result NoMemory → D.takes_memory ≡ true }
 {
     write_in_turn(disk, gate + 1, piece, gate, &[open_byte])
 }
@@ -46,6 +47,7 @@ fn write_in_turn<D: Disk>(
     ensures frame { GoesOn (D.state disk.old) (D.state disk.new) }
     ensures cause { HasCause Failed (D.state disk.old).faults (D.state disk.new).faults result }
     ensures counted { HidesNoFault (D.state disk.old).faults (D.state disk.new).faults result }
+    ensures memory { IsErrOf result NoMemory → D.takes_memory ≡ true }
 {
     write_durably(disk, place, piece)?;
     write_durably(disk, second_place, second)

@@ -1,5 +1,5 @@
 -- A payload is added behind all others.
-use Rattle.std.specs.Prelude.{◌≡◌, ◌⊎◌, ◌≤◌, ℕ, Bool, true, false, List, [], ◌∷◌, ◌++◌, length, take, Result, Ok, Err, OnOk}
+use Rattle.std.specs.Prelude.{◌≡◌, ◌⊎◌, ◌≤◌, ℕ, Bool, true, false, List, [], ◌∷◌, ◌++◌, length, take, Result, Ok, Err, IsErrOf, OnOk}
 use Rattle.std.specs.Int.{w32, to_be_bytes}
 use Rattle.disk_words.specs.declared.DiskFail.TheVariants.{Failed, NoMemory}
 use Rattle.disk_words.specs.Disk.{Call, State, Only}
@@ -57,6 +57,10 @@ StandsAfter payload (Err fails.StoreFull) old new = new ≡ old
 StandsAfter payload (Err fails.Closed) old new = new ≡ old
 StandsAfter payload (Err fails.AlreadyThere) old new = ⊥
 StandsAfter payload (Err fails.NotAStore) old new = ⊥
+
+-- A journal closes only at a fault of its disk, or where a disk that takes memory has none left.
+abbrev pub Closes : Bool → Result (Unit {0}) JournalFail → Standing → Standing → Type 0
+Closes takes_memory result old new = old.is_closed ≡ false → new.is_closed ≡ true → IsErrOf result fails.DiskFault ⊎ (IsErrOf result fails.NoMemory × (takes_memory ≡ true))
 
 -- the bytes before a place are as they were
 abbrev pub KeepsFront : ℕ → List ℕ → List ℕ → Type 0

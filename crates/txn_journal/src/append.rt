@@ -3,10 +3,10 @@
 //! A closed gate stands at the end while the record is written, so that a crash leaves no part of it.
 //! Once the record is durable, and a closed gate behind it, its own gate is opened.
 
-ghost use Rattle.std.specs.Prelude.{◌≡◌, ◌+◌, ◌<◌, ◌^◌, true, false, [], ◌∷◌, length, IfOk};
+ghost use Rattle.std.specs.Prelude.{◌≡◌, ◌+◌, ◌<◌, ◌^◌, true, false, [], ◌∷◌, length, IfOk, IsErrOf};
 ghost use Rattle.outside_words.specs.Faults.{HasCause, HidesNoFault};
 ghost use Rattle.outside_words.specs.Told.{WhereTold};
-ghost use Rattle.disk_words.specs.declared.DiskFail.TheVariants.{Failed};
+ghost use Rattle.disk_words.specs.declared.DiskFail.TheVariants.{Failed, NoMemory};
 ghost use Rattle.disk_words.specs.Disk.{GoesOn};
 ghost use Rattle.disk_model.specs.Moments.{Secures};
 ghost use Rattle.txn_journal.specs.Append.{closed_gate, behind_gate, writes_at};
@@ -39,6 +39,7 @@ pub(crate) fn add<D: Disk>(
     ensures frame { GoesOn (D.state disk.old) (D.state disk.new) }
     ensures cause { HasCause Failed (D.state disk.old).faults (D.state disk.new).faults result }
     ensures counted { HidesNoFault (D.state disk.old).faults (D.state disk.new).faults result }
+    ensures memory { IsErrOf result NoMemory → D.takes_memory ≡ true }
 {
     if gate_is_open {
         close_and_add(disk, end, bytes)
@@ -55,6 +56,7 @@ fn close_and_add<D: Disk>(disk: &mut D, end: u64, bytes: &[u8]) -> Result<(), Di
     ensures frame { GoesOn (D.state disk.old) (D.state disk.new) }
     ensures cause { HasCause Failed (D.state disk.old).faults (D.state disk.new).faults result }
     ensures counted { HidesNoFault (D.state disk.old).faults (D.state disk.new).faults result }
+    ensures memory { IsErrOf result NoMemory → D.takes_memory ≡ true }
 {
     close_gate(disk, end)?;
     add_behind_closed(disk, end, bytes)
@@ -67,6 +69,7 @@ fn close_gate<D: Disk>(disk: &mut D, end: u64) -> Result<(), DiskFail>
     ensures frame { GoesOn (D.state disk.old) (D.state disk.new) }
     ensures cause { HasCause Failed (D.state disk.old).faults (D.state disk.new).faults result }
     ensures counted { HidesNoFault (D.state disk.old).faults (D.state disk.new).faults result }
+    ensures memory { IsErrOf result NoMemory → D.takes_memory ≡ true }
 {
     write_durably(disk, end, &[CLOSED])
 }
@@ -79,6 +82,7 @@ fn add_behind_closed<D: Disk>(disk: &mut D, end: u64, bytes: &[u8]) -> Result<()
     ensures frame { GoesOn (D.state disk.old) (D.state disk.new) }
     ensures cause { HasCause Failed (D.state disk.old).faults (D.state disk.new).faults result }
     ensures counted { HidesNoFault (D.state disk.old).faults (D.state disk.new).faults result }
+    ensures memory { IsErrOf result NoMemory → D.takes_memory ≡ true }
 {
     write_gated(disk, end, OPEN, bytes)
 }

@@ -6,7 +6,7 @@ ghost use Rattle.outside_words.specs.Told.{WhereTold};
 ghost use Rattle.disk_words.specs.Disk.{GoesOn};
 ghost use Rattle.byte_grammar.specs.Gated.{FitsRecord};
 ghost use Rattle.txn_journal.specs.declared.fail.JournalFail.TheVariants.{DiskFault, StoreFull, Closed};
-ghost use Rattle.txn_journal.specs.Append.{append_calls, IsRefusedAsFull, StandsAfter, Appends};
+ghost use Rattle.txn_journal.specs.Append.{append_calls, IsRefusedAsFull, StandsAfter, Closes, Appends};
 
 use crate::append::{add, record_bytes};
 use crate::{JournalFail, Shape};
@@ -81,6 +81,7 @@ impl<S: Shape> Journal<S> {
         ensures closed { IsErrOf result Closed ↔ IsTrue self.old.is_closed }
         ensures store_full { IsErrOf result StoreFull ↔ IsRefusedAsFull S.WHOLE self.old payload.now }
         ensures moves { StandsAfter payload.now result self.old self.new }
+        ensures closes { Closes D.takes_memory result self.old self.new }
         ensures kept { OnErr result (self.new ≡ self.old → disk.new ≡ disk.old) }
         ensures told { WhereTold (D.state disk.old).reads (D.state disk.new).reads
             (Appends S.is_head S.shape self.old payload.now result (D.state disk.old) (D.state disk.new)) }

@@ -71,8 +71,13 @@
 //! than their number (`within`, `few`).
 //!
 //! A journal knows of its file only the place of the next gate and whether that is open, so each call
-//! on it is lent the disk. That a disk's bytes are as the journal left them is `StandsIn`. After a
-//! failure of the disk, and after nothing else, it is closed until the file is opened anew.
+//! on it is lent the disk. That a disk's bytes are as the journal left them is `StandsIn`.
+//!
+//! | The layer above may rely on | Clause of `append` |
+//! |---|---|
+//! | after a failed call of the disk the journal is closed, until the file is opened anew | `moves`, `closed` |
+//! | it closes at a fault of its disk or at that one's want of memory, and at nothing else | `closes` |
+//! | where it is not closed behind a refusal, the disk is as it was | `kept` |
 //!
 //! ```rust
 //! let mut records = Records::<StoreShape>::at_first(alloc)?;
