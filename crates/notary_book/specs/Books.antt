@@ -2,13 +2,13 @@
 use Rattle.std.specs.Prelude.{◌==◌, ◌&&◌, ◌+◌, ℕ, nat_eq, nat_le, nat_lt, Bool, true, List, [], ◌∷◌, ◌++◌, length, codes, replicate, Option, None, Some, is_some, Ok, if◌then◌else◌}
 use Rattle.std.specs.Cmp.Lexicographic.{pointwise}
 use Rattle.std.specs.List.{flat_map, filter_map}
-use Rattle.notary_link.specs.declared.notary.NotaryLimits.{NotaryLimits}
 use Rattle.notary_link.specs.Calls.{batches_by, marks_by}
 use Rattle.notary_link.specs.Notary.{Call, file, note, Lists, seals_in_all, marks_in_all}
 use Rattle.byte_grammar.specs.Gated.{Shape, open_gate}
 use Rattle.txn_journal.specs.Create.{is_free}
 use Rattle.txn_journal.specs.Held.{Held, held_by}
 use Rattle.notary_book.specs.Calls.{call_of}
+pub use Rattle.notary_book.specs.Limits.{max_seals, max_marks, book_limits}
 
 -- ---- calls
 
@@ -18,16 +18,6 @@ lists_of calls = record {
   batches = λ id. flat_map (λ call. batches_by id (call, Ok tt)) calls;
   marks = λ id. flat_map (λ call. marks_by id (call, Ok tt)) calls;
 }
-
-abbrev pub max_seals : ℕ
-max_seals = 16777216
-
-abbrev pub max_marks : ℕ
-max_marks = 65536
-
--- how much a book holds in all
-abbrev pub book_limits : NotaryLimits
-book_limits = record { seals = max_seals; marks = max_marks }
 
 -- behind these calls, this one is in turn and within the limits
 abbrev pub is_next : List Call → Call → Bool

@@ -8,3 +8,4 @@ pub mod Kept
 pub mod Moments
 pub mod Spelling
 pub mod State
+pub mod Limits

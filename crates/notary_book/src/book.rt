@@ -230,7 +230,7 @@ impl<D: Disk> Book<D> {
 
 impl<D: Disk> Notary for Book<D> {
     ghost use Rattle.std.proofs.Common.{lit≤};
-    ghost use Rattle.std.specs.Prelude.{◌≡◌, ◌≤◌, ◌+◌, OnOk, IsSome};
+    ghost use Rattle.std.specs.Prelude.{◌≡◌, ◌≤◌, ◌+◌, true, OnOk, IsSome};
     ghost use Rattle.outside_words.specs.Faults.{HasCause};
     ghost use Rattle.outside_words.specs.Shown.{ShowsFaults};
     ghost use Rattle.notary_link.specs.declared.fail.NotaryFail.TheVariants.{Failed};
@@ -244,6 +244,8 @@ impl<D: Disk> Notary for Book<D> {
     ghost use Rattle.notary_book.specs.State.{book_state};
 
     ghost state = { λ b. book_state (D.state b.disk) b.asked b.unreadable };
+
+    ghost asking_takes_memory = { true };
 
     ghost limited = { λ b. lit≤ tt };
 
