@@ -1,3 +1,4 @@
 pub mod Halving
 pub mod Linked
 pub mod Between
+pub mod Always

@@ -17,6 +17,8 @@
 //! | a tile that is named is one of those that were given, also where the notary tells nothing | `within` |
 //! | at most two questions more are asked than the number of tiles has binary digits | `asked` |
 //! | nothing has changed, and the notary's promises go on | `same`, `frame` |
+//! | the search takes no memory: want of it comes only from a notary whose asking calls take some | `memory` |
+//! | Ok comes always from a notary that fails no question and holds a history's batches, with at most as many links as tiles | `always` |
 //! | a fault comes only where the notary counted one in this call; behind Ok and a seal that is missing it counted none | `cause`, `counted` |
 //!
 //! What the notary answers is `link_answers` of `specs/Finds`. Where these answers are the same below a tile
@@ -24,8 +26,8 @@
 //! `audit_model`. There `region_begins_altered` says that this tile was altered, and
 //! `region_has_altered` that nothing was altered before it, unless two inputs clash.
 //!
-//! The search takes no memory: want of it comes from the notary alone. Tested, and not proved: that
-//! it isn't answered where there is memory.
+//! A notary in memory whose asking calls are not listed to fail is one that fails no question:
+//! `FailsNoQuestion` and `HoldsTiles` of `specs/Sure` say what is asked of a notary.
 //!
 //! ```text
 //! if let Some(tile) = first_bad(&links, &mut notary, id)? {

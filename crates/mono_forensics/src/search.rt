@@ -1,15 +1,16 @@
 //! The search for the first bad tile, by halves.
 
-ghost use Rattle.std.specs.Prelude.{◌≤◌, ◌<◌, ◌+◌, IfOk, IfSome, length};
+ghost use Rattle.std.specs.Prelude.{◌≡◌, ◌≤◌, ◌<◌, ◌+◌, true, IfOk, IfSome, IsErrOf, IsOk, length};
 ghost use Rattle.outside_words.specs.Faults.{HasCause};
 ghost use Rattle.outside_words.specs.Shown.{ShowsFaults};
 ghost use Rattle.outside_words.specs.Told.{WhereTold};
-ghost use Rattle.notary_link.specs.declared.fail.AskFail.TheVariants.{NotaryFault};
+ghost use Rattle.notary_link.specs.declared.fail.AskFail.TheVariants.{NotaryFault, NoMemory};
 ghost use Rattle.notary_link.specs.Fails.{ask_in_doubt};
 ghost use Rattle.notary_link.specs.Notary.{Unchanged, GoesOn};
 ghost use Rattle.digest_model.specs.Layout.{max_granules};
 ghost use Rattle.audit_model.specs.Tree.{digit_count};
 ghost use Rattle.mono_forensics.specs.Finds.{link_answers, Finds, Compares, IsFindFail};
+ghost use Rattle.mono_forensics.specs.Sure.{FailsNoQuestion, HoldsTiles};
 
 use notary_link::{Answer, AskFail, Name, Notary};
 
@@ -34,6 +35,9 @@ pub fn first_bad<N: Notary>(
     ensures frame { GoesOn (N.state notary.old) (N.state notary.new) }
     ensures cause { HasCause NotaryFault (N.state notary.old).faults (N.state notary.new).faults result }
     ensures counted { ShowsFaults ask_in_doubt (N.state notary.old).faults (N.state notary.new).faults result }
+    ensures memory { IsErrOf result NoMemory → N.asking_takes_memory ≡ true }
+    ensures always { FailsNoQuestion N.asking_takes_memory (N.state notary.old)
+        → HoldsTiles (N.state notary.old).lists id (length links.now) → IsOk result }
 {
     let last = links.len() as u32 - 1;
     if !differs(links, notary, id, last)? {
@@ -68,6 +72,9 @@ fn differs<N: Notary>(
     ensures frame { GoesOn (N.state notary.old) (N.state notary.new) }
     ensures cause { HasCause NotaryFault (N.state notary.old).faults (N.state notary.new).faults result }
     ensures counted { ShowsFaults ask_in_doubt (N.state notary.old).faults (N.state notary.new).faults result }
+    ensures memory { IsErrOf result NoMemory → N.asking_takes_memory ≡ true }
+    ensures always { FailsNoQuestion N.asking_takes_memory (N.state notary.old)
+        → HoldsTiles (N.state notary.old).lists id (length links.now) → IsOk result }
 {
     let name = Name::Cum { tile };
     match notary.ask(id, name, &links[tile as usize])? {
