@@ -1,18 +1,21 @@
 -- Which lines of an input were read, by what its reader has given out.
-use Rattle.std.proofs.Common.{◌≡◌, ◌<◌, ◌≤◌, ◌+◌, ◌-◌, ℕ, List, [], ◌∷◌, ◌++◌, length, take, drop, sym, ap, ◌∙◌, arith, length-append, inl, inr, ⊎_elim}
-use Rattle.std.proofs.lemmas.List.{append-nil, take_all}
+use Rattle.std.proofs.Common.{◌≡◌, ◌<◌, ◌≤◌, ◌+◌, ◌-◌, ℕ, true, false, List, [], ◌∷◌, ◌++◌, length, take, drop, sym, ap, ◌∙◌, arith, length-append, inr, ⊎_elim}
+use Rattle.std.proofs.lemmas.List.{append-nil, length-take, take_all}
 use Rattle.std.proofs.Math.Seq.{take-append_seam, drop-append_seam}
 use Rattle.line_input.specs.Limits.{input_limit, piece_limit}
 use Rattle.line_input.specs.Lines.{IsFeedless, lines_of, complete_lines, joined}
 use Rattle.line_input.specs.Reader.{Reading, IsAtLimit}
 use Rattle.line_input.specs.Giving.{IsFront, IsAll, HasGiven}
-use Rattle.line_input.specs.Front.{taken_of, AreFirst, AreAll, AreComplete, AreWithinLimit, AreEnded, TakesLittle, TakesFront}
+use Rattle.line_input.specs.Front.{taken_of, AreFirst, AreAll, AreComplete, AreWithinLimit, TakesLittle, TakesFront}
 use Rattle.line_input.proofs.Splits.{complete_joined}
-use Rattle.line_input.proofs.Giving.{joined_more, lines_joined, given_all}
+use Rattle.line_input.proofs.Giving.{joined_more, lines_joined, lines_long, given_all}
 
 left_none : (xs ys : List ℕ) → xs ++ ys ≡ [] → ys ≡ []
 left_none [] ys e = e
 left_none (x ∷ xs) ys e = absurd (cc e)
+
+short_take : (n : ℕ) (xs : List ℕ) → length (take n xs) ≤ length xs
+short_take n xs = omega (arith, length-take n xs)
 
 front_of : (xs all left : List ℕ) → all ≡ xs ++ left → left ≡ drop (length all - length left) all
 front_of xs all left e =
@@ -49,6 +52,11 @@ module _ (input : List ℕ) (lines : List (List ℕ)) (r : Reading) (left : List
   complete_of : IsFeedless r.pending → IsFront input lines r left → AreComplete lines input left
   complete_of feedless front = sym (ap complete_lines (taken_is front) ∙ complete_joined lines r.pending front.feedless feedless)
 
+  all_taken : lines ≡ lines_of input → length (taken_of input left) < length (joined lines []) + piece_limit
+  all_taken all =
+      let taken : length (taken_of input left) ≤ length input = short_take (length input - length left) input in
+      omega (arith, taken, lines_long input, ap (λ (ls : List (List ℕ)). length (joined ls [])) all)
+
   -- less than a piece beyond the lines
   pub little_given : length r.pending < piece_limit → TakesLittle lines input left
   little_given less = ⊎_elim
@@ -57,14 +65,14 @@ module _ (input : List ℕ) (lines : List (List ℕ)) (r : Reading) (left : List
       let parts : length (joined lines r.pending) ≡ length (joined lines [] ++ r.pending) = ap length (joined_more lines [] r.pending) in
       let more : length (taken_of input left) < length (joined lines []) + piece_limit = omega (arith, taken, parts, length-append (joined lines []) r.pending, less) in
       inr more)
-      (λ (all : IsAll input lines r left). inl (inr (all.all, left_none r.pending left all.none)))
+      (λ (all : IsAll input lines r left). inr (all_taken all.all))
       so_far.given
 
-  -- where a read failed
-  pub ended_given : IsFeedless r.pending → AreEnded lines input left
-  ended_given feedless = ⊎_elim
-      (λ (front : IsFront input lines r left). inl (complete_of feedless front))
-      (λ (all : IsAll input lines r left). inr (all.all, left_none r.pending left all.none))
+  -- where a read failed, and the end was not seen
+  pub complete_given : IsFeedless r.pending → r.is_ended ≡ false → AreComplete lines input left
+  complete_given feedless before = ⊎_elim
+      (λ (front : IsFront input lines r left). complete_of feedless front)
+      (λ (all : IsAll input lines r left). let both : true ≡ false = sym all.ended ∙ before in absurd (cc both))
       so_far.given
 
   -- at the limit

@@ -23,13 +23,9 @@ AreComplete lines input left = lines ≡ complete_lines (taken_of input left)
 abbrev pub AreWithinLimit : List (List ℕ) → List ℕ → List ℕ → Type 0
 AreWithinLimit lines input left = AreComplete lines input left × (length input ≡ length left + input_limit)
 
--- the lines whose end was read, and the last one where the end of the input was
-abbrev pub AreEnded : List (List ℕ) → List ℕ → List ℕ → Type 0
-AreEnded lines input left = AreComplete lines input left ⊎ ((lines ≡ lines_of input) × (left ≡ []))
-
 -- less than a piece was taken beyond these lines, or no line more whose end was taken
 abbrev pub TakesLittle : List (List ℕ) → List ℕ → List ℕ → Type 0
-TakesLittle lines input left = AreEnded lines input left ⊎ (length (taken_of input left) < length (joined lines []) + piece_limit)
+TakesLittle lines input left = AreComplete lines input left ⊎ (length (taken_of input left) < length (joined lines []) + piece_limit)
 
 -- no more was taken than may be, from the front on
 pub record TakesFront (input left : List ℕ) : Type 0 where

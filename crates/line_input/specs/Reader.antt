@@ -13,6 +13,8 @@ pub record Reading : Type 0 where
   pub pending : List ℕ
   -- how many bytes were taken in all
   pub taken : ℕ
+  -- whether the end of the input was seen
+  pub is_ended : Bool
 
 -- all the bytes that were unread are one line, which no feed ends
 pub record IsLastLine (new : Reading) (before after : List ℕ) : Type 0 where
@@ -20,26 +22,28 @@ pub record IsLastLine (new : Reading) (before after : List ℕ) : Type 0 where
   pub some : 0 < length new.line
   pub end : after ≡ []
   pub below : new.taken < input_limit
+  pub ended : new.is_ended ≡ true
 
 -- the first of the lines that were unread is given out
 pub record Gives (new : Reading) (before after : List ℕ) : Type 0 where
   pub lines : lines_of before ≡ new.line ∷ lines_of after
   pub ends : (before ≡ new.line ++ feed ∷ after) ⊎ IsLastLine new before after
+  pub last : new.is_ended ≡ true → after ≡ []
 
--- nothing was unread
-pub record IsAtEnd (new : Reading) (before after : List ℕ) : Type 0 where
-  pub none : before ≡ []
-  pub end : after ≡ []
+-- nothing was unread, unless the end was seen before, and as much is unread as before
+pub record IsAtEnd (old : Reading) (before after : List ℕ) : Type 0 where
+  pub none : old.is_ended ≡ false → before ≡ []
+  pub same : after ≡ before
 
 -- what an answer says of the bytes that were unread and those that still are
-abbrev pub Answers : Result Bool InputFail → Reading → List ℕ → List ℕ → Type 0
-Answers (Ok true) new before after = Gives new before after
-Answers (Ok false) new before after = IsAtEnd new before after
-Answers (Err fail) new before after = after ≡ before
+abbrev pub Answers : Result Bool InputFail → Reading → Reading → List ℕ → List ℕ → Type 0
+Answers (Ok true) old new before after = Gives new before after
+Answers (Ok false) old new before after = IsAtEnd old before after
+Answers (Err fail) old new before after = after ≡ before
 
 -- The same where the source tells what it has left: unread are the bytes that were taken and not given out, and behind them those.
 abbrev pub Tells : Result Bool InputFail → Reading → Reading → State → State → Type 0
-Tells result old new from to = WhereTold from.rest to.rest (λ before after. Answers result new (old.pending ++ before) (new.pending ++ after))
+Tells result old new from to = WhereTold from.rest to.rest (λ before after. Answers result old new (old.pending ++ before) (new.pending ++ after))
 
 -- as many bytes more were taken as the source has lost, and never too many
 pub record Takes (old new : Reading) (from to : State) : Type 0 where
@@ -62,3 +66,14 @@ abbrev pub GivesMore : Result Bool InputFail → Reading → Reading → Type 0
 GivesMore (Ok true) old new = old.taken + length new.pending < new.taken + length old.pending
 GivesMore (Ok false) old new = Unit {0}
 GivesMore (Err fail) old new = Unit {0}
+
+-- The end, once it was seen, stays seen: no line comes behind it, and no failure.
+abbrev pub SeesEnd : Result Bool InputFail → Reading → Reading → Type 0
+SeesEnd (Ok true) old new = old.is_ended ≡ false
+SeesEnd (Ok false) old new = new.is_ended ≡ true
+SeesEnd (Err fail) old new = (old.is_ended ≡ false) × (new.is_ended ≡ false)
+
+-- nothing is pending, and less was taken than may be
+pub record IsPast (r : Reading) : Type 0 where
+  pub none : r.pending ≡ []
+  pub below : r.taken < input_limit

@@ -16,13 +16,14 @@
 //!
 //! | Of `read_line` the layer above may rely on | Clause |
 //! |---|---|
-//! | a line is the first of the lines of what was unread; `false` comes only where nothing was | `told` |
+//! | a line is the first of the lines of what was unread; `false` comes only where nothing was, or where the end was seen before | `told` |
 //! | after a refusal as much is unread as before, and it can be called again | `told` |
 //! | what is given out has no feed in it | `feedless` |
 //! | as many bytes are taken as the source loses, and never too many | `taken` |
 //! | nothing is taken while a line's end is pending; behind a line less than a piece is pending | `at_once` |
 //! | `InputLimit` comes where all bytes that may be taken were, and no line's end is pending | `input_limit` |
 //! | and the end of input is seen only below the limit | `end`, `told` |
+//! | once the end was seen, behind a last line or none, every call answers `false` and asks the source nothing | `told`, `sees`, `at_end` |
 //! | with each line more bytes are given out, so a loop over lines ends | `more` |
 //! | `ReadFault` comes only where the source counted a fault, and with no line's end pending | `cause`, `read_fault` |
 //! | after Ok the source counted no fault: no read that failed was tried again | `counted` |

@@ -1,12 +1,13 @@
 //! The reader of lines.
 
-ghost use Rattle.std.specs.Prelude.{◌≡◌, ◌<◌, [], OnErr, IfOk, IsFalse, IsErrOf};
+ghost use Rattle.std.specs.Prelude.{◌≡◌, ◌<◌, [], false, Ok, OnErr, IfOk, IsTrue, IsFalse, IsErrOf};
 ghost use Rattle.outside_words.specs.Faults.{HasCause, HidesNoFault};
 ghost use Rattle.outside_io.specs.Source.{GoesOn};
 ghost use Rattle.line_input.specs.declared.fail.InputFail.TheVariants.{ReadFault, InputLimit};
 ghost use Rattle.line_input.specs.Limits.{input_limit};
 ghost use Rattle.line_input.specs.Lines.{IsFeedless};
-ghost use Rattle.line_input.specs.Reader.{Tells, Takes, IsAtLimit, IsAtOnce, GivesMore};
+ghost use Rattle.line_input.specs.Gathering.{reading_of};
+ghost use Rattle.line_input.specs.Reader.{Tells, Takes, IsAtLimit, IsAtOnce, GivesMore, SeesEnd, IsPast};
 
 use crate::InputFail;
 use crate::gathering::Gathering;
@@ -19,6 +20,7 @@ use std::marker::Model;
 pub struct LineReader {
     gathering: Gathering,
     is_given: bool,
+    ghost past: { IsTrue gathering.is_ended → IsPast (reading_of is_given gathering) },
 }
 
 impl Model for LineReader {
@@ -33,7 +35,7 @@ impl Model for LineReader {
 impl LineReader {
     /// A reader that has taken nothing yet. It takes no memory.
     pub fn new(alloc: Global) -> Self
-        ensures fresh { result ≡ record { line = []; pending = []; taken = 0 } }
+        ensures fresh { result ≡ record { line = []; pending = []; taken = 0; is_ended = false } }
     {
         LineReader {
             gathering: Gathering::new(alloc),
@@ -53,7 +55,7 @@ impl LineReader {
     }
 
     /// Reads the next line of an input, and answers whether there is one. It can be called again
-    /// after a refusal, and goes on where it stood.
+    /// after a refusal, and goes on where it stood. Once it saw the end of the input it reads no more.
     pub fn read_line<I: Source>(&mut self, input: &mut I) -> Result<bool, InputFail>
         ensures told { Tells result self.old self.new (I.state input.old) (I.state input.new) }
         ensures feedless { IsFeedless self.new.line }
@@ -62,6 +64,8 @@ impl LineReader {
         ensures at_once { IsAtOnce result self.old self.new }
         ensures more { GivesMore result self.old self.new }
         ensures end { IfOk result (λ found. IsFalse found → self.new.taken < input_limit) }
+        ensures sees { SeesEnd result self.old self.new }
+        ensures at_end { IsTrue self.old.is_ended → (result ≡ Ok false) × (input.new ≡ input.old) }
         ensures input_limit { IsErrOf result InputLimit → IsAtLimit self.new }
         ensures read_fault { IsErrOf result ReadFault → IsFeedless self.new.pending }
         ensures frame { GoesOn (I.state input.old) (I.state input.new) }
@@ -71,6 +75,9 @@ impl LineReader {
         if self.is_given {
             self.gathering.line.clear();
             self.is_given = false;
+        }
+        if self.gathering.is_ended {
+            return Ok(false);
         }
         let found = self.gathering.advance(input)?;
         self.is_given = found;
