@@ -2,6 +2,7 @@
 use Rattle.stmt_text.specs.declared.kind.LineKind.{LineKind}
 use Rattle.stmt_text.specs.declared.kind.LineKind.TheVariants as kinds
 use Rattle.stmt_text.specs.declared.kind.WorldPart.TheVariants as parts
+use Rattle.stmt_text.specs.declared.kind.NotaryLine.TheVariants as asked
 use Rattle.stmt_text.specs.declared.stmt.Stmt.{Stmt}
 use Rattle.stmt_text.specs.declared.stmt.Stmt.TheVariants as stmts
 use Rattle.stmt_text.specs.declared.line.Line.{Line}
@@ -16,9 +17,9 @@ stmt_kind (stmts.Delete table key) = kinds.InWorld parts.Tables
 stmt_kind (stmts.Get table key moment) = kinds.InWorld parts.Tables
 stmt_kind (stmts.Scan table filter moment) = kinds.InWorld parts.Tables
 stmt_kind (stmts.History table key) = kinds.InWorld parts.Tables
-stmt_kind stmts.Notarize = kinds.InWorld parts.Notary
-stmt_kind stmts.Validate = kinds.InWorld parts.Notary
-stmt_kind (stmts.Analyse algorithm) = kinds.InWorld parts.Notary
+stmt_kind stmts.Notarize = kinds.InWorld (parts.Notary asked.Notarize)
+stmt_kind stmts.Validate = kinds.InWorld (parts.Notary asked.Validate)
+stmt_kind (stmts.Analyse algorithm) = kinds.InWorld (parts.Notary (asked.Analyse algorithm))
 stmt_kind (stmts.Now moment) = kinds.SetsMoment moment
 stmt_kind stmts.Begin = kinds.OutsideScripts
 stmt_kind stmts.Commit = kinds.OutsideScripts

@@ -1,10 +1,20 @@
-//! What a line asks for, and of which part of a program.
+//! What a line asks for, and of what.
 
 ghost use Rattle.std.specs.Prelude.{◌≡◌};
+ghost use Rattle.stmt_text.specs.declared.kind.LineKind.TheVariants as kinds;
+ghost use Rattle.stmt_text.specs.declared.kind.WorldPart.TheVariants as parts;
 ghost use Rattle.stmt_text.specs.Kinds.{stmt_kind, line_kind};
 
 use crate::line::Line;
-use crate::stmt::Stmt;
+use crate::stmt::{LineAlgorithm, Stmt};
+
+/// What a line asks of the notary.
+#[derive(Clone, Copy, Debug, PartialEq, Eq)]
+pub enum NotaryLine {
+    Notarize,
+    Validate,
+    Analyse { algorithm: LineAlgorithm },
+}
 
 /// The part of a store's world that answers a line.
 #[derive(Clone, Copy, Debug, PartialEq, Eq)]
@@ -13,8 +23,8 @@ pub enum WorldPart {
     Tables,
     /// One of its sixteen sessions.
     Sessions,
-    /// Its notary: `notarize`, `validate` and `analyse`.
-    Notary,
+    /// Its notary.
+    Notary { asks: NotaryLine },
 }
 
 /// What a line asks for.
@@ -26,6 +36,15 @@ pub enum LineKind {
     SetsMoment { moment: u64 },
     /// What stands in no script: `begin`, `commit` and `abort` outside sessions, and what a drill does.
     OutsideScripts,
+}
+
+/// The kind of a line that asks this of the notary.
+fn notary_line(asks: NotaryLine) -> LineKind
+    ensures value { result ≡ kinds.InWorld (parts.Notary asks) }
+{
+    LineKind::InWorld {
+        part: WorldPart::Notary { asks },
+    }
 }
 
 impl Stmt {
@@ -43,9 +62,11 @@ impl Stmt {
             | Stmt::History { .. } => LineKind::InWorld {
                 part: WorldPart::Tables,
             },
-            Stmt::Notarize | Stmt::Validate | Stmt::Analyse { .. } => LineKind::InWorld {
-                part: WorldPart::Notary,
-            },
+            Stmt::Notarize => notary_line(NotaryLine::Notarize),
+            Stmt::Validate => notary_line(NotaryLine::Validate),
+            Stmt::Analyse { algorithm } => notary_line(NotaryLine::Analyse {
+                algorithm: *algorithm,
+            }),
             Stmt::Now { moment } => LineKind::SetsMoment { moment: *moment },
             Stmt::Begin | Stmt::Commit | Stmt::Abort => LineKind::OutsideScripts,
         }

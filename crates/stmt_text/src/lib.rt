@@ -44,7 +44,7 @@
 //! | `parse_line` gives the one line that the grammar gives, and refuses every other | `value`, `spelled` of `parse_line`; `line_is_said` |
 //! | Syntax comes exactly where the bytes are no line, whatever the width of numbers; else NumberTooWide exactly where a number is out of its range | `syntax`, `number_too_wide` of `parse_line`; `answers_are_exact` |
 //! | what was read can be printed | `fits` of `parse_line`; `lines_fit` |
-//! | what a line asks for, and of which part of a store's world, is said once for all layers | `value` of `Line::kind` and `Stmt::kind` |
+//! | what a line asks for, and which part of a store's world answers it, is said once for all layers | `value` of `Line::kind` and `Stmt::kind` |
 //! | `print_line` writes one text for each line, and reading it gives the same line | `value`, `spelled` of `print_line`; `lines_come_back` |
 //!
 //! `specs/Grammar.antt` says the grammar by cases on what is said, with numbers in their ranges or of any width, and so
@@ -63,7 +63,7 @@
 //!
 //! A variant of `Stmt` and a word of `Keyword`; its reading in `specs/Statements.antt` with a line in `stmt_by`, and a
 //! function of as many lines in `stmt_reading`; a line each in `keyword_token`, `stmt_keyword`, `stmt_tokens`,
-//! `stmt_kind`, `FitsStmt` and `SayStmt`; and in the proofs a line for each lemma that goes by cases on statements or words
+//! `stmt_kind` (and `NotaryLine`, if the notary is asked), `FitsStmt` and `SayStmt`; and in the proofs a line for each lemma that goes by cases on statements or words
 //! (`Said`, `Taken`, `Printed`, `PrintedTokens`, `Fitting`, `RangeLaws`, `WordReads`). Numbers that are Syntax where
 //! they are out of their range are read by `plain_number`, others by `kept`.
 #![tactic(auto)]
@@ -91,7 +91,7 @@ mod word;
 
 pub use error::ParseFail;
 pub use event::Event;
-pub use kind::{LineKind, WorldPart};
+pub use kind::{LineKind, NotaryLine, WorldPart};
 pub use laws::{
     line_is_said, lines_come_back, numbers_come_back, ranges_only_refuse, statement_is_said,
     tokens_are_had, value_is_said,
