@@ -9,7 +9,8 @@ use Rattle.notary_link.specs.Batches.{Batch}
 use Rattle.history_model.specs.History.{History}
 use Rattle.audit_model.specs.Notary.{NotaryOf}
 use Rattle.audit_model.specs.Altered.{IsAltered, HashClash}
-use Rattle.audit_model.specs.Laws.{IsAudit, HasTree}
+use Rattle.audit_model.specs.Laws.{IsAudit}
+use Rattle.audit_model.specs.Tree.{HasTree}
 use Rattle.digest_model.specs.Roots.{down_from, roots_of}
 use Rattle.audit_model.specs.Tree.{Reached, IsConsistent, found, checks}
 use Rattle.a3d_forensics.specs.Descent.{stop_of, tree_found, tree_stop}

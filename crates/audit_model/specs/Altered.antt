@@ -1,5 +1,6 @@
 -- Which granules of a file differ from the notarized ones.
-use Rattle.std.specs.Prelude.{◌≡◌, ◌≢◌, ℕ, ◌<◌, ◌==◌, nat_eq, if◌then◌else◌, Bool, ⊤, List, [], Option, Some, None}
+use Rattle.std.specs.Prelude.{◌≡◌, ◌≢◌, ◌↔◌, ℕ, ◌+◌, ◌<◌, ◌==◌, nat_eq, if◌then◌else◌, Bool, ⊤, List, [], Contains, Option, Some, None}
+use Rattle.std.specs.List.Sorted.{IsStrictlyIncreasing}
 use Rattle.std.specs.Cmp.Lexicographic.{pointwise}
 use Rattle.std.specs.Option.{option_map}
 use Rattle.tuple_bytes.specs.declared.header.Header.{Header}
@@ -7,7 +8,7 @@ use Rattle.tuple_bytes.specs.declared.item.Txn.{Txn}
 use Rattle.tuple_bytes.specs.Spelling.{spell_fields}
 use Rattle.history_model.specs.declared.stored.Stored.{Stored}
 use Rattle.history_model.specs.History.{History, history, rows}
-use Rattle.digest_model.specs.Layout.{layout, SameTiles, first_granule}
+use Rattle.digest_model.specs.Layout.{layout, SameTiles, first_granule, tile_size}
 use Rattle.digest_model.specs.Inputs.{Clash}
 use Rattle.audit_model.specs.Names.{inputs}
 
@@ -47,6 +48,20 @@ HasOtherHeader h (Some s) n = spell_fields h.header ≢ spell_fields s.header
 pub record IsAltered (h : History) (s : Option History) (n g : ℕ) : Type 0 where
   pub is_sealed : g < first_granule (layout h) n
   pub differs : view h s n g ≢ Some (rows h g)
+
+-- the granule of this number within a tile is altered
+abbrev pub IsAlteredIn : History → History → ℕ → ℕ → ℕ → Type 0
+IsAlteredIn h s n tile number =
+    (number < tile_size (layout h) tile) × IsAltered h (Some s) n (first_granule (layout h) tile + number)
+
+-- some granule of a tile is altered
+abbrev pub HasAltered : History → History → ℕ → ℕ → Type 0
+HasAltered h s n tile = (number : ℕ) × IsAlteredIn h s n tile number
+
+-- the numbers of the altered granules of a tile, ascending
+pub record IsAlteredSet (h s : History) (n tile : ℕ) (numbers : List ℕ) : Type 0 where
+  pub set : IsStrictlyIncreasing numbers
+  pub members : (number : ℕ) → Contains numbers number ↔ IsAlteredIn h s n tile number
 
 -- what is hashed for what a file holds
 abbrev pub stored_inputs : Option History → ℕ → List (List ℕ)

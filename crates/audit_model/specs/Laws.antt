@@ -1,5 +1,5 @@
 -- What the answers show.
-use Rattle.std.specs.Prelude.{◌≡◌, ◌≢◌, ◌↔◌, ◌⊎◌, ℕ, suc, ◌+◌, ◌*◌, ◌^◌, ◌<◌, ◌≤◌, true, List, Contains, length, Option, Some, None}
+use Rattle.std.specs.Prelude.{◌≡◌, ◌≢◌, ◌↔◌, ◌⊎◌, ℕ, suc, ◌+◌, ◌*◌, ◌^◌, ◌<◌, ◌≤◌, true, List, Contains, length, Option, Some}
 use Rattle.std.specs.List.Sorted.{IsStrictlyIncreasing}
 use Rattle.notary_link.specs.declared.name.Name.{Name}
 use Rattle.notary_link.specs.declared.name.Name.TheVariants.{Cum, Tile, Node}
@@ -9,15 +9,19 @@ use Rattle.notary_link.specs.Batches.{Batch, compared}
 use Rattle.tuple_bytes.specs.Spelling.{FitsHeader}
 use Rattle.history_model.specs.History.{History}
 use Rattle.history_model.specs.Stored.{stored}
-use Rattle.digest_model.specs.Layout.{layout, SameTiles, exponent, first_granule, end_granule, tile_size, whole, has_tile_chains, has_tree}
+use Rattle.digest_model.specs.Layout.{layout, SameTiles, exponent, first_granule, end_granule, tile_size, whole, has_tile_chains}
 use Rattle.digest_model.specs.Roots.{roots_of}
-use Rattle.digest_model.specs.Laws.{HasSpelling, SameBelow}
+use Rattle.digest_model.specs.Laws.{SameBelow}
+use Rattle.digest_model.specs.Spelled.{HasSpelling}
 use Rattle.audit_model.specs.Names.{planned, digest}
 use Rattle.audit_model.specs.Notary.{NotaryOf, answers, header_answer}
 use Rattle.audit_model.specs.Altered.{history_in, HasPlacesOf, HasOtherHeader, IsAltered, HashClash}
+pub use Rattle.audit_model.specs.Altered.{IsAlteredIn, HasAltered, IsAlteredSet}
 use Rattle.audit_model.specs.Sound.{HoldsNotarized}
 use Rattle.audit_model.specs.Mono.{BeginsRegion, IsFirstBad, IsStep}
+pub use Rattle.audit_model.specs.Mono.{IfSomeOrNever}
 use Rattle.audit_model.specs.Tree.{IsFound, IsConsistent, found, checks, digit_count}
+pub use Rattle.audit_model.specs.Tree.{HasTree}
 use Rattle.audit_model.specs.Tiled.{IsCandidate, IsCandidateAmong, IsTarget, candidates_of, exactly_of}
 
 -- The candidates are the numbers that have every bit of the target.
@@ -77,11 +81,6 @@ SameChainIsClean = (batches : List Batch) (id : ℕ) (h s : History) (n tile : �
     → answers batches s (Cum tile) ≡ Same
     → SameBelow h s (end_granule (layout h) tile) ⊎ HashClash h (Some s) n
 
--- of a region that begins somewhere; there is none
-abbrev pub IfSomeOrNever : Option ℕ → (ℕ → Type 0) → Type 0
-IfSomeOrNever None P = ⊥
-IfSomeOrNever (Some tile) P = P tile
-
 -- The region of the Monochromatic analysis has every altered granule.
 abbrev pub RegionHasAltered : Type 0
 RegionHasAltered = (batches : List Batch) (id : ℕ) (h s : History) (n : ℕ) (region : Option ℕ) (g : ℕ) → IsAudit batches id h s n
@@ -95,10 +94,6 @@ CandidatesHaveAltered = (batches : List Batch) (id : ℕ) (h s : History) (n til
     → has_tile_chains (layout h) tile ≡ true → tile < n → number < tile_size (layout h) tile
     → IsAltered h (Some s) n (first_granule (layout h) tile + number)
     → IsCandidate (exponent (layout h) tile) (λ part. answers batches s (Tile tile part)) number ⊎ HashClash h (Some s) n
-
--- each sealed tile has the tree
-abbrev pub HasTree : History → ℕ → Type 0
-HasTree h n = (tile : ℕ) → tile < n → has_tree (layout h) tile ≡ true
 
 -- An altered granule is a leaf that is reached and differs.
 abbrev pub DescentHasAltered : Type 0
@@ -128,15 +123,6 @@ abbrev pub RefusedHeaderIsOther : Type 0
 RefusedHeaderIsOther = (batches : List Batch) (id : ℕ) (h s : History) (n : ℕ) → NotaryOf batches id h n
     → header_answer batches s n ≡ Differs
     → HasOtherHeader h (Some s) n
-
--- the granule of this number within a tile is altered
-abbrev pub IsAlteredIn : History → History → ℕ → ℕ → ℕ → Type 0
-IsAlteredIn h s n tile number =
-    (number < tile_size (layout h) tile) × IsAltered h (Some s) n (first_granule (layout h) tile + number)
-
--- some granule of a tile is altered
-abbrev pub HasAltered : History → History → ℕ → ℕ → Type 0
-HasAltered h s n tile = (number : ℕ) × IsAlteredIn h s n tile number
 
 -- Where the chain differs at the end of a tile, some granule up to there is altered, without exception.
 abbrev pub ChangedChainHasAltered : Type 0
@@ -172,11 +158,6 @@ NodesAreConsistent = (batches : List Batch) (id : ℕ) (h s : History) (n level 
 abbrev pub StepIsRegion : Type 0
 StepIsRegion = (cums : ℕ → Answer) (n p : ℕ) (region : Option ℕ) → IsStep cums n p
     → BeginsRegion cums n region ↔ (region ≡ Some p)
-
--- the numbers of the altered granules of a tile, ascending
-pub record IsAlteredSet (h s : History) (n tile : ℕ) (numbers : List ℕ) : Type 0 where
-  pub set : IsStrictlyIncreasing numbers
-  pub members : (number : ℕ) → Contains numbers number ↔ IsAlteredIn h s n tile number
 
 -- Where kappa granules of a tile are altered, they are candidates among sets of kappa members.
 abbrev pub CandidatesAmongHaveAltered : Type 0

@@ -2,18 +2,14 @@
 use Rattle.std.specs.Prelude.{◌≡◌, ◌⊎◌, ℕ, ◌+◌, ◌<◌, List, [], ◌∷◌}
 use Rattle.std.specs.List.{All}
 use Rattle.tuple_bytes.specs.declared.header.Header.{Header}
-use Rattle.tuple_bytes.specs.Spelling.{spell_fields, FitsHeader, FitsItem}
+use Rattle.tuple_bytes.specs.Spelling.{spell_fields, FitsHeader}
 use Rattle.history_model.specs.History.{History, txns, rows}
 use Rattle.history_model.specs.StoredHistory.{IsHistory}
 use Rattle.digest_model.specs.Layout.{layout, SameTiles, end_granule, part_granules}
 use Rattle.digest_model.specs.Roots.{IsUnder}
 use Rattle.digest_model.specs.Digests.{link_of_spelled, link_of, header_digest, header_input, granule_digest, tile_digest, node_digest, cum}
+pub use Rattle.digest_model.specs.Spelled.{HasSpelling}
 use Rattle.digest_model.specs.Inputs.{Clash, link_inputs_of_spelled, link_inputs, cum_inputs, hashed, tile_inputs, node_inputs}
-
--- a history whose header and items have spellings
-pub record HasSpelling (h : History) : Type 0 where
-  pub header : FitsHeader h.header
-  pub items : All FitsItem h.items
 
 -- such is each history that a file can hold
 abbrev pub HistoriesHaveSpellings : Type 0

@@ -4,3 +4,4 @@ pub mod Inputs
 pub mod Laws
 pub mod Roots
 pub mod Plain
+pub mod Spelled

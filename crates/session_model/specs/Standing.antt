@@ -16,14 +16,13 @@ use Rattle.stmt_text.specs.declared.kind.LineKind.TheVariants as kinds
 use Rattle.stmt_text.specs.declared.kind.WorldPart.TheVariants as parts
 use Rattle.stmt_text.specs.Kinds.{line_kind}
 use Rattle.statement_core.specs.declared.reply.Reply.{Reply}
-use Rattle.statement_core.specs.declared.reply.Reply.TheVariants as replies
 use Rattle.statement_core.specs.declared.statements.StepFail.{StepFail}
 use Rattle.statement_core.specs.World as stores
 use Rattle.statement_core.specs.Steps as statements
 use Rattle.statement_core.specs.Stepping as stepping
 use Rattle.session_model.specs.declared.place.Place.{Place}
 use Rattle.session_model.specs.World.{Session, World}
-use Rattle.session_model.specs.Steps.{Answer, Replied, Stopped, Step, conflict, step}
+use Rattle.session_model.specs.Steps.{Step, reply_of, conflict, step}
 use Rattle.session_model.specs.PlaceOrder.{place_cmp}
 use Rattle.session_model.specs.Index.{IsIndex, AreAllNumbered, least_above}
 use Rattle.session_model.specs.Conflicts.{AreSameReads}
@@ -86,11 +85,6 @@ MachinesFindConflicts = (w : World) (m : Machine) (stand : Opened) (bytes : List
     → w.sessions n ≡ Some s → kept_at m n ≡ Some k → found_conflict m k ≡ conflict w s
 
 -- ---- a step
-
--- an answer as a reply
-abbrev pub reply_of : Answer → Reply
-reply_of (Replied reply) = reply
-reply_of (Stopped refusal) = replies.Refused refusal
 
 -- a step as one of the store
 abbrev pub of_store : Step → statements.Step

@@ -24,6 +24,11 @@ pub data Answer : Type 0 where
   Replied : (reply : Reply) → Answer
   Stopped : (refusal : Refusal) → Answer
 
+-- as a reply
+abbrev pub reply_of : Answer → Reply
+reply_of (Replied reply) = reply
+reply_of (Stopped refusal) = replies.Refused refusal
+
 pub record Step : Type 0 where
   pub world : World
   pub answer : Answer

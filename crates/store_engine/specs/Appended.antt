@@ -1,24 +1,20 @@
 -- What an append leaves of a store, by its bytes alone: over the list of its writes, whole and cut short.
 use Rattle.std.specs.Prelude.{◌≡◌, ℕ, false, List, [], ◌∷◌, ◌++◌, length}
-use Rattle.disk_model.specs.Gate.{with_piece}
 use Rattle.disk_model.specs.Moments.{written_all, AllWithin, CutShort}
-use Rattle.byte_grammar.specs.Gated.{open_gate, end_behind}
+use Rattle.byte_grammar.specs.Gated.{end_behind}
 use Rattle.tuple_bytes.specs.declared.header.Header.{Header}
 use Rattle.tuple_bytes.specs.declared.item.Item.{Item}
 use Rattle.tuple_bytes.specs.Spelling.{spell_item}
 use Rattle.history_model.specs.Stored.{stored, IsStorable}
 use Rattle.txn_journal.specs.Held.{standing}
-use Rattle.txn_journal.specs.Append.{append_writes, behind_gate, KeepsFront}
+use Rattle.txn_journal.specs.Append.{append_writes, KeepsFront}
 use Rattle.store_engine.specs.Opened.{Stores, StoresOldOrNew}
 use Rattle.store_engine.specs.Refusals.{is_full}
+pub use Rattle.store_engine.specs.Record.{with_record}
 
 -- the writes that append an item to the store that these bytes hold
 abbrev pub item_writes : Item → List ℕ → List (ℕ × List ℕ)
 item_writes item bytes = append_writes (standing (stored bytes).end bytes) (spell_item item)
-
--- the bytes from this place on are replaced by an open gate, the record of an item, and a closed gate; those behind stay
-abbrev pub with_record : ℕ → Item → List ℕ → List ℕ
-with_record end item bytes = with_piece end open_gate (behind_gate (spell_item item)) bytes
 
 -- the store that these bytes hold takes the item: a record can hold it, and there is room behind all others
 pub record Takes (bytes : List ℕ) (item : Item) : Type 0 where

@@ -6,17 +6,19 @@ use Rattle.disk_model.specs.Moments.{EveryImage, MakesCalls}
 use Rattle.tuple_bytes.specs.declared.item.Item.{Item}
 use Rattle.tuple_bytes.specs.declared.item.Item.TheVariants as items
 use Rattle.tuple_bytes.specs.declared.item.Txn.{Txn}
-use Rattle.tuple_bytes.specs.Spelling.{spell_txn, spell_frontier, spell_item}
-use Rattle.tt_table.specs.Versions.{TablesVersions, applied}
+use Rattle.tuple_bytes.specs.Spelling.{spell_txn, spell_item}
+use Rattle.tt_table.specs.Versions.{applied}
+use Rattle.tt_table.specs.Tables.{TablesVersions}
 use Rattle.txn_journal.specs.Held.{behind, closed}
 use Rattle.txn_journal.specs.Append.{append_calls, KeepsFront}
 use Rattle.store_engine.specs.declared.fail.StoreFail.{StoreFail}
 use Rattle.store_engine.specs.declared.fail.StoreFail.TheVariants as fails
 use Rattle.store_engine.specs.Opened.{Opened, IsOpenOn, StoresOldOrNew}
+pub use Rattle.store_engine.specs.Opened.{with_frontier}
 
 -- ---- the store
 
--- the store with a transaction more, or with a Frontier
+-- the store with a transaction more
 abbrev pub with_txn : Opened → Txn → Opened
 with_txn s t = record s {
   count = s.count + 1;
@@ -24,9 +26,6 @@ with_txn s t = record s {
   tables = applied t.moment t.ops s.tables;
   at = behind s.at (spell_txn t);
 }
-
-abbrev pub with_frontier : Opened → ℕ → Opened
-with_frontier s moment = record s { last = moment; at = behind s.at (spell_frontier moment) }
 
 -- with the one or the other
 abbrev pub with_item : Opened → Item → Opened

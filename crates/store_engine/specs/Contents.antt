@@ -4,7 +4,8 @@ use Rattle.tuple_bytes.specs.declared.item.Item.{Item}
 use Rattle.tuple_bytes.specs.declared.item.Item.TheVariants as items
 use Rattle.history_model.specs.History.{txns, last_moment}
 use Rattle.tt_table.specs.Stands.{StandsFor}
-use Rattle.tt_table.specs.Versions.{TablesVersions, applied}
+use Rattle.tt_table.specs.Versions.{applied}
+use Rattle.tt_table.specs.Tables.{TablesVersions}
 use Rattle.store_engine.specs.declared.contents.Contents.{Contents}
 
 -- the count, the last moment and the tables are those of these items

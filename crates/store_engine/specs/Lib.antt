@@ -6,3 +6,4 @@ pub mod Contents
 pub mod Replay
 pub mod Fail
 pub mod Texts
+pub mod Record

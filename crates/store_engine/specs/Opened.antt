@@ -6,8 +6,9 @@ use Rattle.tuple_bytes.specs.declared.item.Item.{Item}
 use Rattle.history_model.specs.Stored.{stored}
 use Rattle.history_model.specs.History.{txns, last_moment}
 use Rattle.tt_table.specs.Stands.{StandsFor}
-use Rattle.tt_table.specs.Versions.{TablesVersions}
-use Rattle.txn_journal.specs.Held.{Standing}
+use Rattle.tt_table.specs.Tables.{TablesVersions}
+use Rattle.tuple_bytes.specs.Spelling.{spell_frontier}
+use Rattle.txn_journal.specs.Held.{Standing, behind}
 
 -- an open store, as its callers see it
 pub record Opened : Type 0 where
@@ -19,6 +20,10 @@ pub record Opened : Type 0 where
   pub tables : TablesVersions
   -- where the next record goes
   pub at : Standing
+
+-- with a Frontier more
+abbrev pub with_frontier : Opened → ℕ → Opened
+with_frontier s moment = record s { last = moment; at = behind s.at (spell_frontier moment) }
 
 -- the count, the last moment and the tables are those of these items
 pub record Knows (s : Opened) (items : List Item) : Type 0 where
