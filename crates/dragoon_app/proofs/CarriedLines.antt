@@ -23,9 +23,9 @@ use Rattle.line_input.specs.Limits.{input_limit, piece_limit}
 use Rattle.line_input.specs.Reader as readers
 use Rattle.line_input.specs.Reader.{Reading, IsAtEnd, IsAtLimit, Tells}
 use Rattle.line_input.specs.Front.{AreFirst, TakesLittle}
-use Rattle.drill_core.specs.declared.fail.LineFail.{LineFail}
-use Rattle.drill_core.specs.declared.fail.LineFail.TheVariants as lines
-use Rattle.drill_core.specs.World.{StoresWorld, AreBetween}
+use Rattle.store_world.specs.declared.fail.LineFail.{LineFail}
+use Rattle.store_world.specs.declared.fail.LineFail.TheVariants as lines
+use Rattle.store_world.specs.World.{StoresWorld, AreBetween}
 use Rattle.dragoon_app.specs.declared.status.Status.{Status}
 use Rattle.dragoon_app.specs.declared.status.Status.TheVariants as statuses
 use Rattle.dragoon_app.specs.declared.run_fail.RunFail.{RunFail}

@@ -10,9 +10,9 @@ use Rattle.outside_io.specs.Sink.{State}
 use Rattle.tuple_bytes.specs.declared.header.Header.{Header}
 use Rattle.tuple_bytes.specs.Spelling.{FitsHeader}
 use Rattle.history_model.specs.Stored.{stored}
-use Rattle.drill_core.specs.World.{StoresWorld}
-use Rattle.drill_core.specs.Acknowledged.{ok_text}
-use Rattle.drill_core.proofs.SoundWorlds.{sound_worlds}
+use Rattle.store_world.specs.World.{StoresWorld}
+use Rattle.store_world.specs.Acknowledged.{ok_text}
+use Rattle.store_world.proofs.SoundWorlds.{sound_worlds}
 use Rattle.validator.proofs.Telling.{if_both}
 use Rattle.dragoon_app.specs.declared.status.Status.{Status}
 use Rattle.dragoon_app.specs.declared.status.Status.TheVariants as statuses

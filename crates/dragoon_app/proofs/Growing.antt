@@ -18,15 +18,15 @@ use Rattle.stmt_text.specs.Grammar.{SaysLine}
 use Rattle.stmt_text.specs.Kinds.{line_kind}
 use Rattle.stmt_text.specs.Lines.{answer, is_blank, without_return}
 use Rattle.stmt_text.specs.Numbers.{in_range}
-use Rattle.drill_core.specs.declared.answered.Answered.{Answered}
-use Rattle.drill_core.specs.declared.fail.LineFail.{LineFail}
-use Rattle.drill_core.specs.declared.fail.LineFail.TheVariants as line_fails
-use Rattle.drill_core.specs.Alone.{StepsAlone}
-use Rattle.drill_core.specs.Found.{Found}
-use Rattle.drill_core.specs.Growing.{GrowsFor}
-use Rattle.drill_core.specs.Steps.{Step}
-use Rattle.drill_core.specs.World.{StoresWorld, StoresEither}
-use Rattle.drill_core.proofs.LineKinds.{goes_to_tables}
+use Rattle.store_world.specs.declared.answered.Answered.{Answered}
+use Rattle.store_world.specs.declared.fail.LineFail.{LineFail}
+use Rattle.store_world.specs.declared.fail.LineFail.TheVariants as line_fails
+use Rattle.store_world.specs.Alone.{StepsAlone}
+use Rattle.store_world.specs.Found.{Found}
+use Rattle.store_world.specs.Growing.{GrowsFor}
+use Rattle.store_world.specs.Steps.{Step}
+use Rattle.store_world.specs.World.{StoresWorld, StoresEither}
+use Rattle.store_world.proofs.LineKinds.{goes_to_tables}
 use Rattle.dragoon_app.specs.declared.runner.Runner.{Runner}
 use Rattle.dragoon_app.specs.Devices.{site}
 use Rattle.dragoon_app.specs.Growing.{SaidAlone, AnsweredAlone, RepliesAlone}

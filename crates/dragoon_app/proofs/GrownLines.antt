@@ -9,9 +9,9 @@ use Rattle.outside_io.specs.Source as sources
 use Rattle.line_input.specs.Lines.{lines_of}
 use Rattle.line_input.specs.Front.{AreFirst}
 use Rattle.line_input.specs.Reader.{Reading}
-use Rattle.drill_core.specs.declared.fail.LineFail.{LineFail}
-use Rattle.drill_core.specs.declared.fail.LineFail.TheVariants as line_fails
-use Rattle.drill_core.specs.World.{StoresWorld, StoresEither}
+use Rattle.store_world.specs.declared.fail.LineFail.{LineFail}
+use Rattle.store_world.specs.declared.fail.LineFail.TheVariants as line_fails
+use Rattle.store_world.specs.World.{StoresWorld, StoresEither}
 use Rattle.dragoon_app.specs.declared.make.LastTwo.{LastTwo}
 use Rattle.dragoon_app.specs.declared.runner.Runner.{Runner}
 use Rattle.dragoon_app.specs.Devices.{Site}

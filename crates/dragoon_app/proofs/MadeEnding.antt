@@ -15,10 +15,10 @@ use Rattle.history_model.specs.Stored.{stored}
 use Rattle.history_model.specs.History.{last_moment}
 use Rattle.statement_core.specs.World as statements
 use Rattle.session_model.specs.World.{Session}
-use Rattle.drill_core.specs.declared.open_store.OpenStore.{OpenStore}
-use Rattle.drill_core.specs.World.{StoreIsIn, no_sessions}
-use Rattle.drill_core.specs.declared.fail.LineFail.{LineFail}
-use Rattle.drill_core.specs.declared.fail.LineFail.TheVariants as lines
+use Rattle.store_world.specs.declared.open_store.OpenStore.{OpenStore}
+use Rattle.store_world.specs.World.{StoreIsIn, no_sessions}
+use Rattle.store_world.specs.declared.fail.LineFail.{LineFail}
+use Rattle.store_world.specs.declared.fail.LineFail.TheVariants as lines
 use Rattle.validator.proofs.Telling.{if_both, told_both}
 use Rattle.workload_make.specs.Script.{script}
 use Rattle.dragoon_app.specs.declared.make.LastTwo.{LastTwo}

@@ -11,9 +11,9 @@ use Rattle.outside_io.specs.Clock as clocks
 use Rattle.line_input.specs.Lines.{lines_of}
 use Rattle.line_input.specs.Front.{AreFirst}
 use Rattle.line_input.proofs.Lines.{lines_none}
-use Rattle.drill_core.specs.declared.fail.LineFail.{LineFail}
-use Rattle.drill_core.specs.declared.fail.LineFail.TheVariants as lines
-use Rattle.drill_core.specs.World.{StoresWorld, AreBetween}
+use Rattle.store_world.specs.declared.fail.LineFail.{LineFail}
+use Rattle.store_world.specs.declared.fail.LineFail.TheVariants as lines
+use Rattle.store_world.specs.World.{StoresWorld, AreBetween}
 use Rattle.dragoon_app.specs.declared.make.LastTwo.{LastTwo}
 use Rattle.dragoon_app.specs.declared.runner.Runner.{Runner}
 use Rattle.dragoon_app.specs.Devices.{content, desk, site}

@@ -6,8 +6,8 @@ use Rattle.stmt_text.specs.declared.line.Line.TheVariants as lines
 use Rattle.stmt_text.specs.Lines.{answer, content_line, is_blank, without_return}
 use Rattle.validator.specs.declared.fail.AuditFail.TheVariants as audits
 use Rattle.forensic_report.specs.declared.fail.AnalyseFail.TheVariants as analyses
-use Rattle.drill_core.specs.Found.{Found}
-use Rattle.drill_core.specs.World.{World}
+use Rattle.store_world.specs.Found.{Found}
+use Rattle.store_world.specs.World.{World}
 use Rattle.dragoon_app.specs.Running.{Running, Timed, carry, answered, seconds_of, MayFindBy}
 
 -- stands for what a line found that is neither a validation nor an analysis

@@ -13,10 +13,10 @@ use Rattle.stmt_text.specs.declared.kind.LineKind.TheVariants as kinds
 use Rattle.stmt_text.specs.declared.kind.WorldPart.TheVariants as parts
 use Rattle.stmt_text.specs.Kinds.{line_kind}
 use Rattle.stmt_text.specs.Lines.{answer}
-use Rattle.drill_core.specs.Acknowledged.{HasTxn, IsStored, OnlyAppends, StoresMore, ok_text}
-use Rattle.drill_core.specs.World.{StoresWorld}
-use Rattle.drill_core.proofs.Acknowledging.{appends_none}
-use Rattle.drill_core.proofs.Alone.{alone_appends, alone_acknowledges}
+use Rattle.store_world.specs.Acknowledged.{HasTxn, IsStored, OnlyAppends, StoresMore, ok_text}
+use Rattle.store_world.specs.World.{StoresWorld}
+use Rattle.store_world.proofs.Acknowledging.{appends_none}
+use Rattle.store_world.proofs.Alone.{alone_appends, alone_acknowledges}
 use Rattle.dragoon_app.specs.Devices.{Site}
 use Rattle.dragoon_app.specs.Growing.{SaidAlone, AnsweredAlone, RepliesAlone, Replied, behind_all, AreReplied, IsReplyTo, StoresBehind, LinesAlone, KeepsAlone, opened_alone}
 use Rattle.dragoon_app.specs.Running.{Running, Timed, seconds_of, world_of}

@@ -16,12 +16,12 @@ use Rattle.stmt_text.specs.Lines.{answer, is_blank, without_return}
 use Rattle.stmt_text.specs.Numbers.{in_range}
 use Rattle.stmt_text.specs.Grammar.{SaysLine}
 use Rattle.validator.specs.Desk.{KeepsSound}
-use Rattle.drill_core.specs.declared.answered.Answered.{Answered}
-use Rattle.drill_core.specs.declared.fail.LineFail.{LineFail}
-use Rattle.drill_core.specs.declared.fail.LineFail.TheVariants as line_fails
-use Rattle.drill_core.specs.World.{World, Held, IsIn, StandsFor}
-use Rattle.drill_core.specs.Steps.{step, MayFind, IsInWorld, IsWorldLine}
-use Rattle.drill_core.specs.Stepping.{StepsFor}
+use Rattle.store_world.specs.declared.answered.Answered.{Answered}
+use Rattle.store_world.specs.declared.fail.LineFail.{LineFail}
+use Rattle.store_world.specs.declared.fail.LineFail.TheVariants as line_fails
+use Rattle.store_world.specs.World.{World, Held, IsIn, StandsFor}
+use Rattle.store_world.specs.Steps.{step, MayFind, IsInWorld, IsWorldLine}
+use Rattle.store_world.specs.Stepping.{StepsFor}
 use Rattle.dragoon_app.specs.declared.runner.Runner.{Runner}
 use Rattle.stmt_text.specs.declared.kind.LineKind.{LineKind}
 use Rattle.stmt_text.specs.declared.kind.LineKind.TheVariants as kinds

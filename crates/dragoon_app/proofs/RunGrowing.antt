@@ -16,7 +16,7 @@ use Rattle.line_input.specs.Limits.{input_limit, piece_limit}
 use Rattle.line_input.specs.Front.{AreFirst}
 use Rattle.line_input.specs.Reader as readers
 use Rattle.line_input.specs.Reader.{Reading, IsAtLimit, Tells}
-use Rattle.drill_core.specs.declared.fail.LineFail.{LineFail}
+use Rattle.store_world.specs.declared.fail.LineFail.{LineFail}
 use Rattle.dragoon_app.specs.declared.run_fail.RunFail.{RunFail}
 use Rattle.dragoon_app.specs.declared.run_fail.RunFail.TheVariants as fails
 use Rattle.dragoon_app.specs.declared.runner.Runner.{Runner}

@@ -36,11 +36,11 @@ use Rattle.validator.specs.declared.fail.AuditFail.{AuditFail}
 use Rattle.validator.specs.Tiles.{tiles_at, end_of}
 use Rattle.validator.specs.Verdicts.{mark_of}
 use Rattle.validator.specs.Texts.{verdict_text}
-use Rattle.drill_core.specs.World.{World}
-use Rattle.drill_core.specs.Found.{Found}
-use Rattle.drill_core.specs.Steps.{Step, step, on_tables, after_statement, notarized, unless, sealed, intent_in, reached, validated, marked, algorithm_of}
-use Rattle.drill_core.proofs.Acknowledging.{by_line}
-use Rattle.drill_core.proofs.Analysing.{analysed_stays}
+use Rattle.store_world.specs.World.{World}
+use Rattle.store_world.specs.Found.{Found}
+use Rattle.store_world.specs.Steps.{Step, step, on_tables, after_statement, notarized, unless, sealed, intent_in, reached, validated, marked, algorithm_of}
+use Rattle.store_world.proofs.Acknowledging.{by_line}
+use Rattle.store_world.proofs.Analysing.{analysed_stays}
 use Rattle.stmt_text.specs.declared.kind.LineKind.{LineKind}
 use Rattle.stmt_text.specs.declared.kind.LineKind.TheVariants as kinds
 use Rattle.stmt_text.specs.Kinds.{stmt_kind, line_kind}

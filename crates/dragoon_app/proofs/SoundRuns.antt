@@ -12,10 +12,10 @@ use Rattle.stmt_text.specs.declared.error.ParseFail.{ParseFail}
 use Rattle.stmt_text.specs.declared.error.ParseFail.TheVariants as fails
 use Rattle.stmt_text.specs.declared.line.Line.{Line}
 use Rattle.stmt_text.specs.Lines.{answer}
-use Rattle.drill_core.specs.Found.{Found}
-use Rattle.drill_core.specs.World.{World}
-use Rattle.drill_core.specs.Steps.{MayFind}
-use Rattle.drill_core.specs.Laws.{HoldsFiled, IsSoundWorld, HasFitHeader, SoundWorldsStaySound}
+use Rattle.store_world.specs.Found.{Found}
+use Rattle.store_world.specs.World.{World}
+use Rattle.store_world.specs.Steps.{MayFind}
+use Rattle.store_world.specs.Laws.{HoldsFiled, IsSoundWorld, HasFitHeader, SoundWorldsStaySound}
 use Rattle.stmt_text.specs.declared.kind.LineKind.{LineKind}
 use Rattle.stmt_text.specs.declared.kind.LineKind.TheVariants as kinds
 use Rattle.stmt_text.specs.Kinds.{line_kind}

@@ -9,15 +9,15 @@ use Rattle.disk_model.proofs.Moments.{started, weaker, joined}
 use Rattle.notary_link.specs.declared.notary.NotaryLimits.{NotaryLimits}
 use Rattle.notary_link.specs.Notary.{Lists}
 use Rattle.stmt_text.specs.Lines.{answer}
-use Rattle.drill_core.specs.declared.fail.LineFail.{LineFail}
+use Rattle.store_world.specs.declared.fail.LineFail.{LineFail}
 use Rattle.validator.specs.Filing.{HasFiledMore}
-use Rattle.drill_core.specs.World.{World, StoresWorld, StoresEither, AreBetween}
+use Rattle.store_world.specs.World.{World, StoresWorld, StoresEither, AreBetween}
 use Rattle.dragoon_app.specs.declared.runner.Runner.{Runner}
 use Rattle.dragoon_app.specs.Running.{Running, Timed, carry, carried, MayFindBy, AllMayFind}
 use Rattle.dragoon_app.specs.Ran.{StoresFront}
 use Rattle.dragoon_app.specs.Devices.{content}
 use Rattle.dragoon_app.specs.Carrying.{IsAt, StaysSound, Goes}
-use Rattle.drill_core.proofs.Left.{stores_world}
+use Rattle.store_world.proofs.Left.{stores_world}
 use Rattle.dragoon_app.proofs.Worlds.{all_between}
 
 -- ---- one line

@@ -16,14 +16,14 @@ use Rattle.validator.specs.Notarizing.{notarize_fault, next_batches}
 use Rattle.validator.specs.Verdicts.{mark_of}
 use Rattle.validator.specs.Texts.{verdict_text}
 use Rattle.history_model.specs.History.{history}
-use Rattle.drill_core.specs.Found.{Found}
+use Rattle.store_world.specs.Found.{Found}
 use Rattle.session_model.specs.World as sessions
 use Rattle.session_model.specs.World.{Session}
 use Rattle.session_model.specs.Standing as standing
-use Rattle.drill_core.specs.declared.open_store.OpenStore.{OpenStore}
-use Rattle.drill_core.specs.World.{World, Held, StandsFor, StoreIsIn, IsBetween, AreBetween}
-use Rattle.drill_core.specs.Steps.{Step, step, on_tables, notarized, unless, sealed, all_filed, filed_for, validated, algorithm_of, marked}
-use Rattle.drill_core.proofs.Analysing.{analysed_stays}
+use Rattle.store_world.specs.declared.open_store.OpenStore.{OpenStore}
+use Rattle.store_world.specs.World.{World, Held, StandsFor, StoreIsIn, IsBetween, AreBetween}
+use Rattle.store_world.specs.Steps.{Step, step, on_tables, notarized, unless, sealed, all_filed, filed_for, validated, algorithm_of, marked}
+use Rattle.store_world.proofs.Analysing.{analysed_stays}
 
 -- ---- limits
 

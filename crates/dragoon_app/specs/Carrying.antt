@@ -19,14 +19,14 @@ use Rattle.audit_model.specs.Sound.{IsSound}
 use Rattle.stmt_text.specs.declared.line.Line.{Line}
 use Rattle.stmt_text.specs.Lines.{answer}
 use Rattle.validator.specs.Filing.{HasFiledMore}
-use Rattle.drill_run.specs.declared.fail.DrillFail.{DrillFail}
-use Rattle.drill_run.specs.declared.fail.DrillFail.TheVariants as drills
-use Rattle.drill_core.specs.Found.{Found}
-use Rattle.drill_core.specs.declared.fail.LineFail.{LineFail}
-use Rattle.drill_core.specs.declared.fail.LineFail.TheVariants as lines
-use Rattle.drill_core.specs.Alone.{StepsAlone}
-use Rattle.drill_core.specs.World.{IsIn, StoresWorld, StoresEither, AreBetween}
-use Rattle.drill_core.specs.Steps.{Step, step, MayFind}
+use Rattle.drill_core.specs.declared.fail.DrillFail.{DrillFail}
+use Rattle.drill_core.specs.declared.fail.DrillFail.TheVariants as drills
+use Rattle.store_world.specs.Found.{Found}
+use Rattle.store_world.specs.declared.fail.LineFail.{LineFail}
+use Rattle.store_world.specs.declared.fail.LineFail.TheVariants as lines
+use Rattle.store_world.specs.Alone.{StepsAlone}
+use Rattle.store_world.specs.World.{IsIn, StoresWorld, StoresEither, AreBetween}
+use Rattle.store_world.specs.Steps.{Step, step, MayFind}
 use Rattle.dragoon_app.specs.declared.status.Status.{Status}
 use Rattle.dragoon_app.specs.declared.status.Status.TheVariants as statuses
 use Rattle.dragoon_app.specs.declared.run_fail.RunFail.{RunFail}

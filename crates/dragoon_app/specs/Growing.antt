@@ -13,11 +13,11 @@ use Rattle.stmt_text.specs.declared.kind.LineKind.TheVariants as kinds
 use Rattle.stmt_text.specs.declared.kind.WorldPart.TheVariants as parts
 use Rattle.stmt_text.specs.Kinds.{line_kind}
 use Rattle.stmt_text.specs.Lines.{answer}
-use Rattle.drill_core.specs.Acknowledged.{HasTxn, StoresMore, ok_text}
-use Rattle.drill_core.specs.Alone.{StepsAlone}
-use Rattle.drill_core.specs.Found.{Found}
-use Rattle.drill_core.specs.Steps.{Step}
-use Rattle.drill_core.specs.World.{StoresWorld}
+use Rattle.store_world.specs.Acknowledged.{HasTxn, StoresMore, ok_text}
+use Rattle.store_world.specs.Alone.{StepsAlone}
+use Rattle.store_world.specs.Found.{Found}
+use Rattle.store_world.specs.Steps.{Step}
+use Rattle.store_world.specs.World.{StoresWorld}
 use Rattle.dragoon_app.specs.Devices.{Site}
 use Rattle.dragoon_app.specs.Running.{Running, Timed, start, world_of, seconds_of, stepped, said_by, answered, Takes}
 

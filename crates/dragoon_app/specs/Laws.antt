@@ -9,9 +9,9 @@ use Rattle.audit_model.specs.Altered.{history_in}
 use Rattle.stmt_text.specs.declared.error.ParseFail.{ParseFail}
 use Rattle.stmt_text.specs.declared.line.Line.{Line}
 use Rattle.stmt_text.specs.Lines.{answer}
-use Rattle.drill_core.specs.Found.{Found}
-use Rattle.drill_core.specs.World.{World}
-use Rattle.drill_core.specs.Laws.{HoldsFiled, IsSoundWorld, HasFitHeader, TellsNoAlteration}
+use Rattle.store_world.specs.Found.{Found}
+use Rattle.store_world.specs.World.{World}
+use Rattle.store_world.specs.Laws.{HoldsFiled, IsSoundWorld, HasFitHeader, TellsNoAlteration}
 use Rattle.dragoon_app.specs.Running.{Running, Timed, start, world_of, carry, carried, AllMayFind}
 
 -- a line that is read so tells of no alteration in this world

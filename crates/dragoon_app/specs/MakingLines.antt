@@ -1,9 +1,9 @@
 -- How the parts of `make` carry out the lines of a text at hand, and what they hand on.
 use Rattle.std.specs.Prelude.{◌≡◌, ◌⊎◌, ℕ, true, List, [], ◌++◌, Option, Some, None, Result, Ok, Err, OnOk, IfOk}
 use Rattle.disk_words.specs.Disk as disks
-use Rattle.drill_core.specs.declared.fail.LineFail.{LineFail}
-use Rattle.drill_core.specs.declared.fail.LineFail.TheVariants as lines
-use Rattle.drill_core.specs.declared.open_store.OpenStore.{OpenStore}
+use Rattle.store_world.specs.declared.fail.LineFail.{LineFail}
+use Rattle.store_world.specs.declared.fail.LineFail.TheVariants as lines
+use Rattle.store_world.specs.declared.open_store.OpenStore.{OpenStore}
 use Rattle.workload_make.specs.Script.{script}
 use Rattle.dragoon_app.specs.declared.make.LastTwo.{LastTwo}
 use Rattle.dragoon_app.specs.declared.runner.Runner.{Runner}

@@ -11,8 +11,8 @@ use Rattle.notary_link.specs.Notary as notaries
 use Rattle.history_model.specs.Stored.{stored}
 use Rattle.audit_model.specs.Sound.{IsSound}
 use Rattle.validator.specs.Filing.{HasFiledMore}
-use Rattle.drill_core.specs.World.{StoresWorld, AreBetween}
-use Rattle.drill_core.specs.Acknowledged.{HasTxn, ok_text}
+use Rattle.store_world.specs.World.{StoresWorld, AreBetween}
+use Rattle.store_world.specs.Acknowledged.{HasTxn, ok_text}
 use Rattle.dragoon_app.specs.declared.status.Status.{Status}
 use Rattle.dragoon_app.specs.declared.status.Status.TheVariants as statuses
 use Rattle.dragoon_app.specs.Devices.{Desk, Content, Site, Devices, Effect, WhereBothTell, site_of}

@@ -12,9 +12,9 @@ use Rattle.stmt_text.specs.Lines.{answer, is_blank, without_return}
 use Rattle.notary_link.specs.declared.notary.NotaryLimits.{NotaryLimits}
 use Rattle.notary_link.specs.Notary.{Lists}
 use Rattle.statement_core.specs.World as statements
-use Rattle.drill_core.specs.Found.{Found}
-use Rattle.drill_core.specs.World.{World, no_sessions}
-use Rattle.drill_core.specs.Steps.{Step, step, MayFind}
+use Rattle.store_world.specs.Found.{Found}
+use Rattle.store_world.specs.World.{World, no_sessions}
+use Rattle.store_world.specs.Steps.{Step, step, MayFind}
 use Rattle.stmt_text.specs.declared.kind.LineKind.{LineKind}
 use Rattle.stmt_text.specs.declared.kind.LineKind.TheVariants as kinds
 use Rattle.stmt_text.specs.Kinds.{line_kind}

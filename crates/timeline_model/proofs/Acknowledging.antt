@@ -32,21 +32,21 @@ use Rattle.session_model.specs.Steps as session_steps
 use Rattle.session_model.specs.Steps.{Answer, Replied}
 use Rattle.session_model.proofs.Promising.{steps_keep_promises}
 use Rattle.session_model.proofs.Storing.{StoresOrNot, stores_or_not}
-use Rattle.drill_core.specs.Found.{Found}
-use Rattle.drill_core.specs.World as worlds
-use Rattle.drill_core.specs.World.{no_sessions}
-use Rattle.drill_core.specs.Steps as world_steps
-use Rattle.drill_core.proofs.Acknowledging.{promised}
-use Rattle.drill_core.proofs.Texts.{SaysOk, says_ok, reply_ok, notarized_no, validated_no, analysed_no}
-use Rattle.drill_core.specs.Steps.{on_tables, notarized, sealed, all_filed, validated, algorithm_of, marked}
+use Rattle.store_world.specs.Found.{Found}
+use Rattle.store_world.specs.World as worlds
+use Rattle.store_world.specs.World.{no_sessions}
+use Rattle.store_world.specs.Steps as world_steps
+use Rattle.store_world.proofs.Acknowledging.{promised}
+use Rattle.store_world.proofs.Texts.{SaysOk, says_ok, reply_ok, notarized_no, validated_no, analysed_no}
+use Rattle.store_world.specs.Steps.{on_tables, notarized, sealed, all_filed, validated, algorithm_of, marked}
 use Rattle.txn_journal.specs.Create.{is_free}
 use Rattle.timeline_model.specs.Scene.{Scene, Crash, nothing_yet, store_in, world_with, world_of, held}
-use Rattle.drill_core.specs.LineCalls.{notary_calls, items_added}
+use Rattle.store_world.specs.LineCalls.{notary_calls, items_added}
 use Rattle.timeline_model.specs.Lines.{Act, Next, quiet, says, refuses, over_world, over_store, header_at, makes, brings, act}
 use Rattle.timeline_model.specs.Timeline.{Event, calls_in, stopped, crashed, crashed_behind, under, without_crash, act_on, name_of, step, after, IsReading, IsDrillLine, FitsReading, MayCome}
 use Rattle.timeline_model.specs.Sound.{stored_by, stores, HasAlso}
 use Rattle.timeline_model.specs.Acknowledged.{IsAcknowledged, HasTxn, IsStoredAs, AcknowledgedStaysStored}
-use Rattle.drill_core.proofs.LineKinds.{GoesToTables, goes_to_tables}
+use Rattle.store_world.proofs.LineKinds.{GoesToTables, goes_to_tables}
 use Rattle.timeline_model.proofs.Doings.{StoreIs, store_is}
 use Rattle.timeline_model.proofs.Statements.{new_txn, with_begun}
 use Rattle.timeline_model.proofs.Events.{fit_after, nothing_fit}

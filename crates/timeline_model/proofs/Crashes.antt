@@ -18,7 +18,7 @@ use Rattle.stmt_text.specs.declared.error.ParseFail.{ParseFail}
 use Rattle.stmt_text.specs.declared.event.Event.TheVariants as events
 use Rattle.stmt_text.specs.declared.line.Line.{Line}
 use Rattle.stmt_text.specs.declared.line.Line.TheVariants as lines
-use Rattle.drill_core.specs.Laws.{HoldsFiled}
+use Rattle.store_world.specs.Laws.{HoldsFiled}
 use Rattle.timeline_model.specs.Scene.{Scene, Crash, nothing_yet, held, batches_of}
 use Rattle.timeline_model.specs.Lines.{Act, header_at}
 use Rattle.timeline_model.specs.Timeline.{Event, calls_in, stopped, crashed, crashed_behind, with_calls, under, without_crash, act_on, step, after, IsTimeline, MayCome}

@@ -31,20 +31,20 @@ use Rattle.validator.specs.declared.fail.AuditFail.{AuditFail}
 use Rattle.validator.specs.Verdicts.{IsFoundIn, mark_of}
 use Rattle.validator.specs.declared.fail.AuditFail.TheVariants as fails
 use Rattle.validator.specs.Texts.{verdict_text, refusal_text}
-use Rattle.drill_core.specs.Found.{Found}
-use Rattle.drill_core.specs.World as worlds
-use Rattle.drill_core.specs.World.{no_sessions, with_mark}
-use Rattle.drill_core.specs.Steps as world_steps
-use Rattle.drill_core.specs.Steps.{on_tables, notarized, validated, algorithm_of, marked, history_of, MayFind}
-use Rattle.drill_core.proofs.Analysing.{analysed_stays}
-use Rattle.drill_core.proofs.LineKinds.{GoesToTables}
+use Rattle.store_world.specs.Found.{Found}
+use Rattle.store_world.specs.World as worlds
+use Rattle.store_world.specs.World.{no_sessions, with_mark}
+use Rattle.store_world.specs.Steps as world_steps
+use Rattle.store_world.specs.Steps.{on_tables, notarized, validated, algorithm_of, marked, history_of, MayFind}
+use Rattle.store_world.proofs.Analysing.{analysed_stays}
+use Rattle.store_world.proofs.LineKinds.{GoesToTables}
 use Rattle.txn_journal.specs.Create.{is_free}
 use Rattle.timeline_model.specs.Scene.{Scene, Crash, store_under, store_in, world_with, world_of, batches_of}
 use Rattle.txn_journal.specs.Held.{standing}
-use Rattle.drill_core.specs.LineCalls.{items_added, with_items, appends, end_of_store, notary_calls, validate_calls, noting}
+use Rattle.store_world.specs.LineCalls.{items_added, with_items, appends, end_of_store, notary_calls, validate_calls, noting}
 use Rattle.timeline_model.specs.Lines.{Act, quiet, says, refuses, over_world, over_store, header_at, makes, inits, altered, shortened, brings}
 use Rattle.timeline_model.specs.Timeline.{with_calls, calls_in, stopped, crashed, crashed_behind, under, MayBeFound}
-use Rattle.drill_core.proofs.LineItems.{none_added}
+use Rattle.store_world.proofs.LineItems.{none_added}
 use Rattle.timeline_model.proofs.Acts.{Acts, acts_without_sessions, take_none}
 
 -- ---- what leaves the lists

@@ -38,7 +38,7 @@ use Rattle.forensic_report.specs.Finding.{IsRegion, has_chains, IsFoundOf, IsAna
 use Rattle.forensic_report.proofs.Filed.{not_absent}
 use Rattle.stmt_text.specs.declared.stmt.Stmt.TheVariants as stmts
 use Rattle.stmt_text.specs.declared.line.Line.TheVariants as lines
-use Rattle.drill_core.specs.Steps.{history_of, algorithm_of}
+use Rattle.store_world.specs.Steps.{history_of, algorithm_of}
 use Rattle.timeline_model.specs.Scene.{Scene, nothing_yet, store_in, world_of, held, batches_of}
 use Rattle.timeline_model.specs.Timeline.{Event, after, IsTimeline}
 use Rattle.timeline_model.specs.Kept.{IsFiledOver, HasClash, Kept}

@@ -22,8 +22,8 @@ use Rattle.stmt_text.specs.Fits.{FitsParts}
 use Rattle.statement_core.specs.World as statements
 use Rattle.session_model.proofs.Rooms.{no_cause}
 use Rattle.session_model.proofs.Storing.{IsFree, is_free}
-use Rattle.drill_core.specs.Found.{Found}
-use Rattle.drill_core.specs.LineCalls.{items_added}
+use Rattle.store_world.specs.Found.{Found}
+use Rattle.store_world.specs.LineCalls.{items_added}
 use Rattle.timeline_model.specs.Scene.{Scene, nothing_yet, store_in, world_of}
 use Rattle.timeline_model.specs.Timeline.{FitsReading, after}
 use Rattle.timeline_model.specs.Sound.{stored_by}

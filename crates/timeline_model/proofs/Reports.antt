@@ -30,12 +30,12 @@ use Rattle.forensic_report.specs.Held.{HoldsHistory}
 use Rattle.forensic_report.specs.Shows.{Shows}
 use Rattle.forensic_report.specs.Texts.{Kept, report_text}
 use Rattle.forensic_report.proofs.Showing.{shows}
-use Rattle.drill_core.specs.Found.{Found as FoundOf}
-use Rattle.drill_core.specs.World as worlds
-use Rattle.drill_core.specs.Steps as world_steps
-use Rattle.drill_core.specs.Steps.{history_of, algorithm_of, analysed}
-use Rattle.drill_core.proofs.Analysing.{analysed_stays}
-use Rattle.drill_core.specs.LineCalls.{notary_calls}
+use Rattle.store_world.specs.Found.{Found as FoundOf}
+use Rattle.store_world.specs.World as worlds
+use Rattle.store_world.specs.Steps as world_steps
+use Rattle.store_world.specs.Steps.{history_of, algorithm_of, analysed}
+use Rattle.store_world.proofs.Analysing.{analysed_stays}
+use Rattle.store_world.specs.LineCalls.{notary_calls}
 use Rattle.timeline_model.specs.Scene.{Scene, Crash, nothing_yet, store_in, world_of, held, batches_of}
 use Rattle.timeline_model.specs.Lines.{over_world, over_store, act}
 use Rattle.timeline_model.specs.Timeline.{Event, calls_in, under, without_crash, act_on, step, after, MayBeFound, IsTimeline, SomeEvent}
@@ -44,7 +44,7 @@ use Rattle.timeline_model.specs.Changes.{ClockRises, Changed, ChangedTile, begin
 use Rattle.timeline_model.specs.Stepping.{IsWhole}
 use Rattle.timeline_model.specs.Printed.{Prints, PrintsFirst}
 use Rattle.timeline_model.specs.Reports.{IsReported, kept_in, NamesFiled, PrintsSpans, SpansHoldChanges, IsRightReport, ReportsNameAltered, ReportsHaveChanges, EachReportIsRight}
-use Rattle.drill_core.proofs.LineItems.{none_added}
+use Rattle.store_world.proofs.LineItems.{none_added}
 use Rattle.timeline_model.proofs.Acts.{some_weaker}
 use Rattle.timeline_model.proofs.Doings.{spelled_of, history_same}
 use Rattle.timeline_model.proofs.Judged.{audit, under_held}

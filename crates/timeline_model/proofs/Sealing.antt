@@ -51,19 +51,19 @@ use Rattle.validator.specs.Tiles.{tiles_at, end_of}
 use Rattle.validator.specs.Notarizing.{next_batches, sealed_after, frontier_for, else_cause, early_fault, fault_by, chain_fault, filed_fault, room_fault, notarize_fault}
 use Rattle.validator.specs.Reaching.{with_frontier_for}
 use Rattle.validator.proofs.Growing.{ended_within, around_places}
-use Rattle.drill_core.specs.Found.{Found}
-use Rattle.drill_core.specs.World as worlds
-use Rattle.drill_core.specs.World.{with_batches}
-use Rattle.drill_core.specs.Steps as world_steps
-use Rattle.drill_core.specs.Steps.{notarized, sealed, reached, filed, all_filed}
+use Rattle.store_world.specs.Found.{Found}
+use Rattle.store_world.specs.World as worlds
+use Rattle.store_world.specs.World.{with_batches}
+use Rattle.store_world.specs.Steps as world_steps
+use Rattle.store_world.specs.Steps.{notarized, sealed, reached, filed, all_filed}
 use Rattle.timeline_model.specs.Scene.{Scene, Crash, store_in, world_with, world_of, held}
 use Rattle.txn_journal.specs.Held.{standing}
 use Rattle.store_engine.specs.Appended.{with_record, Takes}
 use Rattle.store_engine.proofs.Appended.{gate_inside, stores_record}
-use Rattle.drill_core.specs.LineCalls.{items_added, with_items, appends, notary_calls, filing_calls, unless}
+use Rattle.store_world.specs.LineCalls.{items_added, with_items, appends, notary_calls, filing_calls, unless}
 use Rattle.timeline_model.specs.Lines.{Act, over_world, over_store}
 use Rattle.timeline_model.specs.Timeline.{with_calls, calls_in, stopped}
-use Rattle.drill_core.proofs.LineItems.{drop_all}
+use Rattle.store_world.proofs.LineItems.{drop_all}
 use Rattle.timeline_model.proofs.Acts.{Acts}
 use Rattle.timeline_model.proofs.Bytes.{all_calls, one_last}
 use Rattle.timeline_model.proofs.Doings.{ActsOn, ActsEither, without_notary, spelled_of, StoreIs, store_is}

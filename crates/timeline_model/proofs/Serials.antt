@@ -31,13 +31,13 @@ use Rattle.session_model.specs.Later.{IsLater}
 use Rattle.session_model.specs.Runs.{Logs, no_logs}
 use Rattle.session_model.proofs.Later.{later_same, later_frontier}
 use Rattle.session_model.proofs.Serials.{AreHeld, line_goes, all_later}
-use Rattle.drill_core.specs.Found.{Found}
-use Rattle.drill_core.specs.World as worlds
-use Rattle.drill_core.specs.World.{no_sessions}
-use Rattle.drill_core.specs.Steps as world_steps
-use Rattle.drill_core.specs.Steps.{filed_for, reached, notarized, validated, on_tables, algorithm_of}
-use Rattle.drill_core.proofs.Acknowledging.{by_line}
-use Rattle.drill_core.proofs.Analysing.{analysed_stays}
+use Rattle.store_world.specs.Found.{Found}
+use Rattle.store_world.specs.World as worlds
+use Rattle.store_world.specs.World.{no_sessions}
+use Rattle.store_world.specs.Steps as world_steps
+use Rattle.store_world.specs.Steps.{filed_for, reached, notarized, validated, on_tables, algorithm_of}
+use Rattle.store_world.proofs.Acknowledging.{by_line}
+use Rattle.store_world.proofs.Analysing.{analysed_stays}
 use Rattle.timeline_model.specs.Scene.{Scene, Crash, nothing_yet, without_sessions, sessions_over, store_in, world_with, world_of}
 use Rattle.timeline_model.specs.Lines.{Act, quiet, says, refuses, over_store, header_at, makes, inits, altered, shortened, brings, act}
 use Rattle.timeline_model.specs.Timeline.{Event, calls_in, stopped, crashed, crashed_behind, under, without_crash, act_on, step, after, FitsReading, IsTimeline, MayCome}
@@ -45,7 +45,7 @@ use Rattle.timeline_model.specs.Stepping.{IsWhole}
 use Rattle.timeline_model.specs.Sessions.{begun_under, begun_in, told_more, told_under, told, SessionsAreSerial}
 use Rattle.timeline_model.proofs.Events.{fit_after, nothing_fit}
 use Rattle.timeline_model.proofs.Sessions.{IsFit, notarized_rest, validated_rest}
-use Rattle.drill_core.proofs.Validating.{with_validated}
+use Rattle.store_world.proofs.Validating.{with_validated}
 use Rattle.timeline_model.proofs.Statements.{with_begun, notarized_store, step_stores}
 use Rattle.timeline_model.proofs.StayBytes.{still_fit}
 use Rattle.timeline_model.proofs.Stepping.{read_by, take_step}

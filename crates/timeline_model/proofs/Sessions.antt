@@ -36,13 +36,13 @@ use Rattle.session_model.specs.Statements.{size_fault, pended, pend, change_or_r
 use Rattle.session_model.specs.Steps as session_steps
 use Rattle.session_model.proofs.Each.{KeptBy, one_line}
 use Rattle.session_model.proofs.Storing.{AsksFor}
-use Rattle.drill_core.specs.Found.{Found}
-use Rattle.drill_core.specs.World as worlds
-use Rattle.drill_core.specs.World.{no_sessions}
-use Rattle.drill_core.specs.Steps as world_steps
-use Rattle.drill_core.specs.Steps.{filed, filed_for, notarized, sealed, reached, validated, algorithm_of, marked, on_tables}
-use Rattle.drill_core.proofs.Acknowledging.{by_line}
-use Rattle.drill_core.proofs.Analysing.{analysed_stays}
+use Rattle.store_world.specs.Found.{Found}
+use Rattle.store_world.specs.World as worlds
+use Rattle.store_world.specs.World.{no_sessions}
+use Rattle.store_world.specs.Steps as world_steps
+use Rattle.store_world.specs.Steps.{filed, filed_for, notarized, sealed, reached, validated, algorithm_of, marked, on_tables}
+use Rattle.store_world.proofs.Acknowledging.{by_line}
+use Rattle.store_world.proofs.Analysing.{analysed_stays}
 use Rattle.timeline_model.specs.Scene.{Scene, sessions_over, world_of, store_in}
 use Rattle.timeline_model.proofs.Spellings.{FitsChange, IsFitOp, change_fits}
 use Rattle.timeline_model.proofs.Statements.{with_begun}

@@ -44,22 +44,22 @@ use Rattle.validator.specs.Reaching.{with_frontier_for}
 use Rattle.number_text.specs.Numbered.{numbered}
 use Rattle.validator.specs.Verdicts.{mark_of}
 use Rattle.validator.proofs.Growing.{IsFiledUpTo, need_follows, counted_more, notarized_more}
-use Rattle.drill_core.specs.Found.{Found}
-use Rattle.drill_core.specs.Laws.{HoldsFiled, TellsNoAlteration}
-use Rattle.drill_core.proofs.SoundWorlds.{sound_worlds}
-use Rattle.drill_core.specs.World as worlds
-use Rattle.drill_core.specs.World.{no_sessions}
-use Rattle.drill_core.specs.Steps as world_steps
-use Rattle.drill_core.specs.Steps.{notarized, validated, analysed, algorithm_of, marked, sealed, reached, history_of, MayFind}
-use Rattle.drill_core.proofs.LineKinds.{goes_to_tables}
-use Rattle.drill_core.proofs.Analysing.{analysed_stays}
+use Rattle.store_world.specs.Found.{Found}
+use Rattle.store_world.specs.Laws.{HoldsFiled, TellsNoAlteration}
+use Rattle.store_world.proofs.SoundWorlds.{sound_worlds}
+use Rattle.store_world.specs.World as worlds
+use Rattle.store_world.specs.World.{no_sessions}
+use Rattle.store_world.specs.Steps as world_steps
+use Rattle.store_world.specs.Steps.{notarized, validated, analysed, algorithm_of, marked, sealed, reached, history_of, MayFind}
+use Rattle.store_world.proofs.LineKinds.{goes_to_tables}
+use Rattle.store_world.proofs.Analysing.{analysed_stays}
 use Rattle.timeline_model.specs.Scene.{Scene, Crash, nothing_yet, store_in, world_with, world_of, held, batches_of}
 use Rattle.txn_journal.specs.Held.{standing}
-use Rattle.drill_core.specs.LineCalls.{end_of_store, items_added, with_items, appends, notary_calls, validate_calls, noting, filing_calls, unless}
+use Rattle.store_world.specs.LineCalls.{end_of_store, items_added, with_items, appends, notary_calls, validate_calls, noting, filing_calls, unless}
 use Rattle.timeline_model.specs.Lines.{Act, says, refuses, over_world, over_store, header_at, act}
 use Rattle.timeline_model.specs.Timeline.{Event, step, without_crash, act_on, name_of, after, with_calls, calls_in, stopped, IsDrillLine, IsReading, FitsReading, IsTimeline, MayCome}
 use Rattle.timeline_model.specs.Sound.{IsFromInside, stored_by, stores, AllFromInside, HasAlso, TimelinesStaySound, EventsKeepItems, NextLinesTellNoAlteration}
-use Rattle.drill_core.proofs.LineItems.{none_added}
+use Rattle.store_world.proofs.LineItems.{none_added}
 use Rattle.timeline_model.proofs.Acts.{take_none}
 use Rattle.timeline_model.proofs.Bytes.{all_calls, ItemsLast, none_last, none_stopped}
 use Rattle.timeline_model.proofs.Stopped.{stopped_stores}
@@ -67,7 +67,7 @@ use Rattle.timeline_model.proofs.Doings.{history_same, StoreIs, store_is}
 use Rattle.timeline_model.proofs.Events.{fit_after, nothing_fit}
 use Rattle.timeline_model.proofs.StayBytes.{still_fit}
 use Rattle.timeline_model.proofs.Sessions.{IsFit}
-use Rattle.drill_core.proofs.Validating.{with_validated}
+use Rattle.store_world.proofs.Validating.{with_validated}
 use Rattle.timeline_model.proofs.Sealing as sealing
 use Rattle.timeline_model.proofs.Sealing.{HasMore, more_with, calls_file, take_inner, frontier_items}
 use Rattle.timeline_model.proofs.Sound.{IsSoundScene, Extends, IsGood, SoundEither, good_same, under_sound, quiet_sound, init_sound, stored_held, stays, tables_by, tables_sound}

@@ -16,15 +16,15 @@ use Rattle.statement_core.specs.World as statements
 use Rattle.statement_core.specs.World.{tail_of_world, with_txn}
 use Rattle.session_model.specs.World as sessions
 use Rattle.session_model.proofs.Storing.{AsksFor, stores_or_not}
-use Rattle.drill_core.specs.Found.{Found}
-use Rattle.drill_core.specs.World as worlds
-use Rattle.drill_core.specs.Steps as world_steps
-use Rattle.drill_core.specs.Steps.{on_tables, filed_for, notarized, sealed, reached, filed, validated, algorithm_of, marked}
-use Rattle.drill_core.proofs.Acknowledging.{by_line}
-use Rattle.drill_core.proofs.Analysing.{analysed_stays}
-use Rattle.drill_core.proofs.Validating.{with_validated}
-use Rattle.drill_core.specs.LineCalls.{items_added}
-use Rattle.drill_core.proofs.LineItems.{none_added, sealed_store}
+use Rattle.store_world.specs.Found.{Found}
+use Rattle.store_world.specs.World as worlds
+use Rattle.store_world.specs.Steps as world_steps
+use Rattle.store_world.specs.Steps.{on_tables, filed_for, notarized, sealed, reached, filed, validated, algorithm_of, marked}
+use Rattle.store_world.proofs.Acknowledging.{by_line}
+use Rattle.store_world.proofs.Analysing.{analysed_stays}
+use Rattle.store_world.proofs.Validating.{with_validated}
+use Rattle.store_world.specs.LineCalls.{items_added}
+use Rattle.store_world.proofs.LineItems.{none_added, sealed_store}
 use Rattle.digest_model.specs.Layout.{layout}
 
 -- ---- a statement on tables, or a line of a session

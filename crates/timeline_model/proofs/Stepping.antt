@@ -20,13 +20,13 @@ use Rattle.stmt_text.specs.declared.line.Line.TheVariants as lines
 use Rattle.stmt_text.specs.Fits.{FitsParts}
 use Rattle.statement_core.specs.World as statements
 use Rattle.session_model.specs.World.{Session}
-use Rattle.drill_core.specs.Found.{Found}
-use Rattle.drill_core.specs.World as worlds
-use Rattle.drill_core.specs.Steps as world_steps
-use Rattle.drill_core.specs.Steps.{on_tables, notarized, sealed, filed, filed_for, reached, validated, algorithm_of, marked, IsWorldStmt, IsWorldLine}
+use Rattle.store_world.specs.Found.{Found}
+use Rattle.store_world.specs.World as worlds
+use Rattle.store_world.specs.Steps as world_steps
+use Rattle.store_world.specs.Steps.{on_tables, notarized, sealed, filed, filed_for, reached, validated, algorithm_of, marked, IsWorldStmt, IsWorldLine}
 use Rattle.store_engine.specs.Appended.{with_record, Takes}
 use Rattle.store_engine.proofs.Appended.{append_adds, append_puts, stores_record}
-use Rattle.drill_core.specs.LineCalls.{items_added, with_items, end_of_store}
+use Rattle.store_world.specs.LineCalls.{items_added, with_items, end_of_store}
 use Rattle.timeline_model.specs.Scene.{Scene, Crash, nothing_yet, sessions_over, store_under, store_in, world_of}
 use Rattle.timeline_model.specs.Lines.{Act, Next, over_world, over_store, act}
 use Rattle.timeline_model.specs.Timeline.{Event, calls_in, crashed_behind, under, without_crash, act_on, step, after, FitsReading}

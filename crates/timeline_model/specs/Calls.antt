@@ -17,10 +17,10 @@ use Rattle.store_engine.specs.declared.fail.StoreFail.TheVariants as fails
 use Rattle.statement_core.specs.World as statements
 use Rattle.session_model.specs.World.{Session}
 use Rattle.session_model.specs.Standing.{NoneKept}
-use Rattle.drill_core.specs.declared.open_store.OpenStore.{OpenStore}
-use Rattle.drill_core.specs.World.{StoreIsIn, IsIn, IsEntered}
+use Rattle.store_world.specs.declared.open_store.OpenStore.{OpenStore}
+use Rattle.store_world.specs.World.{StoreIsIn, IsIn, IsEntered}
 use Rattle.timeline_model.specs.Scene.{Scene, without_sessions, store_in, world_of}
-use Rattle.drill_core.specs.LineCalls.{with_items, appends}
+use Rattle.store_world.specs.LineCalls.{with_items, appends}
 
 -- nothing is on its way to the disk: what reads give was synced
 pub record IsSettledBy (first : List ℕ) (trace : List (Call × Bool)) : Type 0 where

@@ -5,8 +5,8 @@ use Rattle.notary_link.specs.declared.notary.NotaryLimits.{NotaryLimits}
 use Rattle.stmt_text.specs.declared.stmt.Stmt.TheVariants as stmts
 use Rattle.stmt_text.specs.declared.line.Line.{Line}
 use Rattle.stmt_text.specs.declared.line.Line.TheVariants as lines
-use Rattle.drill_core.specs.Found.{Found}
-use Rattle.drill_core.specs.Steps.{MayFind}
+use Rattle.store_world.specs.Found.{Found}
+use Rattle.store_world.specs.Steps.{MayFind}
 use Rattle.timeline_model.specs.Scene.{Scene, nothing_yet, world_of}
 use Rattle.timeline_model.specs.Timeline.{Event, after, IsTimeline}
 use Rattle.timeline_model.specs.Kept.{IsFiledOver, HasClash}

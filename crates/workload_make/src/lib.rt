@@ -26,7 +26,7 @@
 //! `specs/Script.antt` is the definition: statements, and each as its line. The words are those that the clauses of
 //! `rand_pcg` give. A moment above the greatest one of the grammar is written all the same, and is then no line of it.
 //!
-//! Laws of scripts over the grammar and the tables stand in `script_laws`: each line is read again, no change is refused by
+//! Laws of scripts over the grammar and the tables stand in `workload_laws`: each line is read again, no change is refused by
 //! tables without `made`, and the moments do not fall.
 //!
 //! Only tested: that memory suffices, and scripts of thousands of steps beside the lengths that another program gives. A step

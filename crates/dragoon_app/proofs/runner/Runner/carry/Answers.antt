@@ -1,7 +1,7 @@
 use Rattle.std.proofs.Common.{◌≡◌, ◌∙◌, sym, refl, Ok, Err, codes, rules}
 use Rattle.disk_words.proofs.Frame.{goes_on_same}
 use Rattle.notary_link.proofs.Frame as notary_frames
-use Rattle.drill_core.specs.declared.fail.LineFail.TheVariants as lines
+use Rattle.store_world.specs.declared.fail.LineFail.TheVariants as lines
 use Rattle.stmt_text.specs.declared.kind.LineKind.TheVariants as kinds
 use Rattle.dragoon_app.specs.Running.{set_moment, refused_line}
 use Rattle.dragoon_app.proofs.Replying.{goes_by, steps_by, blank_goes, refuses_goes, sets_goes, fails_goes, moment_same, takes_for}

@@ -1,7 +1,7 @@
 use Rattle.std.proofs.Common.{◌≡◌, refl, Ok, Err, codes, rules}
 use Rattle.disk_words.proofs.Frame.{goes_on_same}
 use Rattle.notary_link.proofs.Frame as notary_frames
-use Rattle.drill_core.specs.declared.fail.LineFail.TheVariants as lines
+use Rattle.store_world.specs.declared.fail.LineFail.TheVariants as lines
 use Rattle.stmt_text.specs.declared.error.ParseFail.TheVariants as parses
 use Rattle.dragoon_app.specs.Running.{refused_line}
 use Rattle.dragoon_app.proofs.Replying.{replies_by, replies_refused, replies_none, refuses_goes, fails_goes}

@@ -1,0 +1,12 @@
+use Rattle.std.proofs.Common.{Err}
+use Rattle.drill_core.specs.Drills.{crash_of}
+use Rattle.drill_core.proofs.Ready.{ok_map}
+use Rattle.drill_core.proofs.Coming.{stopped_as, refused_stopped, refused_only}
+use Rattle.drill_core.proofs.machine.Drill.stop_at.Goals as goal
+
+pub returns-in-Err : goal.returns-in-Err
+returns-in-Err c = record {
+  value = λ t at. ok_map c.refuse_reading.result _ _ c.refuse_reading.ensures.value
+      (λ answered is. stopped_as t answered c.args.self.now c.args.self.now (crash_of c.args.crash) c.args.reading.now (Err c.in-Err.fail) c.in-Err.is
+      (refused_stopped t answered c.args.self.now c.args.self.now (crash_of c.args.crash) c.in-Err.fail (refused_only t c.args.self.now answered _ at is)));
+}

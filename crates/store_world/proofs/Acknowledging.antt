@@ -1,0 +1,165 @@
+-- What a reply acknowledges is stored, and only items more are stored.
+use Rattle.std.proofs.Common.{◌≡◌, ◌∙◌, inl, inr, ℕ, Bool, true, false, List, [], ◌∷◌, ◌++◌, length, Option, Some, None, Result, Ok, Err, refl, sym, ap, subst}
+use Rattle.std.specs.Prelude.{if◌then◌else◌, nat_lt, codes, ◌==◌}
+use Rattle.std.specs.Fmt.{decimal}
+use Rattle.std.proofs.lemmas.List.{append-nil, append_cancel_left, append_cancel_right}
+use Rattle.tuple_bytes.specs.declared.item.Item.TheVariants as items
+use Rattle.history_model.specs.History.{txns}
+use Rattle.notary_link.specs.declared.mark.Mark.{Mark}
+use Rattle.notary_link.specs.Filing.{fitting, room_in}
+use Rattle.notary_link.specs.Notary.{marks_in_all}
+use Rattle.stmt_text.specs.declared.stmt.LineAlgorithm.{LineAlgorithm}
+use Rattle.stmt_text.specs.declared.stmt.Stmt.TheVariants as stmts
+use Rattle.stmt_text.specs.declared.line.Line.{Line}
+use Rattle.stmt_text.specs.declared.line.Line.TheVariants as lines
+use Rattle.statement_core.specs.declared.reply.Reply.{Reply}
+use Rattle.statement_core.specs.declared.reply.Reply.TheVariants as replies
+use Rattle.statement_core.specs.Replies.{reply_text}
+use Rattle.statement_core.specs.Promises.{HasOneMore, IsPromised}
+use Rattle.statement_core.specs.World as statements
+use Rattle.session_model.specs.World as sessions
+use Rattle.session_model.specs.Steps as session_steps
+use Rattle.session_model.specs.Steps.{Answer, Replied, Stopped}
+use Rattle.session_model.specs.Standing.{reply_of}
+use Rattle.session_model.specs.Promises as session_promises
+use Rattle.session_model.proofs.Promising.{steps_keep_promises}
+use Rattle.validator.specs.declared.verdict.Verdict.{Verdict}
+use Rattle.validator.specs.declared.fail.AuditFail.{AuditFail}
+use Rattle.validator.specs.Verdicts.{mark_of}
+use Rattle.validator.specs.Texts.{verdict_text}
+use Rattle.store_world.specs.World.{World}
+use Rattle.store_world.specs.Found.{Found}
+use Rattle.store_world.specs.Steps.{Step, step, on_tables, intent_in, notarized, unless, sealed, validated, analysed, algorithm_of, marked, reached}
+use Rattle.store_world.specs.Acknowledged.{HasTxn, IsStored, Extends, OnlyAppends, StepsAcknowledge, StepsOnlyAppend, ok_text}
+use Rattle.store_world.proofs.Texts.{SaysOk, says_ok, reply_ok, refusal_no, notarized_no, validated_no, analysed_no}
+use Rattle.store_world.proofs.Adding.{Adds, step_adds}
+use Rattle.store_world.proofs.Analysing.{analysed_stays}
+
+-- a line is a notarization, a validation or an analysis, or goes to the tables
+pub by_line : (P : Line → Step → Type 0) (w : World) (line : Line) (now : ℕ) (found : Found)
+    → ((line : Line) → P line (on_tables w w.store line now)) → P (lines.Plain stmts.Notarize) (notarized w w.store now) → P (lines.Plain stmts.Validate) (validated w now found.verdict)
+    → ((algorithm : LineAlgorithm) → P (lines.Plain (stmts.Analyse algorithm)) (analysed w (algorithm_of algorithm) now found.analysis)) → P line (step w line now found)
+unfolding step
+by_line P w lines.Blank now found tables notarizes validates analyses = tables lines.Blank
+by_line P w (lines.Plain (stmts.Create table columns)) now found tables notarizes validates analyses = tables (lines.Plain (stmts.Create table columns))
+by_line P w (lines.Plain (stmts.Insert table row)) now found tables notarizes validates analyses = tables (lines.Plain (stmts.Insert table row))
+by_line P w (lines.Plain (stmts.Update table row)) now found tables notarizes validates analyses = tables (lines.Plain (stmts.Update table row))
+by_line P w (lines.Plain (stmts.Delete table key)) now found tables notarizes validates analyses = tables (lines.Plain (stmts.Delete table key))
+by_line P w (lines.Plain (stmts.Get table key moment)) now found tables notarizes validates analyses = tables (lines.Plain (stmts.Get table key moment))
+by_line P w (lines.Plain (stmts.Scan table filter moment)) now found tables notarizes validates analyses = tables (lines.Plain (stmts.Scan table filter moment))
+by_line P w (lines.Plain (stmts.History table key)) now found tables notarizes validates analyses = tables (lines.Plain (stmts.History table key))
+by_line P w (lines.Plain stmts.Begin) now found tables notarizes validates analyses = tables (lines.Plain stmts.Begin)
+by_line P w (lines.Plain stmts.Commit) now found tables notarizes validates analyses = tables (lines.Plain stmts.Commit)
+by_line P w (lines.Plain stmts.Abort) now found tables notarizes validates analyses = tables (lines.Plain stmts.Abort)
+by_line P w (lines.Plain stmts.Notarize) now found tables notarizes validates analyses = notarizes
+by_line P w (lines.Plain stmts.Validate) now found tables notarizes validates analyses = validates
+by_line P w (lines.Plain (stmts.Analyse algorithm)) now found tables notarizes validates analyses = analyses algorithm
+by_line P w (lines.Plain (stmts.Now moment)) now found tables notarizes validates analyses = tables (lines.Plain (stmts.Now moment))
+by_line P w (lines.InSession session stmt) now found tables notarizes validates analyses = tables (lines.InSession session stmt)
+by_line P w (lines.Drill event) now found tables notarizes validates analyses = tables (lines.Drill event)
+
+-- ---- only items more are stored
+
+extends_same : (w : statements.World) → Extends w w
+extends_same w = record { header = refl; more = []; items = sym (append-nil w.items) }
+
+pub appends_none : (o : Option statements.World) → OnlyAppends o o
+appends_none None = tt
+appends_none (Some w) = extends_same w
+
+added_extends : (w new : statements.World) → Adds w new → Extends w new
+added_extends w new (inl same) = subst (Extends w) (sym same) (extends_same w)
+added_extends w new (inr more) = subst (Extends w) (sym more.is) (record { header = refl; more = items.Txn more.txn ∷ []; items = refl })
+
+pub reached_extends : (need : Option ℕ) (w : statements.World) → Extends w (reached need w)
+reached_extends None w = extends_same w
+reached_extends (Some moment) w = record { header = refl; more = items.Frontier moment ∷ []; items = refl }
+
+module _ (w : World) where
+  -- this step appends
+  abbrev Appends : Step → Type 0
+  Appends s = OnlyAppends w.store s.world.store
+
+  none_stored : (s : Step) → s.world.store ≡ w.store → Appends s
+  none_stored s is = subst (λ (o : Option statements.World). OnlyAppends w.store o) (sym is) (appends_none w.store)
+
+  pub some_stored : (store new : statements.World) → Some store ≡ w.store → Extends store new → OnlyAppends w.store (Some new)
+  some_stored store new is more = subst (λ (o : Option statements.World). OnlyAppends o (Some new)) is more
+
+  pub tables_append : (o : Option statements.World) → o ≡ w.store → (line : Line) (now : ℕ) → Appends (on_tables w o line now)
+  tables_append None is line now = appends_none w.store
+  tables_append (Some store) is line now =
+      let before : sessions.World = record { store = store; sessions = w.sessions } in
+      let new = (session_steps.step before line now).world.store in
+      some_stored store new is (added_extends store new (step_adds before line now))
+
+  either_appends : (b : Bool) (s t : Step) → Appends s → Appends t → Appends (if b then s else t)
+  either_appends true s t one other = one
+  either_appends false s t one other = other
+
+  unless_appends : (fault : Option AuditFail) (s : Step) → Appends s → Appends (unless fault w s)
+  unless_appends (Some fail) s is = appends_none w.store
+  unless_appends None s is = is
+
+  notarized_appends : (o : Option statements.World) → o ≡ w.store → (now : ℕ) → Appends (notarized w o now)
+  notarized_appends None is now = appends_none w.store
+  notarized_appends (Some store) is now =
+      let i = intent_in w store now in
+      let more = some_stored store (reached i.frontier store) is (reached_extends i.frontier store) in
+      unless_appends i.fault (sealed w store now) (either_appends (fitting (room_in w.limits w.lists) i.batches == length i.batches) _ _ more more)
+
+  marked_appends : (m : Option Mark) (text : List ℕ) → Appends (marked w m text)
+  marked_appends None text = appends_none w.store
+  marked_appends (Some mark) text = either_appends (nat_lt (marks_in_all w.lists) w.limits.marks) _ _ (appends_none w.store) (appends_none w.store)
+
+  validated_appends : (now : ℕ) (found : Result Verdict AuditFail) → Appends (validated w now found)
+  validated_appends now (Ok verdict) = marked_appends (mark_of verdict now) (verdict_text verdict)
+  validated_appends now (Err fail) = appends_none w.store
+
+pub steps_append : StepsOnlyAppend
+steps_append w line now found = by_line (λ line s. Appends w s) w line now found (λ line. tables_append w w.store refl line now) (notarized_appends w w.store refl now) (validated_appends w now found.verdict)
+    (λ algorithm. none_stored w (analysed w (algorithm_of algorithm) now found.analysis) (ap (λ (x : World). x.store) (analysed_stays w (algorithm_of algorithm) now found.analysis)))
+
+-- ---- what is acknowledged is stored
+
+-- a step that is replied so
+abbrev Acknowledges : List ℕ → Step → Type 0
+Acknowledges digits s = s.text ≡ ok_text digits → IsStored digits s.world.store
+
+the_digits : (number : ℕ) (digits : List ℕ) → reply_text (replies.Committed number) ≡ ok_text digits → decimal number ≡ digits
+unfolding reply_text
+the_digits number digits is = append_cancel_right (decimal number) digits (10 ∷ []) (append_cancel_left (codes "ok ") (decimal number ++ 10 ∷ []) (digits ++ 10 ∷ []) is)
+
+one_more : (w new : statements.World) (number : ℕ) (digits : List ℕ) → HasOneMore w new number → decimal number ≡ digits → HasTxn digits new.items
+one_more w new number digits m is = record {
+  txn = m.txn;
+  number = ap decimal m.numbered ∙ is;
+  before = txns w.items;
+  behind = [];
+  among = m.behind;
+  place = m.numbered ∙ m.next;
+}
+
+-- an answer of that number was a reply
+pub promised : (w new : statements.World) (answer : Answer) (number : ℕ) → session_promises.IsPromised w answer new → reply_of answer ≡ replies.Committed number → HasOneMore w new number
+promised w new (Replied reply) number is same = subst (λ (r : Reply). IsPromised w r new) same is
+promised w new (Stopped refusal) number is same = absurd cc
+
+statement_acknowledges : (w : sessions.World) (line : Line) (now : ℕ) (digits : List ℕ) → reply_text (reply_of (session_steps.step w line now).answer) ≡ ok_text digits → HasTxn digits (session_steps.step w line now).world.store.items
+statement_acknowledges w line now digits text =
+    let s = session_steps.step w line now in
+    let ok = reply_ok (reply_of s.answer) (subst SaysOk (sym text) (says_ok digits)) in
+    one_more w.store s.world.store ok.0 digits (promised w.store s.world.store s.answer ok.0 (steps_keep_promises w line now).store ok.1) (the_digits ok.0 digits (sym (ap reply_text ok.1) ∙ text))
+
+module _ (w : World) (digits : List ℕ) where
+  says_else : (s : Step) → (SaysOk s.text → ⊥) → Acknowledges digits s
+  says_else s never is = absurd (never (subst SaysOk (sym is) (says_ok digits)))
+
+  pub tables_acknowledge : (o : Option statements.World) (line : Line) (now : ℕ) → Acknowledges digits (on_tables w o line now)
+  tables_acknowledge None line now = says_else (on_tables w None line now) (refusal_no w (codes "NotAStore"))
+  tables_acknowledge (Some store) line now = statement_acknowledges (record { store = store; sessions = w.sessions }) line now digits
+
+pub steps_acknowledge : StepsAcknowledge
+steps_acknowledge w line now found digits = by_line (λ line s. Acknowledges digits s) w line now found (λ line. tables_acknowledge w digits w.store line now)
+    (says_else w digits (notarized w w.store now) (notarized_no w w.store now)) (says_else w digits (validated w now found.verdict) (validated_no w now found.verdict))
+    (λ algorithm. says_else w digits (analysed w (algorithm_of algorithm) now found.analysis) (analysed_no w (algorithm_of algorithm) now found.analysis))

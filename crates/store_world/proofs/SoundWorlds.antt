@@ -1,0 +1,249 @@
+-- A sound world stays sound at every line, and no line tells of an alteration.
+use Rattle.std.proofs.Common.{◌≡◌, ◌⊎◌, inl, inr, ℕ, ◌+◌, ◌-◌, ◌<◌, ◌≤◌, ◌==◌, Bool, true, false, List, [], ◌∷◌, ◌++◌, length, take, Option, Some, None, IfSome, Result, Ok, Err, refl, sym, ap, subst, ◌∙◌, arith}
+use Rattle.std.specs.Prelude.{if◌then◌else◌, codes, nat_lt}
+use Rattle.std.proofs.lemmas.Bool.{cases_lt, eq-eqb}
+use Rattle.std.proofs.lemmas.List.{append-nil}
+use Rattle.tuple_bytes.specs.declared.item.Item.TheVariants as items
+use Rattle.tuple_bytes.specs.Spelling.{FitsHeader}
+use Rattle.history_model.specs.History.{History, history, last_moment}
+use Rattle.digest_model.specs.Layout.{layout}
+use Rattle.notary_link.specs.declared.mark.Mark.{Mark}
+use Rattle.notary_link.specs.Batches.{Batch}
+use Rattle.notary_link.specs.Notary.{marks_in_all}
+use Rattle.notary_link.specs.Filing.{fitting, room_in}
+use Rattle.notary_link.proofs.Fitting.{fitting_few}
+use Rattle.audit_model.specs.Sound.{IsNotarized}
+use Rattle.audit_model.proofs.Adding.{added_stays}
+use Rattle.store_engine.specs.Refusals.{Tail, is_back, is_late}
+use Rattle.stmt_text.specs.declared.stmt.Stmt.{Stmt}
+use Rattle.stmt_text.specs.declared.stmt.Stmt.TheVariants as stmts
+use Rattle.stmt_text.specs.declared.line.Line.{Line}
+use Rattle.stmt_text.specs.declared.line.Line.TheVariants as lines
+use Rattle.statement_core.specs.World as statements
+use Rattle.session_model.specs.World as sessions
+use Rattle.session_model.specs.Steps as session_steps
+use Rattle.validator.specs.declared.verdict.Verdict.{Verdict}
+use Rattle.validator.specs.declared.fail.AuditFail.{AuditFail}
+use Rattle.validator.specs.declared.fail.AuditFail.TheVariants as fails
+use Rattle.number_text.specs.Numbered.{numbered}
+use Rattle.validator.specs.Texts.{verdict_text, refusal_text}
+use Rattle.validator.specs.Notarizing.{notarize_fault, filed_fault, next_batches, sealed_after, frontier_for}
+use Rattle.validator.specs.Reaching.{with_frontier_for}
+use Rattle.validator.specs.Verdicts.{IsFoundIn, mark_of}
+use Rattle.validator.proofs.Growing.{IsFiledUpTo, ended_within, need_follows, notarized_more, counted_more}
+use Rattle.validator.proofs.Clean.{clean_in, sound_not_refused}
+use Rattle.forensic_report.specs.declared.algorithm.Algorithm.{Algorithm}
+use Rattle.forensic_report.specs.declared.fail.AnalyseFail.{AnalyseFail}
+use Rattle.forensic_report.specs.Analysis.{Analysis, Unsealed}
+use Rattle.forensic_report.specs.Finding.{IsAnalysisIn}
+use Rattle.forensic_report.specs.Laws as reports
+use Rattle.forensic_report.proofs.Sound.{sound_in}
+use Rattle.store_world.specs.World.{World, with_store, with_lists, with_mark}
+use Rattle.store_world.specs.Found.{Found}
+use Rattle.store_world.specs.Steps.{step, says, refuses, filed, filed_for, reached, sealed, unless, notarized, marked, validated, analysed, algorithm_of, on_tables, history_of, MayFind}
+use Rattle.store_world.specs.Laws.{HoldsFiled, IsSoundWorld, HasFitHeader, IsSoundVerdict, TellsNoAlteration, SoundWorldsStaySound}
+use Rattle.store_world.proofs.Adding.{Adds, step_adds}
+use Rattle.store_world.proofs.Analysing.{analysed_stays}
+
+abbrev IsSoundAndFit : World → Type 0
+IsSoundAndFit w = IsSoundWorld w × HasFitHeader w
+
+-- ---- a statement
+
+module _ (w : World) (fits : HasFitHeader w) (sound : IsSoundWorld w) where
+  -- of the store of a world
+  module _ (ws : statements.World) (is : w.store ≡ Some ws) where
+    fit : FitsHeader ws.header × (ws.header.id ≡ w.id)
+    fit = subst (λ (o : Option statements.World). IfSome o (λ store. FitsHeader store.header × (store.header.id ≡ w.id))) is fits
+
+    holds : HoldsFiled (filed_for w) w.id (Some (history ws.header ws.items))
+    holds = subst (λ (o : Option statements.World). HoldsFiled (filed_for w) w.id (history_of o)) is sound
+
+    with_added : (new : statements.World) → Adds ws new → IsSoundAndFit (with_store w new)
+    with_added new (inl same) = subst (λ (x : statements.World). IsSoundAndFit (with_store w x)) (sym same) (holds, fit)
+    with_added new (inr added) = subst (λ (x : statements.World). IsSoundAndFit (with_store w x)) (sym added.is) (by holds, fit)
+      where
+        by : HoldsFiled (filed_for w) w.id (Some (history ws.header ws.items)) → HoldsFiled (filed_for w) w.id (Some (history ws.header (ws.items ++ items.Txn added.txn ∷ [])))
+        by (inl none) = inl none
+        by (inr known) = inr (known.0, known.1, added_stays (filed_for w) w.id known.0 ws.header ws.items (items.Txn added.txn) fit.0 known.2 added.later)
+
+  of_tables : (line : Line) (now : ℕ) → IsSoundAndFit (on_tables w w.store line now).world
+  of_tables line now = by w.store refl
+    where
+      by : (o : Option statements.World) → w.store ≡ o → IsSoundAndFit (on_tables w o line now).world
+      by None is = (sound, fits)
+      by (Some ws) is =
+          let before : sessions.World = record { store = ws; sessions = w.sessions } in
+          with_added ws is (session_steps.step before line now).world.store (step_adds before line now)
+
+  -- ---- a notarization
+
+  not_refused : IfSome (history_of w.store) (λ held. filed_fault (filed_for w) held ≡ None)
+  not_refused = by (history_of w.store) sound
+    where
+      by : (o : Option History) → HoldsFiled (filed_for w) w.id o → IfSome o (λ held. filed_fault (filed_for w) held ≡ None)
+      by None held = tt
+      by (Some h) (inl none) = ap (λ (bs : List Batch). filed_fault bs h) none
+      by (Some h) (inr known) = sound_not_refused (filed_for w) w.id known.0 h known.2
+
+  module _ (ws : statements.World) (is : w.store ≡ Some ws) (now : ℕ) where
+    abbrev t : Tail
+    t = statements.tail_of_world ws
+
+    abbrev need : Option ℕ
+    need = frontier_for (layout (history ws.header ws.items)) t now (filed_for w)
+
+    abbrev next : List Batch
+    next = next_batches (history ws.header ws.items) now (filed_for w)
+
+    abbrev count : ℕ
+    count = fitting (room_in w.limits w.lists) next
+
+    abbrev later : List Batch
+    later = filed_for w ++ take count next
+
+    not_late : notarize_fault t false now ws.items (filed_for w) ≡ None → is_late t now ≡ false
+    not_late free = by_back (is_back t now) refl
+      where
+        by_late : (b : Bool) → is_late t now ≡ b → is_back t now ≡ false → is_late t now ≡ false
+        by_late false late back = late
+        by_late true late back = let fault = rw (back, late) at free in absurd cc
+
+        by_back : (b : Bool) → is_back t now ≡ b → is_late t now ≡ false
+        by_back false back = by_late (is_late t now) refl back
+        by_back true back = let fault = rw back at free in absurd cc
+
+    reached_is : (o : Option ℕ) → history_of (Some (reached o ws)) ≡ Some (history ws.header (with_frontier_for o ws.items))
+    reached_is None = refl
+    reached_is (Some moment) = refl
+
+    reached_fit : (o : Option ℕ) → FitsHeader (reached o ws).header × ((reached o ws).header.id ≡ w.id)
+    reached_fit None = fit ws is
+    reached_fit (Some moment) = fit ws is
+
+    -- the Frontier alone
+    still : (o : Option ℕ) → ((moment : ℕ) → o ≡ Some moment → last_moment ws.items ≤ moment) → HoldsFiled (filed_for w) w.id (Some (history ws.header ws.items))
+        → HoldsFiled (filed_for w) w.id (Some (history ws.header (with_frontier_for o ws.items)))
+    still None follows held = held
+    still (Some moment) follows (inl none) = inl none
+    still (Some moment) follows (inr known) = inr (known.0, known.1, added_stays (filed_for w) w.id known.0 ws.header ws.items (items.Frontier moment) (fit ws is).0 known.2 (follows moment refl))
+
+    filed_before : IsFiledUpTo (filed_for w) (history ws.header ws.items) (length (filed_for w))
+    filed_before = by (holds ws is)
+      where
+        by : HoldsFiled (filed_for w) w.id (Some (history ws.header ws.items)) → IsFiledUpTo (filed_for w) (history ws.header ws.items) (length (filed_for w))
+        by (inl none) = subst (λ (bs : List Batch). IsFiledUpTo bs (history ws.header ws.items) (length bs)) (sym none) refl
+        by (inr known) = subst (λ (n : ℕ). IsFiledUpTo (filed_for w) (history ws.header ws.items) n) (sym known.1) known.2.filed.seals
+
+    more : is_late t now ≡ false → HoldsFiled later w.id (Some (history ws.header (with_frontier_for need ws.items)))
+    more early = by (cases_lt 0 count)
+      where
+        by : (0 < count) ⊎ (count ≤ 0) → HoldsFiled later w.id (Some (history ws.header (with_frontier_for need ws.items)))
+        by (inl some) = inr (
+          length (filed_for w) + count - 1,
+          counted_more t ws.items refl now (filed_for w) (ended_within (layout (history ws.header ws.items)) t now early) filed_before count some (fitting_few (room_in w.limits w.lists) next),
+          subst (λ (id : ℕ). IsNotarized later id (length (filed_for w) + count - 1) (history ws.header (with_frontier_for need ws.items))) (fit ws is).1
+              (notarized_more t ws.items refl now (filed_for w) (ended_within (layout (history ws.header ws.items)) t now early) filed_before count some (fitting_few (room_in w.limits w.lists) next)),
+        )
+        by (inr none) =
+            let zero_is : count ≡ 0 = omega (arith, none) in
+            subst (λ (bs : List Batch). HoldsFiled bs w.id (Some (history ws.header (with_frontier_for need ws.items)))) (sym (ap (λ (n : ℕ). filed_for w ++ take n next) zero_is ∙ append-nil (filed_for w)))
+            (still need (need_follows (layout (history ws.header ws.items)) t ws.items refl now (filed_for w)) (holds ws is))
+
+    abbrev new_world : World
+    new_world = filed (with_store w (reached need ws)) next
+
+    filed_is : filed_for new_world ≡ later
+    filed_is = ap (λ (b : Bool). if b then later else filed_for w) (eq-eqb w.id w.id refl)
+
+    new_sound : is_late t now ≡ false → IsSoundAndFit new_world
+    new_sound early = (
+      subst (λ (bs : List Batch). HoldsFiled bs w.id (history_of (Some (reached need ws)))) (sym filed_is)
+          (subst (λ (o : Option History). HoldsFiled later w.id o) (sym (reached_is need)) (more early)),
+      reached_fit need,
+    )
+
+    all_sound : IsSoundAndFit new_world → IsSoundAndFit (sealed w ws now).world
+    all_sound new = by (count == length next)
+      where
+        by : (b : Bool) → IsSoundAndFit (if b then says new_world (numbered (codes "sealed ") (sealed_after (layout (history ws.header ws.items)) ws.header now (filed_for w))) else refuses new_world (refusal_text fails.Full)).world
+        by true = new
+        by false = new
+
+    of_fault : (f : Option AuditFail) → notarize_fault t false now ws.items (filed_for w) ≡ f → IsSoundAndFit (unless f w (sealed w ws now)).world
+    of_fault (Some fail) at = (sound, fits)
+    of_fault None at = all_sound (new_sound (not_late at))
+
+  of_notarization : (now : ℕ) → IsSoundAndFit (notarized w w.store now).world
+  of_notarization now = by w.store refl
+    where
+      by : (o : Option statements.World) → w.store ≡ o → IsSoundAndFit (notarized w o now).world
+      by None is = (sound, fits)
+      by (Some ws) is = of_fault ws is now (notarize_fault (statements.tail_of_world ws) false now ws.items (filed_for w)) refl
+
+  -- ---- a validation
+
+  of_mark : (mark : Option Mark) (text : List ℕ) → IsSoundAndFit (marked w mark text).world
+  of_mark None text = (sound, fits)
+  of_mark (Some mark) text = by (nat_lt (marks_in_all w.lists) w.limits.marks)
+    where
+      by : (b : Bool) → IsSoundAndFit (if b then says (with_lists w (with_mark w.id mark w.lists)) text else refuses w (refusal_text fails.Full)).world
+      by true = (sound, fits)
+      by false = (sound, fits)
+
+  of_validation : (now : ℕ) (found : Result Verdict AuditFail) → IsSoundAndFit (validated w now found).world
+  of_validation now (Ok verdict) = of_mark (mark_of verdict now) (verdict_text verdict)
+  of_validation now (Err fail) = (sound, fits)
+
+  clean_by : (o : Option History) (batches : List Batch) (found : Result Verdict AuditFail) → HoldsFiled batches w.id o → IsFoundIn batches o found → IsSoundVerdict found
+  clean_by o batches found (inl none) shows = inl (subst (λ (bs : List Batch). IsFoundIn bs o found) none shows)
+  clean_by None batches found (inr known) shows = absurd known.2
+  clean_by (Some h) batches found (inr known) shows = inr (known.0, clean_in batches w.id known.0 h (Some h) found refl known.2.filed shows)
+
+  -- ---- an analysis
+
+  of_analysis : (algorithm : Algorithm) (now : ℕ) (found : Result Analysis AnalyseFail) → IsSoundAndFit (analysed w algorithm now found).world
+  of_analysis algorithm now found = subst IsSoundAndFit (sym (analysed_stays w algorithm now found)) (sound, fits)
+
+  none_by : (algorithm : Algorithm) (o : Option History) (batches : List Batch) (found : Result Analysis AnalyseFail) → HoldsFiled batches w.id o → IsAnalysisIn algorithm batches o found → reports.TellsNoAlteration found
+  none_by algorithm o batches found (inl none) shows = inl (Unsealed, subst (λ (bs : List Batch). IsAnalysisIn algorithm bs o found) none shows, refl)
+  none_by algorithm None batches found (inr known) shows = absurd known.2
+  none_by algorithm (Some h) batches found (inr known) shows = sound_in algorithm batches w.id known.0 h found known.2.filed shows
+
+  -- ---- a line
+
+  module _ (now : ℕ) (found : Found) where
+    abbrev Stays : Line → Type 0
+    Stays line = MayFind w line found → IsSoundWorld (step w line now found).world × HasFitHeader (step w line now found).world × TellsNoAlteration w line found
+
+    beside : {A B : Type 0} → A × B → A × B × Unit {0}
+    beside both = (both.0, both.1, tt)
+
+    of_stmt : (stmt : Stmt) → Stays (lines.Plain stmt)
+    unfolding step
+    of_stmt stmts.Notarize may = let both = of_notarization now in (both.0, both.1, not_refused)
+    of_stmt stmts.Validate may = let both = of_validation now found.verdict in (both.0, both.1, clean_by (history_of w.store) (filed_for w) found.verdict sound may)
+    of_stmt (stmts.Create table columns) may = beside (of_tables (lines.Plain (stmts.Create table columns)) now)
+    of_stmt (stmts.Insert table row) may = beside (of_tables (lines.Plain (stmts.Insert table row)) now)
+    of_stmt (stmts.Update table row) may = beside (of_tables (lines.Plain (stmts.Update table row)) now)
+    of_stmt (stmts.Delete table key) may = beside (of_tables (lines.Plain (stmts.Delete table key)) now)
+    of_stmt (stmts.Get table key moment) may = beside (of_tables (lines.Plain (stmts.Get table key moment)) now)
+    of_stmt (stmts.Scan table filter moment) may = beside (of_tables (lines.Plain (stmts.Scan table filter moment)) now)
+    of_stmt (stmts.History table key) may = beside (of_tables (lines.Plain (stmts.History table key)) now)
+    of_stmt stmts.Begin may = beside (of_tables (lines.Plain stmts.Begin) now)
+    of_stmt stmts.Commit may = beside (of_tables (lines.Plain stmts.Commit) now)
+    of_stmt stmts.Abort may = beside (of_tables (lines.Plain stmts.Abort) now)
+    of_stmt (stmts.Analyse algorithm) may =
+        let both = of_analysis (algorithm_of algorithm) now found.analysis in
+        (both.0, both.1, none_by (algorithm_of algorithm) (history_of w.store) (filed_for w) found.analysis sound may)
+    of_stmt (stmts.Now moment) may = beside (of_tables (lines.Plain (stmts.Now moment)) now)
+
+    of_line : (line : Line) → Stays line
+    unfolding step
+    of_line (lines.Plain stmt) may = of_stmt stmt may
+    of_line lines.Blank may = beside (of_tables lines.Blank now)
+    of_line (lines.InSession session stmt) may = beside (of_tables (lines.InSession session stmt) now)
+    of_line (lines.Drill event) may = beside (of_tables (lines.Drill event) now)
+
+pub sound_worlds : SoundWorldsStaySound
+sound_worlds w line now found fits sound may = of_line w fits sound now found line may

@@ -1,0 +1,194 @@
+-- A statement on tables and a line of a session do to the world what they do to the store and its sessions.
+use Rattle.std.proofs.Common.{◌≡◌, ◌≢◌, ℕ, Bool, List, ◌++◌, ◌∷◌, [], length, length-append, Option, Some, None, Result, Ok, Err, IfErr, inl, inr, refl, sym, ap, subst, ◌∙◌, arith}
+use Rattle.outside_words.specs.Told.{WhereTold}
+use Rattle.outside_words.proofs.Told.{told_map, told_same}
+use Rattle.disk_words.specs.Disk as disks
+use Rattle.disk_model.proofs.Moments.{weaker}
+use Rattle.tuple_bytes.specs.declared.header.Header.{Header}
+use Rattle.notary_link.specs.Notary as notaries
+use Rattle.store_engine.specs.Opened.{Opened}
+use Rattle.stmt_text.specs.declared.line.Line.{Line}
+use Rattle.stmt_text.specs.Kinds.{line_kind}
+use Rattle.statement_core.specs.declared.reply.Reply.{Reply}
+use Rattle.statement_core.specs.declared.statements.StepFail.{StepFail}
+use Rattle.statement_core.specs.declared.statements.StepFail.TheVariants as steps_as
+use Rattle.statement_core.specs.Replies.{reply_text, is_refusal}
+use Rattle.statement_core.specs.World as statements
+use Rattle.statement_core.specs.Steps as statement_steps
+use Rattle.statement_core.specs.Stepping.{MakesFor}
+use Rattle.statement_core.specs.Promises as statement_promises
+use Rattle.txn_journal.specs.Held as journals
+use Rattle.session_model.specs.World as sessions
+use Rattle.session_model.specs.Steps as session_steps
+use Rattle.session_model.specs.Steps.{Answer, Replied, Stopped}
+use Rattle.session_model.specs.Promises as promises
+use Rattle.session_model.proofs.Promising.{steps_keep_promises}
+use Rattle.session_model.specs.Standing.{Machine, IsStatementLine, StepsIn, StepsTo, of_store, reply_of}
+use Rattle.session_model.specs.Standing as standing
+use Rattle.statement_core.specs.declared.reply.Reply.TheVariants as replies
+use Rattle.tuple_bytes.specs.declared.item.Item.{Item}
+use Rattle.tuple_bytes.specs.declared.item.Item.TheVariants as items
+use Rattle.validator.specs.Desk.{content, desk}
+use Rattle.store_world.specs.declared.answered.Answered.{Answered}
+use Rattle.store_world.specs.declared.fail.LineFail.{LineFail}
+use Rattle.store_world.specs.World.{World, IsIn, StoreIsIn, StoresOf, StoresEither}
+use Rattle.store_world.specs.declared.fail.LineFail.TheVariants as fails
+use Rattle.store_world.specs.Answers.{replied, fault_of, IsReplied}
+use Rattle.store_world.specs.Found.{Found}
+use Rattle.store_world.specs.LineCalls.{items_added, appends, end_of_store, notary_calls}
+use Rattle.store_world.specs.CallsMade.{MakesOfDisk, MakesOfNotary, MakesLineCalls}
+use Rattle.store_world.specs.Faults.{IsOfStoring, MayEndIn, early_of}
+use Rattle.store_world.specs.Growing.{GrowsFor}
+use Rattle.store_world.specs.Parts.{alone, StepsBeside}
+use Rattle.store_world.specs.Steps.{Step, on_tables, after_statement}
+use Rattle.store_world.specs.Stepping.{Goes, Steps}
+use Rattle.store_world.proofs.Between.{kept_between}
+use Rattle.store_world.proofs.CallsTold.{none_made, statement_calls}
+use Rattle.store_world.proofs.Faults.{ends_storing, ends_any_time}
+use Rattle.store_world.proofs.LineKinds.{none_found, goes_to_tables}
+
+-- the world of an open store, with its sessions
+pub record HasStore (w : World) (kept : Machine) (s : Opened) (bytes : List ℕ) : Type 0 where
+  pub world : statements.World
+  pub is : w.store ≡ Some world
+  pub with_sessions : standing.IsIn (record { store = world; sessions = w.sessions }) kept s bytes
+  pub stands : statements.IsIn world s bytes
+  pub own : world.header.id ≡ w.id
+
+pub has_store : (w : World) (kept : Machine) (s : Opened) (bytes : List ℕ) (lists : notaries.Lists) → IsIn w (alone kept s) bytes lists → HasStore w kept s bytes
+has_store w kept s bytes lists i = by w.store refl i.store
+  where
+    by : (o : Option statements.World) → w.store ≡ o → StoreIsIn w.id o w.sessions (Some (record { store = s; sessions = kept })) bytes → HasStore w kept s bytes
+    by (Some world) is stands = record { world = world; is = is; with_sessions = stands.0; stands = stands.0.store; own = stands.1 }
+    by None is stands = absurd stands
+
+pub answered_as : (refused : Bool) (text : List ℕ) (reply : Reply) → refused ≡ is_refusal reply → text ≡ reply_text reply → IsReplied (Ok reply) (Ok (record { refused = refused; text = text }))
+answered_as refused text reply is says = ap (λ (b : Bool). record { refused = b; text = text }) is ∙ ap (λ (t : List ℕ). record { refused = is_refusal reply; text = t }) says
+
+pub not_notary : (fail : StepFail) → fault_of fail ≡ fails.NotaryFault → ⊥
+not_notary steps_as.DiskFault is = absurd cc
+not_notary steps_as.NoMemory is = absurd cc
+
+-- ---- what stays has nothing more
+
+pub never_longer : (l : List Item) (x : Item) → l ++ x ∷ [] ≡ l → ⊥
+never_longer l x same = let e : length (l ++ x ∷ []) ≡ length l = ap length same in let more = length-append l (x ∷ []) in omega (arith, e, more)
+
+abbrev items_in : Option statements.World → List Item
+items_in None = []
+items_in (Some w) = w.items
+
+pub items_stay : (x w : statements.World) → Some x ≡ Some w → x.items ≡ w.items
+items_stay x w same = ap items_in same
+
+-- a reply without a transaction more has made no call
+unmoved : (w : statements.World) (next : statement_steps.Step) (reply : Reply) (s : Opened) (old new : disks.State) → MakesFor w next (Ok reply) s old new → Some next.world ≡ Some w → new.trace ≡ old.trace
+unmoved w next (replies.Committed number) s old new makes stays =
+    absurd (never_longer w.items (items.Txn makes.txn) (sym (ap (λ (x : statement_steps.Step). x.world.items) makes.stores) ∙ items_stay next.world w stays))
+unmoved w next replies.Done s old new makes stays = makes
+unmoved w next (replies.Found row) s old new makes stays = makes
+unmoved w next replies.Missing s old new makes stays = makes
+unmoved w next (replies.Scanned rows) s old new makes stays = makes
+unmoved w next (replies.Told versions) s old new makes stays = makes
+unmoved w next (replies.Refused refusal) s old new makes stays = makes
+
+-- what an answer promises is what its reply promises
+of_answer : (w new : statements.World) (answer : Answer) → promises.IsPromised w answer new → statement_promises.IsPromised w (reply_of answer) new
+of_answer w new (Replied reply) is = is
+of_answer w new (Stopped refusal) is = is
+
+module _ (kept later_kept : Machine) (s later : Opened) (header : later.header ≡ s.header) (old new : disks.State) where
+  module _ (w : World) (lists : notaries.Lists) (b a : List ℕ) (i : IsIn w (alone kept s) b lists) (has : HasStore w kept s b) where
+    abbrev own : sessions.World
+    own = record { store = has.world; sessions = w.sessions }
+
+    either : (next : session_steps.Step) (c : List ℕ) → statements.StoresEither has.world next.world.store c → StoresEither w (after_statement w next).world c
+    either next c (inl stores) = inl (subst (λ (o : Option statements.World). StoresOf w.id o c) (sym has.is) stores)
+    either next c (inr stores) = inr stores
+
+    goes : (next : session_steps.Step) (r : Result Reply StepFail) (result : Result Answered LineFail) → StepsIn own next r kept later_kept s later old new b a → IsReplied r result
+        → Goes w (after_statement w next) result (alone later_kept later) old new b (content a lists)
+    goes next (Ok reply) (Ok answered) steps is = record {
+      reply = record { text = ap (λ (x : Answered). x.text) is ∙ ap (λ (x : Reply). (replied x).text) steps.reply; refused = ap (λ (x : Answered). x.refused) is ∙ ap (λ (x : Reply). (replied x).refused) steps.reply };
+      stands = record {
+        id = ap (λ (h : Header). h.id) header ∙ i.id;
+        store = (steps.stands, ap (λ (h : Header). h.id) (sym steps.stands.store.header ∙ header) ∙ i.id);
+        lists = i.lists;
+      };
+      settled = steps.settled;
+      images = λ only. weaker (steps.images only) (either next);
+      kept = λ only. either next a (steps.kept only);
+      between = kept_between w.lists lists i.lists;
+      ordered = λ id more. absurd (more (i.lists.batches id));
+      same = λ stays. unmoved has.world (of_store next) reply s old new steps.trace (stays ∙ has.is);
+    }
+    goes next r (Err fail) steps is = record {
+      reply = tt;
+      stands = tt;
+      settled = λ only. tt;
+      images = λ only. weaker (steps.images only) (either next);
+      kept = λ only. either next a (steps.kept only);
+      between = kept_between w.lists lists i.lists;
+      ordered = λ id more. absurd (more (i.lists.batches id));
+      same = λ stays. tt;
+    }
+    goes next (Err fail) (Ok answered) steps is = absurd cc
+
+    -- in a fault of the disk, only where it stores
+    only : (next : session_steps.Step) (r : Result Reply StepFail) (result : Result Answered LineFail) → StepsIn own next r kept later_kept s later old new b a → IsReplied r result → IfErr result (IsOfStoring (Some next.world.store ≢ w.store))
+    only next r (Ok answered) steps is = tt
+    only next (Ok reply) (Err fails.NoMemory) steps is = tt
+    only next (Ok reply) (Err fails.DiskFault) steps is = absurd is
+    only next (Ok reply) (Err fails.NotaryFault) steps is = absurd is
+    only next (Err steps_as.NoMemory) (Err fail) steps is = subst (λ (x : Result Answered LineFail). IfErr x (IsOfStoring (Some next.world.store ≢ w.store))) (sym is) tt
+    only next (Err steps_as.DiskFault) (Err fail) steps is = subst (λ (x : Result Answered LineFail). IfErr x (IsOfStoring (Some next.world.store ≢ w.store))) (sym is)
+        (λ stays. never_longer has.world.items (items.Txn steps.trace.txn) (sym (ap (λ (x : statement_steps.Step). x.world.items) steps.trace.stores) ∙ items_stay next.world.store has.world (stays ∙ has.is)))
+
+    -- the calls that store what it stores, and none of the notary
+    makes : (line : Line) (now : ℕ) (found : Found) (next : session_steps.Step) (r : Result Reply StepFail) (result : Result Answered LineFail) (filed : notaries.State) → notary_calls w line now found ≡ [] → statement_promises.KeepsPromise has.world (of_store next)
+        → StepsIn own next r kept later_kept s later old new b a → IsReplied r result → MakesLineCalls w line now found (after_statement w next) result (desk old filed) (desk new filed) b
+    makes line now found next r result filed none promised steps is = record {
+      disk = subst (λ (o : Option statements.World). MakesOfDisk (appends (journals.standing (end_of_store o) b) (items_added o (Some next.world.store))) result old new) (sym has.is)
+          (statement_calls has.world s b has.stands w.sessions next kept later_kept later old new a r result is promised steps);
+      notary = subst (λ (cs : List notaries.Call). WhereTold filed.trace filed.trace (MakesOfNotary cs result)) (sym none) (told_same filed.trace filed.trace _ refl (λ was. none_made result was was refl));
+      order = told_same filed.trace filed.trace _ refl (λ was. inl refl);
+    }
+
+  module _ (line : Line) (now : ℕ) (on : IsStatementLine line) (r : Result Reply StepFail) (result : Result Answered LineFail) (answers : IsReplied r result) where
+    steps : (filed : notaries.State) (w : World) (lists : notaries.Lists) (b a : List ℕ) → IsIn w (alone kept s) b lists → StepsTo line now r kept later_kept s later old new b a → Steps line now w result (alone later_kept later) (desk old filed) (desk new filed) b (content a lists)
+    steps filed w lists b a i does =
+        let has = has_store w kept s b lists i in
+        let goes_on = goes_to_tables line on in
+        let before : sessions.World = record { store = has.world; sessions = w.sessions } in
+        let next = session_steps.step before line now in
+        let is = goes_on.steps w now none_found ∙ ap (λ (o : Option statements.World). on_tables w o line now) has.is in
+        let done = does before has.with_sessions in
+        record {
+          found = none_found;
+          may = goes_on.may w none_found;
+          goes = subst (λ (x : Step). Goes w x result (alone later_kept later) old new b (content a lists)) (sym is) (goes w lists b a i has next r result done answers);
+          makes = subst (λ (x : Step). MakesLineCalls w line now none_found x result (desk old filed) (desk new filed) b) (sym is)
+              (makes w lists b a i has line now none_found next r result filed (goes_on.calls w now none_found) (of_answer has.world next.world.store next.answer (steps_keep_promises before line now).store) done answers);
+          only = subst (λ (x : Step). IfErr result (MayEndIn (line_kind line) (x.world.store ≢ w.store))) (sym is) (ends_storing (Some next.world.store ≢ w.store) (line_kind line) goes_on.kind result (only w lists b a i has next r result done answers));
+          timely = ends_any_time (early_of w line now) (goes_on.early w now) result;
+        }
+
+    pub beside : WhereTold old.reads new.reads (StepsTo line now r kept later_kept s later old new) → StepsBeside line now result (alone kept s) (alone later_kept later) old new
+    beside told filed = told_map old.reads new.reads _ _ told (λ b a does. told_same filed.lists filed.lists _ refl (λ lists w i limits. steps filed w lists b a i does))
+
+    -- the same of the store alone
+    pub grows_beside : WhereTold old.reads new.reads (StepsTo line now r kept later_kept s later old new) → GrowsFor line now result (alone kept s) (alone later_kept later) old new
+    grows_beside told = told_map old.reads new.reads _ _ told (λ b a does w i.
+        let has = has_store w kept s b w.lists i in
+        let before : sessions.World = record { store = has.world; sessions = w.sessions } in
+        let next = session_steps.step before line now in
+        let g = goes w w.lists b a i has next r result (does before has.with_sessions) answers in
+        record {
+          next = after_statement w next;
+          allowed = (goes_to_tables line on).alone w now (after_statement w next) (sym (ap (λ (o : Option statements.World). on_tables w o line now) has.is));
+          reply = g.reply;
+          stands = g.stands;
+          settled = g.settled;
+          images = g.images;
+          kept = g.kept;
+        })

@@ -1,0 +1,15 @@
+pub mod World
+pub mod Found
+pub mod Steps
+pub mod LineCalls
+pub mod CallsMade
+pub mod Faults
+pub mod Stepping
+pub mod Answers
+pub mod Parts
+pub mod Reported
+pub mod Unheld
+pub mod Laws
+pub mod Acknowledged
+pub mod Alone
+pub mod Growing

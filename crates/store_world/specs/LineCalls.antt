@@ -1,0 +1,77 @@
+-- The changing calls of a line, in order: those that store its items, and those that file its batches or note its mark.
+use Rattle.std.specs.Prelude.{ℕ, suc, List, [], ◌∷◌, ◌++◌, length, take, drop, Option, Some, None, Result, Ok, Err}
+use Rattle.disk_words.specs.Disk as disks
+use Rattle.byte_grammar.specs.Gated.{end_behind}
+use Rattle.tuple_bytes.specs.declared.item.Item.{Item}
+use Rattle.tuple_bytes.specs.Spelling.{spell_item}
+use Rattle.txn_journal.specs.Held.{Standing, behind, standing}
+use Rattle.txn_journal.specs.Append.{append_calls}
+use Rattle.notary_link.specs.declared.mark.Mark.{Mark}
+use Rattle.notary_link.specs.Batches.{Batch}
+use Rattle.notary_link.specs.Notary.{Call, note}
+use Rattle.notary_link.specs.Filing.{filings, fitting, room_in}
+use Rattle.stmt_text.specs.declared.stmt.Stmt.TheVariants as stmts
+use Rattle.stmt_text.specs.declared.line.Line.{Line}
+use Rattle.stmt_text.specs.declared.line.Line.TheVariants as lines
+use Rattle.store_engine.specs.Appended.{with_record}
+use Rattle.statement_core.specs.World as statements
+use Rattle.validator.specs.declared.verdict.Verdict.{Verdict}
+use Rattle.validator.specs.declared.fail.AuditFail.{AuditFail}
+use Rattle.validator.specs.Verdicts.{mark_of}
+use Rattle.store_world.specs.Found.{Found}
+use Rattle.store_world.specs.World.{World}
+use Rattle.store_world.specs.Steps.{Step, filed_for, intent_in}
+
+-- ---- items more
+
+-- the items that stand behind those of before
+abbrev pub items_added : Option statements.World → Option statements.World → List Item
+items_added (Some old) (Some new) = drop (length old.items) new.items
+items_added old new = []
+
+-- Each item replaces the bytes from the gate on by an open gate, its record, and a closed gate; the bytes behind these stay.
+abbrev pub with_items : ℕ → List Item → List ℕ → List ℕ
+with_items end [] bytes = bytes
+with_items end (item ∷ items) bytes = with_items (end_behind end (length (spell_item item))) items (with_record end item bytes)
+
+-- the calls that do that: those of an append for each item
+abbrev pub appends : Standing → List Item → List disks.Call
+appends at [] = []
+appends at (item ∷ items) = append_calls at (spell_item item) ++ appends (behind at (spell_item item)) items
+
+-- where the gate behind all items stands
+abbrev pub end_of_store : Option statements.World → ℕ
+end_of_store None = 0
+end_of_store (Some w) = w.end
+
+-- the calls of a line that makes this of a world, over these bytes
+abbrev pub disk_calls : World → Step → List ℕ → List disks.Call
+disk_calls w next bytes = appends (standing (end_of_store w.store) bytes) (items_added w.store next.world.store)
+
+-- ---- batches and marks
+
+-- one for each batch that is filed, and one for the first that there is no room for
+abbrev pub filing_calls : World → List Batch → List Call
+filing_calls w batches = take (suc (fitting (room_in w.limits w.lists) batches)) (filings w.id (length (filed_for w)) batches)
+
+abbrev pub unless : Option AuditFail → List Call → List Call
+unless (Some fail) calls = []
+unless None calls = calls
+
+abbrev pub notarize_calls : World → Option statements.World → ℕ → List Call
+notarize_calls w None now = []
+notarize_calls w (Some store) now = unless (intent_in w store now).fault (filing_calls w (intent_in w store now).batches)
+
+abbrev pub noting : ℕ → Option Mark → List Call
+noting id None = []
+noting id (Some mark) = note id mark ∷ []
+
+-- one for a mark, whether there is room for it or not
+abbrev pub validate_calls : World → ℕ → Result Verdict AuditFail → List Call
+validate_calls w now (Ok verdict) = noting w.id (mark_of verdict now)
+validate_calls w now (Err fail) = []
+
+unfoldable pub notary_calls : World → Line → ℕ → Found → List Call
+notary_calls w (lines.Plain stmts.Notarize) now found = notarize_calls w w.store now
+notary_calls w (lines.Plain stmts.Validate) now found = validate_calls w now found.verdict
+notary_calls w line now found = []

@@ -1,0 +1,98 @@
+//! What a line is answered.
+
+ghost use Rattle.std.specs.Prelude.{◌≡◌, ◌++◌, ◌∷◌, [], codes, IfOk};
+ghost use Rattle.number_text.specs.Numbered.{numbered};
+ghost use Rattle.validator.specs.Texts.{verdict_text, refusal_text};
+ghost use Rattle.forensic_report.specs.Fails as reports;
+ghost use Rattle.store_world.specs.Answers.{said, refusal, reported};
+
+use forensic_report::{AnalyseFail, Report};
+use std::alloc::{AllocError, Global};
+use tuple_bytes::Blob;
+use validator::{AuditFail, Verdict, put_refusal, put_verdict};
+
+/// The text of a reply, and whether it is a refusal.
+#[derive(Debug, Drop)]
+pub struct Answered {
+    pub refused: bool,
+    pub text: Blob,
+}
+
+/// These words, on a line of their own.
+fn line_of(words: Vec<u8>) -> Result<Blob, AllocError>
+    ensures value { IfOk result (λ text. text ≡ words.items ++ 10 ∷ []) }
+{
+    let mut words = words;
+    words.push(b'\n')?;
+    Ok(Blob::from_vec(words))
+}
+
+/// How many tiles are sealed.
+pub(crate) fn sealed(alloc: Global, tiles: u32) -> Result<Answered, AllocError>
+    ensures value { IfOk result (λ answered. answered ≡ said (numbered (codes "sealed ") tiles)) }
+{
+    let digits = format!(in alloc; "{tiles}")?;
+    let mut words = b"sealed ".to_vec(alloc)?;
+    words.extend_from_slice(digits.as_bytes())?;
+    Ok(Answered {
+        refused: false,
+        text: line_of(words)?,
+    })
+}
+
+/// What a validation found.
+pub(crate) fn found(alloc: Global, verdict: Verdict) -> Result<Answered, AllocError>
+    ensures value { IfOk result (λ answered. answered ≡ said (verdict_text verdict)) }
+{
+    let mut words = Vec::new(alloc);
+    put_verdict(alloc, &mut words, verdict)?;
+    Ok(Answered {
+        refused: false,
+        text: line_of(words)?,
+    })
+}
+
+/// Why nothing was done.
+pub(crate) fn refused(alloc: Global, fail: AuditFail) -> Result<Answered, AllocError>
+    ensures value { IfOk result (λ answered. answered ≡ refusal (refusal_text fail)) }
+{
+    let mut words = b"refused ".to_vec(alloc)?;
+    put_refusal(alloc, &mut words, fail)?;
+    Ok(Answered {
+        refused: true,
+        text: line_of(words)?,
+    })
+}
+
+/// What an analysis reports.
+pub(crate) fn reported(report: Report) -> Answered
+    ensures value { result ≡ reported report }
+{
+    Answered {
+        refused: false,
+        text: report.text,
+    }
+}
+
+/// Why there is no report.
+pub(crate) fn not_reported(alloc: Global, fail: AnalyseFail) -> Result<Answered, AllocError>
+    ensures value { IfOk result (λ answered. answered ≡ refusal (reports.refusal_text fail)) }
+{
+    let mut words = b"refused ".to_vec(alloc)?;
+    forensic_report::put_refusal(alloc, &mut words, fail)?;
+    Ok(Answered {
+        refused: true,
+        text: line_of(words)?,
+    })
+}
+
+/// There is no store.
+pub(crate) fn not_a_store(alloc: Global) -> Result<Answered, AllocError>
+    ensures value { IfOk result (λ answered. answered ≡ refusal (codes "NotAStore")) }
+{
+    let words = b"refused NotAStore".to_vec(alloc)?;
+    Ok(Answered {
+        refused: true,
+        text: line_of(words)?,
+    })
+}

@@ -1,0 +1,141 @@
+//! Lines, with a store and without one.
+
+ghost use Rattle.std.specs.Prelude.{◌≡◌, ◌↔◌, ⊤, false, IsTrue, IfErr, IfOk, OnOk, codes};
+ghost use Rattle.outside_words.specs.Faults.{HasCause, HidesNoFault};
+ghost use Rattle.disk_words.specs.Disk as disks;
+ghost use Rattle.notary_link.specs.Notary as notaries;
+ghost use Rattle.stmt_text.specs.Fits.{FitsParts};
+ghost use Rattle.stmt_text.specs.Kinds.{line_kind};
+ghost use Rattle.stmt_text.specs.declared.line.Line.TheVariants as lines;
+ghost use Rattle.stmt_text.specs.declared.stmt.Stmt.TheVariants as stmts;
+ghost use Rattle.session_model.specs.Standing.{IsStatementLine};
+ghost use Rattle.validator.specs.Desk.{KeepsSound, desk};
+ghost use Rattle.store_world.specs.declared.fail.LineFail.TheVariants.{DiskFault, NotaryFault, NoMemory};
+ghost use Rattle.store_world.specs.Answers.{refusal};
+ghost use Rattle.store_world.specs.Faults.{MayEndIn};
+ghost use Rattle.store_world.specs.World.{StandsFor};
+ghost use Rattle.store_world.specs.Steps.{IsWorldLine};
+ghost use Rattle.store_world.specs.Stepping.{StepsFor};
+ghost use Rattle.store_world.specs.Parts.{alone, no_store};
+ghost use Rattle.store_world.specs.Growing.{GrowsFor};
+ghost use Rattle.store_world.specs.Unheld.{NeedsStore, IsToldNone, GoesByBytes, AnalysesBy};
+
+use crate::analyses::answer_analysis;
+use crate::answered::{Answered, not_a_store};
+use crate::audits::{answer_notarization, answer_validation};
+use crate::fail::LineFail;
+use crate::statements::answer_statement;
+use disk_model::Disk;
+use notary_link::Notary;
+use session_core::Sessions;
+use std::alloc::Global;
+use stmt_text::{Line, LineKind, Stmt};
+use store_engine::Store;
+
+/// Carries out a line over an open store, at these clock seconds.
+pub(crate) fn answer_with_store<D: Disk, N: Notary>(
+    alloc: Global,
+    sessions: &mut Sessions,
+    store: &mut Store,
+    disk: &mut D,
+    notary: &mut N,
+    line: &Line,
+    now: u64,
+) -> Result<Answered, LineFail>
+    requires open { store.old.at.is_closed ≡ false }
+    requires is_line { IsWorldLine line.now }
+    requires fits { FitsParts line.now }
+    ensures open { OnOk result (store.new.at.is_closed ≡ false) }
+    ensures header { store.new.header ≡ store.old.header }
+    ensures bytes { line.now ≡ lines.Plain stmts.Validate → GoesByBytes store.old.header.id now result (D.state disk.old) (D.state disk.new) (N.state notary.old) (N.state notary.new) }
+    ensures report { AnalysesBy line.now store.old.header.id now result
+        (desk (D.state disk.old) (N.state notary.old)) (desk (D.state disk.new) (N.state notary.new)) }
+    ensures unasked { IsStatementLine line.now → N.state notary.new ≡ N.state notary.old }
+    ensures only { IfErr result (MayEndIn (line_kind line.now) ⊤) }
+    ensures grows { GrowsFor line.now now result (alone sessions.old store.old) (alone sessions.new store.new) (D.state disk.old) (D.state disk.new) }
+    ensures told { StepsFor line.now now result (alone sessions.old store.old) (alone sessions.new store.new)
+        (desk (D.state disk.old) (N.state notary.old)) (desk (D.state disk.new) (N.state notary.new)) }
+    ensures sound { KeepsSound (StandsFor (alone sessions.old store.old))
+        (desk (D.state disk.old) (N.state notary.old)) (desk (D.state disk.new) (N.state notary.new)) }
+    ensures disk_frame { disks.GoesOn (D.state disk.old) (D.state disk.new) }
+    ensures notary_frame { notaries.GoesOn (N.state notary.old) (N.state notary.new) }
+    ensures disk_cause { HasCause DiskFault (D.state disk.old).faults (D.state disk.new).faults result }
+    ensures disk_counted { HidesNoFault (D.state disk.old).faults (D.state disk.new).faults result }
+    ensures notary_cause { HasCause NotaryFault (N.state notary.old).faults (N.state notary.new).faults result }
+    ensures notary_counted { HidesNoFault (N.state notary.old).faults (N.state notary.new).faults result }
+{
+    match line {
+        Line::Plain {
+            stmt: Stmt::Notarize,
+        } => answer_notarization(alloc, store, disk, notary, now),
+        Line::Plain {
+            stmt: Stmt::Validate,
+        } => {
+            let id = store.header().id;
+            answer_validation(alloc, disk, notary, id, now)
+        }
+        Line::Plain {
+            stmt: Stmt::Analyse { algorithm },
+        } => {
+            let id = store.header().id;
+            answer_analysis(alloc, disk, notary, id, *algorithm, now)
+        }
+        _ => answer_statement(alloc, sessions, store, disk, line, now),
+    }
+}
+
+/// What is told where a store is needed, and there is none.
+fn no_answer(alloc: Global, line: &Line) -> Result<Answered, LineFail>
+    requires needs { NeedsStore line.now }
+    ensures needs { NeedsStore line.now }
+    ensures value { IfOk result (λ answered. answered ≡ refusal (codes "NotAStore")) }
+    ensures only_memory { IfErr result (λ fail. fail ≡ NoMemory) }
+{
+    let _line = line;
+    Ok(not_a_store(alloc)?)
+}
+
+/// Carries out a line where there is no store of this id.
+pub(crate) fn answer_without_store<D: Disk, N: Notary>(
+    alloc: Global,
+    disk: &mut D,
+    notary: &mut N,
+    id: u64,
+    line: &Line,
+    now: u64,
+) -> Result<Answered, LineFail>
+    requires is_line { IsWorldLine line.now }
+    ensures none { NeedsStore line.now → IsToldNone result (D.state disk.old) (D.state disk.new) (N.state notary.old) (N.state notary.new) }
+    ensures bytes { line.now ≡ lines.Plain stmts.Validate → GoesByBytes id now result (D.state disk.old) (D.state disk.new) (N.state notary.old) (N.state notary.new) }
+    ensures report { AnalysesBy line.now id now result
+        (desk (D.state disk.old) (N.state notary.old)) (desk (D.state disk.new) (N.state notary.new)) }
+    ensures only { IfErr result (MayEndIn (line_kind line.now) ⊤) }
+    ensures grows { GrowsFor line.now now result (no_store id) (no_store id) (D.state disk.old) (D.state disk.new) }
+    ensures told { StepsFor line.now now result (no_store id) (no_store id)
+        (desk (D.state disk.old) (N.state notary.old)) (desk (D.state disk.new) (N.state notary.new)) }
+    ensures sound { KeepsSound (λ before. ⊤)
+        (desk (D.state disk.old) (N.state notary.old)) (desk (D.state disk.new) (N.state notary.new)) }
+    ensures disk_frame { disks.GoesOn (D.state disk.old) (D.state disk.new) }
+    ensures notary_frame { notaries.GoesOn (N.state notary.old) (N.state notary.new) }
+    ensures disk_cause { HasCause DiskFault (D.state disk.old).faults (D.state disk.new).faults result }
+    ensures disk_counted { HidesNoFault (D.state disk.old).faults (D.state disk.new).faults result }
+    ensures notary_cause { HasCause NotaryFault (N.state notary.old).faults (N.state notary.new).faults result }
+    ensures notary_counted { HidesNoFault (N.state notary.old).faults (N.state notary.new).faults result }
+{
+    match line {
+        Line::Plain {
+            stmt: Stmt::Validate,
+        } => answer_validation(alloc, disk, notary, id, now),
+        Line::Plain {
+            stmt: Stmt::Analyse { algorithm },
+        } => answer_analysis(alloc, disk, notary, id, *algorithm, now),
+        _ => no_answer(alloc, line),
+    }
+}
+
+/// Whether a world takes a line: a statement on tables, `notarize`, `validate` or `analyse`, or any line of a session.
+pub fn is_world_line(line: &Line) -> bool
+    ensures value { IsTrue result ↔ IsWorldLine line.now }
+{
+    matches!(line.kind(), LineKind::InWorld { .. })
+}

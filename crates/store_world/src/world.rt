@@ -1,0 +1,148 @@
+//! A world of the code: the store of an id with its sessions, as lines find them.
+
+ghost use Rattle.std.proofs.Props.{props};
+ghost use Rattle.std.specs.Prelude.{◌≡◌, ⊤, None, false, IfSome, IsSome, IfErr, OnErr, OnOk, option_map};
+ghost use Rattle.std.specs.Option.{option_copied};
+ghost use Rattle.outside_words.specs.Faults.{HasCause, HidesNoFault};
+ghost use Rattle.disk_words.specs.Disk as disks;
+ghost use Rattle.notary_link.specs.Notary as notaries;
+ghost use Rattle.stmt_text.specs.Fits.{FitsParts};
+ghost use Rattle.stmt_text.specs.Kinds.{line_kind};
+ghost use Rattle.stmt_text.specs.declared.line.Line.TheVariants as lines;
+ghost use Rattle.stmt_text.specs.declared.stmt.Stmt.TheVariants as stmts;
+ghost use Rattle.session_model.specs.Standing.{IsStatementLine, NoneKept};
+ghost use Rattle.store_engine.specs.declared.fail.StoreFail.TheVariants as stores;
+ghost use Rattle.store_engine.specs.Refusals.{IsOfOpening};
+ghost use Rattle.validator.specs.Desk.{KeepsSound, desk};
+ghost use Rattle.store_world.specs.declared.fail.LineFail.TheVariants.{DiskFault, NotaryFault};
+ghost use Rattle.store_world.specs.World.{StandsFor, IsEntered};
+ghost use Rattle.store_world.specs.Faults.{MayEndIn};
+ghost use Rattle.store_world.specs.Steps.{IsWorldLine};
+ghost use Rattle.store_world.specs.Stepping.{StepsFor, KeepsStore};
+ghost use Rattle.store_world.specs.Growing.{GrowsFor};
+ghost use Rattle.store_world.specs.Unheld.{NeedsStore, IsToldNone, GoesByBytes, AnalysesBy};
+
+use crate::answered::Answered;
+use crate::fail::LineFail;
+use crate::lines::{answer_with_store, answer_without_store};
+use crate::open_store::OpenStore;
+use disk_model::Disk;
+use notary_link::Notary;
+use session_core::Sessions;
+use std::alloc::Global;
+use std::marker::Model;
+use stmt_text::Line;
+use store_engine::{Store, StoreFail};
+
+/// The store of an id with its sessions, or no store yet. Each call on it is lent the disk and the
+/// notary, which have to be as the last call left them.
+#[derive(Drop)]
+pub struct World {
+    id: u64,
+    opened: Option<OpenStore>,
+    ghost unclosed: { IfSome opened (λ o. o.store.at.is_closed ≡ false) } by { Prim.hlevel props },
+    ghost own: { IfSome opened (λ o. o.store.header.id ≡ id) } by { Prim.hlevel props },
+}
+
+impl Model for World {
+    ghost use Rattle.store_world.specs.World.{Held};
+
+    ghost Value = { Held };
+
+    ghost view = { λ w. record { id = w.id; opened = w.opened } };
+}
+
+impl World {
+    /// No store, and no memory.
+    pub fn new(id: u64) -> World
+        ensures id { result.id ≡ id }
+        ensures value { result.opened ≡ None }
+    {
+        World { id, opened: None }
+    }
+
+    /// Opens the store of the id anew, without any session. After a refusal there is no store.
+    pub fn enter<D: Disk>(&mut self, alloc: Global, disk: &mut D) -> Result<(), StoreFail>
+        ensures id { self.new.id ≡ self.old.id }
+        ensures value { IfSome (D.state disk.old).reads (λ bytes. IsEntered self.old.id bytes result self.new.opened) }
+        ensures some { OnOk result (IsSome self.new.opened) }
+        ensures open { IfSome self.new.opened (λ o. o.store.at.is_closed ≡ false) }
+        ensures own { IfSome self.new.opened (λ o. o.store.header.id ≡ self.old.id) }
+        ensures sessions { IfSome self.new.opened (λ o. NoneKept o.sessions) }
+        ensures none { OnErr result (self.new.opened ≡ None) }
+        ensures none_other { IfErr result IsOfOpening }
+        ensures same { disks.Unchanged (D.state disk.old) (D.state disk.new) }
+        ensures frame { disks.GoesOn (D.state disk.old) (D.state disk.new) }
+        ensures cause { HasCause stores.DiskFault (D.state disk.old).faults (D.state disk.new).faults result }
+    {
+        self.opened = None;
+        self.opened = Some(OpenStore {
+            store: Store::open_store(alloc, disk, self.id)?,
+            sessions: Sessions::new(alloc),
+        });
+        Ok(())
+    }
+
+    /// Carries out a line at these clock seconds. After a failure there is no store, and no session.
+    pub fn line<D: Disk, N: Notary>(
+        &mut self,
+        alloc: Global,
+        disk: &mut D,
+        notary: &mut N,
+        line: &Line,
+        now: u64,
+    ) -> Result<Answered, LineFail>
+        requires is_line { IsWorldLine line.now }
+        requires fits { FitsParts line.now }
+        ensures id { self.new.id ≡ self.old.id }
+        ensures store { KeepsStore result self.old self.new }
+        ensures open { IfSome self.new.opened (λ o. o.store.at.is_closed ≡ false) }
+        ensures own { IfSome self.new.opened (λ o. o.store.header.id ≡ self.old.id) }
+        ensures none { self.old.opened ≡ None → NeedsStore line.now → IsToldNone result
+            (D.state disk.old) (D.state disk.new) (N.state notary.old) (N.state notary.new) }
+        ensures bytes { line.now ≡ lines.Plain stmts.Validate → GoesByBytes self.old.id now result
+            (D.state disk.old) (D.state disk.new) (N.state notary.old) (N.state notary.new) }
+        ensures report { AnalysesBy line.now self.old.id now result
+            (desk (D.state disk.old) (N.state notary.old)) (desk (D.state disk.new) (N.state notary.new)) }
+        ensures unasked { IsStatementLine line.now → N.state notary.new ≡ N.state notary.old }
+        ensures only { IfErr result (MayEndIn (line_kind line.now) ⊤) }
+        ensures grows { GrowsFor line.now now result self.old self.new (D.state disk.old) (D.state disk.new) }
+        ensures told { StepsFor line.now now result self.old self.new
+            (desk (D.state disk.old) (N.state notary.old)) (desk (D.state disk.new) (N.state notary.new)) }
+        ensures sound { KeepsSound (StandsFor self.old)
+            (desk (D.state disk.old) (N.state notary.old)) (desk (D.state disk.new) (N.state notary.new)) }
+        ensures disk_frame { disks.GoesOn (D.state disk.old) (D.state disk.new) }
+        ensures notary_frame { notaries.GoesOn (N.state notary.old) (N.state notary.new) }
+        ensures disk_cause { HasCause DiskFault (D.state disk.old).faults (D.state disk.new).faults result }
+        ensures disk_counted { HidesNoFault (D.state disk.old).faults (D.state disk.new).faults result }
+        ensures notary_cause { HasCause NotaryFault (N.state notary.old).faults (N.state notary.new).faults result }
+        ensures notary_counted { HidesNoFault (N.state notary.old).faults (N.state notary.new).faults result }
+    {
+        match self.opened.take() {
+            Some(mut open) => {
+                let answered = answer_with_store(
+                    alloc,
+                    &mut open.sessions,
+                    &mut open.store,
+                    disk,
+                    notary,
+                    line,
+                    now,
+                )?;
+                self.opened = Some(open);
+                Ok(answered)
+            }
+            None => answer_without_store(alloc, disk, notary, self.id, line, now),
+        }
+    }
+
+    /// The store, where there is one.
+    pub fn store(&self) -> Option<&Store>
+        ensures value { option_copied result ≡ option_map (λ o. o.store) self.now.opened }
+    {
+        match &self.opened {
+            Some(open) => Some(&open.store),
+            None => None,
+        }
+    }
+}
