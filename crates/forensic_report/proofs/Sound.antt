@@ -26,8 +26,8 @@ use Rattle.forensic_report.specs.declared.algorithm.Algorithm.TheVariants.{Mono,
 use Rattle.forensic_report.specs.declared.fail.AnalyseFail.{AnalyseFail}
 use Rattle.forensic_report.specs.declared.fail.AnalyseFail.TheVariants as fails
 use Rattle.forensic_report.specs.Analysis.{Analysis, Region, Targets, Leaves, Unsealed, HeaderAltered, Found, is_altered}
-use Rattle.forensic_report.specs.Finding.{IsRegion, stop_told, failing, analysis_by, targets_told, IsFoundBy, IsFoundAt, has_chains, IsAnalysisIn, IsAnalysis}
-use Rattle.forensic_report.specs.Laws.{TellsNoAlteration, SoundIsUnaltered}
+use Rattle.forensic_report.specs.Finding.{IsRegion, stop_told, failing, analysis_by, targets_told, IsFoundBy, IsFoundAt, has_chains, IsAnalysisIn, IsAnalysis, IsSoundAnalysis}
+use Rattle.forensic_report.specs.Laws.{SoundIsUnaltered}
 use Rattle.forensic_report.proofs.Layouts.{tile_has_chains, tile_has_tree}
 use Rattle.ask_words.proofs.Stops.{no_stop}
 use Rattle.forensic_report.proofs.Lists.{none_mapped}
@@ -36,7 +36,7 @@ use Rattle.forensic_report.proofs.Filed.{header_planned}
 use Rattle.forensic_report.proofs.Ways.{Way, unfiled, refused, chainless, past, asked, not_past, by_answer, WayIn, other, under, way_of}
 
 -- this is told, of which nothing is altered
-told : (found : Result Analysis AnalyseFail) (a : Analysis) → found ≡ Ok a → is_altered a ≡ false → TellsNoAlteration found
+told : (found : Result Analysis AnalyseFail) (a : Analysis) → found ≡ Ok a → is_altered a ≡ false → IsSoundAnalysis found
 told found a is none = inl (a, is, none)
 
 -- ---- the chain
@@ -45,7 +45,7 @@ no_region : (chain : ℕ → Answer) (n first : ℕ) → ((tile : ℕ) → tile 
 no_region chain zero first same is = absurd cc
 no_region chain (suc last) first same is = let s = same last (omega arith) in let d = is.0 in absurd cc
 
-region_none : (chain : ℕ → Answer) (l : Layout) (n : ℕ) → ((tile : ℕ) → tile < n → chain tile ≡ Same) → (found : Result Analysis AnalyseFail) → IsRegion chain l n found → TellsNoAlteration found
+region_none : (chain : ℕ → Answer) (l : Layout) (n : ℕ) → ((tile : ℕ) → tile < n → chain tile ≡ Same) → (found : Result Analysis AnalyseFail) → IsRegion chain l n found → IsSoundAnalysis found
 region_none chain l n same (Ok (Found m tiles (Region None))) is = inl (Found m tiles (Region None), refl, refl)
 region_none chain l n same (Ok (Found m tiles (Region (Some first)))) is = absurd (no_region chain n first same is.2)
 region_none chain l n same (Ok (Found m tiles (Targets targets))) is = absurd is
@@ -85,21 +85,21 @@ module _ (batches : List Batch) (id n : ℕ) (h : History) (filed : NotaryOf bat
       let stops = none_stops batches id n h filed own in
       tree_is batches h n filed.within has ∙ (rw (stops, none) refl)
 
-  tiled_found : (found : Result Analysis AnalyseFail) → has_chains Tiled (layout h) n ≡ true → found ≡ analysis_by Targets (layout h) n (targets_told batches h n) → TellsNoAlteration found
+  tiled_found : (found : Result Analysis AnalyseFail) → has_chains Tiled (layout h) n ≡ true → found ≡ analysis_by Targets (layout h) n (targets_told batches h n) → IsSoundAnalysis found
   tiled_found found has is = told found (Found (layout h) n (Targets [])) (is ∙ ap (analysis_by Targets (layout h) n) (tiled_same has)) refl
 
   header_same : header_answer batches h n ≡ Same
   unfolding header_answer
   header_same = same names.Header (header_planned (layout h) n)
 
-  by_algorithm : (algorithm : Algorithm) (found : Result Analysis AnalyseFail) → has_chains algorithm (layout h) n ≡ true → IsFoundBy algorithm batches n h found → TellsNoAlteration found
+  by_algorithm : (algorithm : Algorithm) (found : Result Analysis AnalyseFail) → has_chains algorithm (layout h) n ≡ true → IsFoundBy algorithm batches n h found → IsSoundAnalysis found
   by_algorithm Mono found has is = region_none (cums batches h) (layout h) n (λ tile below. same (names.Cum tile) (cum_planned (layout h) n tile below)) found is
   by_algorithm Tiled found has is = tiled_found found has is
   by_algorithm (TiledExactly kappa) found has is = tiled_found found has is
   by_algorithm A3d found has is =
       told found (Found (layout h) n (Leaves [] (tree_checks batches h n))) (is ∙ ap (analysis_by leaves (layout h) n) (tree_same has)) refl
 
-  by_way : (algorithm : Algorithm) (found : Result Analysis AnalyseFail) → Way algorithm batches n h found → TellsNoAlteration found
+  by_way : (algorithm : Algorithm) (found : Result Analysis AnalyseFail) → Way algorithm batches n h found → IsSoundAnalysis found
   by_way algorithm found (unfiled absent is) = absurd (let header = header_same in let both : Same ≡ Absent = sym header ∙ absent in cc)
   by_way algorithm found (refused differs is) = absurd (let header = header_same in let both : Same ≡ Differs = sym header ∙ differs in cc)
   by_way algorithm found (chainless header lacks is) = inr is
@@ -107,7 +107,7 @@ module _ (batches : List Batch) (id n : ℕ) (h : History) (filed : NotaryOf bat
   by_way algorithm found (asked header has small is) = by_algorithm algorithm found has is
 
 -- the same of a history that is what is filed, whatever file has it
-pub sound_in : (algorithm : Algorithm) (batches : List Batch) (id n : ℕ) (h : History) (found : Result Analysis AnalyseFail) → NotaryOf batches id h n → IsAnalysisIn algorithm batches (Some h) found → TellsNoAlteration found
+pub sound_in : (algorithm : Algorithm) (batches : List Batch) (id n : ℕ) (h : History) (found : Result Analysis AnalyseFail) → NotaryOf batches id h n → IsAnalysisIn algorithm batches (Some h) found → IsSoundAnalysis found
 sound_in algorithm [] id n h found filed is = absurd (let many = counted [] id h n filed in omega (arith, many))
 sound_in algorithm (first ∷ batches) id n h found filed is =
     let many : length batches ≡ n = omega (arith, counted (first ∷ batches) id h n filed) in
@@ -118,11 +118,11 @@ same_some : (a b : History) → Some a ≡ Some b → a ≡ b
 same_some a b e = cc
 
 by_file : (algorithm : Algorithm) (batches : List Batch) (id n : ℕ) (st : Stored) (found : Result Analysis AnalyseFail) (o : Option History) → history_in st ≡ o
-    → HoldsNotarized batches id n o → IsAnalysis algorithm id batches st found → TellsNoAlteration found
+    → HoldsNotarized batches id n o → IsAnalysis algorithm id batches st found → IsSoundAnalysis found
 by_file algorithm batches id n st found None stands holds is = absurd holds
 by_file algorithm batches id n st found (Some h) stands holds is = by (way_of algorithm batches id n h st found holds.filed is)
   where
-    by : WayIn algorithm batches id n (history_in st) found → TellsNoAlteration found
+    by : WayIn algorithm batches id n (history_in st) found → IsSoundAnalysis found
     by (other none told_so) = absurd (none h stands holds.filed.header)
     by (under s there way) = by_way batches id n h holds.filed algorithm found (subst (λ (x : History). Way algorithm batches n x found) (same_some s h (sym there ∙ stands)) way)
 

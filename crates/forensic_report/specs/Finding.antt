@@ -1,5 +1,5 @@
 -- What an analysis finds by the answers for what is stored.
-use Rattle.std.specs.Prelude.{◌≡◌, ◌≢◌, ◌<◌, ℕ, ◌-◌, min, max, nat_le, Bool, true, false, List, [], ◌∷◌, length, map, Option, Some, None, Result, Ok, Err}
+use Rattle.std.specs.Prelude.{◌≡◌, ◌≢◌, ◌⊎◌, ◌<◌, ℕ, ◌-◌, min, max, nat_le, Bool, true, false, List, [], ◌∷◌, length, map, Option, Some, None, Result, Ok, Err}
 use Rattle.std.specs.List.{filter_map, list_all, range_with_len}
 use Rattle.history_model.specs.declared.stored.Stored.{Stored}
 use Rattle.history_model.specs.History.{History}
@@ -22,7 +22,7 @@ use Rattle.forensic_report.specs.declared.algorithm.Algorithm.TheVariants.{Mono,
 use Rattle.forensic_report.specs.declared.fail.AnalyseFail.{AnalyseFail}
 use Rattle.forensic_report.specs.declared.fail.AnalyseFail.TheVariants as fails
 use Rattle.forensic_report.specs.Fails.{of_asking}
-use Rattle.forensic_report.specs.Analysis.{Findings, Analysis, Region, Targets, Leaves, Unsealed, HeaderAltered, Found}
+use Rattle.forensic_report.specs.Analysis.{Findings, Analysis, Region, Targets, Leaves, Unsealed, HeaderAltered, Found, is_altered}
 
 -- ---- by the algorithm, of n sealed tiles under the header that was filed
 
@@ -134,3 +134,7 @@ IsOfAnalysis (TiledExactly kappa) fails.NotSealedSo = Unit {0}
 IsOfAnalysis A3d fails.NotSealedSo = Unit {0}
 IsOfAnalysis A3d (fails.NotaryInconsistent level index) = Unit {0}
 IsOfAnalysis algorithm fail = ⊥
+
+-- an analysis that tells of no alteration, or that there is none by this algorithm
+abbrev pub IsSoundAnalysis : Result Analysis AnalyseFail → Type 0
+IsSoundAnalysis found = ((a : Analysis) × (found ≡ Ok a) × (is_altered a ≡ false)) ⊎ (found ≡ Err fails.NotSealedSo)

@@ -4,7 +4,8 @@ use Rattle.notary_link.specs.Batches.{Batch}
 use Rattle.history_model.specs.History.{History}
 use Rattle.digest_model.specs.Layout.{Layout, layout, first_granule, exponent, tile_of}
 use Rattle.audit_model.specs.Altered.{HasPlacesOf, HasOtherHeader, IsAltered, HashClash}
-use Rattle.audit_model.specs.Laws.{HasAltered, IsAlteredSet, IfSomeOrNever}
+use Rattle.audit_model.specs.Altered.{HasAltered, IsAlteredSet}
+use Rattle.audit_model.specs.Mono.{IfSomeOrNever}
 use Rattle.audit_model.specs.Tiled.{IsCandidate, IsCandidateAmong}
 use Rattle.tiled_forensics.specs.Target.{parts}
 use Rattle.forensic_report.specs.declared.algorithm.Algorithm.{Algorithm}

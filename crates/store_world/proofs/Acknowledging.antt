@@ -1,13 +1,11 @@
 -- What a reply acknowledges is stored, and only items more are stored.
-use Rattle.std.proofs.Common.{◌≡◌, ◌∙◌, inl, inr, ℕ, Bool, true, false, List, [], ◌∷◌, ◌++◌, length, Option, Some, None, Result, Ok, Err, refl, sym, ap, subst}
-use Rattle.std.specs.Prelude.{if◌then◌else◌, nat_lt, codes, ◌==◌}
+use Rattle.std.proofs.Common.{◌≡◌, ◌∙◌, inl, inr, ℕ, List, [], ◌∷◌, ◌++◌, Option, Some, None, Result, Ok, Err, refl, sym, ap, subst}
+use Rattle.std.specs.Prelude.{codes}
 use Rattle.std.specs.Fmt.{decimal}
 use Rattle.std.proofs.lemmas.List.{append-nil, append_cancel_left, append_cancel_right}
 use Rattle.tuple_bytes.specs.declared.item.Item.TheVariants as items
 use Rattle.history_model.specs.History.{txns}
 use Rattle.notary_link.specs.declared.mark.Mark.{Mark}
-use Rattle.notary_link.specs.Filing.{fitting, room_in}
-use Rattle.notary_link.specs.Notary.{marks_in_all}
 use Rattle.stmt_text.specs.declared.stmt.LineAlgorithm.{LineAlgorithm}
 use Rattle.stmt_text.specs.declared.stmt.Stmt.TheVariants as stmts
 use Rattle.stmt_text.specs.declared.line.Line.{Line}
@@ -19,8 +17,7 @@ use Rattle.statement_core.specs.Promises.{HasOneMore, IsPromised}
 use Rattle.statement_core.specs.World as statements
 use Rattle.session_model.specs.World as sessions
 use Rattle.session_model.specs.Steps as session_steps
-use Rattle.session_model.specs.Steps.{Answer, Replied, Stopped}
-use Rattle.session_model.specs.Standing.{reply_of}
+use Rattle.session_model.specs.Steps.{Answer, Replied, Stopped, reply_of}
 use Rattle.session_model.specs.Promises as session_promises
 use Rattle.session_model.proofs.Promising.{steps_keep_promises}
 use Rattle.validator.specs.declared.verdict.Verdict.{Verdict}
@@ -29,7 +26,8 @@ use Rattle.validator.specs.Verdicts.{mark_of}
 use Rattle.validator.specs.Texts.{verdict_text}
 use Rattle.store_world.specs.World.{World}
 use Rattle.store_world.specs.Found.{Found}
-use Rattle.store_world.specs.Steps.{Step, step, on_tables, intent_in, notarized, unless, sealed, validated, analysed, algorithm_of, marked, reached}
+use Rattle.validator.specs.Notarizing.{Heard}
+use Rattle.store_world.specs.Steps.{Step, step, on_tables, intent_in, notarized, unless, carried_out, validated, analysed, algorithm_of, marked, reached}
 use Rattle.store_world.specs.Acknowledged.{HasTxn, IsStored, Extends, OnlyAppends, StepsAcknowledge, StepsOnlyAppend, ok_text}
 use Rattle.store_world.proofs.Texts.{SaysOk, says_ok, reply_ok, refusal_no, notarized_no, validated_no, analysed_no}
 use Rattle.store_world.proofs.Adding.{Adds, step_adds}
@@ -37,8 +35,8 @@ use Rattle.store_world.proofs.Analysing.{analysed_stays}
 
 -- a line is a notarization, a validation or an analysis, or goes to the tables
 pub by_line : (P : Line → Step → Type 0) (w : World) (line : Line) (now : ℕ) (found : Found)
-    → ((line : Line) → P line (on_tables w w.store line now)) → P (lines.Plain stmts.Notarize) (notarized w w.store now) → P (lines.Plain stmts.Validate) (validated w now found.verdict)
-    → ((algorithm : LineAlgorithm) → P (lines.Plain (stmts.Analyse algorithm)) (analysed w (algorithm_of algorithm) now found.analysis)) → P line (step w line now found)
+    → ((line : Line) → P line (on_tables w w.store line now)) → P (lines.Plain stmts.Notarize) (notarized w w.store now found.heard found.refusal) → P (lines.Plain stmts.Validate) (validated w now found.verdict found.refusal)
+    → ((algorithm : LineAlgorithm) → P (lines.Plain (stmts.Analyse algorithm)) (analysed w (algorithm_of algorithm) found.analysis found.body)) → P line (step w line now found)
 unfolding step
 by_line P w lines.Blank now found tables notarizes validates analyses = tables lines.Blank
 by_line P w (lines.Plain (stmts.Create table columns)) now found tables notarizes validates analyses = tables (lines.Plain (stmts.Create table columns))
@@ -93,32 +91,28 @@ module _ (w : World) where
       let new = (session_steps.step before line now).world.store in
       some_stored store new is (added_extends store new (step_adds before line now))
 
-  either_appends : (b : Bool) (s t : Step) → Appends s → Appends t → Appends (if b then s else t)
-  either_appends true s t one other = one
-  either_appends false s t one other = other
+  unless_appends : (fault : Option AuditFail) (new : World) (s : Step) → OnlyAppends w.store new.store → Appends s → Appends (unless fault new s)
+  unless_appends (Some fail) new s more is = more
+  unless_appends None new s more is = is
 
-  unless_appends : (fault : Option AuditFail) (s : Step) → Appends s → Appends (unless fault w s)
-  unless_appends (Some fail) s is = appends_none w.store
-  unless_appends None s is = is
-
-  notarized_appends : (o : Option statements.World) → o ≡ w.store → (now : ℕ) → Appends (notarized w o now)
-  notarized_appends None is now = appends_none w.store
-  notarized_appends (Some store) is now =
-      let i = intent_in w store now in
+  notarized_appends : (o : Option statements.World) → o ≡ w.store → (now : ℕ) (heard : Heard) (refusal : Option AuditFail) → Appends (notarized w o now heard refusal)
+  notarized_appends None is now heard refusal = appends_none w.store
+  notarized_appends (Some store) is now heard refusal =
+      let i = intent_in store now heard in
       let more = some_stored store (reached i.frontier store) is (reached_extends i.frontier store) in
-      unless_appends i.fault (sealed w store now) (either_appends (fitting (room_in w.limits w.lists) i.batches == length i.batches) _ _ more more)
+      unless_appends i.fault w (carried_out w store i refusal) (appends_none w.store) (unless_appends refusal _ _ more more)
 
-  marked_appends : (m : Option Mark) (text : List ℕ) → Appends (marked w m text)
-  marked_appends None text = appends_none w.store
-  marked_appends (Some mark) text = either_appends (nat_lt (marks_in_all w.lists) w.limits.marks) _ _ (appends_none w.store) (appends_none w.store)
+  marked_appends : (m : Option Mark) (refusal : Option AuditFail) (text : List ℕ) → Appends (marked w m refusal text)
+  marked_appends None refusal text = appends_none w.store
+  marked_appends (Some mark) refusal text = unless_appends refusal w _ (appends_none w.store) (appends_none w.store)
 
-  validated_appends : (now : ℕ) (found : Result Verdict AuditFail) → Appends (validated w now found)
-  validated_appends now (Ok verdict) = marked_appends (mark_of verdict now) (verdict_text verdict)
-  validated_appends now (Err fail) = appends_none w.store
+  validated_appends : (now : ℕ) (found : Result Verdict AuditFail) (refusal : Option AuditFail) → Appends (validated w now found refusal)
+  validated_appends now (Ok verdict) refusal = marked_appends (mark_of verdict now) refusal (verdict_text verdict)
+  validated_appends now (Err fail) refusal = appends_none w.store
 
 pub steps_append : StepsOnlyAppend
-steps_append w line now found = by_line (λ line s. Appends w s) w line now found (λ line. tables_append w w.store refl line now) (notarized_appends w w.store refl now) (validated_appends w now found.verdict)
-    (λ algorithm. none_stored w (analysed w (algorithm_of algorithm) now found.analysis) (ap (λ (x : World). x.store) (analysed_stays w (algorithm_of algorithm) now found.analysis)))
+steps_append w line now found = by_line (λ line s. Appends w s) w line now found (λ line. tables_append w w.store refl line now) (notarized_appends w w.store refl now found.heard found.refusal) (validated_appends w now found.verdict found.refusal)
+    (λ algorithm. none_stored w (analysed w (algorithm_of algorithm) found.analysis found.body) (ap (λ (x : World). x.store) (analysed_stays w (algorithm_of algorithm) found.analysis found.body)))
 
 -- ---- what is acknowledged is stored
 
@@ -161,5 +155,5 @@ module _ (w : World) (digits : List ℕ) where
 
 pub steps_acknowledge : StepsAcknowledge
 steps_acknowledge w line now found digits = by_line (λ line s. Acknowledges digits s) w line now found (λ line. tables_acknowledge w digits w.store line now)
-    (says_else w digits (notarized w w.store now) (notarized_no w w.store now)) (says_else w digits (validated w now found.verdict) (validated_no w now found.verdict))
-    (λ algorithm. says_else w digits (analysed w (algorithm_of algorithm) now found.analysis) (analysed_no w (algorithm_of algorithm) now found.analysis))
+    (says_else w digits (notarized w w.store now found.heard found.refusal) (notarized_no w w.store now found.heard found.refusal)) (says_else w digits (validated w now found.verdict found.refusal) (validated_no w now found.verdict found.refusal))
+    (λ algorithm. says_else w digits (analysed w (algorithm_of algorithm) found.analysis found.body) (analysed_no w (algorithm_of algorithm) found.analysis found.body))

@@ -7,7 +7,8 @@ use Rattle.notary_link.specs.declared.mark.Mark.{Mark}
 use Rattle.notary_link.specs.Batches.{Batch}
 use Rattle.notary_link.specs.Notary.{Lists, Keeps, Notes}
 use Rattle.notary_link.specs.Filing.{FilesAll}
-use Rattle.store_world.specs.World.{with_batches, with_mark, IsBetween, AreBetween}
+use Rattle.store_world.specs.World.{with_batches, with_mark}
+use Rattle.store_world.specs.Lists.{IsBetween, AreBetween}
 
 module _ {A : Type 0} where
   same_between : (l middle : List A) → middle ≡ l → IsBetween l l middle

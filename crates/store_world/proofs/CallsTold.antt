@@ -32,12 +32,12 @@ use Rattle.session_model.specs.World as sessions
 use Rattle.session_model.specs.World.{Session}
 use Rattle.session_model.specs.Steps as session_steps
 use Rattle.session_model.specs.Standing.{Machine, of_store, StepsIn}
-use Rattle.validator.specs.Desk.{Desk, Content, content, desk}
+use Rattle.validator.specs.Desk.{Desk, desk}
 use Rattle.validator.specs.declared.fail.AuditFail.{AuditFail}
 use Rattle.validator.specs.declared.fail.AuditFail.TheVariants as audits
-use Rattle.validator.specs.Notarizing.{Intent, IsRefusedBy}
+use Rattle.validator.specs.Notarizing.{Heard, Intent, IsRefusedBy}
 use Rattle.validator.specs.Reaching as reaching
-use Rattle.validator.specs.Reaching.{Does}
+use Rattle.validator.specs.Reaching.{CarriesOut}
 use Rattle.validator.specs.Texts.{refusal_text}
 use Rattle.store_world.specs.declared.answered.Answered.{Answered}
 use Rattle.store_world.specs.declared.fail.LineFail.{LineFail}
@@ -45,10 +45,10 @@ use Rattle.store_world.specs.declared.fail.LineFail.TheVariants as fails
 use Rattle.store_world.specs.Answers.{said, refusal, replied, Replies, IsAnswer, IsReplied}
 use Rattle.store_world.specs.World.{World}
 use Rattle.store_world.specs.Found.{Found}
-use Rattle.store_world.specs.Steps.{Step, intent_in, reached, sealed, unless, notarized}
+use Rattle.store_world.specs.Steps.{Step, intent_in, reached, carried_out, unless, notarized}
 use Rattle.store_world.specs.LineCalls.{items_added, appends, end_of_store, disk_calls, notary_calls}
 use Rattle.store_world.specs.CallsMade.{MakesOfDisk, IsAnswered, MakesOfNotary, MakesLineCalls}
-use Rattle.store_world.proofs.LineItems.{drop_all, none_added, sealed_store}
+use Rattle.store_world.proofs.LineItems.{drop_all, none_added, carried_world}
 
 -- ---- no call
 
@@ -177,11 +177,11 @@ module _ (calls : List disks.Call) (old new : disks.State) where
   audit_calls text (Err audits.Closed) result answer free makes = absurd cc
   audit_calls text (Err audits.Broken) result answer free makes = absurd cc
   audit_calls text (Err (audits.SealMissing name)) result answer free makes = absurd cc
-  audit_calls text (Err (audits.OutOfTurn count)) result answer free makes = absurd free
+  audit_calls text (Err (audits.OutOfTurn count)) result answer free makes = all_made (refusal (refusal_text (audits.OutOfTurn count))) result answer makes
 
-module _ (now : ℕ) (w : World) (ws : statements.World) (is : w.store ≡ Some ws) (s : Opened) (before : List ℕ) (stands : statements.IsIn ws s before) where
+module _ (now : ℕ) (w : World) (ws : statements.World) (is : w.store ≡ Some ws) (s : Opened) (before : List ℕ) (stands : statements.IsIn ws s before) (heard : Heard) (taken : Option AuditFail) where
   abbrev intent : Intent
-  intent = intent_in w ws now
+  intent = intent_in ws now heard
 
   abbrev calls_to : Option statements.World → List disks.Call
   calls_to store = appends (standing ws.end before) (items_added (Some ws) store)
@@ -191,19 +191,19 @@ module _ (now : ℕ) (w : World) (ws : statements.World) (is : w.store ≡ Some 
   frontier_is (Some moment) = one_item ws s before stands (items.Frontier moment) ∙ ap (appends (standing ws.end before)) (sym (drop_at ws.items (items.Frontier moment ∷ []) (length ws.items) refl))
 
   -- the calls of its Frontier
-  pub frontier_stored : reaching.frontier_calls s intent.frontier ≡ calls_to (sealed w ws now).world.store
-  frontier_stored = frontier_is intent.frontier ∙ ap calls_to (sym (sealed_store w ws now))
+  pub frontier_stored : reaching.frontier_calls s intent.frontier ≡ calls_to (carried_out w ws intent taken).world.store
+  frontier_stored = frontier_is intent.frontier ∙ ap calls_to (sym (ap (λ (x : World). x.store) (carried_world w ws intent taken)))
 
   -- what holds of the calls, whether something speaks against it or not
-  pub by_fault : (P : List disks.Call → Type 0) → ((fail : AuditFail) → intent.fault ≡ Some fail → P []) → (intent.fault ≡ None → P (reaching.frontier_calls s intent.frontier)) → P (disk_calls w (notarized w w.store now) before)
-  by_fault P against free = subst (λ (o : Option statements.World). P (appends (standing (end_of_store o) before) (items_added o (notarized w o now).world.store))) (sym is) (by intent.fault refl)
+  pub by_fault : (P : List disks.Call → Type 0) → ((fail : AuditFail) → intent.fault ≡ Some fail → P []) → (intent.fault ≡ None → P (reaching.frontier_calls s intent.frontier)) → P (disk_calls w (notarized w w.store now heard taken) before)
+  by_fault P against free = subst (λ (o : Option statements.World). P (appends (standing (end_of_store o) before) (items_added o (notarized w o now heard taken).world.store))) (sym is) (by intent.fault refl)
     where
-      by : (o : Option AuditFail) → intent.fault ≡ o → P (calls_to (unless o w (sealed w ws now)).world.store)
+      by : (o : Option AuditFail) → intent.fault ≡ o → P (calls_to (unless o w (carried_out w ws intent taken)).world.store)
       by (Some fail) e = subst (λ (store : Option statements.World). P (calls_to store)) (sym is) (subst (λ (its : List Item). P (appends (standing ws.end before) its)) (sym (drop_all ws.items)) (against fail e))
       by None e = subst P frontier_stored (free e)
 
-  module _ (later : Opened) (lists : notaries.Lists) (after : Content) (old new : Desk) (r : Result ℕ AuditFail) (told : Does intent ws.items r s later old new (content before lists) after) where
-    pub notarization_calls : (text : ℕ → List ℕ) (result : Result Answered LineFail) → IsAnswer text r result → MakesOfDisk (disk_calls w (notarized w w.store now) before) result old.disk new.disk
+  module _ (later : Opened) (after : List ℕ) (old new : Desk) (r : Result ℕ AuditFail) (told : CarriesOut intent ws.items r s later old new before after) where
+    pub notarization_calls : (text : ℕ → List ℕ) (result : Result Answered LineFail) → IsAnswer text r result → MakesOfDisk (disk_calls w (notarized w w.store now heard taken) before) result old.disk new.disk
     notarization_calls text result answer = by_fault (λ cs. MakesOfDisk cs result old.disk new.disk)
         (λ fail e. no_calls result old.disk new.disk (told.free (subst (λ (f : Option AuditFail). IsSome f) (sym e) refl)).0.trace)
         (λ e. audit_calls (reaching.frontier_calls s intent.frontier) old.disk new.disk text r result answer (subst (λ (o : Option AuditFail). IsRefusedBy o r) e told.refused) told.trace)

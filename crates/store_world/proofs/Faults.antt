@@ -13,7 +13,6 @@ use Rattle.session_model.specs.Standing.{IsOfStore}
 use Rattle.store_world.specs.declared.answered.Answered.{Answered}
 use Rattle.store_world.specs.declared.fail.LineFail.{LineFail}
 use Rattle.store_world.specs.declared.fail.LineFail.TheVariants as fails
-use Rattle.store_world.specs.Alone.{IsTold}
 use Rattle.store_world.specs.Answers.{refusal, Replies, IsAnswer}
 use Rattle.store_world.specs.Faults.{IsOfStoring, MayEndIn, EndsTimely}
 
@@ -26,7 +25,7 @@ module _ (stores : Type 0) where
   of_store : (kind : LineKind) → IsOfStore kind → (fail : LineFail) → IsOfStoring stores fail → MayEndIn kind stores fail
   of_store (kinds.InWorld parts.Tables) is fail only = only
   of_store (kinds.InWorld parts.Sessions) is fail only = only
-  of_store (kinds.InWorld parts.Notary) is fail only = absurd is
+  of_store (kinds.InWorld (parts.Notary asks)) is fail only = absurd is
   of_store kinds.Blank is fail only = absurd is
   of_store (kinds.SetsMoment moment) is fail only = absurd is
   of_store kinds.OutsideScripts is fail only = absurd is
@@ -38,7 +37,7 @@ module _ (stores : Type 0) where
   wanting : (kind : LineKind) → MayEndIn kind stores fails.NoMemory
   wanting (kinds.InWorld parts.Tables) = tt
   wanting (kinds.InWorld parts.Sessions) = tt
-  wanting (kinds.InWorld parts.Notary) = tt
+  wanting (kinds.InWorld (parts.Notary asks)) = tt
   wanting kinds.Blank = tt
   wanting (kinds.SetsMoment moment) = tt
   wanting kinds.OutsideScripts = tt
@@ -74,21 +73,11 @@ some_of_clock : (b : Bool) (cause fail : AuditFail) (rest : Option AuditFail) �
 some_of_clock true cause fail rest of_it other is = let same : cause ≡ fail = cc in subst IsOfClock same of_it
 some_of_clock false cause fail rest of_it other is = other is
 
-early_of_clock : (t : Tail) (b : Bool) (now : ℕ) (fail : AuditFail) → early_fault t b now ≡ Some fail → IsOfClock fail
+pub early_of_clock : (t : Tail) (b : Bool) (now : ℕ) (fail : AuditFail) → early_fault t b now ≡ Some fail → IsOfClock fail
 early_of_clock t b now fail is =
     some_of_clock b audits.Closed fail _ tt
     (some_of_clock (is_back t now) (audits.ClockBack t.last) fail _ tt
     (some_of_clock (is_late t now) audits.TooLate fail None tt (λ none. absurd cc))) is
-
--- such a cause is told
-clock_told : (fail : AuditFail) → IsOfClock fail → IsTold fail
-clock_told audits.Closed of_it = (refl, refl)
-clock_told (audits.ClockBack last) of_it = (refl, refl)
-clock_told audits.TooLate of_it = (refl, refl)
-clock_told fail of_it = absurd of_it
-
-pub early_is_told : (t : Tail) (b : Bool) (now : ℕ) (fail : AuditFail) → early_fault t b now ≡ Some fail → IsTold fail
-early_is_told t b now fail is = clock_told fail (early_of_clock t b now fail is)
 
 wants_only : (early : Option AuditFail) (name : List ℕ) (result : Result Answered LineFail) → Replies (refusal name) result → IfErr result (EndsTimely early)
 wants_only early name (Ok answered) replies = tt

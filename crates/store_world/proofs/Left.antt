@@ -8,12 +8,22 @@ use Rattle.store_engine.specs.Opened.{Stores}
 use Rattle.statement_core.specs.World as statements
 use Rattle.session_model.specs.World.{Session}
 use Rattle.store_world.specs.declared.open_store.OpenStore.{OpenStore}
-use Rattle.validator.specs.Desk.{content}
+use Rattle.outside_words.specs.Told.{WhereTold}
+use Rattle.outside_words.proofs.Told.{told_map, told_same}
+use Rattle.validator.specs.Desk.{Desk}
+use Rattle.validator.proofs.Telling.{told_by}
 use Rattle.store_world.specs.declared.answered.Answered.{Answered}
 use Rattle.store_world.specs.declared.fail.LineFail.{LineFail}
-use Rattle.store_world.specs.World.{World, Held, IsIn, StoreIsIn, StoresOf, StoresWorld, StoresEither, AreBetween}
+use Rattle.store_world.specs.World.{World, StoresOf, StoresWorld, StoresEither}
+use Rattle.store_world.specs.Standing.{OpenWorld, IsIn, StoreIsIn}
+use Rattle.store_world.specs.Lists.{IsBeside, AreBetween, ListsGo, WhereBeside}
 use Rattle.store_world.specs.Steps.{Step}
 use Rattle.store_world.specs.Stepping.{IsReply, Goes}
+use Rattle.store_world.proofs.Between.{kept_between}
+
+pub given : {P : Type 0} (result : Result Answered LineFail) → P → OnOk result P
+given (Ok answered) p = p
+given (Err fail) p = tt
 
 pub stores_of : (id : ℕ) (o : Option statements.World) (begun : ℕ → Option Session) (s : Option OpenStore) (bytes : List ℕ) → StoreIsIn id o begun s bytes → StoresOf id o bytes
 stores_of id (Some w) begun (Some s) bytes i = subst (λ h. Stores h w.items bytes) i.0.store.header i.0.store.open_on.stores
@@ -21,47 +31,68 @@ stores_of id None begun None bytes i = i.0
 stores_of id (Some w) begun None bytes i = absurd i
 stores_of id None begun (Some s) bytes i = absurd i
 
-pub stores_world : (w : World) (held : Held) (bytes : List ℕ) (lists : Lists) → IsIn w held bytes lists → StoresWorld w bytes
-stores_world w held bytes lists i = stores_of w.id w.store w.sessions held.opened bytes i.store
+pub stores_world : (w : World) (held : OpenWorld) (bytes : List ℕ) → IsIn w held bytes → StoresWorld w bytes
+stores_world w held bytes i = stores_of w.id w.store w.sessions held.opened bytes i.store
 
-module _ (w : World) (held : Held) (old new : State) (bytes : List ℕ) (lists : Lists) (i : IsIn w held bytes lists)
+module _ (w : World) (held : OpenWorld) (old new : State) (bytes : List ℕ) (i : IsIn w held bytes)
     (same : Unchanged old new) (only_now : (c : List ℕ) → old.was_image (turn old) c → old.is_image c) where
-  pub same_images : (next : Step) → Only bytes old → EveryImage old new (StoresEither w next.world)
-  same_images next only = stays old old new (StoresEither w next.world)
-      (started old (StoresEither w next.world) only_now (λ c now. inl (subst (λ b. StoresWorld w b) (sym (only c now)) (stores_world w held bytes lists i)))) same
+  pub same_images : (next : World) → Only bytes old → EveryImage old new (StoresEither w next)
+  same_images next only = stays old old new (StoresEither w next)
+      (started old (StoresEither w next) only_now (λ c now. inl (subst (λ b. StoresWorld w b) (sym (only c now)) (stores_world w held bytes i)))) same
 
   -- the bytes store what they stored
-  still_stores : (next : Step) → next.world.id ≡ w.id → next.world.store ≡ w.store → StoresWorld next.world bytes
-  still_stores next id_stays store = subst (λ (o : Option statements.World). StoresOf next.world.id o bytes) (sym store)
-      (subst (λ (n : ℕ). StoresOf n w.store bytes) (sym id_stays) (stores_world w held bytes lists i))
+  still_stores : (next : World) → next.id ≡ w.id → next.store ≡ w.store → StoresWorld next bytes
+  still_stores next id_stays store = subst (λ (o : Option statements.World). StoresOf next.id o bytes) (sym store)
+      (subst (λ (n : ℕ). StoresOf n w.store bytes) (sym id_stays) (stores_world w held bytes i))
 
-  -- the lists may have changed
-  pub left : (next : Step) (result : Result Answered LineFail) (later : Lists) → next.world.id ≡ w.id → next.world.store ≡ w.store → next.world.sessions ≡ w.sessions
-      → IfOk result (IsReply next) → OnOk result (Keeps next.world.lists later) → AreBetween w.lists next.world.lists later
-      → Goes w next result held old new bytes (content bytes later)
-  left next (Ok answered) later id_stays store begun reply keeps between = record {
+  pub left : (next : Step) (result : Result Answered LineFail) → next.world.id ≡ w.id → next.world.store ≡ w.store → next.world.sessions ≡ w.sessions
+      → IfOk result (IsReply next) → Goes w next result held old new bytes bytes
+  left next (Ok answered) id_stays store begun reply = record {
     reply = reply;
     stands = record {
       id = i.id ∙ sym id_stays;
       store = subst (λ (f : ℕ → Option Session). StoreIsIn next.world.id next.world.store f held.opened bytes) (sym begun)
           (subst (λ (o : Option statements.World). StoreIsIn next.world.id o w.sessions held.opened bytes) (sym store)
           (subst (λ (n : ℕ). StoreIsIn n w.store w.sessions held.opened bytes) (sym id_stays) i.store));
-      lists = keeps;
     };
     settled = λ only c now. only c ((same.images c).0 now);
-    images = same_images next;
-    kept = λ only. inl (stores_world w held bytes lists i);
-    between = between;
-    ordered = λ id more only. (λ c now. only c ((same.images c).0 now), still_stores next id_stays store);
+    images = same_images next.world;
+    kept = λ only. inl (stores_world w held bytes i);
     same = λ stays. same.trace;
   }
-  left next (Err fail) later id_stays store begun reply keeps between = record {
+  left next (Err fail) id_stays store begun reply = record {
     reply = tt;
     stands = tt;
     settled = λ only. tt;
-    images = same_images next;
-    kept = λ only. inl (stores_world w held bytes lists i);
-    between = between;
-    ordered = λ id more only. (λ c now. only c ((same.images c).0 now), still_stores next id_stays store);
+    images = same_images next.world;
+    kept = λ only. inl (stores_world w held bytes i);
     same = λ stays. tt;
   }
+
+  -- the lists may have changed
+  pub files_left : (next : World) (Done : Type 0) (later : Lists) → next.id ≡ w.id → next.store ≡ w.store → (Done → Keeps next.lists later) → AreBetween w.lists next.lists later
+      → ListsGo w next Done old new bytes bytes later
+  files_left next Done later id_stays store keeps between = record {
+    keeps = keeps;
+    between = between;
+    ordered = λ id more only. (λ c now. only c ((same.images c).0 now), still_stores next id_stays store);
+  }
+
+-- the lists stand, and no step adds to them
+pub files_still : (w next : World) (Done : Type 0) (old new : State) (before after : List ℕ) (lists : Lists) → next.lists ≡ w.lists → Keeps w.lists lists → ListsGo w next Done old new before after lists
+files_still w next Done old new before after lists same keeps = record {
+  keeps = λ done. subst (λ (l : Lists). Keeps l lists) (sym same) keeps;
+  between = subst (λ (l : Lists). AreBetween w.lists l lists) (sym same) (kept_between w.lists lists keeps);
+  ordered = λ id more. absurd (more (keeps.batches id));
+}
+
+-- ---- where a notary tells its lists
+
+pub beside_by : (w : World) (old new : Desk) (P : Lists → Lists → Type 0) → ((lists later : Lists) → old.notary.lists ≡ Some lists → new.notary.lists ≡ Some later → IsBeside w old.notary.limits lists → P lists later) → WhereBeside w old new P
+beside_by w old new P f = told_by old.notary.lists new.notary.lists (λ lists later. IsBeside w old.notary.limits lists → P lists later) (λ lists later was is beside. f lists later was is beside)
+
+pub beside_told : (w : World) (old new : Desk) (P Q : Lists → Lists → Type 0) → WhereTold old.notary.lists new.notary.lists P → ((lists later : Lists) → IsBeside w old.notary.limits lists → P lists later → Q lists later) → WhereBeside w old new Q
+beside_told w old new P Q told f = told_map old.notary.lists new.notary.lists P (λ lists later. IsBeside w old.notary.limits lists → Q lists later) told (λ lists later p beside. f lists later beside p)
+
+pub beside_same : (w : World) (old new : Desk) → new.notary.lists ≡ old.notary.lists → (P : Lists → Lists → Type 0) → ((lists : Lists) → IsBeside w old.notary.limits lists → P lists lists) → WhereBeside w old new P
+beside_same w old new same P f = told_same old.notary.lists new.notary.lists (λ lists later. IsBeside w old.notary.limits lists → P lists later) same f

@@ -1,5 +1,5 @@
 -- What kind of line a line is.
-use Rattle.std.proofs.Common.{◌≡◌, ℕ, [], Option, None, Result, Ok, refl, ap}
+use Rattle.std.proofs.Common.{◌≡◌, ℕ, List, [], Option, None, Result, Ok, refl, ap}
 use Rattle.stmt_text.specs.declared.stmt.LineAlgorithm.{LineAlgorithm}
 use Rattle.stmt_text.specs.declared.stmt.Stmt.{Stmt}
 use Rattle.stmt_text.specs.declared.stmt.Stmt.TheVariants as stmts
@@ -17,39 +17,44 @@ use Rattle.store_world.specs.World.{World}
 use Rattle.store_world.specs.Found.{Found}
 use Rattle.store_world.specs.LineCalls.{notarize_calls, validate_calls, notary_calls}
 use Rattle.store_world.specs.Faults.{early_of}
-use Rattle.store_world.specs.Alone.{StepsAlone}
-use Rattle.store_world.specs.Steps.{Step, step, on_tables, notarized, validated, analysed, algorithm_of, MayFind}
+use Rattle.validator.specs.Notarizing.{Heard}
+use Rattle.validator.specs.Steps.{counted}
+use Rattle.store_world.specs.Steps.{step, on_tables, notarized, validated, analysed, algorithm_of}
+use Rattle.store_world.specs.Finding.{MayTell, MayFind}
 
 -- what stands for a find where nothing is looked for
 abbrev pub none_found : Found
-none_found = record { verdict = Ok verdicts.Unsealed; analysis = Ok Unsealed }
+none_found = record { heard = counted 0; refusal = None; verdict = Ok verdicts.Unsealed; analysis = Ok Unsealed; body = [] }
+
+-- what a notarization heard, and why not all was taken
+abbrev pub heard_so : Heard → Option AuditFail → Found
+heard_so heard refusal = record none_found { heard = heard; refusal = refusal }
 
 -- what a validation found, and what an analysis did
-abbrev pub judged : Result Verdict AuditFail → Found
-judged verdict = record { verdict = verdict; analysis = Ok Unsealed }
+abbrev pub judged : Result Verdict AuditFail → Option AuditFail → Found
+judged verdict refusal = record none_found { verdict = verdict; refusal = refusal }
 
-abbrev pub shown : Result Analysis AnalyseFail → Found
-shown analysis = record { verdict = Ok verdicts.Unsealed; analysis = analysis }
+abbrev pub shown : Result Analysis AnalyseFail → List ℕ → Found
+shown analysis body = record none_found { analysis = analysis; body = body }
 
 -- it goes to the tables or to a session, finds nothing, calls no notary, and nothing speaks early against it
 pub record GoesToTables (line : Line) : Type 0 where
   pub steps : (w : World) (now : ℕ) (found : Found) → step w line now found ≡ on_tables w w.store line now
-  pub may : (w : World) (found : Found) → MayFind w line found
+  pub tells : (w : World) (found : Found) → MayTell w line found
+  pub may : (w : World) (now : ℕ) (found : Found) → MayFind w line now found
   pub calls : (w : World) (now : ℕ) (found : Found) → notary_calls w line now found ≡ []
   pub early : (w : World) (now : ℕ) → early_of w line now ≡ None
   pub kind : IsOfStore (line_kind line)
-  pub alone : (w : World) (now : ℕ) (next : Step) → next ≡ on_tables w w.store line now → StepsAlone w line now next
-  pub only : (w : World) (now : ℕ) (next : Step) → StepsAlone w line now next → next ≡ on_tables w w.store line now
 
 stmt_goes : (stmt : Stmt) → IsStatementLine (lines.Plain stmt) → GoesToTables (lines.Plain stmt)
 unfolding step notary_calls
-stmt_goes (stmts.Create table columns) on = record { steps = λ w now found. refl; may = λ w found. tt; calls = λ w now found. refl; early = λ w now. refl; kind = tt; alone = λ w now next is. is; only = λ w now next is. is }
-stmt_goes (stmts.Insert table row) on = record { steps = λ w now found. refl; may = λ w found. tt; calls = λ w now found. refl; early = λ w now. refl; kind = tt; alone = λ w now next is. is; only = λ w now next is. is }
-stmt_goes (stmts.Update table row) on = record { steps = λ w now found. refl; may = λ w found. tt; calls = λ w now found. refl; early = λ w now. refl; kind = tt; alone = λ w now next is. is; only = λ w now next is. is }
-stmt_goes (stmts.Delete table key) on = record { steps = λ w now found. refl; may = λ w found. tt; calls = λ w now found. refl; early = λ w now. refl; kind = tt; alone = λ w now next is. is; only = λ w now next is. is }
-stmt_goes (stmts.Get table key moment) on = record { steps = λ w now found. refl; may = λ w found. tt; calls = λ w now found. refl; early = λ w now. refl; kind = tt; alone = λ w now next is. is; only = λ w now next is. is }
-stmt_goes (stmts.Scan table filter moment) on = record { steps = λ w now found. refl; may = λ w found. tt; calls = λ w now found. refl; early = λ w now. refl; kind = tt; alone = λ w now next is. is; only = λ w now next is. is }
-stmt_goes (stmts.History table key) on = record { steps = λ w now found. refl; may = λ w found. tt; calls = λ w now found. refl; early = λ w now. refl; kind = tt; alone = λ w now next is. is; only = λ w now next is. is }
+stmt_goes (stmts.Create table columns) on = record { steps = λ w now found. refl; tells = λ w found. tt; may = λ w now found. tt; calls = λ w now found. refl; early = λ w now. refl; kind = tt }
+stmt_goes (stmts.Insert table row) on = record { steps = λ w now found. refl; tells = λ w found. tt; may = λ w now found. tt; calls = λ w now found. refl; early = λ w now. refl; kind = tt }
+stmt_goes (stmts.Update table row) on = record { steps = λ w now found. refl; tells = λ w found. tt; may = λ w now found. tt; calls = λ w now found. refl; early = λ w now. refl; kind = tt }
+stmt_goes (stmts.Delete table key) on = record { steps = λ w now found. refl; tells = λ w found. tt; may = λ w now found. tt; calls = λ w now found. refl; early = λ w now. refl; kind = tt }
+stmt_goes (stmts.Get table key moment) on = record { steps = λ w now found. refl; tells = λ w found. tt; may = λ w now found. tt; calls = λ w now found. refl; early = λ w now. refl; kind = tt }
+stmt_goes (stmts.Scan table filter moment) on = record { steps = λ w now found. refl; tells = λ w found. tt; may = λ w now found. tt; calls = λ w now found. refl; early = λ w now. refl; kind = tt }
+stmt_goes (stmts.History table key) on = record { steps = λ w now found. refl; tells = λ w found. tt; may = λ w now found. tt; calls = λ w now found. refl; early = λ w now. refl; kind = tt }
 stmt_goes stmts.Begin on = absurd on
 stmt_goes stmts.Commit on = absurd on
 stmt_goes stmts.Abort on = absurd on
@@ -62,32 +67,32 @@ pub goes_to_tables : (line : Line) → IsStatementLine line → GoesToTables lin
 unfolding step notary_calls
 goes_to_tables (lines.Plain stmt) on = stmt_goes stmt on
 goes_to_tables lines.Blank on = absurd on
-goes_to_tables (lines.InSession session stmt) on = record { steps = λ w now found. refl; may = λ w found. tt; calls = λ w now found. refl; early = λ w now. refl; kind = tt; alone = λ w now next is. is; only = λ w now next is. is }
+goes_to_tables (lines.InSession session stmt) on = record { steps = λ w now found. refl; tells = λ w found. tt; may = λ w now found. tt; calls = λ w now found. refl; early = λ w now. refl; kind = tt }
 goes_to_tables (lines.Drill event) on = absurd on
 
 -- ---- the other lines of a world
 
 module _ (w : World) (now : ℕ) where
-  pub notarize_step : step w (lines.Plain stmts.Notarize) now none_found ≡ notarized w w.store now
+  pub notarize_step : (heard : Heard) (refusal : Option AuditFail) → step w (lines.Plain stmts.Notarize) now (heard_so heard refusal) ≡ notarized w w.store now heard refusal
   unfolding step
-  notarize_step = refl
+  notarize_step heard refusal = refl
 
-  pub notarize_none : w.store ≡ None → notary_calls w (lines.Plain stmts.Notarize) now none_found ≡ []
+  pub notarize_none : (heard : Heard) (refusal : Option AuditFail) → w.store ≡ None → notary_calls w (lines.Plain stmts.Notarize) now (heard_so heard refusal) ≡ []
   unfolding notary_calls
-  notarize_none none = ap (λ (o : Option statements.World). notarize_calls w o now) none
+  notarize_none heard refusal none = ap (λ (o : Option statements.World). notarize_calls w o now heard) none
 
-  pub validate_step : (verdict : Result Verdict AuditFail) → step w (lines.Plain stmts.Validate) now (judged verdict) ≡ validated w now verdict
+  pub validate_step : (verdict : Result Verdict AuditFail) (refusal : Option AuditFail) → step w (lines.Plain stmts.Validate) now (judged verdict refusal) ≡ validated w now verdict refusal
   unfolding step
-  validate_step verdict = refl
+  validate_step verdict refusal = refl
 
-  pub validate_notes : (verdict : Result Verdict AuditFail) → notary_calls w (lines.Plain stmts.Validate) now (judged verdict) ≡ validate_calls w now verdict
+  pub validate_notes : (verdict : Result Verdict AuditFail) (refusal : Option AuditFail) → notary_calls w (lines.Plain stmts.Validate) now (judged verdict refusal) ≡ validate_calls w now verdict
   unfolding notary_calls
-  validate_notes verdict = refl
+  validate_notes verdict refusal = refl
 
-  pub analyse_step : (algorithm : LineAlgorithm) (analysis : Result Analysis AnalyseFail) → step w (lines.Plain (stmts.Analyse algorithm)) now (shown analysis) ≡ analysed w (algorithm_of algorithm) now analysis
+  pub analyse_step : (algorithm : LineAlgorithm) (analysis : Result Analysis AnalyseFail) (report : List ℕ) → step w (lines.Plain (stmts.Analyse algorithm)) now (shown analysis report) ≡ analysed w (algorithm_of algorithm) analysis report
   unfolding step
-  analyse_step algorithm analysis = refl
+  analyse_step algorithm analysis report = refl
 
-  pub analyse_none : (algorithm : LineAlgorithm) (analysis : Result Analysis AnalyseFail) → notary_calls w (lines.Plain (stmts.Analyse algorithm)) now (shown analysis) ≡ []
+  pub analyse_none : (algorithm : LineAlgorithm) (analysis : Result Analysis AnalyseFail) (report : List ℕ) → notary_calls w (lines.Plain (stmts.Analyse algorithm)) now (shown analysis report) ≡ []
   unfolding notary_calls
-  analyse_none algorithm analysis = refl
+  analyse_none algorithm analysis report = refl

@@ -1,11 +1,10 @@
 -- A notarization does to the world what the definition says.
-use Rattle.std.proofs.Common.{◌≡◌, ◌≢◌, ◌⊎◌, ℕ, ◌+◌, ◌-◌, ◌≤◌, ◌<◌, ◌==◌, Bool, true, false, List, [], ◌∷◌, ◌++◌, length, take, Option, Some, None, IsSome, Result, Ok, Err, OnOk, IfOk, IfErr, inl, inr, refl, sym, ap, subst, ◌∙◌, arith}
-use Rattle.std.specs.Prelude.{if◌then◌else◌, codes}
+use Rattle.std.proofs.Common.{◌≡◌, ◌≢◌, ◌⊎◌, ℕ, ◌+◌, ◌-◌, ◌≤◌, ◌==◌, Bool, true, false, List, [], ◌∷◌, ◌++◌, length, take, Option, Some, None, IsSome, IfSome, Result, Ok, Err, IsOk, OnOk, IfOk, IfErr, inl, inr, refl, sym, ap, subst, ◌∙◌, arith}
+use Rattle.std.specs.Prelude.{codes}
 use Rattle.std.proofs.Math.Seq.{take-length}
 use Rattle.std.proofs.lemmas.Bool.{cases_eq, eq-eqb, ne_eqb}
 use Rattle.std.proofs.lemmas.List.{append-nil, take-take}
 use Rattle.outside_words.specs.Told.{WhereTold}
-use Rattle.outside_words.proofs.Told.{told_map}
 use Rattle.disk_words.specs.Disk.{State, turn, Only, Unchanged}
 use Rattle.disk_model.specs.Moments.{EveryImage, MakesCalls}
 use Rattle.disk_model.proofs.Moments.{weaker}
@@ -27,39 +26,47 @@ use Rattle.stmt_text.specs.declared.line.Line.TheVariants as lines
 use Rattle.statement_core.specs.World as statements
 use Rattle.session_model.specs.Standing as sessions
 use Rattle.session_model.specs.Standing.{Machine}
-use Rattle.validator.specs.Desk.{content, desk}
+use Rattle.validator.specs.Desk.{desk}
 use Rattle.validator.specs.declared.fail.AuditFail.{AuditFail}
 use Rattle.validator.specs.declared.fail.AuditFail.TheVariants as fails
 use Rattle.validator.specs.Texts.{refusal_text}
-use Rattle.validator.specs.Notarizing.{Intent, early_fault, IsEarly, IsRefusedBy}
-use Rattle.validator.specs.Filing.{FilesFor, HasFiledMore}
+use Rattle.history_model.specs.History.{history}
+use Rattle.validator.specs.Notarizing.{Heard, heard_of, Intent, early_fault, IsEarly, IsRefusedBy}
+use Rattle.validator.specs.Filing.{FilesFor, HasFiledMore, TellsCount, Files as AuditFiles}
+use Rattle.validator.proofs.Telling.{told_here}
 use Rattle.validator.specs.Reaching as reaching
-use Rattle.validator.specs.Reaching.{Does, Notarizes, IsReached, StoresAround}
+use Rattle.validator.specs.Reaching.{CarriesOut, Notarizes, IsReached, StoresAround}
 use Rattle.store_world.specs.declared.answered.Answered.{Answered}
 use Rattle.store_world.specs.declared.fail.LineFail.{LineFail}
-use Rattle.store_world.specs.World.{World, Held, IsIn, StoresOf, StoresWorld, with_store, AreBetween}
+use Rattle.stmt_text.specs.declared.line.Line.{Line}
+use Rattle.store_world.specs.Found.{Found}
+use Rattle.store_world.specs.Finding.{MayRefuse, full_unless, have_room, MayFile, MayFind}
+use Rattle.store_world.specs.World.{World, StoresOf, with_store}
+use Rattle.store_world.specs.Standing.{OpenWorld, IsIn}
+use Rattle.store_world.specs.Lists.{IsBeside, ListsGo}
 use Rattle.store_world.specs.Answers.{said, refusal, IsAnswer}
 use Rattle.store_world.specs.Faults.{early_over, EndsTimely}
 use Rattle.store_engine.specs.Refusals.{tail_of}
 use Rattle.store_world.proofs.Replies.{Answers, replies}
 use Rattle.store_world.specs.Parts.{alone}
 use Rattle.store_world.specs.CallsMade.{MakesLineCalls}
-use Rattle.store_world.specs.Steps.{Step, step, intent_in, says, refuses, filed, reached, sealed_text, all_filed, sealed, unless, notarized}
+use Rattle.store_world.specs.Steps.{Step, step, intent_in, says, refuses, filed, filed_for, reached, sealed_text, carried_out, unless, notarized}
 use Rattle.store_world.specs.Stepping.{Goes, Steps, StepsFor}
-use Rattle.store_world.proofs.Between.{kept_between, keeps_then, filed_keeps, filed_between}
-use Rattle.store_world.proofs.LineKinds.{none_found, notarize_step}
+use Rattle.store_world.proofs.Between.{keeps_then, filed_keeps, filed_between}
+use Rattle.store_world.proofs.LineKinds.{heard_so, notarize_step}
+use Rattle.store_world.proofs.LineItems.{carried_world}
 use Rattle.store_world.proofs.Intents.{does_in, early_in}
 use Rattle.store_world.proofs.Faults.{ends_anyhow, ends_timely}
-use Rattle.store_world.proofs.Left.{left}
+use Rattle.store_world.proofs.Left.{given, left, files_still, beside_by}
 use Rattle.store_world.proofs.NotaryCalls.{notarization_makes}
 use Rattle.store_world.proofs.Sessions.{stands_still}
 use Rattle.store_world.proofs.Tables.{HasStore, has_store, never_longer, items_stay}
-use Rattle.store_world.proofs.Validating.{replies_as, given}
+use Rattle.store_world.proofs.Validating.{replies_as}
 
 -- after a failure it is no matter where the store stands
-pub wherever : (w : World) (next : Step) (fail : LineFail) (later other : Held) (old new : State) (before after : List ℕ) (lists : Lists)
-    → Goes w next (Err fail) later old new before (content after lists) → Goes w next (Err fail) other old new before (content after lists)
-wherever w next fail later other old new before after lists goes = record { reply = tt; stands = tt; settled = λ only. tt; images = goes.images; kept = goes.kept; between = goes.between; ordered = goes.ordered; same = λ stays. tt }
+pub wherever : (w : World) (next : Step) (fail : LineFail) (later other : OpenWorld) (old new : State) (before after : List ℕ)
+    → Goes w next (Err fail) later old new before after → Goes w next (Err fail) other old new before after
+wherever w next fail later other old new before after goes = record { reply = tt; stands = tt; settled = λ only. tt; images = goes.images; kept = goes.kept; same = λ stays. tt }
 
 keeps_none : (id : ℕ) (lists later : Lists) → Keeps lists later → FilesAll id [] lists later
 keeps_none id lists later keeps = record { filed = keeps.batches id ∙ sym (append-nil (lists.batches id)); others = λ other apart. keeps.batches other; marks = keeps.marks }
@@ -88,20 +95,63 @@ few_filed id limits batches r lists later files = by r files
     by (Err fails.Closed) keeps = none keeps
     by (Err fails.Broken) keeps = none keeps
     by (Err (fails.SealMissing name)) keeps = none keeps
-    by (Err (fails.OutOfTurn count)) keeps = none keeps
+    by (Err (fails.OutOfTurn count)) never = absurd never
 
-module _ (now : ℕ) (s later_s : Opened) (old new : State) (before after : List ℕ) (lists later : Lists) (limits : NotaryLimits)
-    (header : later_s.header ≡ s.header) (only_now : (c : List ℕ) → old.was_image (turn old) c → old.is_image c)
-    (reads : Unchanged old new → after ≡ before) (w : World) (kept_sessions : Machine) (i : IsIn w (alone kept_sessions s) before lists) (within : w.limits ≡ limits) (has : HasStore w kept_sessions s before) where
+-- why not all was taken: by the answer, and where there is none by the room
+abbrev pub taken_by : Result ℕ AuditFail → Bool → Option AuditFail
+taken_by (Ok n) all_fit = None
+taken_by (Err fails.Full) all_fit = Some fails.Full
+taken_by (Err (fails.OutOfTurn count)) all_fit = Some (fails.OutOfTurn count)
+taken_by (Err fail) all_fit = full_unless all_fit
+
+full_may : (b : Bool) → MayRefuse (full_unless b)
+full_may true = tt
+full_may false = tt
+
+room_turn : (b : Bool) (later : notaries.State) → IfSome (full_unless b) (λ fail. TellsCount fail later)
+room_turn true later = tt
+room_turn false later = tt
+
+-- what was out of turn is told with the count that was answered
+taken_turn : (r : Result ℕ AuditFail) (b : Bool) (later : notaries.State) → IfErr r (λ fail. TellsCount fail later) → IfSome (taken_by r b) (λ fail. TellsCount fail later)
+taken_turn (Ok n) b later turn = tt
+taken_turn (Err fails.Full) b later turn = tt
+taken_turn (Err (fails.OutOfTurn count)) b later turn = turn
+taken_turn (Err fails.DiskFault) b later turn = room_turn b later
+taken_turn (Err fails.NotaryFault) b later turn = room_turn b later
+taken_turn (Err fails.NoMemory) b later turn = room_turn b later
+taken_turn (Err (fails.ClockBack last)) b later turn = room_turn b later
+taken_turn (Err fails.TooLate) b later turn = room_turn b later
+taken_turn (Err fails.StoreFull) b later turn = room_turn b later
+taken_turn (Err fails.Closed) b later turn = room_turn b later
+taken_turn (Err fails.Broken) b later turn = room_turn b later
+taken_turn (Err (fails.SealMissing name)) b later turn = room_turn b later
+
+taken_may : (r : Result ℕ AuditFail) (b : Bool) → MayRefuse (taken_by r b)
+taken_may (Ok n) b = tt
+taken_may (Err fails.Full) b = tt
+taken_may (Err (fails.OutOfTurn count)) b = tt
+taken_may (Err fails.DiskFault) b = full_may b
+taken_may (Err fails.NotaryFault) b = full_may b
+taken_may (Err fails.NoMemory) b = full_may b
+taken_may (Err (fails.ClockBack last)) b = full_may b
+taken_may (Err fails.TooLate) b = full_may b
+taken_may (Err fails.StoreFull) b = full_may b
+taken_may (Err fails.Closed) b = full_may b
+taken_may (Err fails.Broken) b = full_may b
+taken_may (Err (fails.SealMissing name)) b = full_may b
+
+module _ (now : ℕ) (s later_s : Opened) (old new : State) (before after : List ℕ) (header : later_s.header ≡ s.header) (only_now : (c : List ℕ) → old.was_image (turn old) c → old.is_image c)
+    (reads : Unchanged old new → after ≡ before) (w : World) (kept_sessions : Machine) (i : IsIn w (alone kept_sessions s) before) (has : HasStore w kept_sessions s before) (heard : Heard) where
   abbrev ws : statements.World
   ws = has.world
 
   abbrev To : Step → Result Answered LineFail → Type 0
-  To next result = Goes w next result (alone kept_sessions later_s) old new before (content after later)
+  To next result = Goes w next result (alone kept_sessions later_s) old new before after
 
   -- what is to be done
   abbrev intent : Intent
-  intent = intent_in w ws now
+  intent = intent_in ws now heard
 
   abbrev fault : Option AuditFail
   fault = intent.fault
@@ -118,41 +168,37 @@ module _ (now : ℕ) (s later_s : Opened) (old new : State) (before after : List
   abbrev fit : ℕ
   fit = fitting (room_in w.limits w.lists) batches
 
-  fit_is : fitting (room_in limits lists) batches ≡ fit
-  fit_is = ap (λ (room : ℕ). fitting room batches)
-      (ap (λ (l : NotaryLimits). room_in l lists) (sym within) ∙ ap (λ (n : ℕ). w.limits.seals - n) (kept_seals w.lists lists i.lists))
+  abbrev taken : Result ℕ AuditFail → Option AuditFail
+  taken r = taken_by r (fit == length batches)
 
   -- ---- something speaks against it
 
-  module _ (fail : AuditFail) (is : fault ≡ Some fail) (same : Unchanged old new) (keeps : Keeps lists later) where
+  module _ (fail : AuditFail) (is : fault ≡ Some fail) (same : Unchanged old new) where
     abbrev next : Step
     next = refuses w (refusal_text fail)
 
-    stay : (result : Result Answered LineFail) → IfOk result (λ answered. answered ≡ refusal (refusal_text fail)) → Goes w next result (alone kept_sessions s) old new before (content after later)
-    stay result reply = subst (λ (a : List ℕ). Goes w next result (alone kept_sessions s) old new before (content a later)) (sym (reads same))
-        (left w (alone kept_sessions s) old new before lists i same only_now next result later refl refl refl
-        (replies_as next (refusal (refusal_text fail)) result refl refl reply)
-        (given result (keeps_then w.lists lists later i.lists keeps))
-        (kept_between w.lists later (keeps_then w.lists lists later i.lists keeps)))
+    stay : (result : Result Answered LineFail) → IfOk result (λ answered. answered ≡ refusal (refusal_text fail)) → Goes w next result (alone kept_sessions s) old new before after
+    stay result reply = subst (λ (a : List ℕ). Goes w next result (alone kept_sessions s) old new before a) (sym (reads same))
+        (left w (alone kept_sessions s) old new before i same only_now next result refl refl refl (replies_as next (refusal (refusal_text fail)) result refl refl reply))
 
     faulty : (result : Result Answered LineFail) → OnOk result ⊥ → To next result
     faulty (Ok answered) never = absurd never
-    faulty (Err other) never = wherever w next other (alone kept_sessions s) (alone kept_sessions later_s) old new before after later (stay (Err other) tt)
+    faulty (Err other) never = wherever w next other (alone kept_sessions s) (alone kept_sessions later_s) old new before after (stay (Err other) tt)
 
     told : (told_fail : AuditFail) → fault ≡ Some told_fail → later_s ≡ s → (result : Result Answered LineFail) → IfOk result (λ answered. answered ≡ refusal (refusal_text told_fail)) → To next result
     told told_fail told_is stands result reply =
         let same_fail : told_fail ≡ fail = cc in
-        subst (λ (x : Opened). Goes w next result (alone kept_sessions x) old new before (content after later)) (sym stands)
+        subst (λ (x : Opened). Goes w next result (alone kept_sessions x) old new before after) (sym stands)
         (stay result (subst (λ (f : AuditFail). IfOk result (λ answered. answered ≡ refusal (refusal_text f))) same_fail reply))
 
     pub refused : (r : Result ℕ AuditFail) (result : Result Answered LineFail) → Answers sealed_text r result → IsRefusedBy fault r → (reached_too shut : Type 0) → reaching.StandsAfter r reached_too (reaching.IsLeft s later_s old new) shut → To next result
     refused (Ok n) result answer by R S stands = let none : fault ≡ None = by in absurd cc
     refused (Err fails.Full) result answer by R S stands = let none : fault ≡ None = by in absurd cc
+    refused (Err (fails.OutOfTurn count)) result answer by R S stands = let none : fault ≡ None = by in absurd cc
     refused (Err fails.DiskFault) result answer by R S stands = faulty result answer
     refused (Err fails.NotaryFault) result answer by R S stands = faulty result answer
     refused (Err fails.NoMemory) result answer by R S stands = faulty result answer
     refused (Err fails.Closed) result answer by R S stands = faulty result answer
-    refused (Err (fails.OutOfTurn count)) result answer by R S stands = absurd by
     refused (Err (fails.ClockBack last)) result answer by R S stands = told (fails.ClockBack last) by stands.0 result answer
     refused (Err fails.TooLate) result answer by R S stands = told fails.TooLate by stands.0 result answer
     refused (Err fails.StoreFull) result answer by R S stands = told fails.StoreFull by stands.0 result answer
@@ -202,43 +248,20 @@ module _ (now : ℕ) (s later_s : Opened) (old new : State) (before after : List
   unmoved None moves none = moves
   unmoved (Some moment) moves none = absurd cc
 
-  module _ (images : Only before old → EveryImage old new Around) (kept : Only before old → Around after) (part : FilesFew w.id batches fit lists later)
-      (reaches : HasFiledMore s.header.id lists later → IsReached need s later_s ws.items old new before after) where
-    between : AreBetween w.lists new_world.lists later
-    between = filed_between w.id w.lists lists later i.lists (take fit batches) part.done
-        (subst (λ (l : List Batch). FilesAll w.id l lists later) (sym (take-take part.done fit batches part.few)) part.files)
+  abbrev Done : Type 0
+  Done = IsReached need s later_s ws.items old new before after
 
-    -- batches more stand under the store's id alone
-    more_here : (id : ℕ) → HasFiledMore id w.lists later → HasFiledMore s.header.id lists later
-    more_here id more kept = more (by (cases_eq id w.id))
-      where
-        by : (id ≡ w.id) ⊎ (id ≢ w.id) → later.batches id ≡ w.lists.batches id
-        by (inl is) = subst (λ (n : ℕ). later.batches n ≡ w.lists.batches n) (i.id ∙ sym is) (kept ∙ i.lists.batches s.header.id)
-        by (inr other) = part.files.others id other ∙ i.lists.batches id
-
-    in_order : (id : ℕ) → HasFiledMore id w.lists later → Only before old → Only after new × StoresWorld new_world after
-    in_order id more only = let reached_so = reaches (more_here id more) in (reached_so.settled only, reached_stores need reached_so)
-
-    -- where the store has reached what it needs, and what fits was filed
-    abbrev IsDone : Type 0
-    IsDone = IsReached need s later_s ws.items old new before after × FilesAll w.id (take fit batches) lists later × (need ≡ None → new.trace ≡ old.trace)
-
-    go : (text : List ℕ) (is_refused : Bool) (result : Result Answered LineFail) → OnOk result IsDone
+  module _ (images : Only before old → EveryImage old new Around) (kept : Only before old → Around after) where
+    go : (text : List ℕ) (is_refused : Bool) (result : Result Answered LineFail) → OnOk result (Done × (need ≡ None → new.trace ≡ old.trace))
         → IfOk result (λ answered. answered ≡ record { refused = is_refused; text = text })
         → To (record { world = new_world; text = text; is_refused = is_refused }) result
     go text is_refused (Ok answered) done reply = record {
       reply = record { text = ap (λ (x : Answered). x.text) reply; refused = ap (λ (x : Answered). x.refused) reply };
-      stands = record {
-        id = ap (λ (h : Header). h.id) header ∙ i.id;
-        store = stands_in need done.0;
-        lists = filed_keeps w.id w.lists lists later i.lists (take fit batches) done.1;
-      };
+      stands = record { id = ap (λ (h : Header). h.id) header ∙ i.id; store = stands_in need done.0 };
       settled = done.0.settled;
       images = λ only. weaker (images only) (either_of need);
       kept = λ only. either_of need after (kept only);
-      between = between;
-      ordered = in_order;
-      same = λ stays. done.2 (needs_none need (stays ∙ has.is));
+      same = λ stays. done.1 (needs_none need (stays ∙ has.is));
     }
     go text is_refused (Err fail) done reply = record {
       reply = tt;
@@ -246,100 +269,196 @@ module _ (now : ℕ) (s later_s : Opened) (old new : State) (before after : List
       settled = λ only. tt;
       images = λ only. weaker (images only) (either_of need);
       kept = λ only. either_of need after (kept only);
-      between = between;
-      ordered = in_order;
       same = λ stays. tt;
     }
 
-    abbrev after_filing : Bool → Step
-    after_filing b = if b then says new_world (sealed_text tiles) else refuses new_world (refusal_text fails.Full)
+    abbrev Carried : Option AuditFail → Step
+    Carried refusal = unless refusal new_world (says new_world (sealed_text tiles))
 
-    failed : (b : Bool) → (fit == length batches) ≡ b → (result : Result Answered LineFail) → OnOk result ⊥ → To (after_filing b) result
-    failed b is (Ok answered) never = absurd never
-    failed true is (Err fail) never = go (sealed_text tiles ++ 10 ∷ []) false (Err fail) tt tt
-    failed false is (Err fail) never = go (codes "refused " ++ refusal_text fails.Full ++ 10 ∷ []) true (Err fail) tt tt
+    failed : (refusal : Option AuditFail) (result : Result Answered LineFail) → OnOk result ⊥ → To (Carried refusal) result
+    failed refusal (Ok answered) never = absurd never
+    failed None (Err fail) never = go (sealed_text tiles ++ 10 ∷ []) false (Err fail) tt tt
+    failed (Some cause) (Err fail) never = go (codes "refused " ++ refusal_text cause ++ 10 ∷ []) true (Err fail) tt tt
 
-    sealed_all : (b : Bool) → (fit == length batches) ≡ b → fit ≡ length batches → (result : Result Answered LineFail) → IsReached need s later_s ws.items old new before after → FilesAll w.id batches lists later → (need ≡ None → new.trace ≡ old.trace)
-        → IfOk result (λ answered. answered ≡ said (sealed_text tiles)) → To (after_filing b) result
-    sealed_all true is whole result at files moves reply = go (sealed_text tiles ++ 10 ∷ []) false result
-        (given result (at, subst (λ (l : List Batch). FilesAll w.id l lists later) (sym (ap (λ (n : ℕ). take n batches) whole ∙ take-length batches)) files, moves)) reply
-    sealed_all false is whole result at files moves reply = let yes = eq-eqb fit (length batches) whole in absurd cc
-
-    sealed_some : (b : Bool) → (fit == length batches) ≡ b → fit < length batches → (result : Result Answered LineFail) → IsReached need s later_s ws.items old new before after → FilesAll w.id (take fit batches) lists later → (need ≡ None → new.trace ≡ old.trace)
-        → IfOk result (λ answered. answered ≡ refusal (refusal_text fails.Full)) → To (after_filing b) result
-    sealed_some false is less result at files moves reply = go (codes "refused " ++ refusal_text fails.Full ++ 10 ∷ []) true result (given result (at, files, moves)) reply
-    sealed_some true is less result at files moves reply = let no = ne_eqb fit (length batches) (λ e. omega (arith, e, less)) in absurd cc
+    told_so : (cause : AuditFail) (result : Result Answered LineFail) → Done → (need ≡ None → new.trace ≡ old.trace) → IfOk result (λ answered. answered ≡ refusal (refusal_text cause)) → To (Carried (Some cause)) result
+    told_so cause result done moves reply = go (codes "refused " ++ refusal_text cause ++ 10 ∷ []) true result (given result (done, moves)) reply
 
     pub made : fault ≡ None → (r : Result ℕ AuditFail) (result : Result Answered LineFail) → Answers sealed_text r result → IsRefusedBy fault r → IfOk r (λ n. n ≡ tiles)
-        → FilesFor w.id limits batches r lists later → reaching.MakesFor (reaching.frontier_calls s need) r old new → (left_too shut : Type 0) → reaching.StandsAfter r (IsReached need s later_s ws.items old new before after) left_too shut
-        → To (all_filed w new_world batches tiles) result
-    made free (Ok n) result answer by value files moves L S stands = sealed_all (fit == length batches) refl (sym fit_is ∙ files.fit) result stands files.filed (unmoved need moves)
+        → reaching.MakesFor (reaching.frontier_calls s need) r old new → (left_too shut : Type 0) → reaching.StandsAfter r Done left_too shut → To (Carried (taken r)) result
+    made free (Ok n) result answer by value moves L S stands = go (sealed_text tiles ++ 10 ∷ []) false result (given result (stands, unmoved need moves))
         (subst (λ (m : ℕ). IfOk result (λ answered. answered ≡ said (sealed_text m))) value answer)
-    made free (Err fails.Full) result answer by value files moves L S stands = sealed_some (fit == length batches) refl (omega (arith, fit_is, files.left)) result stands
-        (subst (λ (n : ℕ). FilesAll w.id (take n batches) lists later) fit_is files.filed) (unmoved need moves) answer
-    made free (Err fails.DiskFault) result answer by value files moves L S stands = failed (fit == length batches) refl result answer
-    made free (Err fails.NotaryFault) result answer by value files moves L S stands = failed (fit == length batches) refl result answer
-    made free (Err fails.NoMemory) result answer by value files moves L S stands = failed (fit == length batches) refl result answer
-    made free (Err (fails.OutOfTurn count)) result answer by value files moves L S stands = absurd by
-    made free (Err fails.Closed) result answer by value files moves L S stands = let some : fault ≡ Some fails.Closed = by in absurd cc
-    made free (Err (fails.ClockBack last)) result answer by value files moves L S stands = let some : fault ≡ Some (fails.ClockBack last) = by in absurd cc
-    made free (Err fails.TooLate) result answer by value files moves L S stands = let some : fault ≡ Some fails.TooLate = by in absurd cc
-    made free (Err fails.StoreFull) result answer by value files moves L S stands = let some : fault ≡ Some fails.StoreFull = by in absurd cc
-    made free (Err fails.Broken) result answer by value files moves L S stands = let some : fault ≡ Some fails.Broken = by in absurd cc
-    made free (Err (fails.SealMissing name)) result answer by value files moves L S stands = let some : fault ≡ Some (fails.SealMissing name) = by in absurd cc
+    made free (Err fails.Full) result answer by value moves L S stands = told_so fails.Full result stands (unmoved need moves) answer
+    made free (Err (fails.OutOfTurn count)) result answer by value moves L S stands = told_so (fails.OutOfTurn count) result stands (unmoved need moves) answer
+    made free (Err fails.DiskFault) result answer by value moves L S stands = failed (taken (Err fails.DiskFault)) result answer
+    made free (Err fails.NotaryFault) result answer by value moves L S stands = failed (taken (Err fails.NotaryFault)) result answer
+    made free (Err fails.NoMemory) result answer by value moves L S stands = failed (taken (Err fails.NoMemory)) result answer
+    made free (Err fails.Closed) result answer by value moves L S stands = let some : fault ≡ Some fails.Closed = by in absurd cc
+    made free (Err (fails.ClockBack last)) result answer by value moves L S stands = let some : fault ≡ Some (fails.ClockBack last) = by in absurd cc
+    made free (Err fails.TooLate) result answer by value moves L S stands = let some : fault ≡ Some fails.TooLate = by in absurd cc
+    made free (Err fails.StoreFull) result answer by value moves L S stands = let some : fault ≡ Some fails.StoreFull = by in absurd cc
+    made free (Err fails.Broken) result answer by value moves L S stands = let some : fault ≡ Some fails.Broken = by in absurd cc
+    made free (Err (fails.SealMissing name)) result answer by value moves L S stands = let some : fault ≡ Some (fails.SealMissing name) = by in absurd cc
 
   -- ---- either way
 
-  module _ (filed_state later_state : notaries.State) (limits_are : filed_state.limits ≡ limits) (r : Result ℕ AuditFail) (result : Result Answered LineFail) (answer : IsAnswer sealed_text r result)
-      (early : IsEarly (early_fault (tail_of s) s.at.is_closed now) r) (early_is : early_fault (tail_of s) s.at.is_closed now ≡ early_fault (statements.tail_of_world ws) false now)
-      (n : Does intent ws.items r s later_s (desk old filed_state) (desk new later_state) (content before lists) (content after later)) where
-    files_world : FilesFor w.id limits batches r lists later
-    files_world = subst (λ (id : ℕ). FilesFor id limits batches r lists later) i.id (subst (λ (l : NotaryLimits). FilesFor s.header.id l batches r lists later) limits_are n.files)
-
-    goes_by : (f : Option AuditFail) → fault ≡ f → To (unless f w (sealed w ws now)) result
+  module _ (r : Result ℕ AuditFail) (result : Result Answered LineFail) (answer : IsAnswer sealed_text r result) (filed later : notaries.State) (n : CarriesOut intent ws.items r s later_s (desk old filed) (desk new later) before after) where
+    goes_by : (f : Option AuditFail) → fault ≡ f → To (unless f w (carried_out w ws intent (taken r))) result
     goes_by (Some fail) is =
-        let stay = n.free (subst (λ (o : Option AuditFail). IsSome o) (sym is) refl) in
-        refused fail is stay.0 stay.1 r result (replies sealed_text r result answer) n.refused (IsReached need s later_s ws.items old new before after) (later_s.at.is_closed ≡ true) n.stands
-    goes_by None is = made n.images n.kept
-        (subst (λ (k : ℕ). FilesFew w.id batches k lists later) fit_is (few_filed w.id limits batches r lists later files_world))
-        n.ordered is r result (replies sealed_text r result answer) n.refused n.value files_world n.trace (reaching.IsLeft s later_s old new) (later_s.at.is_closed ≡ true) n.stands
+        refused fail is (n.free (subst (λ (o : Option AuditFail). IsSome o) (sym is) refl)).0 r result (replies sealed_text r result answer) n.refused Done (later_s.at.is_closed ≡ true) n.stands
+    goes_by None is = made n.images n.kept is r result (replies sealed_text r result answer) n.refused n.value n.trace (reaching.IsLeft s later_s old new) (later_s.at.is_closed ≡ true) n.stands
 
-    step_is : step w (lines.Plain stmts.Notarize) now none_found ≡ notarized w w.store now
-    step_is = notarize_step w now
+    -- ---- what the notary's lists add
 
-    pub notarizes : Steps (lines.Plain stmts.Notarize) now w result (alone kept_sessions later_s) (desk old filed_state) (desk new later_state) before (content after later)
-    notarizes = record {
-      found = none_found;
-      may = tt;
-      goes = subst (λ (x : Step). To x result) (sym (step_is ∙ ap (λ (o : Option statements.World). notarized w o now) has.is)) (goes_by fault refl);
-      makes = subst (λ (x : Step). MakesLineCalls w (lines.Plain stmts.Notarize) now none_found x result (desk old filed_state) (desk new later_state) before) (sym step_is)
-          (notarization_makes now w ws has.is s before has.stands i.id later_s lists i.lists (content after later) (desk old filed_state) (desk new later_state) (within ∙ sym limits_are) r n sealed_text result answer none_found);
-      only = ends_anyhow result;
-      timely = subst (λ (e : Option AuditFail). IfErr result (EndsTimely e)) (sym (ap (λ (o : Option statements.World). early_over o now) has.is)) (subst (λ (e : Option AuditFail). IfErr result (EndsTimely e)) early_is (ends_timely sealed_text (tail_of s) s.at.is_closed now r result answer early));
-    }
+    module _ (lists later_lists : Lists) (beside : IsBeside w filed.limits lists) (files : AuditFiles s.header.id intent r Done filed later lists later_lists) where
+      fit_is : fitting (room_in filed.limits lists) batches ≡ fit
+      fit_is = ap (λ (room : ℕ). fitting room batches)
+          (ap (λ (l : NotaryLimits). room_in l lists) (sym beside.limits) ∙ ap (λ (n : ℕ). w.limits.seals - n) (kept_seals w.lists lists beside.lists))
+
+      files_world : FilesFor w.id filed.limits batches r lists later_lists
+      files_world = subst (λ (id : ℕ). FilesFor id filed.limits batches r lists later_lists) i.id files.files
+
+      -- why not all was taken, where nothing speaks against it
+      pub taken_is : (x : Result ℕ AuditFail) → FilesFor w.id filed.limits batches x lists later_lists → taken x ≡ full_unless (fit == length batches)
+      taken_is (Ok n) whole = let yes : (fit == length batches) ≡ true = eq-eqb fit (length batches) (sym fit_is ∙ whole.fit) in ap full_unless (sym yes)
+      taken_is (Err fails.Full) part = let no : (fit == length batches) ≡ false = ne_eqb fit (length batches) (λ e. omega (arith, e, part.left, fit_is)) in ap full_unless (sym no)
+      taken_is (Err (fails.OutOfTurn count)) never = absurd never
+      taken_is (Err fails.DiskFault) part = refl
+      taken_is (Err fails.NotaryFault) part = refl
+      taken_is (Err fails.NoMemory) part = refl
+      taken_is (Err (fails.ClockBack last)) part = refl
+      taken_is (Err fails.TooLate) part = refl
+      taken_is (Err fails.StoreFull) part = refl
+      taken_is (Err fails.Closed) part = refl
+      taken_is (Err fails.Broken) part = refl
+      taken_is (Err (fails.SealMissing name)) part = refl
+
+      part : FilesFew w.id batches fit lists later_lists
+      part = subst (λ (k : ℕ). FilesFew w.id batches k lists later_lists) fit_is (few_filed w.id filed.limits batches r lists later_lists files_world)
+
+      -- batches more stand under the store's id alone
+      more_here : (id : ℕ) → HasFiledMore id w.lists later_lists → HasFiledMore s.header.id lists later_lists
+      more_here id more kept = more (by (cases_eq id w.id))
+        where
+          by : (id ≡ w.id) ⊎ (id ≢ w.id) → later_lists.batches id ≡ w.lists.batches id
+          by (inl is) = subst (λ (n : ℕ). later_lists.batches n ≡ w.lists.batches n) (i.id ∙ sym is) (kept ∙ beside.lists.batches s.header.id)
+          by (inr other) = part.files.others id other ∙ beside.lists.batches id
+
+      -- what was filed of what fits, by the answer
+      all_of : (x : Result ℕ AuditFail) → FilesFor w.id filed.limits batches x lists later_lists → (y : Result Answered LineFail) → Answers sealed_text x y → fault ≡ None → IsRefusedBy fault x → IsOk y → FilesAll w.id (take fit batches) lists later_lists
+      all_of (Ok n) whole y answer free by ok = subst (λ (l : List Batch). FilesAll w.id l lists later_lists) (sym (ap (λ (n : ℕ). take n batches) (sym fit_is ∙ whole.fit) ∙ take-length batches)) whole.filed
+      all_of (Err fails.Full) half y answer free by ok = subst (λ (n : ℕ). FilesAll w.id (take n batches) lists later_lists) fit_is half.filed
+      all_of (Err (fails.OutOfTurn count)) never y answer free by ok = absurd never
+      all_of (Err fails.DiskFault) half (Ok answered) answer free by ok = absurd answer
+      all_of (Err fails.NotaryFault) half (Ok answered) answer free by ok = absurd answer
+      all_of (Err fails.NoMemory) half (Ok answered) answer free by ok = absurd answer
+      all_of (Err fails.DiskFault) half (Err fail) answer free by ok = absurd cc
+      all_of (Err fails.NotaryFault) half (Err fail) answer free by ok = absurd cc
+      all_of (Err fails.NoMemory) half (Err fail) answer free by ok = absurd cc
+      all_of (Err fails.Closed) half y answer free by ok = let some : fault ≡ Some fails.Closed = by in absurd cc
+      all_of (Err (fails.ClockBack last)) half y answer free by ok = let some : fault ≡ Some (fails.ClockBack last) = by in absurd cc
+      all_of (Err fails.TooLate) half y answer free by ok = let some : fault ≡ Some fails.TooLate = by in absurd cc
+      all_of (Err fails.StoreFull) half y answer free by ok = let some : fault ≡ Some fails.StoreFull = by in absurd cc
+      all_of (Err fails.Broken) half y answer free by ok = let some : fault ≡ Some fails.Broken = by in absurd cc
+      all_of (Err (fails.SealMissing name)) half y answer free by ok = let some : fault ≡ Some (fails.SealMissing name) = by in absurd cc
+
+      abbrev FilesTo : World → Type 0
+      FilesTo next = ListsGo w next (IsOk result) old new before after later_lists
+
+      files_by : (f : Option AuditFail) → fault ≡ f → FilesTo (unless f w (carried_out w ws intent (taken r))).world
+      files_by (Some fail) is =
+          let keeps = keeps_then w.lists lists later_lists beside.lists (files.free (subst (λ (o : Option AuditFail). IsSome o) (sym is) refl)) in
+          files_still w w (IsOk result) old new before after later_lists refl keeps
+      files_by None is = subst FilesTo (sym (carried_world w ws intent (taken r))) (record {
+        keeps = λ ok. filed_keeps w.id w.lists lists later_lists beside.lists (take fit batches) (all_of r files_world result (replies sealed_text r result answer) is n.refused ok);
+        between = filed_between w.id w.lists lists later_lists beside.lists (take fit batches) part.done
+            (subst (λ (l : List Batch). FilesAll w.id l lists later_lists) (sym (take-take part.done fit batches part.few)) part.files);
+        ordered = λ id more only. let reached_so = files.ordered (more_here id more) in (reached_so.settled only, reached_stores need reached_so);
+      })
+
+-- the lists' batches are those of the world
+heard_in : (w : World) (ws : statements.World) (lists : Lists) (id : ℕ) (header : Header) → id ≡ w.id → header ≡ ws.header → Keeps w.lists lists → heard_of (lists.batches id) (history header ws.items) ≡ heard_of (filed_for w) (history ws.header ws.items)
+heard_in w ws lists id header own is keeps = ap (λ (bs : List Batch). heard_of bs (history header ws.items)) (ap lists.batches own ∙ keeps.batches w.id) ∙ ap (λ (h : Header). heard_of (filed_for w) (history h ws.items)) is
 
 pub told_known : {A : Type 0} (o n : Option A) (P Q : A → A → Type 0) → WhereTold o n P → ((b a : A) → o ≡ Some b → n ≡ Some a → P b a → Q b a) → WhereTold o n Q
 told_known (Some b) (Some a) P Q told f = f b a refl refl told
 told_known (Some b) None P Q told f = tt
 told_known None n P Q told f = tt
 
-pub notarization : (now : ℕ) (s later_s : Opened) (old new : State) (filed later : notaries.State) → s.at.is_closed ≡ false → later_s.header ≡ s.header
-    → ((c : List ℕ) → old.was_image (turn old) c → old.is_image c) → (r : Result ℕ AuditFail) (result : Result Answered LineFail) → IsAnswer sealed_text r result
-    → IsEarly (early_fault (tail_of s) s.at.is_closed now) r
-    → WhereTold old.reads new.reads (λ before after. WhereTold filed.lists later.lists (λ lists later_lists.
-    (items : List Item) → IsOpenOn s items before → Notarizes now items r s later_s (desk old filed) (desk new later) (content before lists) (content after later_lists)))
-    → (kept_sessions : Machine) → StepsFor (lines.Plain stmts.Notarize) now result (alone kept_sessions s) (alone kept_sessions later_s) (desk old filed) (desk new later)
-notarization now s later_s old new filed later is_open header only_now r result answer early told kept_sessions =
-    told_known old.reads new.reads _ _ told
-    (λ before after was is at. told_map filed.lists later.lists _ _ at
-    (λ lists later_lists does w i within.
-    let has = has_store w kept_sessions s before lists i in
-    notarizes now s later_s old new before after lists later_lists filed.limits header only_now (λ same. same_bytes before after (sym is ∙ same.reads ∙ was)) w kept_sessions i within has
-    filed later refl r result answer early (early_in now w has.world kept_sessions s before lists i has.stands is_open)
-    (does_in now w has.world kept_sessions s before lists i has.stands is_open r later_s (desk old filed) (desk new later) (content after later_lists) (does has.world.items has.stands.open_on))))
-  where
-    same_bytes : (b a : List ℕ) → Some a ≡ Some b → a ≡ b
-    same_bytes b a e = cc
+module _ (now : ℕ) (s later_s : Opened) (old new : State) (filed later : notaries.State) (is_open : s.at.is_closed ≡ false) (header : later_s.header ≡ s.header)
+    (only_now : (c : List ℕ) → old.was_image (turn old) c → old.is_image c) (r : Result ℕ AuditFail) (result : Result Answered LineFail) (answer : IsAnswer sealed_text r result)
+    (early : IsEarly (early_fault (tail_of s) s.at.is_closed now) r) (turn : IfErr r (λ fail. TellsCount fail later)) (kept_sessions : Machine) where
+  module _ (before after : List ℕ) (reads : Unchanged old new → after ≡ before) (w : World) (i : IsIn w (alone kept_sessions s) before) (has : HasStore w kept_sessions s before)
+      (n : Notarizes now has.world.items r s later_s (desk old filed) (desk new later) before after) where
+    abbrev mine : statements.World
+    mine = has.world
+
+    abbrev heard : Heard
+    heard = n.heard
+
+    abbrev aim : Intent
+    aim = intent_in mine now heard
+
+    abbrev kept_back : Option AuditFail
+    kept_back = taken_by r (have_room w aim.batches)
+
+    abbrev found : Found
+    found = heard_so heard kept_back
+
+    does : CarriesOut aim mine.items r s later_s (desk old filed) (desk new later) before after
+    does = does_in now mine s before has.stands is_open heard r later_s (desk old filed) (desk new later) after n.does
+
+    abbrev line : Line
+    line = lines.Plain stmts.Notarize
+
+    step_is : step w line now found ≡ notarized w (Some mine) now heard kept_back
+    step_is = notarize_step w now heard kept_back ∙ ap (λ (o : Option statements.World). notarized w o now heard kept_back) has.is
+
+    -- where the notary tells its lists
+    module _ (lists later_lists : Lists) (was : filed.lists ≡ Some lists) (is : later.lists ≡ Some later_lists) (beside : IsBeside w filed.limits lists) where
+      heard_is : heard ≡ heard_of (filed_for w) (history mine.header mine.items)
+      heard_is = told_here filed.lists later.lists (λ lists later_lists. heard ≡ heard_of (lists.batches s.header.id) (history s.header mine.items)) lists later_lists was is n.told
+          ∙ heard_in w mine lists s.header.id s.header i.id has.stands.header beside.lists
+
+      counted_is : heard.count ≡ length (filed_for w)
+      counted_is = ap (λ (h : Heard). h.count) heard_is
+
+      files : AuditFiles s.header.id aim r (IsReached aim.frontier s later_s mine.items old new before after) filed later lists later_lists
+      files = told_here filed.lists later.lists _ lists later_lists was is does.told (counted_is ∙ ap length (sym (ap lists.batches i.id ∙ beside.lists.batches w.id)))
+
+      finds : MayFind w line now found
+      finds = subst (λ (o : Option statements.World). IfSome o (MayFile w now found)) (sym has.is) (record {
+        heard = heard_is;
+        refusal = λ free. taken_is now s later_s old new before after header only_now reads w kept_sessions i has heard r result answer filed later does lists later_lists beside files r
+            (subst (λ (id : ℕ). FilesFor id filed.limits aim.batches r lists later_lists) i.id files.files);
+      })
+
+    pub notarizes : Steps line now w result (alone kept_sessions later_s) (desk old filed) (desk new later) before after
+    notarizes = record {
+      found = found;
+      may = given result (n.may, taken_may r (have_room w aim.batches));
+      turn = given result (taken_turn r (have_room w aim.batches) later turn);
+      goes = subst (λ (x : Step). Goes w x result (alone kept_sessions later_s) old new before after) (sym step_is)
+          (goes_by now s later_s old new before after header only_now reads w kept_sessions i has heard r result answer filed later does aim.fault refl);
+      only = ends_anyhow result;
+      timely = subst (λ (e : Option AuditFail). IfErr result (EndsTimely e)) (sym (ap (λ (o : Option statements.World). early_over o now) has.is))
+          (subst (λ (e : Option AuditFail). IfErr result (EndsTimely e)) (early_in now mine s before has.stands is_open) (ends_timely sealed_text (tail_of s) s.at.is_closed now r result answer early));
+      finds = beside_by w (desk old filed) (desk new later) _ (λ lists later_lists was is beside. finds lists later_lists was is beside);
+      files = beside_by w (desk old filed) (desk new later) _ (λ lists later_lists was is beside. subst (λ (x : Step). ListsGo w x.world (IsOk result) old new before after later_lists) (sym step_is)
+          (files_by now s later_s old new before after header only_now reads w kept_sessions i has heard r result answer filed later does lists later_lists beside (files lists later_lists was is beside) aim.fault refl));
+      makes = beside_by w (desk old filed) (desk new later) _ (λ lists later_lists was is beside. subst (λ (x : Step). MakesLineCalls w line now found x result (desk old filed) (desk new later) before) (sym (notarize_step w now heard kept_back))
+          (notarization_makes now w mine has.is s before has.stands heard kept_back i.id later_s lists later_lists beside.lists after (desk old filed) (desk new later) beside.limits r does
+          (IsReached aim.frontier s later_s mine.items old new before after) (files lists later_lists was is beside) (counted_is lists later_lists was is beside) sealed_text result answer));
+    }
+
+  pub notarization : WhereTold old.reads new.reads (λ before after. (items : List Item) → IsOpenOn s items before → Notarizes now items r s later_s (desk old filed) (desk new later) before after)
+      → StepsFor (lines.Plain stmts.Notarize) now result (alone kept_sessions s) (alone kept_sessions later_s) (desk old filed) (desk new later)
+  notarization told = told_known old.reads new.reads _ _ told
+      (λ before after was is notarizes_at w i.
+      let has = has_store w kept_sessions s before i in
+      notarizes before after (λ same. same_bytes before after (sym is ∙ same.reads ∙ was)) w i has (notarizes_at has.world.items has.stands.open_on))
+    where
+      same_bytes : (b a : List ℕ) → Some a ≡ Some b → a ≡ b
+      same_bytes b a e = cc
 
 -- whatever was answered, the header stays
 pub stays_header : (r : Result ℕ AuditFail) (s later_s : Opened) → reaching.StaysOpen r s later_s → later_s.header ≡ s.header

@@ -1,6 +1,6 @@
 -- A sound world stays sound at every line, and no line tells of an alteration.
-use Rattle.std.proofs.Common.{◌≡◌, ◌⊎◌, inl, inr, ℕ, ◌+◌, ◌-◌, ◌<◌, ◌≤◌, ◌==◌, Bool, true, false, List, [], ◌∷◌, ◌++◌, length, take, Option, Some, None, IfSome, Result, Ok, Err, refl, sym, ap, subst, ◌∙◌, arith}
-use Rattle.std.specs.Prelude.{if◌then◌else◌, codes, nat_lt}
+use Rattle.std.proofs.Common.{◌≡◌, ◌⊎◌, inl, inr, ℕ, ◌+◌, ◌-◌, ◌<◌, ◌≤◌, Bool, true, false, List, [], ◌∷◌, ◌++◌, length, take, Option, Some, None, IfSome, Result, Ok, Err, refl, sym, ap, subst, ◌∙◌, arith}
+use Rattle.std.specs.Prelude.{if◌then◌else◌}
 use Rattle.std.proofs.lemmas.Bool.{cases_lt, eq-eqb}
 use Rattle.std.proofs.lemmas.List.{append-nil}
 use Rattle.tuple_bytes.specs.declared.item.Item.TheVariants as items
@@ -9,7 +9,6 @@ use Rattle.history_model.specs.History.{History, history, last_moment}
 use Rattle.digest_model.specs.Layout.{layout}
 use Rattle.notary_link.specs.declared.mark.Mark.{Mark}
 use Rattle.notary_link.specs.Batches.{Batch}
-use Rattle.notary_link.specs.Notary.{marks_in_all}
 use Rattle.notary_link.specs.Filing.{fitting, room_in}
 use Rattle.notary_link.proofs.Fitting.{fitting_few}
 use Rattle.audit_model.specs.Sound.{IsNotarized}
@@ -24,10 +23,8 @@ use Rattle.session_model.specs.World as sessions
 use Rattle.session_model.specs.Steps as session_steps
 use Rattle.validator.specs.declared.verdict.Verdict.{Verdict}
 use Rattle.validator.specs.declared.fail.AuditFail.{AuditFail}
-use Rattle.validator.specs.declared.fail.AuditFail.TheVariants as fails
-use Rattle.number_text.specs.Numbered.{numbered}
-use Rattle.validator.specs.Texts.{verdict_text, refusal_text}
-use Rattle.validator.specs.Notarizing.{notarize_fault, filed_fault, next_batches, sealed_after, frontier_for}
+use Rattle.validator.specs.Texts.{verdict_text}
+use Rattle.validator.specs.Notarizing.{Heard, heard_of, notarize_fault, filed_fault, next_batches, frontier_for}
 use Rattle.validator.specs.Reaching.{with_frontier_for}
 use Rattle.validator.specs.Verdicts.{IsFoundIn, mark_of}
 use Rattle.validator.proofs.Growing.{IsFiledUpTo, ended_within, need_follows, notarized_more, counted_more}
@@ -35,12 +32,12 @@ use Rattle.validator.proofs.Clean.{clean_in, sound_not_refused}
 use Rattle.forensic_report.specs.declared.algorithm.Algorithm.{Algorithm}
 use Rattle.forensic_report.specs.declared.fail.AnalyseFail.{AnalyseFail}
 use Rattle.forensic_report.specs.Analysis.{Analysis, Unsealed}
-use Rattle.forensic_report.specs.Finding.{IsAnalysisIn}
-use Rattle.forensic_report.specs.Laws as reports
+use Rattle.forensic_report.specs.Finding.{IsAnalysisIn, IsSoundAnalysis}
 use Rattle.forensic_report.proofs.Sound.{sound_in}
-use Rattle.store_world.specs.World.{World, with_store, with_lists, with_mark}
+use Rattle.store_world.specs.World.{World, with_store}
 use Rattle.store_world.specs.Found.{Found}
-use Rattle.store_world.specs.Steps.{step, says, refuses, filed, filed_for, reached, sealed, unless, notarized, marked, validated, analysed, algorithm_of, on_tables, history_of, MayFind}
+use Rattle.store_world.specs.Steps.{Step, step, filed, filed_for, reached, carried_out, intent_in, unless, notarized, marked, validated, analysed, algorithm_of, on_tables, history_of}
+use Rattle.store_world.specs.Finding.{MayFile, MayFind}
 use Rattle.store_world.specs.Laws.{HoldsFiled, IsSoundWorld, HasFitHeader, IsSoundVerdict, TellsNoAlteration, SoundWorldsStaySound}
 use Rattle.store_world.proofs.Adding.{Adds, step_adds}
 use Rattle.store_world.proofs.Analysing.{analysed_stays}
@@ -86,15 +83,18 @@ module _ (w : World) (fits : HasFitHeader w) (sound : IsSoundWorld w) where
       by (Some h) (inl none) = ap (λ (bs : List Batch). filed_fault bs h) none
       by (Some h) (inr known) = sound_not_refused (filed_for w) w.id known.0 h known.2
 
-  module _ (ws : statements.World) (is : w.store ≡ Some ws) (now : ℕ) where
+  module _ (ws : statements.World) (is : w.store ≡ Some ws) (now : ℕ) (refusal : Option AuditFail) where
+    abbrev heard : Heard
+    heard = heard_of (filed_for w) (history ws.header ws.items)
+
     abbrev t : Tail
     t = statements.tail_of_world ws
 
     abbrev need : Option ℕ
-    need = frontier_for (layout (history ws.header ws.items)) t now (filed_for w)
+    need = frontier_for (layout (history ws.header ws.items)) t now (length (filed_for w))
 
     abbrev next : List Batch
-    next = next_batches (history ws.header ws.items) now (filed_for w)
+    next = next_batches (history ws.header ws.items) now (length (filed_for w))
 
     abbrev count : ℕ
     count = fitting (room_in w.limits w.lists) next
@@ -102,7 +102,7 @@ module _ (w : World) (fits : HasFitHeader w) (sound : IsSoundWorld w) where
     abbrev later : List Batch
     later = filed_for w ++ take count next
 
-    not_late : notarize_fault t false now ws.items (filed_for w) ≡ None → is_late t now ≡ false
+    not_late : notarize_fault t false now ws.items heard ≡ None → is_late t now ≡ false
     not_late free = by_back (is_back t now) refl
       where
         by_late : (b : Bool) → is_late t now ≡ b → is_back t now ≡ false → is_late t now ≡ false
@@ -148,7 +148,7 @@ module _ (w : World) (fits : HasFitHeader w) (sound : IsSoundWorld w) where
         by (inr none) =
             let zero_is : count ≡ 0 = omega (arith, none) in
             subst (λ (bs : List Batch). HoldsFiled bs w.id (Some (history ws.header (with_frontier_for need ws.items)))) (sym (ap (λ (n : ℕ). filed_for w ++ take n next) zero_is ∙ append-nil (filed_for w)))
-            (still need (need_follows (layout (history ws.header ws.items)) t ws.items refl now (filed_for w)) (holds ws is))
+            (still need (need_follows (layout (history ws.header ws.items)) t ws.items refl now (length (filed_for w))) (holds ws is))
 
     abbrev new_world : World
     new_world = filed (with_store w (reached need ws)) next
@@ -163,37 +163,37 @@ module _ (w : World) (fits : HasFitHeader w) (sound : IsSoundWorld w) where
       reached_fit need,
     )
 
-    all_sound : IsSoundAndFit new_world → IsSoundAndFit (sealed w ws now).world
-    all_sound new = by (count == length next)
-      where
-        by : (b : Bool) → IsSoundAndFit (if b then says new_world (numbered (codes "sealed ") (sealed_after (layout (history ws.header ws.items)) ws.header now (filed_for w))) else refuses new_world (refusal_text fails.Full)).world
-        by true = new
-        by false = new
+    unless_sound : (f : Option AuditFail) (new : World) (s : Step) → IsSoundAndFit new → IsSoundAndFit s.world → IsSoundAndFit (unless f new s).world
+    unless_sound (Some fail) new s one other = one
+    unless_sound None new s one other = other
 
-    of_fault : (f : Option AuditFail) → notarize_fault t false now ws.items (filed_for w) ≡ f → IsSoundAndFit (unless f w (sealed w ws now)).world
+    of_fault : (f : Option AuditFail) → notarize_fault t false now ws.items heard ≡ f → IsSoundAndFit (unless f w (carried_out w ws (intent_in ws now heard) refusal)).world
     of_fault (Some fail) at = (sound, fits)
-    of_fault None at = all_sound (new_sound (not_late at))
+    of_fault None at = unless_sound refusal new_world _ (new_sound (not_late at)) (new_sound (not_late at))
 
-  of_notarization : (now : ℕ) → IsSoundAndFit (notarized w w.store now).world
-  of_notarization now = by w.store refl
+  of_notarization : (now : ℕ) (heard : Heard) (refusal : Option AuditFail) → IfSome w.store (λ store. heard ≡ heard_of (filed_for w) (history store.header store.items)) → IsSoundAndFit (notarized w w.store now heard refusal).world
+  of_notarization now heard refusal hears = by w.store refl hears
     where
-      by : (o : Option statements.World) → w.store ≡ o → IsSoundAndFit (notarized w o now).world
-      by None is = (sound, fits)
-      by (Some ws) is = of_fault ws is now (notarize_fault (statements.tail_of_world ws) false now ws.items (filed_for w)) refl
+      by : (o : Option statements.World) → w.store ≡ o → IfSome o (λ store. heard ≡ heard_of (filed_for w) (history store.header store.items)) → IsSoundAndFit (notarized w o now heard refusal).world
+      by None is hears = (sound, fits)
+      by (Some ws) is hears = subst (λ (h : Heard). IsSoundAndFit (notarized w (Some ws) now h refusal).world) (sym hears)
+          (of_fault ws is now refusal (notarize_fault (statements.tail_of_world ws) false now ws.items (heard_of (filed_for w) (history ws.header ws.items))) refl)
+
+  -- what is filed was heard
+  filed_heard : (o : Option statements.World) (found : Found) (now : ℕ) → IfSome o (MayFile w now found) → IfSome o (λ store. found.heard ≡ heard_of (filed_for w) (history store.header store.items))
+  filed_heard None found now may = tt
+  filed_heard (Some ws) found now may = may.heard
 
   -- ---- a validation
 
-  of_mark : (mark : Option Mark) (text : List ℕ) → IsSoundAndFit (marked w mark text).world
-  of_mark None text = (sound, fits)
-  of_mark (Some mark) text = by (nat_lt (marks_in_all w.lists) w.limits.marks)
-    where
-      by : (b : Bool) → IsSoundAndFit (if b then says (with_lists w (with_mark w.id mark w.lists)) text else refuses w (refusal_text fails.Full)).world
-      by true = (sound, fits)
-      by false = (sound, fits)
+  of_mark : (mark : Option Mark) (refusal : Option AuditFail) (text : List ℕ) → IsSoundAndFit (marked w mark refusal text).world
+  of_mark None refusal text = (sound, fits)
+  of_mark (Some mark) None text = (sound, fits)
+  of_mark (Some mark) (Some fail) text = (sound, fits)
 
-  of_validation : (now : ℕ) (found : Result Verdict AuditFail) → IsSoundAndFit (validated w now found).world
-  of_validation now (Ok verdict) = of_mark (mark_of verdict now) (verdict_text verdict)
-  of_validation now (Err fail) = (sound, fits)
+  of_validation : (now : ℕ) (found : Result Verdict AuditFail) (refusal : Option AuditFail) → IsSoundAndFit (validated w now found refusal).world
+  of_validation now (Ok verdict) refusal = of_mark (mark_of verdict now) refusal (verdict_text verdict)
+  of_validation now (Err fail) refusal = (sound, fits)
 
   clean_by : (o : Option History) (batches : List Batch) (found : Result Verdict AuditFail) → HoldsFiled batches w.id o → IsFoundIn batches o found → IsSoundVerdict found
   clean_by o batches found (inl none) shows = inl (subst (λ (bs : List Batch). IsFoundIn bs o found) none shows)
@@ -202,10 +202,10 @@ module _ (w : World) (fits : HasFitHeader w) (sound : IsSoundWorld w) where
 
   -- ---- an analysis
 
-  of_analysis : (algorithm : Algorithm) (now : ℕ) (found : Result Analysis AnalyseFail) → IsSoundAndFit (analysed w algorithm now found).world
-  of_analysis algorithm now found = subst IsSoundAndFit (sym (analysed_stays w algorithm now found)) (sound, fits)
+  of_analysis : (algorithm : Algorithm) (found : Result Analysis AnalyseFail) (body : List ℕ) → IsSoundAndFit (analysed w algorithm found body).world
+  of_analysis algorithm found body = subst IsSoundAndFit (sym (analysed_stays w algorithm found body)) (sound, fits)
 
-  none_by : (algorithm : Algorithm) (o : Option History) (batches : List Batch) (found : Result Analysis AnalyseFail) → HoldsFiled batches w.id o → IsAnalysisIn algorithm batches o found → reports.TellsNoAlteration found
+  none_by : (algorithm : Algorithm) (o : Option History) (batches : List Batch) (found : Result Analysis AnalyseFail) → HoldsFiled batches w.id o → IsAnalysisIn algorithm batches o found → IsSoundAnalysis found
   none_by algorithm o batches found (inl none) shows = inl (Unsealed, subst (λ (bs : List Batch). IsAnalysisIn algorithm bs o found) none shows, refl)
   none_by algorithm None batches found (inr known) shows = absurd known.2
   none_by algorithm (Some h) batches found (inr known) shows = sound_in algorithm batches w.id known.0 h found known.2.filed shows
@@ -214,15 +214,15 @@ module _ (w : World) (fits : HasFitHeader w) (sound : IsSoundWorld w) where
 
   module _ (now : ℕ) (found : Found) where
     abbrev Stays : Line → Type 0
-    Stays line = MayFind w line found → IsSoundWorld (step w line now found).world × HasFitHeader (step w line now found).world × TellsNoAlteration w line found
+    Stays line = MayFind w line now found → IsSoundWorld (step w line now found).world × HasFitHeader (step w line now found).world × TellsNoAlteration w line found
 
     beside : {A B : Type 0} → A × B → A × B × Unit {0}
     beside both = (both.0, both.1, tt)
 
     of_stmt : (stmt : Stmt) → Stays (lines.Plain stmt)
     unfolding step
-    of_stmt stmts.Notarize may = let both = of_notarization now in (both.0, both.1, not_refused)
-    of_stmt stmts.Validate may = let both = of_validation now found.verdict in (both.0, both.1, clean_by (history_of w.store) (filed_for w) found.verdict sound may)
+    of_stmt stmts.Notarize may = let both = of_notarization now found.heard found.refusal (filed_heard w.store found now may) in (both.0, both.1, not_refused)
+    of_stmt stmts.Validate may = let both = of_validation now found.verdict found.refusal in (both.0, both.1, clean_by (history_of w.store) (filed_for w) found.verdict sound may.0)
     of_stmt (stmts.Create table columns) may = beside (of_tables (lines.Plain (stmts.Create table columns)) now)
     of_stmt (stmts.Insert table row) may = beside (of_tables (lines.Plain (stmts.Insert table row)) now)
     of_stmt (stmts.Update table row) may = beside (of_tables (lines.Plain (stmts.Update table row)) now)
@@ -234,8 +234,8 @@ module _ (w : World) (fits : HasFitHeader w) (sound : IsSoundWorld w) where
     of_stmt stmts.Commit may = beside (of_tables (lines.Plain stmts.Commit) now)
     of_stmt stmts.Abort may = beside (of_tables (lines.Plain stmts.Abort) now)
     of_stmt (stmts.Analyse algorithm) may =
-        let both = of_analysis (algorithm_of algorithm) now found.analysis in
-        (both.0, both.1, none_by (algorithm_of algorithm) (history_of w.store) (filed_for w) found.analysis sound may)
+        let both = of_analysis (algorithm_of algorithm) found.analysis found.body in
+        (both.0, both.1, none_by (algorithm_of algorithm) (history_of w.store) (filed_for w) found.analysis sound may.0)
     of_stmt (stmts.Now moment) may = beside (of_tables (lines.Plain (stmts.Now moment)) now)
 
     of_line : (line : Line) → Stays line

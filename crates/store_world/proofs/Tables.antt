@@ -1,5 +1,5 @@
 -- A statement on tables and a line of a session do to the world what they do to the store and its sessions.
-use Rattle.std.proofs.Common.{◌≡◌, ◌≢◌, ℕ, Bool, List, ◌++◌, ◌∷◌, [], length, length-append, Option, Some, None, Result, Ok, Err, IfErr, inl, inr, refl, sym, ap, subst, ◌∙◌, arith}
+use Rattle.std.proofs.Common.{◌≡◌, ◌≢◌, ℕ, Bool, List, ◌++◌, ◌∷◌, [], length, length-append, Option, Some, None, Result, Ok, Err, IsOk, IfErr, inl, inr, refl, sym, ap, subst, ◌∙◌, arith}
 use Rattle.outside_words.specs.Told.{WhereTold}
 use Rattle.outside_words.proofs.Told.{told_map, told_same}
 use Rattle.disk_words.specs.Disk as disks
@@ -20,29 +20,29 @@ use Rattle.statement_core.specs.Promises as statement_promises
 use Rattle.txn_journal.specs.Held as journals
 use Rattle.session_model.specs.World as sessions
 use Rattle.session_model.specs.Steps as session_steps
-use Rattle.session_model.specs.Steps.{Answer, Replied, Stopped}
+use Rattle.session_model.specs.Steps.{Answer, Replied, Stopped, reply_of}
 use Rattle.session_model.specs.Promises as promises
 use Rattle.session_model.proofs.Promising.{steps_keep_promises}
-use Rattle.session_model.specs.Standing.{Machine, IsStatementLine, StepsIn, StepsTo, of_store, reply_of}
+use Rattle.session_model.specs.Standing.{Machine, IsStatementLine, StepsIn, StepsTo, of_store}
 use Rattle.session_model.specs.Standing as standing
 use Rattle.statement_core.specs.declared.reply.Reply.TheVariants as replies
 use Rattle.tuple_bytes.specs.declared.item.Item.{Item}
 use Rattle.tuple_bytes.specs.declared.item.Item.TheVariants as items
-use Rattle.validator.specs.Desk.{content, desk}
+use Rattle.validator.specs.Desk.{desk}
 use Rattle.store_world.specs.declared.answered.Answered.{Answered}
 use Rattle.store_world.specs.declared.fail.LineFail.{LineFail}
-use Rattle.store_world.specs.World.{World, IsIn, StoreIsIn, StoresOf, StoresEither}
+use Rattle.store_world.specs.World.{World, StoresOf, StoresEither}
+use Rattle.store_world.specs.Standing.{IsIn, StoreIsIn}
 use Rattle.store_world.specs.declared.fail.LineFail.TheVariants as fails
 use Rattle.store_world.specs.Answers.{replied, fault_of, IsReplied}
 use Rattle.store_world.specs.Found.{Found}
 use Rattle.store_world.specs.LineCalls.{items_added, appends, end_of_store, notary_calls}
 use Rattle.store_world.specs.CallsMade.{MakesOfDisk, MakesOfNotary, MakesLineCalls}
 use Rattle.store_world.specs.Faults.{IsOfStoring, MayEndIn, early_of}
-use Rattle.store_world.specs.Growing.{GrowsFor}
 use Rattle.store_world.specs.Parts.{alone, StepsBeside}
-use Rattle.store_world.specs.Steps.{Step, on_tables, after_statement}
+use Rattle.store_world.specs.Steps.{Step, step, on_tables, after_statement}
 use Rattle.store_world.specs.Stepping.{Goes, Steps}
-use Rattle.store_world.proofs.Between.{kept_between}
+use Rattle.store_world.proofs.Left.{given, beside_by, beside_same, files_still}
 use Rattle.store_world.proofs.CallsTold.{none_made, statement_calls}
 use Rattle.store_world.proofs.Faults.{ends_storing, ends_any_time}
 use Rattle.store_world.proofs.LineKinds.{none_found, goes_to_tables}
@@ -55,8 +55,8 @@ pub record HasStore (w : World) (kept : Machine) (s : Opened) (bytes : List ℕ)
   pub stands : statements.IsIn world s bytes
   pub own : world.header.id ≡ w.id
 
-pub has_store : (w : World) (kept : Machine) (s : Opened) (bytes : List ℕ) (lists : notaries.Lists) → IsIn w (alone kept s) bytes lists → HasStore w kept s bytes
-has_store w kept s bytes lists i = by w.store refl i.store
+pub has_store : (w : World) (kept : Machine) (s : Opened) (bytes : List ℕ) → IsIn w (alone kept s) bytes → HasStore w kept s bytes
+has_store w kept s bytes i = by w.store refl i.store
   where
     by : (o : Option statements.World) → w.store ≡ o → StoreIsIn w.id o w.sessions (Some (record { store = s; sessions = kept })) bytes → HasStore w kept s bytes
     by (Some world) is stands = record { world = world; is = is; with_sessions = stands.0; stands = stands.0.store; own = stands.1 }
@@ -98,7 +98,7 @@ of_answer w new (Replied reply) is = is
 of_answer w new (Stopped refusal) is = is
 
 module _ (kept later_kept : Machine) (s later : Opened) (header : later.header ≡ s.header) (old new : disks.State) where
-  module _ (w : World) (lists : notaries.Lists) (b a : List ℕ) (i : IsIn w (alone kept s) b lists) (has : HasStore w kept s b) where
+  module _ (w : World) (b a : List ℕ) (i : IsIn w (alone kept s) b) (has : HasStore w kept s b) where
     abbrev own : sessions.World
     own = record { store = has.world; sessions = w.sessions }
 
@@ -107,19 +107,16 @@ module _ (kept later_kept : Machine) (s later : Opened) (header : later.header �
     either next c (inr stores) = inr stores
 
     goes : (next : session_steps.Step) (r : Result Reply StepFail) (result : Result Answered LineFail) → StepsIn own next r kept later_kept s later old new b a → IsReplied r result
-        → Goes w (after_statement w next) result (alone later_kept later) old new b (content a lists)
+        → Goes w (after_statement w next) result (alone later_kept later) old new b a
     goes next (Ok reply) (Ok answered) steps is = record {
       reply = record { text = ap (λ (x : Answered). x.text) is ∙ ap (λ (x : Reply). (replied x).text) steps.reply; refused = ap (λ (x : Answered). x.refused) is ∙ ap (λ (x : Reply). (replied x).refused) steps.reply };
       stands = record {
         id = ap (λ (h : Header). h.id) header ∙ i.id;
         store = (steps.stands, ap (λ (h : Header). h.id) (sym steps.stands.store.header ∙ header) ∙ i.id);
-        lists = i.lists;
       };
       settled = steps.settled;
       images = λ only. weaker (steps.images only) (either next);
       kept = λ only. either next a (steps.kept only);
-      between = kept_between w.lists lists i.lists;
-      ordered = λ id more. absurd (more (i.lists.batches id));
       same = λ stays. unmoved has.world (of_store next) reply s old new steps.trace (stays ∙ has.is);
     }
     goes next r (Err fail) steps is = record {
@@ -128,8 +125,6 @@ module _ (kept later_kept : Machine) (s later : Opened) (header : later.header �
       settled = λ only. tt;
       images = λ only. weaker (steps.images only) (either next);
       kept = λ only. either next a (steps.kept only);
-      between = kept_between w.lists lists i.lists;
-      ordered = λ id more. absurd (more (i.lists.batches id));
       same = λ stays. tt;
     }
     goes next (Err fail) (Ok answered) steps is = absurd cc
@@ -155,9 +150,9 @@ module _ (kept later_kept : Machine) (s later : Opened) (header : later.header �
     }
 
   module _ (line : Line) (now : ℕ) (on : IsStatementLine line) (r : Result Reply StepFail) (result : Result Answered LineFail) (answers : IsReplied r result) where
-    steps : (filed : notaries.State) (w : World) (lists : notaries.Lists) (b a : List ℕ) → IsIn w (alone kept s) b lists → StepsTo line now r kept later_kept s later old new b a → Steps line now w result (alone later_kept later) (desk old filed) (desk new filed) b (content a lists)
-    steps filed w lists b a i does =
-        let has = has_store w kept s b lists i in
+    steps : (filed : notaries.State) (w : World) (b a : List ℕ) → IsIn w (alone kept s) b → StepsTo line now r kept later_kept s later old new b a → Steps line now w result (alone later_kept later) (desk old filed) (desk new filed) b a
+    steps filed w b a i does =
+        let has = has_store w kept s b i in
         let goes_on = goes_to_tables line on in
         let before : sessions.World = record { store = has.world; sessions = w.sessions } in
         let next = session_steps.step before line now in
@@ -165,30 +160,16 @@ module _ (kept later_kept : Machine) (s later : Opened) (header : later.header �
         let done = does before has.with_sessions in
         record {
           found = none_found;
-          may = goes_on.may w none_found;
-          goes = subst (λ (x : Step). Goes w x result (alone later_kept later) old new b (content a lists)) (sym is) (goes w lists b a i has next r result done answers);
-          makes = subst (λ (x : Step). MakesLineCalls w line now none_found x result (desk old filed) (desk new filed) b) (sym is)
-              (makes w lists b a i has line now none_found next r result filed (goes_on.calls w now none_found) (of_answer has.world next.world.store next.answer (steps_keep_promises before line now).store) done answers);
-          only = subst (λ (x : Step). IfErr result (MayEndIn (line_kind line) (x.world.store ≢ w.store))) (sym is) (ends_storing (Some next.world.store ≢ w.store) (line_kind line) goes_on.kind result (only w lists b a i has next r result done answers));
+          may = given result (goes_on.tells w none_found);
+          turn = given result tt;
+          goes = subst (λ (x : Step). Goes w x result (alone later_kept later) old new b a) (sym is) (goes w b a i has next r result done answers);
+          only = subst (λ (x : Step). IfErr result (MayEndIn (line_kind line) (x.world.store ≢ w.store))) (sym is) (ends_storing (Some next.world.store ≢ w.store) (line_kind line) goes_on.kind result (only w b a i has next r result done answers));
           timely = ends_any_time (early_of w line now) (goes_on.early w now) result;
+          finds = beside_by w (desk old filed) (desk new filed) _ (λ lists later_lists was is beside. goes_on.may w now none_found);
+          files = beside_same w (desk old filed) (desk new filed) refl _ (λ lists beside. files_still w (step w line now none_found).world (IsOk result) old new b a lists (ap (λ (x : Step). x.world.lists) is) beside.lists);
+          makes = beside_by w (desk old filed) (desk new filed) _ (λ lists later_lists was_told is_told beside. subst (λ (x : Step). MakesLineCalls w line now none_found x result (desk old filed) (desk new filed) b) (sym is)
+              (makes w b a i has line now none_found next r result filed (goes_on.calls w now none_found) (of_answer has.world next.world.store next.answer (steps_keep_promises before line now).store) done answers));
         }
 
     pub beside : WhereTold old.reads new.reads (StepsTo line now r kept later_kept s later old new) → StepsBeside line now result (alone kept s) (alone later_kept later) old new
-    beside told filed = told_map old.reads new.reads _ _ told (λ b a does. told_same filed.lists filed.lists _ refl (λ lists w i limits. steps filed w lists b a i does))
-
-    -- the same of the store alone
-    pub grows_beside : WhereTold old.reads new.reads (StepsTo line now r kept later_kept s later old new) → GrowsFor line now result (alone kept s) (alone later_kept later) old new
-    grows_beside told = told_map old.reads new.reads _ _ told (λ b a does w i.
-        let has = has_store w kept s b w.lists i in
-        let before : sessions.World = record { store = has.world; sessions = w.sessions } in
-        let next = session_steps.step before line now in
-        let g = goes w w.lists b a i has next r result (does before has.with_sessions) answers in
-        record {
-          next = after_statement w next;
-          allowed = (goes_to_tables line on).alone w now (after_statement w next) (sym (ap (λ (o : Option statements.World). on_tables w o line now) has.is));
-          reply = g.reply;
-          stands = g.stands;
-          settled = g.settled;
-          images = g.images;
-          kept = g.kept;
-        })
+    beside told filed = told_map old.reads new.reads _ _ told (λ b a does w i. steps filed w b a i does)

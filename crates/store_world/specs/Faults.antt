@@ -22,7 +22,7 @@ IsOfStoring stores fails.NoMemory = Unit {0}
 -- A line that the notary answers asks it and reads the file anew, so it may end in a fault of either device. Any other uses the
 -- disk alone, to store something.
 abbrev pub MayEndIn : LineKind → Type 0 → LineFail → Type 0
-MayEndIn (kinds.InWorld parts.Notary) stores fail = Unit {0}
+MayEndIn (kinds.InWorld (parts.Notary asks)) stores fail = Unit {0}
 MayEndIn kind stores fail = IsOfStoring stores fail
 
 -- ---- before anything is asked

@@ -11,10 +11,11 @@ use Rattle.validator.specs.declared.verdict.Verdict.{Verdict}
 use Rattle.validator.specs.declared.verdict.Verdict.TheVariants as verdicts
 use Rattle.validator.specs.declared.fail.AuditFail.{AuditFail}
 use Rattle.validator.specs.Notarizing.{filed_fault}
-use Rattle.forensic_report.specs.Laws as reports
+use Rattle.forensic_report.specs.Finding.{IsSoundAnalysis}
 use Rattle.store_world.specs.World.{World}
 use Rattle.store_world.specs.Found.{Found}
-use Rattle.store_world.specs.Steps.{step, filed_for, history_of, MayFind}
+use Rattle.store_world.specs.Steps.{step, filed_for, history_of}
+use Rattle.store_world.specs.Finding.{MayFind}
 
 -- these batches are none, or those of a history with n sealed tiles, which has reached their end
 abbrev pub HoldsFiled : List Batch → ℕ → Option History → Type 0
@@ -36,11 +37,11 @@ IsSoundVerdict found = (found ≡ Ok verdicts.Unsealed) ⊎ ((n : ℕ) × (found
 -- seal that is missing. An analysis reports no alteration, or the header lacks its chains.
 abbrev pub TellsNoAlteration : World → Line → Found → Type 0
 TellsNoAlteration w (lines.Plain stmts.Validate) found = IsSoundVerdict found.verdict
-TellsNoAlteration w (lines.Plain (stmts.Analyse algorithm)) found = reports.TellsNoAlteration found.analysis
+TellsNoAlteration w (lines.Plain (stmts.Analyse algorithm)) found = IsSoundAnalysis found.analysis
 TellsNoAlteration w (lines.Plain stmts.Notarize) found = IfSome (history_of w.store) (λ held. filed_fault (filed_for w) held ≡ None)
 TellsNoAlteration w line found = Unit {0}
 
 -- A sound world stays sound at every line, and no line tells of an alteration.
 abbrev pub SoundWorldsStaySound : Type 0
-SoundWorldsStaySound = (w : World) (line : Line) (now : ℕ) (found : Found) → HasFitHeader w → IsSoundWorld w → MayFind w line found
+SoundWorldsStaySound = (w : World) (line : Line) (now : ℕ) (found : Found) → HasFitHeader w → IsSoundWorld w → MayFind w line now found
     → IsSoundWorld (step w line now found).world × HasFitHeader (step w line now found).world × TellsNoAlteration w line found

@@ -13,10 +13,11 @@ use Rattle.notary_link.specs.Filing.{filings, fitting, room_in}
 use Rattle.stmt_text.specs.declared.stmt.Stmt.TheVariants as stmts
 use Rattle.stmt_text.specs.declared.line.Line.{Line}
 use Rattle.stmt_text.specs.declared.line.Line.TheVariants as lines
-use Rattle.store_engine.specs.Appended.{with_record}
+use Rattle.store_engine.specs.Record.{with_record}
 use Rattle.statement_core.specs.World as statements
 use Rattle.validator.specs.declared.verdict.Verdict.{Verdict}
 use Rattle.validator.specs.declared.fail.AuditFail.{AuditFail}
+use Rattle.validator.specs.Notarizing.{Heard}
 use Rattle.validator.specs.Verdicts.{mark_of}
 use Rattle.store_world.specs.Found.{Found}
 use Rattle.store_world.specs.World.{World}
@@ -54,24 +55,28 @@ disk_calls w next bytes = appends (standing (end_of_store w.store) bytes) (items
 abbrev pub filing_calls : World → List Batch → List Call
 filing_calls w batches = take (suc (fitting (room_in w.limits w.lists) batches)) (filings w.id (length (filed_for w)) batches)
 
+-- none where something speaks against them
 abbrev pub unless : Option AuditFail → List Call → List Call
 unless (Some fail) calls = []
 unless None calls = calls
 
-abbrev pub notarize_calls : World → Option statements.World → ℕ → List Call
-notarize_calls w None now = []
-notarize_calls w (Some store) now = unless (intent_in w store now).fault (filing_calls w (intent_in w store now).batches)
+-- those of a notarization, where this is heard
+abbrev pub notarize_calls : World → Option statements.World → ℕ → Heard → List Call
+notarize_calls w None now heard = []
+notarize_calls w (Some store) now heard = unless (intent_in store now heard).fault (filing_calls w (intent_in store now heard).batches)
 
+-- the call that adds a mark, where there is one
 abbrev pub noting : ℕ → Option Mark → List Call
 noting id None = []
 noting id (Some mark) = note id mark ∷ []
 
--- one for a mark, whether there is room for it or not
+-- those of a validation, whether there is room for its mark or not
 abbrev pub validate_calls : World → ℕ → Result Verdict AuditFail → List Call
 validate_calls w now (Ok verdict) = noting w.id (mark_of verdict now)
 validate_calls w now (Err fail) = []
 
+-- The calls of the notary by a line that found this.
 unfoldable pub notary_calls : World → Line → ℕ → Found → List Call
-notary_calls w (lines.Plain stmts.Notarize) now found = notarize_calls w w.store now
+notary_calls w (lines.Plain stmts.Notarize) now found = notarize_calls w w.store now found.heard
 notary_calls w (lines.Plain stmts.Validate) now found = validate_calls w now found.verdict
 notary_calls w line now found = []

@@ -8,25 +8,25 @@ use Rattle.stmt_text.specs.declared.line.Line.{Line}
 use Rattle.validator.specs.Desk.{KeepsSound, desk}
 use Rattle.store_world.specs.declared.answered.Answered.{Answered}
 use Rattle.store_world.specs.declared.fail.LineFail.{LineFail}
-use Rattle.store_world.specs.World.{Held, StandsFor}
+use Rattle.store_world.specs.Standing.{OpenWorld, StandsOver}
 use Rattle.store_world.specs.Stepping.{StepsFor}
 
 -- an open store and its id, with what is kept of its sessions
-abbrev pub alone : Machine → Opened → Held
+abbrev pub alone : Machine → Opened → OpenWorld
 alone kept s = record { id = s.header.id; opened = Some (record { store = s; sessions = kept }) }
 
 -- an id without a store
-abbrev pub no_store : ℕ → Held
+abbrev pub no_store : ℕ → OpenWorld
 no_store id = record { id = id; opened = None }
 
 -- whatever the notary is, which is not called
-abbrev pub StepsBeside : Line → ℕ → Result Answered LineFail → Held → Held → disks.State → disks.State → Type 0
+abbrev pub StepsBeside : Line → ℕ → Result Answered LineFail → OpenWorld → OpenWorld → disks.State → disks.State → Type 0
 StepsBeside line now result held later old new = (filed : notaries.State) → StepsFor line now result held later (desk old filed) (desk new filed)
 
 -- and whatever it holds, it stays sound
-abbrev pub StaysSound : Held → disks.State → disks.State → Type 0
-StaysSound held old new = (filed : notaries.State) → KeepsSound (StandsFor held) (desk old filed) (desk new filed)
+abbrev pub StaysSound : OpenWorld → disks.State → disks.State → Type 0
+StaysSound held old new = (filed : notaries.State) → KeepsSound (StandsOver held) (desk old filed) (desk new filed)
 
 -- whatever store there is, which is not called
 abbrev pub StepsWithout : Line → ℕ → Result Answered LineFail → ℕ → disks.State → disks.State → notaries.State → notaries.State → Type 0
-StepsWithout line now result id old new filed later = (held : Held) → held.id ≡ id → StepsFor line now result held held (desk old filed) (desk new later)
+StepsWithout line now result id old new filed later = (held : OpenWorld) → held.id ≡ id → StepsFor line now result held held (desk old filed) (desk new later)

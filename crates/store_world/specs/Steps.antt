@@ -1,10 +1,9 @@
 -- What a line does to a world, and the text of its reply.
-use Rattle.std.specs.Prelude.{ℕ, ◌==◌, false, true, nat_lt, if◌then◌else◌, Bool, List, ◌++◌, ◌∷◌, [], length, take, codes, Option, Some, None, Result, Ok, Err}
+use Rattle.std.specs.Prelude.{ℕ, false, true, Bool, List, ◌++◌, ◌∷◌, [], take, codes, Option, Some, None, Result, Ok, Err}
 use Rattle.history_model.specs.History.{History, history}
 use Rattle.notary_link.specs.declared.mark.Mark.{Mark}
 use Rattle.notary_link.specs.Batches.{Batch}
 use Rattle.notary_link.specs.Filing.{fitting, room_in}
-use Rattle.notary_link.specs.Notary.{marks_in_all}
 use Rattle.stmt_text.specs.declared.stmt.LineAlgorithm.{LineAlgorithm}
 use Rattle.stmt_text.specs.declared.stmt.LineAlgorithm.TheVariants as line_algorithms
 use Rattle.stmt_text.specs.declared.stmt.Stmt.{Stmt}
@@ -15,25 +14,23 @@ use Rattle.stmt_text.specs.declared.kind.LineKind.{LineKind}
 use Rattle.stmt_text.specs.declared.kind.LineKind.TheVariants as kinds
 use Rattle.stmt_text.specs.Kinds.{stmt_kind, line_kind}
 use Rattle.statement_core.specs.World as statements
-use Rattle.session_model.specs.Standing.{reply_of}
+use Rattle.session_model.specs.Steps.{reply_of}
 use Rattle.session_model.specs.Steps as session_steps
 use Rattle.statement_core.specs.Replies as replies
 use Rattle.validator.specs.declared.verdict.Verdict.{Verdict}
 use Rattle.validator.specs.declared.fail.AuditFail.{AuditFail}
-use Rattle.validator.specs.declared.fail.AuditFail.TheVariants as fails
-use Rattle.validator.specs.Notarizing.{Intent, intent_of}
-use Rattle.validator.specs.Verdicts.{IsFoundIn, mark_of}
+use Rattle.validator.specs.Notarizing.{Heard, Intent, intent_of}
+use Rattle.validator.specs.Verdicts.{mark_of}
 use Rattle.number_text.specs.Numbered.{numbered}
 use Rattle.validator.specs.Texts.{verdict_text, refusal_text}
 use Rattle.forensic_report.specs.declared.algorithm.Algorithm.{Algorithm}
 use Rattle.forensic_report.specs.declared.algorithm.Algorithm.TheVariants as algorithms
 use Rattle.forensic_report.specs.declared.fail.AnalyseFail.{AnalyseFail}
 use Rattle.forensic_report.specs.Analysis.{Analysis}
-use Rattle.forensic_report.specs.Finding.{IsAnalysisIn}
-use Rattle.forensic_report.specs.Texts.{report_text, kept_of}
+use Rattle.forensic_report.specs.Texts.{head_line}
 use Rattle.forensic_report.specs.Fails as reports
 use Rattle.store_world.specs.Found.{Found}
-use Rattle.store_world.specs.World.{World, why_none, with_store, with_sessions, with_lists, with_batches, with_mark}
+use Rattle.store_world.specs.World.{World, with_store, with_sessions, with_lists, with_batches, with_mark}
 
 -- the world after a line, the text of the reply, and whether it is a refusal
 pub record Step : Type 0 where
@@ -51,7 +48,7 @@ refuses w name = record { world = w; text = codes "refused " ++ name ++ 10 ∷ [
 
 -- without a store
 abbrev pub has_no_store : World → Step
-has_no_store w = refuses w (why_none w)
+has_no_store w = refuses w (codes "NotAStore")
 
 -- ---- a statement on tables, or a line of a session
 
@@ -85,45 +82,39 @@ filed w batches = with_lists w (with_batches w.id (take (fitting (room_in w.limi
 abbrev pub sealed_text : ℕ → List ℕ
 sealed_text tiles = numbered (codes "sealed ") tiles
 
--- or that there was no room for all
-abbrev pub all_filed : World → World → List Batch → ℕ → Step
-all_filed w new batches tiles =
-    if fitting (room_in w.limits w.lists) batches == length batches then says new (sealed_text tiles)
-    else refuses new (refusal_text fails.Full)
-
--- what a notarization is to do
-abbrev pub intent_in : World → statements.World → ℕ → Intent
-intent_in w store now = intent_of (statements.tail_of_world store) false now store.items (filed_for w)
-
--- its Frontier is stored, and its batches are filed
-abbrev pub carried_out : World → statements.World → Intent → Step
-carried_out w store i = all_filed w (filed (with_store w (reached i.frontier store)) i.batches) i.batches i.sealed
-
--- what is filed where nothing speaks against it
-abbrev pub sealed : World → statements.World → ℕ → Step
-sealed w store now = carried_out w store (intent_in w store now)
-
+-- where something refuses it, a refusal that leaves this world; else this step
 abbrev pub unless : Option AuditFail → World → Step → Step
 unless (Some fail) w s = refuses w (refusal_text fail)
 unless None w s = s
 
-abbrev pub notarized : World → Option statements.World → ℕ → Step
-notarized w None now = has_no_store w
-notarized w (Some store) now = unless (intent_in w store now).fault w (sealed w store now)
+-- what a notarization is to do, where this is heard
+abbrev pub intent_in : statements.World → ℕ → Heard → Intent
+intent_in store now heard = intent_of (statements.tail_of_world store) false now store.items heard
+
+-- its Frontier is stored, and of its batches as many are filed as there is room for
+abbrev pub with_seals : World → statements.World → Intent → World
+with_seals w store i = filed (with_store w (reached i.frontier store)) i.batches
+
+-- that is done, whether all batches are taken or not
+abbrev pub carried_out : World → statements.World → Intent → Option AuditFail → Step
+carried_out w store i refusal = unless refusal (with_seals w store i) (says (with_seals w store i) (sealed_text i.sealed))
+
+-- nothing is done where there is no store, or something speaks against it
+abbrev pub notarized : World → Option statements.World → ℕ → Heard → Option AuditFail → Step
+notarized w None now heard refusal = has_no_store w
+notarized w (Some store) now heard refusal = unless (intent_in store now heard).fault w (carried_out w store (intent_in store now heard) refusal)
 
 -- ---- a validation
 
--- a mark is added, where there is one and room for it
-abbrev pub marked : World → Option Mark → List ℕ → Step
-marked w None text = says w text
-marked w (Some mark) text =
-    if nat_lt (marks_in_all w.lists) w.limits.marks then says (with_lists w (with_mark w.id mark w.lists)) text
-    else refuses w (refusal_text fails.Full)
+-- a mark is added, where there is one and it is taken
+abbrev pub marked : World → Option Mark → Option AuditFail → List ℕ → Step
+marked w None refusal text = says w text
+marked w (Some mark) refusal text = unless refusal w (says (with_lists w (with_mark w.id mark w.lists)) text)
 
 -- what was found is told and marked
-abbrev pub validated : World → ℕ → Result Verdict AuditFail → Step
-validated w now (Ok verdict) = marked w (mark_of verdict now) (verdict_text verdict)
-validated w now (Err fail) = refuses w (refusal_text fail)
+abbrev pub validated : World → ℕ → Result Verdict AuditFail → Option AuditFail → Step
+validated w now (Ok verdict) refusal = marked w (mark_of verdict now) refusal (verdict_text verdict)
+validated w now (Err fail) refusal = refuses w (refusal_text fail)
 
 -- the history of a world
 abbrev pub history_of : Option statements.World → Option History
@@ -139,29 +130,19 @@ algorithm_of line_algorithms.Tiled = algorithms.Tiled
 algorithm_of (line_algorithms.TiledExactly kappa) = algorithms.TiledExactly kappa
 algorithm_of line_algorithms.A3d = algorithms.A3d
 
--- the report of what was found, by what the notary has of the world's id
-abbrev pub reports_on : World → Algorithm → ℕ → Analysis → Step
-reports_on w algorithm now a = record { world = w; text = report_text algorithm w.id (kept_of w.lists w.id now) a; is_refused = false }
-
--- what was found is told, and nothing changes
-abbrev pub analysed : World → Algorithm → ℕ → Result Analysis AnalyseFail → Step
-analysed w algorithm now (Ok a) = reports_on w algorithm now a
-analysed w algorithm now (Err fail) = refuses w (reports.refusal_text fail)
+-- the report of what was found is told, with this behind its first line, and nothing changes
+abbrev pub analysed : World → Algorithm → Result Analysis AnalyseFail → List ℕ → Step
+analysed w algorithm (Ok a) body = record { world = w; text = head_line algorithm w.id a ++ body; is_refused = false }
+analysed w algorithm (Err fail) body = refuses w (reports.refusal_text fail)
 
 -- ---- a line
 
--- What a line does at these clock seconds. Where it is a validation or an analysis, this was found.
+-- What a line does at these clock seconds, where this was found.
 unfoldable pub step : World → Line → ℕ → Found → Step
-step w (lines.Plain stmts.Notarize) now found = notarized w w.store now
-step w (lines.Plain stmts.Validate) now found = validated w now found.verdict
-step w (lines.Plain (stmts.Analyse algorithm)) now found = analysed w (algorithm_of algorithm) now found.analysis
+step w (lines.Plain stmts.Notarize) now found = notarized w w.store now found.heard found.refusal
+step w (lines.Plain stmts.Validate) now found = validated w now found.verdict found.refusal
+step w (lines.Plain (stmts.Analyse algorithm)) now found = analysed w (algorithm_of algorithm) found.analysis found.body
 step w line now found = on_tables w w.store line now
-
--- What may be found by a validation or an analysis. A line that is neither finds nothing, and anything may stand for that.
-abbrev pub MayFind : World → Line → Found → Type 0
-MayFind w (lines.Plain stmts.Validate) found = IsFoundIn (filed_for w) (history_of w.store) found.verdict
-MayFind w (lines.Plain (stmts.Analyse algorithm)) found = IsAnalysisIn (algorithm_of algorithm) (filed_for w) (history_of w.store) found.analysis
-MayFind w line found = Unit {0}
 
 -- ---- the lines that a world takes: those that one of its parts answers
 

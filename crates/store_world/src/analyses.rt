@@ -12,10 +12,9 @@ ghost use Rattle.forensic_report.specs.Fails.{disk_in_doubt, notary_in_doubt};
 ghost use Rattle.store_world.specs.declared.fail.LineFail.TheVariants.{DiskFault, NotaryFault};
 ghost use Rattle.store_world.specs.Answers.{IsReported};
 ghost use Rattle.store_world.specs.Parts.{StepsWithout};
-ghost use Rattle.store_world.specs.World.{Held};
-ghost use Rattle.store_world.specs.Growing.{GrowsFor};
+ghost use Rattle.store_world.specs.Standing.{OpenWorld};
 ghost use Rattle.store_world.specs.Steps.{algorithm_of};
-ghost use Rattle.store_world.specs.Unheld.{TellsReport};
+ghost use Rattle.store_world.specs.ByBytes.{TellsReport};
 
 use crate::answered::{Answered, not_reported, reported};
 use crate::fail::LineFail;
@@ -65,7 +64,6 @@ pub(crate) fn answer_analysis<D: Disk, N: Notary>(
 ) -> Result<Answered, LineFail>
     ensures report { TellsReport id (algorithm_of algorithm) now result
         (desk (D.state disk.old) (N.state notary.old)) (desk (D.state disk.new) (N.state notary.new)) }
-    ensures grows { (held : Held) → held.id ≡ id → GrowsFor (lines.Plain (stmts.Analyse algorithm)) now result held held (D.state disk.old) (D.state disk.new) }
     ensures told { StepsWithout (lines.Plain (stmts.Analyse algorithm)) now result id
         (D.state disk.old) (D.state disk.new) (N.state notary.old) (N.state notary.new) }
     ensures sound { KeepsSound (λ before. ⊤)

@@ -16,9 +16,8 @@ ghost use Rattle.store_world.specs.declared.fail.LineFail.TheVariants.{DiskFault
 ghost use Rattle.store_world.specs.Answers.{IsAnswerTo};
 ghost use Rattle.store_world.specs.Stepping.{StepsFor};
 ghost use Rattle.store_world.specs.Parts.{alone, StepsWithout};
-ghost use Rattle.store_world.specs.World.{Held};
-ghost use Rattle.store_world.specs.Growing.{GrowsFor};
-ghost use Rattle.store_world.specs.Unheld.{GoesByBytes};
+ghost use Rattle.store_world.specs.Standing.{OpenWorld};
+ghost use Rattle.store_world.specs.ByBytes.{TellsVerdict};
 
 use crate::answered::{Answered, found, refused, sealed};
 use crate::fail::LineFail;
@@ -55,7 +54,6 @@ pub(crate) fn answer_notarization<D: Disk, N: Notary>(
     requires open { store.old.at.is_closed ≡ false }
     ensures open { OnOk result (store.new.at.is_closed ≡ false) }
     ensures header { store.new.header ≡ store.old.header }
-    ensures grows { (kept : Machine) → GrowsFor (lines.Plain stmts.Notarize) now result (alone kept store.old) (alone kept store.new) (D.state disk.old) (D.state disk.new) }
     ensures told { (kept : Machine) → StepsFor (lines.Plain stmts.Notarize) now result (alone kept store.old) (alone kept store.new)
         (desk (D.state disk.old) (N.state notary.old)) (desk (D.state disk.new) (N.state notary.new)) }
     ensures sound { KeepsSound (λ before. (items : List Item) × IsOpenOn store.old items before)
@@ -81,8 +79,8 @@ pub(crate) fn answer_validation<D: Disk, N: Notary>(
     id: u64,
     now: u64,
 ) -> Result<Answered, LineFail>
-    ensures bytes { GoesByBytes id now result (D.state disk.old) (D.state disk.new) (N.state notary.old) (N.state notary.new) }
-    ensures grows { (held : Held) → held.id ≡ id → GrowsFor (lines.Plain stmts.Validate) now result held held (D.state disk.old) (D.state disk.new) }
+    ensures verdict { TellsVerdict id now result
+        (desk (D.state disk.old) (N.state notary.old)) (desk (D.state disk.new) (N.state notary.new)) }
     ensures told { StepsWithout (lines.Plain stmts.Validate) now result id
         (D.state disk.old) (D.state disk.new) (N.state notary.old) (N.state notary.new) }
     ensures sound { KeepsSound (λ before. ⊤)

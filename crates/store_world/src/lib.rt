@@ -13,40 +13,33 @@
 //! | `analyse` | as before | the report of `forensic_report` |
 //! | any other that is refused | as before; after `Full` with what there was room for | `refused NAME` |
 //!
-//! Without a store all but `validate` and `analyse` are `refused NotAStore`. What these two find is no
-//! function of the world in odd cases, where no honest notary made the answers; so `step` is given what
-//! was found, and `MayFind` says what that may be.
+//! Without a store all but `validate` and `analyse` are `refused NotAStore`. What a line has from the notary is no
+//! function of the world; so `step` is given what was found. `MayTell` says what any notary allows, and `MayFind`
+//! what one that holds the world's lists does.
 //!
 //! What the layers above may rely on:
 //!
 //! | Sentence | Clause |
 //! |---|---|
-//! | a line does to the store, the notary and the disk, and replies, what the definition says | `told` of `World::line`, by `StepsFor` |
+//! | whatever the notary tells: a line takes the step of the world for what was found, and replies it. What is replied, any notary may tell; of a batch out of turn its count | `told` of `World::line`: `goes`, `may`, `turn` of `Steps` |
 //! | on a settled disk a crash at any moment leaves the history before the line or the one after it | `images` and `kept` of `Goes` |
 //! | once a line is replied to, its world is the only one that a crash leaves, where that was so before | `settled` of `Goes` |
-//! | whatever was answered, the notary holds the first of what the line adds, and all that it held | `between` of `Goes` |
-//! | a batch is filed only where every image of a settled store has reached the end of its tile | `ordered` of `Goes` |
+//! | beside a notary that holds the world's lists, what was found is what they say | `finds` of `Steps` |
+//! | it holds then what the step adds, and whatever was answered the first of that, and all that it held | `keeps`, `between` of `ListsGo` |
+//! | a batch is filed only where every image of a settled store has reached the end of its tile | `ordered` of `ListsGo` |
 //! | each image of a sound store is still what was filed | `sound` of `World::line` |
 //! | a store stays open, of the same header, until a failure; after one there is none, and no session | `store` of `World::line` |
 //! | a store that is opened anew has no session | `sessions` of `World::enter` |
 //! | where nothing is stored, no call changes the disk | `same` of `Goes` |
-//! | the changing calls are those that store what the line adds, and then those that file its batches or note its mark | `makes` of `told`, by `MakesLineCalls` |
+//! | the changing calls are those that store what the line adds, and then those that file its batches or note its mark | `makes` of `Steps`, by `MakesLineCalls` |
 //! | a statement on tables and a line of a session leave the notary | `unasked` of `World::line` |
 //! | where no store is held, whatever is told, all but `validate` and `analyse` are refused and call nothing | `none` of `World::line` |
-//! | a validation goes by the stored bytes and what is filed alone | `bytes` of `World::line` |
-//! | so does an analysis, which leaves the disk and the notary; its report shows what is altered of each history that was filed so | `report` of `World::line` |
+//! | a validation goes by the stored bytes and what is filed alone, and leaves the disk | `bytes` of `World::line`, by `Judges` |
+//! | so does an analysis, which leaves the notary, too; its report shows what is altered of each history that was filed so | `bytes` of `World::line`, by `Reports` |
 //! | a failure is a fault of the disk or of the notary, or want of memory; behind a reply, a refusal too, neither counted a fault | `disk_cause` and `notary_cause`, `disk_counted` and `notary_counted` |
 //! | only a line that the notary answers ends in a fault of the notary; only such a line, or one that stores, in one of the disk | `only` of `World::line` and of `told`, by `MayEndIn` |
 //! | where the clock speaks against a notarization before anything is asked, it ends in no fault | `timely` of `told`, by `EndsTimely` |
-//! | whatever the notary tells, where the disk tells its bytes: a line goes on by a step that the store alone allows. What is replied is that step's reply, and then the machine stands for its world | `grows` of `World::line`: `allowed`, `reply`, `stands` of `Grows` |
-//! | and on a settled disk a crash at any moment leaves the store before the line or behind that step. The bytes are one of the two, whatever was answered, and the only image behind a reply | `images`, `kept`, `settled` of `Grows` |
-//! | such a step of a statement or a line of a session is the one that is defined | `StepsAlone` |
-//! | of a notarization it stores no Frontier, or one at the end of the last tile that has ended by the clock. That lies past the last moment, and there is room for it | `frontier_is`, `room` of `NotarizesAlone` |
-//! | it tells a number of sealed tiles, at least that of the tiles that have ended, or a refusal. Where the number is larger, nothing is stored | `sealed`, `frontier_is` there |
-//! | a refusal other than `Full` and `OutOfTurn` stores nothing. `StoreFull` is told only where there is no room for the Frontier that is needed if nothing is filed | `free`, `full` there |
-//! | where the clock speaks against it, it is refused so and stores nothing; else no refusal of the clock is told | `early`, `untouched` there |
-//! | of a validation and of an analysis it leaves the world. It tells some verdict, or a report that begins as that of some analysis, or a refusal of a validation or of the algorithm | `ValidatesAlone`, `AnalysesAlone` |
-//! | where there is no store, an analysis tells only that nothing was filed or that the header is altered. A validation tells one of these, or `Full` | `nowhere` there |
+//! | any notary allows `notarize` the refusals `Broken`, `SealMissing`, `Full` and `OutOfTurn`; `validate` a verdict, `SealMissing` and `Full`; `analyse` an analysis or a refusal of its algorithm. Without a store the last two tell only that nothing was filed or that the header is altered, or `Full` | `MayTell` |
 //! | the store of the id is opened, or there is none | `value` of `World::enter` |
 //! | a world whose store is what was filed stays so at every line, and no line tells of an alteration | [`sound_worlds_stay_sound`] |
 //! | a line that is replied `ok N` leaves a store that has the transaction N, and no line takes an item away | [`steps_acknowledge`], [`steps_only_append`] |

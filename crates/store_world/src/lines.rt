@@ -6,19 +6,16 @@ ghost use Rattle.disk_words.specs.Disk as disks;
 ghost use Rattle.notary_link.specs.Notary as notaries;
 ghost use Rattle.stmt_text.specs.Fits.{FitsParts};
 ghost use Rattle.stmt_text.specs.Kinds.{line_kind};
-ghost use Rattle.stmt_text.specs.declared.line.Line.TheVariants as lines;
-ghost use Rattle.stmt_text.specs.declared.stmt.Stmt.TheVariants as stmts;
 ghost use Rattle.session_model.specs.Standing.{IsStatementLine};
 ghost use Rattle.validator.specs.Desk.{KeepsSound, desk};
 ghost use Rattle.store_world.specs.declared.fail.LineFail.TheVariants.{DiskFault, NotaryFault, NoMemory};
 ghost use Rattle.store_world.specs.Answers.{refusal};
 ghost use Rattle.store_world.specs.Faults.{MayEndIn};
-ghost use Rattle.store_world.specs.World.{StandsFor};
+ghost use Rattle.store_world.specs.Standing.{StandsOver};
 ghost use Rattle.store_world.specs.Steps.{IsWorldLine};
 ghost use Rattle.store_world.specs.Stepping.{StepsFor};
 ghost use Rattle.store_world.specs.Parts.{alone, no_store};
-ghost use Rattle.store_world.specs.Growing.{GrowsFor};
-ghost use Rattle.store_world.specs.Unheld.{NeedsStore, IsToldNone, GoesByBytes, AnalysesBy};
+ghost use Rattle.store_world.specs.ByBytes.{NeedsStore, IsToldNone, GoesByBytes};
 
 use crate::analyses::answer_analysis;
 use crate::answered::{Answered, not_a_store};
@@ -47,15 +44,13 @@ pub(crate) fn answer_with_store<D: Disk, N: Notary>(
     requires fits { FitsParts line.now }
     ensures open { OnOk result (store.new.at.is_closed ≡ false) }
     ensures header { store.new.header ≡ store.old.header }
-    ensures bytes { line.now ≡ lines.Plain stmts.Validate → GoesByBytes store.old.header.id now result (D.state disk.old) (D.state disk.new) (N.state notary.old) (N.state notary.new) }
-    ensures report { AnalysesBy line.now store.old.header.id now result
+    ensures bytes { GoesByBytes line.now store.old.header.id now result
         (desk (D.state disk.old) (N.state notary.old)) (desk (D.state disk.new) (N.state notary.new)) }
     ensures unasked { IsStatementLine line.now → N.state notary.new ≡ N.state notary.old }
     ensures only { IfErr result (MayEndIn (line_kind line.now) ⊤) }
-    ensures grows { GrowsFor line.now now result (alone sessions.old store.old) (alone sessions.new store.new) (D.state disk.old) (D.state disk.new) }
     ensures told { StepsFor line.now now result (alone sessions.old store.old) (alone sessions.new store.new)
         (desk (D.state disk.old) (N.state notary.old)) (desk (D.state disk.new) (N.state notary.new)) }
-    ensures sound { KeepsSound (StandsFor (alone sessions.old store.old))
+    ensures sound { KeepsSound (StandsOver (alone sessions.old store.old))
         (desk (D.state disk.old) (N.state notary.old)) (desk (D.state disk.new) (N.state notary.new)) }
     ensures disk_frame { disks.GoesOn (D.state disk.old) (D.state disk.new) }
     ensures notary_frame { notaries.GoesOn (N.state notary.old) (N.state notary.new) }
@@ -105,12 +100,11 @@ pub(crate) fn answer_without_store<D: Disk, N: Notary>(
     now: u64,
 ) -> Result<Answered, LineFail>
     requires is_line { IsWorldLine line.now }
-    ensures none { NeedsStore line.now → IsToldNone result (D.state disk.old) (D.state disk.new) (N.state notary.old) (N.state notary.new) }
-    ensures bytes { line.now ≡ lines.Plain stmts.Validate → GoesByBytes id now result (D.state disk.old) (D.state disk.new) (N.state notary.old) (N.state notary.new) }
-    ensures report { AnalysesBy line.now id now result
+    ensures none { NeedsStore line.now → IsToldNone result
+        (desk (D.state disk.old) (N.state notary.old)) (desk (D.state disk.new) (N.state notary.new)) }
+    ensures bytes { GoesByBytes line.now id now result
         (desk (D.state disk.old) (N.state notary.old)) (desk (D.state disk.new) (N.state notary.new)) }
     ensures only { IfErr result (MayEndIn (line_kind line.now) ⊤) }
-    ensures grows { GrowsFor line.now now result (no_store id) (no_store id) (D.state disk.old) (D.state disk.new) }
     ensures told { StepsFor line.now now result (no_store id) (no_store id)
         (desk (D.state disk.old) (N.state notary.old)) (desk (D.state disk.new) (N.state notary.new)) }
     ensures sound { KeepsSound (λ before. ⊤)

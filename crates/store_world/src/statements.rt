@@ -9,7 +9,6 @@ ghost use Rattle.session_model.specs.Standing.{IsStatementLine};
 ghost use Rattle.store_world.specs.declared.fail.LineFail.TheVariants.{DiskFault, NotaryFault};
 ghost use Rattle.store_world.specs.Faults.{MayEndIn};
 ghost use Rattle.store_world.specs.Parts.{alone, StepsBeside, StaysSound};
-ghost use Rattle.store_world.specs.Growing.{GrowsFor};
 
 use crate::answered::Answered;
 use crate::fail::LineFail;
@@ -34,7 +33,6 @@ pub(crate) fn answer_statement<D: Disk>(
     requires fits { FitsParts line.now }
     ensures open { OnOk result (store.new.at.is_closed ≡ false) }
     ensures header { store.new.header ≡ store.old.header }
-    ensures grows { GrowsFor line.now now result (alone sessions.old store.old) (alone sessions.new store.new) (D.state disk.old) (D.state disk.new) }
     ensures told { StepsBeside line.now now result (alone sessions.old store.old) (alone sessions.new store.new) (D.state disk.old) (D.state disk.new) }
     ensures sound { StaysSound (alone sessions.old store.old) (D.state disk.old) (D.state disk.new) }
     ensures frame { disks.GoesOn (D.state disk.old) (D.state disk.new) }

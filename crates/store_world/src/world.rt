@@ -8,19 +8,16 @@ ghost use Rattle.disk_words.specs.Disk as disks;
 ghost use Rattle.notary_link.specs.Notary as notaries;
 ghost use Rattle.stmt_text.specs.Fits.{FitsParts};
 ghost use Rattle.stmt_text.specs.Kinds.{line_kind};
-ghost use Rattle.stmt_text.specs.declared.line.Line.TheVariants as lines;
-ghost use Rattle.stmt_text.specs.declared.stmt.Stmt.TheVariants as stmts;
 ghost use Rattle.session_model.specs.Standing.{IsStatementLine, NoneKept};
 ghost use Rattle.store_engine.specs.declared.fail.StoreFail.TheVariants as stores;
 ghost use Rattle.store_engine.specs.Refusals.{IsOfOpening};
 ghost use Rattle.validator.specs.Desk.{KeepsSound, desk};
 ghost use Rattle.store_world.specs.declared.fail.LineFail.TheVariants.{DiskFault, NotaryFault};
-ghost use Rattle.store_world.specs.World.{StandsFor, IsEntered};
+ghost use Rattle.store_world.specs.Standing.{StandsOver, IsEntered};
 ghost use Rattle.store_world.specs.Faults.{MayEndIn};
 ghost use Rattle.store_world.specs.Steps.{IsWorldLine};
 ghost use Rattle.store_world.specs.Stepping.{StepsFor, KeepsStore};
-ghost use Rattle.store_world.specs.Growing.{GrowsFor};
-ghost use Rattle.store_world.specs.Unheld.{NeedsStore, IsToldNone, GoesByBytes, AnalysesBy};
+ghost use Rattle.store_world.specs.ByBytes.{NeedsStore, IsToldNone, GoesByBytes};
 
 use crate::answered::Answered;
 use crate::fail::LineFail;
@@ -45,9 +42,9 @@ pub struct World {
 }
 
 impl Model for World {
-    ghost use Rattle.store_world.specs.World.{Held};
+    ghost use Rattle.store_world.specs.Standing.{OpenWorld};
 
-    ghost Value = { Held };
+    ghost Value = { OpenWorld };
 
     ghost view = { λ w. record { id = w.id; opened = w.opened } };
 }
@@ -99,17 +96,14 @@ impl World {
         ensures open { IfSome self.new.opened (λ o. o.store.at.is_closed ≡ false) }
         ensures own { IfSome self.new.opened (λ o. o.store.header.id ≡ self.old.id) }
         ensures none { self.old.opened ≡ None → NeedsStore line.now → IsToldNone result
-            (D.state disk.old) (D.state disk.new) (N.state notary.old) (N.state notary.new) }
-        ensures bytes { line.now ≡ lines.Plain stmts.Validate → GoesByBytes self.old.id now result
-            (D.state disk.old) (D.state disk.new) (N.state notary.old) (N.state notary.new) }
-        ensures report { AnalysesBy line.now self.old.id now result
+            (desk (D.state disk.old) (N.state notary.old)) (desk (D.state disk.new) (N.state notary.new)) }
+        ensures bytes { GoesByBytes line.now self.old.id now result
             (desk (D.state disk.old) (N.state notary.old)) (desk (D.state disk.new) (N.state notary.new)) }
         ensures unasked { IsStatementLine line.now → N.state notary.new ≡ N.state notary.old }
         ensures only { IfErr result (MayEndIn (line_kind line.now) ⊤) }
-        ensures grows { GrowsFor line.now now result self.old self.new (D.state disk.old) (D.state disk.new) }
         ensures told { StepsFor line.now now result self.old self.new
             (desk (D.state disk.old) (N.state notary.old)) (desk (D.state disk.new) (N.state notary.new)) }
-        ensures sound { KeepsSound (StandsFor self.old)
+        ensures sound { KeepsSound (StandsOver self.old)
             (desk (D.state disk.old) (N.state notary.old)) (desk (D.state disk.new) (N.state notary.new)) }
         ensures disk_frame { disks.GoesOn (D.state disk.old) (D.state disk.new) }
         ensures notary_frame { notaries.GoesOn (N.state notary.old) (N.state notary.new) }

@@ -30,22 +30,20 @@
 //! | The layer above may rely on | Clause of `notarize` |
 //! |---|---|
 //! | a closed store, an earlier clock and a granule too late are refused first, and nothing is asked or changed | `early`, `untouched` |
-//! | any other refusal has its cause (`notarize_fault`): `Broken` and `SealMissing` of what is filed, `StoreFull` of the Frontier | `told`: `refused` |
-//! | where there is such a cause, nothing is stored and nothing is filed, and no changing call is made, also where a fault or want of memory is answered | `told`: `free` |
-//! | Ok tells how many tiles are sealed then, and their batches are filed, of the clock's moment | `told`: `value`, `files`, `calls` |
-//! | after `Full` as many batches are filed as there is room for, and as many calls are done | `told`: `files`, `calls` |
-//! | no batch is filed before the store has reached the end of its tile on a settled disk | `told`: `ordered` |
-//! | no batch is filed before all changing calls of the disk | `told`: `order` |
-//! | a crash leaves the items, or those and the Frontier | `told`: `images`, `kept` |
-//! | whatever the notary tells: so it does, the bytes store them, and a store that stayed open stands for the new bytes | `grows` |
-//! | a Frontier that is stored is the end of the last tile that has ended by the clock. It lies past the last moment, and there is room for it | `grows`: `frontier_is`, `room` of `Grows` |
-//! | the answer is at least the number of tiles that have ended; where it is more, nothing is stored | `sealed`, `frontier_is` there |
-//! | a refusal stores nothing, unless it is `Full`, `OutOfTurn`, a fault or want of memory | `free` there |
-//! | `StoreFull` comes only where there is no room for the Frontier that is needed if nothing is filed | `full` there |
+//! | whatever the notary tells: what is done goes by what was heard, the number of batches and what the answers speak against the store (`Heard`, `intent_of`). Where lists are told, that is what they say | `told`: `heard`, `may`, `told` of `Notarizes` |
+//! | any other refusal has its cause (`notarize_fault`): `Broken` and `SealMissing` of what was heard, `StoreFull` of the Frontier | `refused` of `CarriesOut` |
+//! | where there is such a cause, nothing is stored and no changing call is made, also where a fault or want of memory is answered | `free` there |
+//! | Ok tells how many tiles are sealed then: at least the number of tiles that have ended; where it is more, nothing is stored | `value` there |
+//! | a Frontier that is stored is the end of the last tile that has ended by the clock. It lies past the last moment, and there is room for it | `stands`, `images` there, by `frontier_for` |
+//! | a crash leaves the items, or those and the Frontier | `images`, `kept` there |
+//! | after these the store is as it was, has reached the end of the last tile, or is closed | `stands` there |
+//! | no batch is filed before all changing calls of the disk | `order` there |
+//! | where lists are told: the batches of the tiles that have ended are filed, of the clock's moment; after `Full` as many as there is room for, and as many calls are done; none where there is a cause against it | `free`, `files`, `calls` of `Files` |
+//! | no batch is filed before the store has reached the end of its tile on a settled disk | `ordered` there |
 //! | a sound store stays sound under each id, whatever is answered | `sound` |
+//! | `OutOfTurn` tells the count that the notary answered | `turn` |
 //! | at most two questions are asked | `asked` |
 //! | only a fault of the disk and want of memory close the store | `open` |
-//! | after these the store is as it was, has reached the end of the last tile, or is closed | `told`: `stands` |
 //! | a fault has its cause, and none is hidden, as with `validate` | `disk_cause`, `notary_cause`, `disk_counted`, `notary_counted` |
 //!
 //! [`frontier_ahead`] tells before which Frontier that will be (`value`), or which of its early refusals comes

@@ -1,4 +1,4 @@
-use Rattle.std.proofs.Common.{◌≡◌, ℕ, None, subst, sym, ◌∙◌}
+use Rattle.std.proofs.Common.{◌≡◌, None, subst}
 use Rattle.std.specs.Prelude.{IfErr, IfSome}
 use Rattle.history_model.specs.Stored.{stored}
 use Rattle.audit_model.specs.Altered.{history_with}
@@ -8,11 +8,6 @@ use Rattle.forensic_report.specs.Finding.{IsOfAnalysis}
 use Rattle.forensic_report.specs.Reporting.{Analyses, ReportsNone}
 use Rattle.store_world.specs.Steps.{algorithm_of}
 use Rattle.store_world.proofs.Analysing.{unchanged_sound, analysis_shown, analysed_without}
-use Rattle.store_world.proofs.Validating.{none_stored}
-use Rattle.store_world.proofs.Alone.{analysis_leaves, begins_so}
-use Rattle.store_world.proofs.Growing.{grows_read}
-use Rattle.stmt_text.specs.declared.stmt.Stmt.TheVariants as stmts
-use Rattle.stmt_text.specs.declared.line.Line.TheVariants as lines
 use Rattle.store_world.proofs.analyses.answer_analysis.Goals as goal
 
 pub returns-clause-report : goal.returns-clause-report
@@ -36,19 +31,8 @@ returns-clause-told g c =
     let told = subst (λ (a : Algorithm). Analyses a c.args.id c.args.now (g.D.Disk.state c.args.disk.now) (g.N.Notary.state c.args.notary.now) (g.N.Notary.state c.analyse-answer.new.notary) c.analyse-answer.result) c.algorithm_of.ensures.value c.analyse-answer.ensures.told in
     analysed_without c.args.algorithm c.args.now (g.D.Disk.state c.args.disk.now) (g.D.Disk.state c.analyse-answer.new.disk) c.analyse-answer.ensures.same (g.met.D.Disk.only_now c.args.disk.now) (g.N.Notary.state c.args.notary.now) (g.N.Notary.state c.analyse-answer.new.notary) c.analyse-answer.ensures.unchanged c.args.id
     c.answer_to.result c.analyse-answer.result c.answer_to.ensures.value told
+    (subst (λ (a : Algorithm). IfErr c.analyse-answer.result (IsOfAnalysis a)) c.algorithm_of.ensures.value c.analyse-answer.ensures.none_other)
+    (subst (λ (a : Algorithm). IfSome (g.D.Disk.state c.args.disk.now).reads (λ bytes. history_with c.args.id (stored bytes) ≡ None → ReportsNone a c.args.id c.analyse-answer.result)) c.algorithm_of.ensures.value c.analyse-answer.ensures.nowhere)
 
 pub returns-clause-sound : goal.returns-clause-sound
 returns-clause-sound g c = unchanged_sound _ _ _ _ c.analyse-answer.ensures.same c.analyse-answer.ensures.unchanged
-
-pub returns-clause-grows : goal.returns-clause-grows
-returns-clause-grows g c held own =
-    let D = g.D.Disk.state in
-    let N = g.N.Notary.state in
-    let report = subst (λ (a : Algorithm). Analyses a c.args.id c.args.now (D c.args.disk.now) (N c.args.notary.now) (N c.analyse-answer.new.notary) c.analyse-answer.result) c.algorithm_of.ensures.value c.analyse-answer.ensures.told in
-    let none_other = subst (λ (a : Algorithm). IfErr c.analyse-answer.result (IsOfAnalysis a)) c.algorithm_of.ensures.value c.analyse-answer.ensures.none_other in
-    let nowhere = subst (λ (a : Algorithm). IfSome (D c.args.disk.now).reads (λ bytes. history_with c.args.id (stored bytes) ≡ None → ReportsNone a c.args.id c.analyse-answer.result)) c.algorithm_of.ensures.value c.analyse-answer.ensures.nowhere in
-    grows_read (lines.Plain (stmts.Analyse c.args.algorithm)) c.args.now c.answer_to.result (D c.args.disk.now) (D c.analyse-answer.new.disk) c.analyse-answer.ensures.same (g.met.D.Disk.only_now c.args.disk.now) held
-    (λ bytes. history_with c.args.id (stored bytes) ≡ None → ReportsNone (algorithm_of c.args.algorithm) c.args.id c.analyse-answer.result) nowhere
-    (λ w bytes says i. analysis_leaves w c.args.algorithm c.args.now c.analyse-answer.result c.answer_to.result c.answer_to.ensures.value
-    (begins_so w c.args.algorithm c.args.now c.args.id (sym own ∙ i.id) (D c.args.disk.now) (N c.args.notary.now) (N c.analyse-answer.new.notary) c.analyse-answer.result report) none_other
-    (λ none. subst (λ (n : ℕ). ReportsNone (algorithm_of c.args.algorithm) n c.analyse-answer.result) (sym own ∙ i.id) (says (none_stored w held bytes w.lists c.args.id own i none))))

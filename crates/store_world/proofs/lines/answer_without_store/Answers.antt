@@ -1,11 +1,9 @@
-use Rattle.std.proofs.Common.{refl}
 use Rattle.std.specs.Prelude.{⊤}
-use Rattle.store_world.specs.Parts.{no_store}
 use Rattle.disk_words.proofs.Frame.{goes_on_same}
 use Rattle.notary_link.proofs.Frame as notary_frames
 use Rattle.stmt_text.specs.Kinds.{line_kind}
 use Rattle.store_world.proofs.Faults.{ends_wanting}
-use Rattle.store_world.proofs.Nowhere.{nowhere, grows_nowhere}
+use Rattle.store_world.proofs.Nowhere.{nowhere}
 use Rattle.store_world.proofs.lines.answer_without_store.Goals as goal
 
 pub returns-in_default-clause-told : goal.returns-in_default-clause-told
@@ -19,13 +17,3 @@ returns-in_default-clause-notary_frame g c = notary_frames.goes_on_same _
 
 pub returns-in_default-clause-only : goal.returns-in_default-clause-only
 returns-in_default-clause-only g c = ends_wanting ⊤ (line_kind c.args.line.now) c.no_answer.result c.no_answer.ensures.only_memory
-
-pub returns-in_default-clause-grows : goal.returns-in_default-clause-grows
-returns-in_default-clause-grows g c =
-    grows_nowhere c.args.line.now c.no_answer.ensures.needs c.args.id c.args.now (g.D.Disk.state c.args.disk.now) (g.met.D.Disk.only_now c.args.disk.now) c.no_answer.result c.no_answer.ensures.value
-
-pub returns-in-Plain-Validate-clause-grows : goal.returns-in-Plain-Validate-clause-grows
-returns-in-Plain-Validate-clause-grows g c = let e = rw c.in-Plain-Validate.is at c.in-Plain-Validate.stmt-is in rw (c.in-Plain-Validate.is, e) (c.answer_validation.ensures.grows (no_store c.args.id) refl)
-
-pub returns-in-Plain-Analyse-clause-grows : goal.returns-in-Plain-Analyse-clause-grows
-returns-in-Plain-Analyse-clause-grows g c = let e = rw c.in-Plain-Analyse.is at c.in-Plain-Analyse.stmt-is in rw (c.in-Plain-Analyse.is, e) (c.answer_analysis.ensures.grows (no_store c.args.id) refl)

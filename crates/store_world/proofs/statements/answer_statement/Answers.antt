@@ -8,7 +8,7 @@ use Rattle.store_world.specs.Answers.{fault_of}
 use Rattle.stmt_text.specs.Kinds.{line_kind}
 use Rattle.store_world.proofs.Faults.{ends_unasked, ends_wanting}
 use Rattle.store_world.proofs.LineKinds.{goes_to_tables}
-use Rattle.store_world.proofs.Tables.{beside, grows_beside, answered_as, not_notary}
+use Rattle.store_world.proofs.Tables.{beside, answered_as, not_notary}
 use Rattle.store_world.proofs.Sounds.{stays_sound}
 use Rattle.store_world.proofs.statements.answer_statement.Goals as goal
 
@@ -65,23 +65,3 @@ pub returns-in_err-print_reply-clause-only : goal.returns-in_err-print_reply-cla
 returns-in_err-print_reply-clause-only g c =
     let p = err_from_is_err_and c.from_residual-in_err-print_reply.result c.from_residual-in_err-print_reply.ensures.1 in
     rw p.1 (ends_wanting ⊤ (line_kind c.args.line.now) (Err p.0) p.2)
-
-pub returns-in_err-reply-clause-grows : goal.returns-in_err-reply-clause-grows
-returns-in_err-reply-clause-grows g c =
-    let S = g.D.Disk.state in
-    let p = err_from_is_err_and c.from_residual.result c.from_residual.ensures.1 in
-    rw (p.1, p.2) (grows_beside c.args.sessions.now c.step.new.self c.args.store.now c.step.new.store c.step.ensures.header (S c.args.disk.now) (S c.step.new.disk) c.args.line.now c.args.now c.requires.statement
-    (Err c.in_err-reply.field-0.0) (Err (fault_of c.in_err-reply.field-0.0)) refl c.in_err-reply.ensures.told)
-
-pub returns-in_err-print_reply-clause-grows : goal.returns-in_err-print_reply-clause-grows
-returns-in_err-print_reply-clause-grows g c =
-    let S = g.D.Disk.state in
-    let p = err_from_is_err_and c.from_residual-in_err-print_reply.result c.from_residual-in_err-print_reply.ensures.1 in
-    rw (p.1, p.2) (grows_beside c.args.sessions.now c.step.new.self c.args.store.now c.step.new.store c.step.ensures.header (S c.args.disk.now) (S c.step.new.disk) c.args.line.now c.args.now c.requires.statement
-    (Ok c.in_ok-reply.reply) (Err NoMemory) tt c.in_ok-reply.ensures.told)
-
-pub returns-clause-grows : goal.returns-clause-grows
-returns-clause-grows g c =
-    let S = g.D.Disk.state in
-    grows_beside c.args.sessions.now c.step.new.self c.args.store.now c.step.new.store c.step.ensures.header (S c.args.disk.now) (S c.step.new.disk) c.args.line.now c.args.now c.requires.statement (Ok c.in_ok-reply.reply) _
-    (answered_as c.is_refusal.result c.in_ok-print_reply.field-0 c.in_ok-reply.reply c.is_refusal.ensures.value c.in_ok-print_reply.ensures.value) c.in_ok-reply.ensures.told

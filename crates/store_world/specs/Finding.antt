@@ -1,0 +1,95 @@
+-- What may be found: by any notary, and by one that holds the lists of a world.
+use Rattle.std.specs.Prelude.{◌≡◌, ℕ, ◌==◌, nat_lt, Bool, true, false, List, length, Option, Some, None, Result, Ok, Err, IfOk, IfSome}
+use Rattle.history_model.specs.History.{history}
+use Rattle.notary_link.specs.declared.mark.Mark.{Mark}
+use Rattle.notary_link.specs.Batches.{Batch}
+use Rattle.notary_link.specs.Filing.{fitting, room_in}
+use Rattle.notary_link.specs.Notary.{marks_in_all}
+use Rattle.stmt_text.specs.declared.stmt.Stmt.TheVariants as stmts
+use Rattle.stmt_text.specs.declared.line.Line.{Line}
+use Rattle.stmt_text.specs.declared.line.Line.TheVariants as lines
+use Rattle.statement_core.specs.World as statements
+use Rattle.validator.specs.declared.verdict.Verdict.{Verdict}
+use Rattle.validator.specs.declared.fail.AuditFail.{AuditFail}
+use Rattle.validator.specs.declared.fail.AuditFail.TheVariants as fails
+use Rattle.validator.specs.Notarizing.{MaySpeak, heard_of}
+use Rattle.validator.specs.Verdicts.{IsFoundIn, ValidatesNone, mark_of}
+use Rattle.forensic_report.specs.declared.algorithm.Algorithm.{Algorithm}
+use Rattle.forensic_report.specs.declared.fail.AnalyseFail.{AnalyseFail}
+use Rattle.forensic_report.specs.declared.fail.AnalyseFail.TheVariants as analyses
+use Rattle.forensic_report.specs.Analysis.{Analysis, IsWithoutStore}
+use Rattle.forensic_report.specs.Finding.{IsAnalysisIn, IsOfAnalysis}
+use Rattle.forensic_report.specs.Texts.{body_text, kept_of}
+use Rattle.store_world.specs.Found.{Found}
+use Rattle.store_world.specs.World.{World}
+use Rattle.store_world.specs.Steps.{filed_for, history_of, intent_in, algorithm_of}
+
+-- ---- whatever the notary tells
+
+-- a batch is not taken as there is no room for it, or as it is out of turn
+abbrev pub MayRefuse : Option AuditFail → Type 0
+MayRefuse None = Unit {0}
+MayRefuse (Some fails.Full) = Unit {0}
+MayRefuse (Some (fails.OutOfTurn count)) = Unit {0}
+MayRefuse (Some fail) = ⊥
+
+-- a mark only as there is no room
+abbrev pub MayRefuseMark : Option AuditFail → Type 0
+MayRefuseMark None = Unit {0}
+MayRefuseMark (Some fails.Full) = Unit {0}
+MayRefuseMark (Some fail) = ⊥
+
+-- some verdict, or a seal that is missing
+abbrev pub MayJudge : Result Verdict AuditFail → Type 0
+MayJudge (Ok verdict) = Unit {0}
+MayJudge (Err (fails.SealMissing name)) = Unit {0}
+MayJudge (Err fail) = ⊥
+
+-- some analysis, or what refuses one by this algorithm
+abbrev pub MayAnalyse : Algorithm → Result Analysis AnalyseFail → Type 0
+MayAnalyse algorithm (Ok a) = Unit {0}
+MayAnalyse algorithm (Err analyses.DiskFault) = ⊥
+MayAnalyse algorithm (Err analyses.NotaryFault) = ⊥
+MayAnalyse algorithm (Err analyses.NoMemory) = ⊥
+MayAnalyse algorithm (Err fail) = IsOfAnalysis algorithm fail
+
+-- without a store one of nothing filed, or of an altered header
+abbrev pub AnalysesNone : Result Analysis AnalyseFail → Type 0
+AnalysesNone (Ok a) = IsWithoutStore a
+AnalysesNone (Err fail) = ⊥
+
+-- What any notary allows a line to find.
+abbrev pub MayTell : World → Line → Found → Type 0
+MayTell w (lines.Plain stmts.Notarize) found = MaySpeak found.heard.against × MayRefuse found.refusal
+MayTell w (lines.Plain stmts.Validate) found = MayJudge found.verdict × MayRefuseMark found.refusal × (w.store ≡ None → ValidatesNone found.verdict)
+MayTell w (lines.Plain (stmts.Analyse algorithm)) found = MayAnalyse (algorithm_of algorithm) found.analysis × (w.store ≡ None → AnalysesNone found.analysis)
+MayTell w line found = Unit {0}
+
+-- ---- where it holds the lists of the world
+
+-- all was taken, unless there was no room
+abbrev pub full_unless : Bool → Option AuditFail
+full_unless true = None
+full_unless false = Some fails.Full
+
+-- there is room for all of these
+abbrev pub have_room : World → List Batch → Bool
+have_room w batches = fitting (room_in w.limits w.lists) batches == length batches
+
+-- it says what it holds; and where nothing speaks against the store it takes what there is room for
+pub record MayFile (w : World) (now : ℕ) (found : Found) (store : statements.World) : Type 0 where
+  pub heard : found.heard ≡ heard_of (filed_for w) (history store.header store.items)
+  pub refusal : (intent_in store now found.heard).fault ≡ None → found.refusal ≡ full_unless (have_room w (intent_in store now found.heard).batches)
+
+-- it takes a mark where there is room for it
+abbrev pub MayMark : World → Option Mark → Option AuditFail → Type 0
+MayMark w None refusal = Unit {0}
+MayMark w (Some mark) refusal = refusal ≡ full_unless (nat_lt (marks_in_all w.lists) w.limits.marks)
+
+-- What a line may find there.
+abbrev pub MayFind : World → Line → ℕ → Found → Type 0
+MayFind w (lines.Plain stmts.Notarize) now found = IfSome w.store (MayFile w now found)
+MayFind w (lines.Plain stmts.Validate) now found = IsFoundIn (filed_for w) (history_of w.store) found.verdict × IfOk found.verdict (λ verdict. MayMark w (mark_of verdict now) found.refusal)
+MayFind w (lines.Plain (stmts.Analyse algorithm)) now found = IsAnalysisIn (algorithm_of algorithm) (filed_for w) (history_of w.store) found.analysis
+    × IfOk found.analysis (λ a. found.body ≡ body_text (algorithm_of algorithm) (kept_of w.lists w.id now) a)
+MayFind w line now found = Unit {0}
