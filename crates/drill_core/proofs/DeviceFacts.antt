@@ -14,7 +14,7 @@ use Rattle.store_engine.specs.declared.fail.StoreFail.{StoreFail}
 use Rattle.store_engine.specs.declared.fail.StoreFail.TheVariants as store_fails
 use Rattle.session_model.specs.Standing.{NoneKept}
 use Rattle.store_world.specs.declared.open_store.OpenStore.{OpenStore}
-use Rattle.store_world.specs.World.{Held, IsEntered}
+use Rattle.store_world.specs.Standing.{OpenWorld, IsEntered}
 use Rattle.timeline_model.proofs.Entering as entering
 use Rattle.timeline_model.specs.Scene.{Scene}
 use Rattle.drill_core.specs.declared.machine.Drill.{Drill}
@@ -35,7 +35,7 @@ notary_stays old new same = record {
 }
 
 -- so all that is held stays
-pub fields_stay : (d : Drill) (world : Held) (disk : MemDisk) (notary : MemNotary) → disk.bytes.items ≡ d.disk.bytes.items → NotaryStays d.notary notary
+pub fields_stay : (d : Drill) (world : OpenWorld) (disk : MemDisk) (notary : MemNotary) → disk.bytes.items ≡ d.disk.bytes.items → NotaryStays d.notary notary
     → bare_of (record { alloc = d.alloc; id = d.id; world = world; disk = disk; notary = notary; clock = d.clock; crash = d.crash }) ≡ bare_of d
 fields_stay d world disk notary bytes stays =
     ap (λ (b : List ℕ). record (bare_of d) { bytes = b; lists = lists_of notary.made.items; limits = notary.limits }) bytes
@@ -50,6 +50,7 @@ passes d disk notary disk_plan disk_sure reads disk_faults notary_plan notary_su
     let stays = notary_stays d.notary notary same in
     record {
       fields = fields_stay d d.world disk notary (same_Some disk.bytes.items d.disk.bytes.items reads) stays;
+      world = refl;
       none_fails = record { disk = disk_plan; disk_sure = disk_sure; notary = notary_plan; notary_sure = notary_sure };
       faults = (let f = stays.faults in omega (arith, disk_faults, f));
     }
@@ -72,7 +73,7 @@ restarts choice d disk notary fresh notary_plan notary_sure same =
     }
 
 -- the store is entered
-module _ (d : Drill) (none : NoneFails d) (id : ℕ) (own : d.id ≡ Some id) (world : Held) (disk : MemDisk) (on : disks.GoesOn (disk_memory.state_of d.disk) (disk_memory.state_of disk)) (same : disks.Unchanged (disk_memory.state_of d.disk) (disk_memory.state_of disk)) (id_is : world.id ≡ id) where
+module _ (d : Drill) (none : NoneFails d) (id : ℕ) (own : d.id ≡ Some id) (world : OpenWorld) (disk : MemDisk) (on : disks.GoesOn (disk_memory.state_of d.disk) (disk_memory.state_of disk)) (same : disks.Unchanged (disk_memory.state_of d.disk) (disk_memory.state_of disk)) (id_is : world.id ≡ id) where
   abbrev later : Drill
   later = record { alloc = d.alloc; id = d.id; world = world; disk = disk; notary = d.notary; clock = d.clock; crash = d.crash }
 
@@ -83,10 +84,9 @@ module _ (d : Drill) (none : NoneFails d) (id : ℕ) (own : d.id ≡ Some id) (w
   by_stands stands = record {
     fields = entered_fields;
     at = record {
-      fields = refl;
+      left = record { fields = refl; none_fails = record { disk = on.plan ∙ none.disk; disk_sure = on.sure ∙ none.disk_sure; notary = none.notary; notary_sure = none.notary_sure } };
       world = subst (λ (t : Scene). StandsUnder t.id t world) (sym entered_fields)
           (subst (λ (o : Option ℕ). StandsUnder o (bare_of d) world) (sym own) (subst (λ (n : ℕ). StandsUnder (Some id) (bare_of d) (record { id = n; opened = world.opened })) (sym id_is) stands));
-      none_fails = record { disk = on.plan ∙ none.disk; disk_sure = on.sure ∙ none.disk_sure; notary = none.notary; notary_sure = none.notary_sure };
     };
     faults = (let f = disk_quiet.no_change (disk_memory.state_of d.disk) (disk_memory.state_of disk) on none.disk_sure same.trace in omega (arith, f));
   }
@@ -95,15 +95,15 @@ module _ (d : Drill) (none : NoneFails d) (id : ℕ) (own : d.id ≡ Some id) (w
   IsEnteredBy r = IsEntered id d.disk.bytes.items r world.opened
 
   pub enters : (result : Result (Unit {0}) StoreFail) → IsEnteredBy result → IfSome world.opened (λ o. NoneKept o.sessions) → result ≡ Ok tt → EntersAnew d later
-  enters result entered sessions is = by_stands (entering.entered (bare_of d) id (Ok tt) world.opened (bare_of d).lists (record { batches = λ i. refl; marks = λ i. refl }) (subst IsEnteredBy is entered) sessions)
+  enters result entered sessions is = by_stands (entering.entered (bare_of d) id (Ok tt) world.opened (subst IsEnteredBy is entered) sessions)
 
   pub enters_none : (result : Result (Unit {0}) StoreFail) → IsEnteredBy result → IfSome world.opened (λ o. NoneKept o.sessions) → result ≡ Err store_fails.NotAStore → world.opened ≡ None → EntersAnew d later
   enters_none result entered sessions is none_is = by_stands (subst (λ (o : Option OpenStore). StandsUnder (Some id) (bare_of d) (record { id = id; opened = o })) (sym none_is)
-      (entering.entered (bare_of d) id (Err store_fails.NotAStore) world.opened (bare_of d).lists (record { batches = λ i. refl; marks = λ i. refl }) (subst IsEnteredBy is entered) sessions))
+      (entering.entered (bare_of d) id (Err store_fails.NotAStore) world.opened (subst IsEnteredBy is entered) sessions))
 
 pub no_id : (d : Drill) → NoneFails d → d.id ≡ None → EntersAnew d d
 no_id d none is = record {
   fields = refl;
-  at = record { fields = refl; world = subst (λ (o : Option ℕ). StandsUnder o (bare_of d) d.world) (sym is) tt; none_fails = none };
+  at = record { left = record { fields = refl; none_fails = none }; world = subst (λ (o : Option ℕ). StandsUnder o (bare_of d) d.world) (sym is) tt };
   faults = omega arith;
 }

@@ -16,10 +16,10 @@ use Rattle.line_input.specs.declared.fail.InputFail.{InputFail}
 use Rattle.line_input.specs.declared.fail.InputFail.TheVariants as inputs
 use Rattle.line_input.specs.Limits.{input_limit, piece_limit}
 use Rattle.line_input.specs.Lines.{IsFeedless}
-use Rattle.line_input.specs.Reader.{Reading, Tells, Takes, IsAtLimit}
+use Rattle.line_input.specs.Reader.{Reading, Tells, Takes, IsAtLimit, SeesEnd}
 use Rattle.line_input.specs.Giving.{HasGiven}
 use Rattle.line_input.proofs.Giving.{given_none, told_line, told_end, told_refused}
-use Rattle.line_input.proofs.Front.{first_given, front_given, little_given, ended_given, within_given, end_given}
+use Rattle.line_input.proofs.Front.{first_given, front_given, little_given, complete_given, within_given, end_given}
 use Rattle.stmt_text.specs.declared.error.ParseFail.{ParseFail}
 use Rattle.stmt_text.specs.declared.line.Line.{Line}
 use Rattle.stmt_text.specs.declared.line.Line.TheVariants as lines
@@ -78,7 +78,7 @@ where_same : (o : Option (List ℕ)) (P : List ℕ → List ℕ → Type 0) → 
 where_same None P p = tt
 where_same (Some all) P p = p all
 
-pub begins : (begin : Scene) (input : sources.State) (reader : Reading) (out : sinks.State) (drill : Drill) → IsAt begin drill → faults_of drill ≡ 0 → reader ≡ record { line = []; pending = []; taken = 0 } → IsDrilling begin input input reader out out drill false
+pub begins : (begin : Scene) (input : sources.State) (reader : Reading) (out : sinks.State) (drill : Drill) → IsAt begin drill → faults_of drill ≡ 0 → reader ≡ record { line = []; pending = []; taken = 0; is_ended = false } → IsDrilling begin input input reader out out drill false
 unfolding after replies some_refused
 begins begin input reader out drill at none fresh = record {
   taken = [];
@@ -265,20 +265,20 @@ module _ (begin : Scene) (right : (es : List Event) → IsTimeline begin es → 
     ends_so r read replied is = record { taken = so_far.taken; events = es; timeline = so_far.timeline; right = right es so_far.timeline; lines_are = so_far.lines_are; read = read; replied = replied; refused = is }
 
     -- at the end
-    pub ended : Tells (Ok false) reader next left later → next.taken < input_limit → Drills begin (Ok refused) input later out written
-    ended told below = ends_so (Ok refused)
-        (told_map input.rest later.rest _ _ (told_end input left later so_far.taken reader next so_far.input_frame.told so_far.given told takes)
+    pub ended : Tells (Ok false) reader next left later → SeesEnd (Ok false) reader next → next.taken < input_limit → Drills begin (Ok refused) input later out written
+    ended told sees below = ends_so (Ok refused)
+        (told_map input.rest later.rest _ _ (told_end input left later so_far.taken reader next so_far.input_frame.told so_far.given told sees takes)
         (λ all others g. record { ends = end_given all so_far.taken next others g.0 g.1 below; front = front_given all so_far.taken next others g.0 takes.within }))
         so_far.replied so_far.refused_is
 
-    pub read_failed : (fail : InputFail) → Tells (Err fail) reader next left later → (IsErrOf {T = Bool} (Err fail) inputs.InputLimit → IsAtLimit next) → (IsErrOf {T = Bool} (Err fail) inputs.ReadFault → IsFeedless next.pending) → Drills begin (Err (of_input fail)) input later out written
-    read_failed fail told at_limit feedless = by fail refl
+    pub read_failed : (fail : InputFail) → Tells (Err fail) reader next left later → SeesEnd (Err fail) reader next → (IsErrOf {T = Bool} (Err fail) inputs.InputLimit → IsAtLimit next) → (IsErrOf {T = Bool} (Err fail) inputs.ReadFault → IsFeedless next.pending) → Drills begin (Err (of_input fail)) input later out written
+    read_failed fail told sees at_limit feedless = by fail refl
       where
         reads_by : (r : Result Bool DrillFail) → ((all others : List ℕ) → HasGiven all so_far.taken next others → Ends so_far.taken r all others) → WhereTold input.rest later.rest (Reads so_far.taken r)
-        reads_by r ends = told_map input.rest later.rest _ _ (told_refused input left later so_far.taken reader next fail so_far.input_frame.told so_far.given told takes)
+        reads_by r ends = told_map input.rest later.rest _ _ (told_refused input left later so_far.taken reader next fail so_far.input_frame.told so_far.given told sees takes)
             (λ all others g. record { ends = ends all others g; front = front_given all so_far.taken next others g takes.within })
 
         by : (f : InputFail) → fail ≡ f → Drills begin (Err (of_input f)) input later out written
-        by inputs.ReadFault is = ends_so (Err fails.ReadFault) (reads_by (Err fails.ReadFault) (λ all others g. ended_given all so_far.taken next others g (feedless (ap (λ (f : InputFail). Err f) is)))) so_far.replied tt
+        by inputs.ReadFault is = ends_so (Err fails.ReadFault) (reads_by (Err fails.ReadFault) (λ all others g. complete_given all so_far.taken next others g (feedless (ap (λ (f : InputFail). Err f) is)) sees.1)) so_far.replied tt
         by inputs.InputLimit is = ends_so (Err fails.InputLimit) (reads_by (Err fails.InputLimit) (λ all others g. within_given all so_far.taken next others g (at_limit (ap (λ (f : InputFail). Err f) is)))) so_far.replied tt
         by inputs.NoMemory is = ends_so (Err fails.NoMemory) (reads_by (Err fails.NoMemory) (λ all others g. first_given all so_far.taken next others g)) (all_but_last begin es out written so_far.replied) tt

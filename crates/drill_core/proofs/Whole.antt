@@ -1,11 +1,10 @@
 -- A line of the world that nothing stops: the drill stands for the scene that follows.
-use Rattle.std.proofs.Common.{arith, ◌≡◌, inl, inr, ℕ, ◌<◌, Bool, true, false, List, [], ◌∷◌, length, Option, Some, None, Result, Ok, refl, sym, ap, subst, ◌∙◌}
-use Rattle.std.specs.Prelude.{codes, is_some}
+use Rattle.std.proofs.Common.{arith, ◌≡◌, inl, inr, ℕ, ◌<◌, Bool, List, [], ◌∷◌, length, Option, Some, None, Result, Ok, refl, sym, ap, subst, ◌∙◌}
+use Rattle.std.specs.Prelude.{codes}
 use Rattle.std.proofs.lemmas.Option.{same_Some}
 use Rattle.outside_words.specs.Runs.{after_calls}
 use Rattle.disk_words.specs.Disk as disks
 use Rattle.disk_words.specs.Record.{bytes_after}
-use Rattle.disk_words.proofs.Quiet as disk_quiet
 use Rattle.disk_model.specs.Moments.{is_done}
 use Rattle.disk_model.specs.declared.memory.MemDisk.{MemDisk}
 use Rattle.disk_model.specs.Calls as disk_traces
@@ -21,24 +20,26 @@ use Rattle.notary_link.specs.Notary as notaries
 use Rattle.notary_link.specs.declared.memory.MemNotary.{MemNotary}
 use Rattle.notary_link.specs.Calls.{lists_of, trace_of}
 use Rattle.notary_link.specs.Memory as notary_memory
-use Rattle.notary_link.proofs.Quiet as notary_quiet
 use Rattle.stmt_text.specs.declared.line.Line.{Line}
 use Rattle.stmt_text.specs.Fits.{FitsParts}
 use Rattle.store_engine.proofs.StoredFiles.{is_header, held_of_stored}
 use Rattle.statement_core.specs.World as statements
 use Rattle.session_model.specs.World.{Session}
-use Rattle.validator.specs.Desk.{Desk, desk, Content, content}
+use Rattle.validator.specs.Desk.{Desk, desk}
 use Rattle.store_world.specs.declared.answered.Answered.{Answered}
 use Rattle.store_world.specs.declared.fail.LineFail.{LineFail}
 use Rattle.store_world.specs.Answers.{refusal}
 use Rattle.store_world.specs.Found.{Found}
-use Rattle.store_world.specs.World.{World, Held, IsIn, StoreIsIn}
+use Rattle.store_world.specs.World.{World}
+use Rattle.store_world.specs.Standing.{OpenWorld, IsIn, StoreIsIn}
+use Rattle.store_world.specs.Lists.{IsBeside}
 use Rattle.store_world.specs.Steps as world_steps
 use Rattle.store_world.specs.Stepping.{Steps, StepsFor}
-use Rattle.store_world.specs.Steps.{IsWorldLine, MayFind}
+use Rattle.store_world.specs.Steps.{IsWorldLine}
+use Rattle.store_world.specs.Finding.{MayFind}
 use Rattle.timeline_model.specs.Scene.{Scene, Crash, without_sessions, sessions_over, store_in, world_of}
 use Rattle.store_world.specs.LineCalls.{items_added, with_items, appends, end_of_store}
-use Rattle.timeline_model.specs.Lines.{Act, Next, quiet, refuses, over_world, over_store, act}
+use Rattle.timeline_model.specs.Lines.{Next, quiet, refuses, over_world, over_store, act}
 use Rattle.timeline_model.specs.Timeline.{MayBeFound, under}
 use Rattle.timeline_model.proofs.Calls.{appended, world_is}
 use Rattle.timeline_model.proofs.Doings.{store_is}
@@ -46,10 +47,10 @@ use Rattle.timeline_model.proofs.Sessions.{step_under, world_over}
 use Rattle.timeline_model.proofs.Statements.{new_txn, Stores, step_stores, same_added, txn_added, frontier_added}
 use Rattle.timeline_model.proofs.Stepping.{line_act}
 use Rattle.drill_core.specs.declared.machine.Drill.{Drill}
-use Rattle.drill_core.specs.Drills.{bare_of, StandsUnder, NoneFails, IsAt, FailsOnce}
-use Rattle.drill_core.specs.Taken.{Follows, IsActed, IsLeft, IsStopped}
+use Rattle.drill_core.specs.Drills.{bare_of, StandsUnder, IsAt, IsBehind}
+use Rattle.drill_core.specs.Taken.{IsActed}
 use Rattle.drill_core.proofs.Ready.{same_lists, scene_of}
-use Rattle.drill_core.proofs.Coming.{any_found, next_on, quiet_left, refused_only}
+use Rattle.drill_core.proofs.Coming.{any_found, next_on, quiet_follows, refused_only}
 
 -- ---- the bytes
 
@@ -97,7 +98,7 @@ module _ (t : Scene) (id : ℕ) (own : t.id ≡ Some id) (line : Line) (found : 
   pub act_of : IsWorldLine line → act t line found ≡ over_world t (world_of t id) line found (world_steps.step (world_of t id) line t.clock found)
   act_of of_world = line_act t line found of_world ∙ ap (λ (o : Option ℕ). over_store t o line found) own
 
-  pub may_of : MayFind (world_of t id) line found → MayBeFound t.id t (Ok line) found
+  pub may_of : MayFind (world_of t id) line t.clock found → MayBeFound t.id t (Ok line) found
   may_of may = subst (λ (o : Option ℕ). MayBeFound o t (Ok line) found) (sym own) may
 
 -- ---- before an `init` line
@@ -109,25 +110,18 @@ module _ (t : Scene) (line : Line) (of_world : IsWorldLine line) where
   none_may : t.id ≡ None → MayBeFound t.id t (Ok line) any_found
   none_may own = subst (λ (o : Option ℕ). MayBeFound o t (Ok line) any_found) (sym own) tt
 
-  pub none_acted : (d : Drill) (answered : Answered) → t.id ≡ None → IsAt t d → answered ≡ refusal (codes "NotAStore") → IsActed (Ok line) t answered d d
-  none_acted d answered own at is = record {
+  pub none_acted : (crash : Option Crash) (d : Drill) (answered : Answered) → t.id ≡ None → IsAt t d → answered ≡ refusal (codes "NotAStore") → IsActed crash (Ok line) t answered d d
+  none_acted crash d answered own at is = record {
     found = any_found;
     may = none_may own;
-    follows = next_on answered d d (refuses t (codes "NotAStore")) (act t line any_found).next (ap (λ (a : Act). a.next) (none_act own)) (refused_only t d answered (codes "NotAStore") at is);
-  }
-
-  -- under a crash: it makes no call
-  pub none_stopped : (crash : Crash) (d : Drill) (answered : Answered) → t.id ≡ None → IsAt t d → answered ≡ refusal (codes "NotAStore") → IsStopped crash (Ok line) t answered d d
-  none_stopped crash d answered own at is = record {
-    found = any_found;
-    may = none_may own;
-    left = subst (λ (a : Act). IsLeft (under (Some crash) t a) answered d d) (sym (none_act own)) (quiet_left answered d d crash t (refuses t (codes "NotAStore")) (refused_only t d answered (codes "NotAStore") at is));
+    follows = next_on answered d d (IsBehind crash) (under crash t (quiet (refuses t (codes "NotAStore")))) (under crash t (act t line any_found)) (ap (under crash t) (none_act own))
+        (quiet_follows answered d d crash t (refuses t (codes "NotAStore")) (refused_only t d answered (codes "NotAStore") at is));
   }
 
 -- ---- the drill
 
 module _ (d : Drill) (begun : ℕ → Option Session) (stands : StandsUnder d.id (scene_of d begun) d.world) (line : Line) (of_world : IsWorldLine line) (fits : FitsParts line)
-    (result : Result Answered LineFail) (world : Held) (disk : MemDisk) (notary : MemNotary)
+    (result : Result Answered LineFail) (world : OpenWorld) (disk : MemDisk) (notary : MemNotary)
     (told : StepsFor line d.clock result d.world world (desk (disk_memory.state_of d.disk) (notary_memory.state_of d.notary)) (desk (disk_memory.state_of disk) (notary_memory.state_of notary)))
     (disk_on : disks.GoesOn (disk_memory.state_of d.disk) (disk_memory.state_of disk)) (notary_on : notaries.GoesOn (notary_memory.state_of d.notary) (notary_memory.state_of notary)) where
   abbrev later : Drill
@@ -142,16 +136,17 @@ module _ (d : Drill) (begun : ℕ → Option Session) (stands : StandsUnder d.id
   abbrev new : Desk
   new = desk (disk_memory.state_of disk) (notary_memory.state_of notary)
 
-  abbrev after : Content
-  after = content disk.bytes.items (lists_of notary.made.items)
+  abbrev after : List ℕ
+  after = disk.bytes.items
 
-  limits_in : (id : ℕ) → (world_of t id).limits ≡ d.notary.limits
+  -- its notary holds the lists of the world
+  pub beside : (id : ℕ) → IsBeside (world_of t id) d.notary.limits (lists_of d.notary.made.items)
   unfolding world_of
-  limits_in id = refl
+  beside id = record { lists = record { batches = λ i. refl; marks = λ i. refl }; limits = refl }
 
   pub through : (id : ℕ) → d.id ≡ Some id → (r : Result Answered LineFail) → result ≡ r → Steps line d.clock (world_of t id) r world old new d.disk.bytes.items after
   through id own r is = subst (λ (x : Result Answered LineFail). Steps line d.clock (world_of t id) x world old new d.disk.bytes.items after) is
-      (told (world_of t id) (subst (λ (o : Option ℕ). StandsUnder o t d.world) own stands) (limits_in id))
+      (told (world_of t id) (subst (λ (o : Option ℕ). StandsUnder o t d.world) own stands))
 
   abbrev first : List ℕ
   first = disk_memory.origin_of d.disk
@@ -173,11 +168,11 @@ module _ (d : Drill) (begun : ℕ → Option Session) (stands : StandsUnder d.id
     next = (over_world t w line steps.found s).next
 
     bytes_are : disk.bytes.items ≡ next.scene.bytes
-    bytes_are = sym after_is ∙ ap (bytes_after first) steps.makes.disk
+    bytes_are = sym after_is ∙ ap (bytes_after first) (steps.makes (beside id)).disk
         ∙ line_written first (disk_traces.trace_of d.disk.made.items) t id line (sym d.disk.replayed) s.world.store (step_stores w line d.clock steps.found)
 
     lists_are : lists_of notary.made.items ≡ s.world.lists
-    lists_are = same_lists s.world.lists (lists_of notary.made.items) steps.goes.stands.lists
+    lists_are = same_lists s.world.lists (lists_of notary.made.items) ((steps.files (beside id)).keeps refl)
 
     pub fields_are : without_sessions next.scene ≡ bare_of later
     fields_are =
@@ -198,40 +193,7 @@ module _ (d : Drill) (begun : ℕ → Option Session) (stands : StandsUnder d.id
         ∙ ap (λ (n : ℕ). record { id = n; store = s.world.store; sessions = s.world.sessions; lists = s.world.lists; limits = t.limits }) (sym under.id)
         ∙ ap (λ (l : NotaryLimits). record { id = s.world.id; store = s.world.store; sessions = s.world.sessions; lists = s.world.lists; limits = l }) (sym under.limits)
 
-    stands_then : StandsUnder (Some id) next.scene world
-    stands_then =
-        subst (λ (x : World). IsIn x world next.scene.bytes s.world.lists) (sym world_then)
-        (subst (λ (b : List ℕ). IsIn s.world world b s.world.lists) bytes_are
-        (subst (λ (l : notaries.Lists). IsIn s.world world disk.bytes.items l) lists_are steps.goes.stands))
-
-    follows : NoneFails d → Follows next answered d later
-    follows none = record {
-      at = record {
-        fields = fields_are;
-        world = subst (λ (o : Option ℕ). StandsUnder o next.scene world) (sym own) stands_then;
-        none_fails = record { disk = disk_on.plan ∙ none.disk; disk_sure = disk_on.sure ∙ none.disk_sure; notary = notary_on.plan ∙ none.notary; notary_sure = notary_on.sure ∙ none.notary_sure };
-      };
-      text = steps.goes.reply.text;
-      refused = steps.goes.reply.refused;
-      faults = few;
-    }
-      where
-        few : FailsOnce d later
-        few =
-            let of_disk : disk.faults ≡ d.disk.faults = disk_quiet.none_planned_to (disk_memory.state_of d.disk) (disk_memory.state_of disk) disk_on none.disk_sure (λ t. false) none.disk (λ t le. refl) in
-            let of_notary : notary.faults ≡ d.notary.faults = notary_quiet.none_planned_to (notary_memory.state_of d.notary) (notary_memory.state_of notary) notary_on none.notary_sure (trace_of d.notary.made.items) refl (λ t. false) none.notary (λ t le. refl) in
-            omega (arith, of_disk, of_notary)
-
-    whole_acted : NoneFails d → IsActed (Ok line) t answered d later
-    whole_acted none = record {
-      found = steps.found;
-      may = may_of t id own line steps.found steps.may;
-      follows = next_on answered d later next (act t line steps.found).next (ap (λ (a : Act). a.next) (act_of t id own line steps.found of_world)) (follows none);
-    }
-
-  acts_at : NoneFails d → (answered : Answered) → result ≡ Ok answered → (o : Option ℕ) → d.id ≡ o → is_some o ≡ true → IsActed (Ok line) t answered d later
-  acts_at none answered is None own some = absurd cc
-  acts_at none answered is (Some id) own some = whole_acted id own answered (through id own (Ok answered) is) none
-
-  pub acts : NoneFails d → (answered : Answered) → result ≡ Ok answered → is_some d.id ≡ true → IsActed (Ok line) t answered d later
-  acts none answered is some = acts_at none answered is d.id refl some
+    pub stands_then : StandsUnder next.scene.id next.scene world
+    stands_then = subst (λ (o : Option ℕ). StandsUnder o next.scene world) (sym own)
+        (subst (λ (x : World). IsIn x world next.scene.bytes) (sym world_then)
+        (subst (λ (b : List ℕ). IsIn s.world world b) bytes_are steps.goes.stands))

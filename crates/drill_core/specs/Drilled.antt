@@ -3,7 +3,7 @@ use Rattle.std.specs.Prelude.{◌≡◌, ℕ, ◌||◌, Bool, true, false, List,
 use Rattle.outside_words.specs.Told.{WhereTold}
 use Rattle.outside_io.specs.Sink as sinks
 use Rattle.outside_io.specs.Source as sources
-use Rattle.line_input.specs.Front.{AreFirst, AreAll, AreWithinLimit, AreEnded, TakesLittle, TakesFront}
+use Rattle.line_input.specs.Front.{AreFirst, AreAll, AreComplete, AreWithinLimit, TakesLittle, TakesFront}
 use Rattle.stmt_text.specs.declared.error.ParseFail.{ParseFail}
 use Rattle.stmt_text.specs.declared.line.Line.{Line}
 use Rattle.stmt_text.specs.declared.line.Line.TheVariants as lines
@@ -41,7 +41,7 @@ some_refused t (e ∷ es) = some_refused t es || (step (after t es) e.line e.fou
 -- first ones, and little was taken beyond them; where memory was wanting the first ones.
 abbrev pub Ends : List (List ℕ) → Result Bool DrillFail → List ℕ → List ℕ → Type 0
 Ends taken (Ok refused) input left = AreAll taken input left
-Ends taken (Err fails.ReadFault) input left = AreEnded taken input left
+Ends taken (Err fails.ReadFault) input left = AreComplete taken input left
 Ends taken (Err fails.InputLimit) input left = AreWithinLimit taken input left
 Ends taken (Err fails.WriteFault) input left = AreFirst taken input × TakesLittle taken input left
 Ends taken (Err fails.NoMemory) input left = AreFirst taken input

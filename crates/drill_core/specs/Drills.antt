@@ -4,14 +4,15 @@ use Rattle.std.specs.Option.{option_map}
 use Rattle.disk_model.specs.Memory as disks
 use Rattle.notary_link.specs.Calls.{lists_of}
 use Rattle.notary_link.specs.Memory as notaries
-use Rattle.store_world.specs.World.{Held, IsIn, no_sessions}
+use Rattle.store_world.specs.Standing.{OpenWorld, IsIn}
+use Rattle.store_world.specs.World.{no_sessions}
 use Rattle.timeline_model.specs.Scene as scenes
 use Rattle.timeline_model.specs.Scene.{Scene, without_sessions, world_of}
 use Rattle.drill_core.specs.declared.machine.Crash.{Crash}
 use Rattle.drill_core.specs.declared.machine.Drill.{Drill}
 
-abbrev pub crash_of : Crash → scenes.Crash
-crash_of crash = record { after = crash.after; choice = crash.choice }
+abbrev pub crash_of : Option Crash → Option scenes.Crash
+crash_of crash = option_map (λ c. record { after = c.after; choice = c.choice }) crash
 
 -- what it holds besides sessions, as a scene where none is begun
 abbrev pub bare_of : Drill → Scene
@@ -22,13 +23,13 @@ bare_of d = record {
   lists = lists_of d.notary.made.items;
   limits = d.notary.limits;
   clock = d.clock;
-  crash = option_map crash_of d.crash;
+  crash = crash_of d.crash;
 }
 
 -- the store that is held, with its sessions, stands for the world of the id, where there is one
-abbrev pub StandsUnder : Option ℕ → Scene → Held → Type 0
+abbrev pub StandsUnder : Option ℕ → Scene → OpenWorld → Type 0
 StandsUnder None t held = Unit {0}
-StandsUnder (Some id) t held = IsIn (world_of t id) held t.bytes t.lists
+StandsUnder (Some id) t held = IsIn (world_of t id) held t.bytes
 
 -- no call of either device is to fail
 pub record NoneFails (d : Drill) : Type 0 where
@@ -37,11 +38,20 @@ pub record NoneFails (d : Drill) : Type 0 where
   pub notary : (notaries.state_of d.notary).plan ≡ Some (λ t. false)
   pub notary_sure : (notaries.state_of d.notary).sure ≡ true
 
+-- it holds what a scene without sessions has, and no call is to fail
+pub record IsLeft (t : Scene) (d : Drill) : Type 0 where
+  pub fields : t ≡ bare_of d
+  pub none_fails : NoneFails d
+
 -- between two lines a drill stands for this scene
 pub record IsAt (t : Scene) (d : Drill) : Type 0 where
-  pub fields : without_sessions t ≡ bare_of d
+  pub left : IsLeft (without_sessions t) d
   pub world : StandsUnder t.id t d.world
-  pub none_fails : NoneFails d
+
+-- Behind a line. A crash drops all sessions, and leaves the store to be entered anew.
+abbrev pub IsBehind : Option scenes.Crash → Scene → Drill → Type 0
+IsBehind None t d = IsAt t d
+IsBehind (Some crash) t d = IsLeft t d
 
 -- ---- faults
 

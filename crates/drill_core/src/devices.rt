@@ -3,14 +3,14 @@
 ghost use Rattle.std.specs.Prelude.{◌≡◌, ◌≢◌, ◌∷◌, [], OnOk, IfOk, codes};
 ghost use Rattle.store_engine.specs.declared.fail.StoreFail.TheVariants as store_fails;
 ghost use Rattle.store_world.specs.Answers.{said};
-ghost use Rattle.drill_core.specs.Drills.{NoneFails};
-ghost use Rattle.drill_core.specs.Devices.{listed_filings, WillStop, WillPass, EntersAnew, IsRestarted};
+ghost use Rattle.drill_core.specs.Drills.{crash_of, NoneFails};
+ghost use Rattle.drill_core.specs.Devices.{listed_filings, WillStop, WillPass, EntersAnew, IsRestartedBy};
 
-use crate::machine::Drill;
+use crate::machine::{Crash, Drill};
 use crate::saying::say;
-use store_world::{Answered, LineFail, World};
 use std::alloc::{AllocError, Global};
 use store_engine::StoreFail;
+use store_world::{Answered, LineFail, World};
 
 /// The list of one number.
 fn only(alloc: Global, number: u64) -> Result<Vec<u64>, AllocError>
@@ -44,11 +44,14 @@ fn entered(fail: StoreFail) -> Result<(), AllocError>
 }
 
 impl Drill {
-    /// Lets so many changing calls pass and the next one fail, where so many of the disk come before
-    /// those of the notary. The disk is settled, so the crash empties its record alone.
-    pub(crate) fn let_fail(&mut self, after: u32, before: u64) -> Result<(), AllocError>
-        ensures value { OnOk result (NoneFails self.old → WillStop after before self.old self.new) }
+    /// Lets the call fail that the crash doesn't let pass, where so many of the disk come before those of
+    /// the notary. The disk is settled, so the crash empties its record alone. Without a crash none fails.
+    pub(crate) fn let_fail(&mut self, crash: Option<Crash>, before: u64) -> Result<(), AllocError>
+        ensures value { OnOk result (NoneFails self.old → WillStop (crash_of crash) before self.old self.new) }
     {
+        let Some(Crash { after, .. }) = crash else {
+            return Ok(());
+        };
         let changes = only(self.alloc, after as u64 + 1)?;
         let filings = filings_to_fail(self.alloc, after, before)?;
         self.disk.crash(1)?;
@@ -81,28 +84,31 @@ impl Drill {
         }
     }
 
-    /// A fault is the stop of a crash of this choice.
+    /// A fault is the stop of the crash that the line is under.
     pub(crate) fn restart_after(
         &mut self,
         fail: LineFail,
-        choice: u64,
+        crash: Option<Crash>,
     ) -> Result<Answered, AllocError>
-        ensures value { OnOk result (IsRestarted choice self.old self.new) }
+        ensures value { OnOk result (IsRestartedBy (crash_of crash) self.old self.new) }
         ensures reply { IfOk result (λ answered. answered ≡ said (codes "crashed")) }
         ensures fault { OnOk result (fail ≢ LineFail.NoMemory) }
     {
         match fail {
             LineFail::NoMemory => Err(AllocError),
-            LineFail::DiskFault | LineFail::NotaryFault => self.restart(choice),
+            LineFail::DiskFault | LineFail::NotaryFault => self.restart(crash),
         }
     }
 
-    /// Leaves what a crash of this choice leaves, with no failure listed.
-    pub(crate) fn restart(&mut self, choice: u64) -> Result<Answered, AllocError>
-        ensures value { OnOk result (IsRestarted choice self.old self.new) }
+    /// Leaves what this crash leaves, with no failure listed. Without a crash no call fails.
+    pub(crate) fn restart(&mut self, crash: Option<Crash>) -> Result<Answered, AllocError>
+        ensures value { OnOk result (IsRestartedBy (crash_of crash) self.old self.new) }
         ensures reply { IfOk result (λ answered. answered ≡ said (codes "crashed")) }
     {
-        self.disk.crash(choice)?;
+        let Some(crash) = crash else {
+            return Err(AllocError);
+        };
+        self.disk.crash(crash.choice)?;
         self.notary
             .failing(Vec::new(self.alloc), Vec::new(self.alloc));
         say(self.alloc, b"crashed")

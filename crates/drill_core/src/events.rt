@@ -1,23 +1,22 @@
 //! The lines that a drill has besides those of a world.
 
-ghost use Rattle.std.specs.Prelude.{◌≡◌, ◌≤◌, ◌+◌, Some, length, false, OnOk, IfOk, codes};
+ghost use Rattle.std.specs.Prelude.{◌≡◌, ◌≤◌, ◌+◌, Some, length, OnOk, IfOk, codes};
 ghost use Rattle.disk_words.specs.Disk.{written};
 ghost use Rattle.tuple_bytes.specs.Spelling.{FitsHeader};
-ghost use Rattle.txn_journal.specs.declared.fail.JournalFail.TheVariants as journal_fails;
 ghost use Rattle.stmt_text.specs.Fits.{FitsEvent};
-ghost use Rattle.store_world.specs.World.{no_sessions};
 ghost use Rattle.timeline_model.specs.Lines as lines;
 ghost use Rattle.timeline_model.specs.Lines.{brings, inits, header_at, altered, shortened};
-ghost use Rattle.drill_core.specs.Drills.{NoneFails};
-ghost use Rattle.drill_core.specs.Devices.{Holds, MakesStore};
-ghost use Rattle.drill_core.specs.Taken.{FromScene, Follows};
+ghost use Rattle.timeline_model.specs.Timeline.{under};
+ghost use Rattle.drill_core.specs.Drills.{bare_of, crash_of, HasFewFaults, NoneFails, IsLeft, IsAt, IsBehind};
+ghost use Rattle.drill_core.specs.Devices.{Holds, StopsBy};
+ghost use Rattle.drill_core.specs.Taken.{FromScene, Follows, making};
 
 use crate::machine::{Crash, Drill};
 use crate::saying::{refuse, say, say_ready};
 use disk_model::MemDisk;
-use store_world::Answered;
 use std::alloc::{AllocError, Global};
 use stmt_text::Event;
+use store_world::Answered;
 use tuple_bytes::{Blob, Header, MAX_MOMENT, encode_header};
 use txn_journal::{JournalFail, StoreShape, create};
 
@@ -32,24 +31,20 @@ fn with_range(alloc: Global, old: &[u8], place: usize, bytes: &[u8]) -> Result<V
     Ok(next)
 }
 
-/// No store is made on a disk that is taken.
-fn is_taken(fail: JournalFail) -> Result<bool, AllocError>
-    ensures value { IfOk result (λ made. (made ≡ false) × (fail ≡ journal_fails.AlreadyThere)) }
-{
-    match fail {
-        JournalFail::AlreadyThere => Ok(false),
-        _ => Err(AllocError),
-    }
-}
-
 impl Drill {
-    /// Brings an event about.
-    pub(crate) fn bring(&mut self, event: &Event) -> Result<Answered, AllocError>
+    /// Brings an event about, or stops it. Only an `init` line makes changing calls.
+    pub(crate) fn bring(
+        &mut self,
+        event: &Event,
+        crash: Option<Crash>,
+    ) -> Result<Answered, AllocError>
         requires fits { FitsEvent event.now }
-        ensures value { FromScene self.old result (λ t answered. Follows (brings t event.now).next answered self.old self.new) }
+        requires few { HasFewFaults self.old }
+        ensures value { FromScene self.old result (λ t answered.
+            Follows (IsBehind (crash_of crash)) (under (crash_of crash) t (brings t event.now)) answered self.old self.new) }
     {
         match event {
-            Event::Init { id, width, k, algs } => self.init(*id, *width, *k, *algs),
+            Event::Init { id, width, k, algs } => self.init(*id, *width, *k, *algs, crash),
             Event::Crash { after, choice } => self.set_crash(*after, *choice),
             Event::Alter { place, bytes } => self.alter(*place, bytes),
             Event::Cut { length } => self.cut(*length),
@@ -59,7 +54,7 @@ impl Drill {
     /// Sets the clock.
     pub(crate) fn set_clock(&mut self, moment: u64) -> Result<Answered, AllocError>
         ensures value { FromScene self.old result (λ t answered.
-            Follows (lines.says (record t { clock = moment }) (codes "ok")) answered self.old self.new) }
+            Follows IsAt (lines.says (record t { clock = moment }) (codes "ok")) answered self.old self.new) }
     {
         self.clock = moment;
         say(self.alloc, b"ok")
@@ -68,7 +63,7 @@ impl Drill {
     /// The next line is under this crash.
     pub(crate) fn set_crash(&mut self, after: u32, choice: u64) -> Result<Answered, AllocError>
         ensures value { FromScene self.old result (λ t answered.
-            Follows (lines.says (record t { crash = Some (record { after = after; choice = choice }) }) (codes "ok")) answered self.old self.new) }
+            Follows IsAt (lines.says (record t { crash = Some (record { after = after; choice = choice }) }) (codes "ok")) answered self.old self.new) }
     {
         self.crash = Some(Crash { after, choice });
         say(self.alloc, b"ok")
@@ -84,7 +79,7 @@ impl Drill {
 
     /// These bytes stand at the place from then on.
     pub(crate) fn alter(&mut self, place: u64, bytes: &Blob) -> Result<Answered, AllocError>
-        ensures value { FromScene self.old result (λ t answered. Follows (altered t place bytes.now) answered self.old self.new) }
+        ensures value { FromScene self.old result (λ t answered. Follows IsAt (altered t place bytes.now) answered self.old self.new) }
     {
         let old = self.disk.bytes();
         let new = bytes.as_slice();
@@ -99,7 +94,7 @@ impl Drill {
 
     /// The disk is shortened.
     pub(crate) fn cut(&mut self, length: u64) -> Result<Answered, AllocError>
-        ensures value { FromScene self.old result (λ t answered. Follows (shortened t length) answered self.old self.new) }
+        ensures value { FromScene self.old result (λ t answered. Follows IsAt (shortened t length) answered self.old self.new) }
     {
         let old = self.disk.bytes();
         if (old.len() as u64) < length {
@@ -110,21 +105,41 @@ impl Drill {
         say(self.alloc, b"ok")
     }
 
-    /// Makes a store that begins now.
-    pub(crate) fn init(
+    /// Makes a store that begins now, or stops that. Either way the store of this id is entered.
+    fn init(
         &mut self,
         id: u64,
         width: u32,
         k: u8,
         algs: u8,
+        crash: Option<Crash>,
     ) -> Result<Answered, AllocError>
         requires fits { FitsEvent (Event.Init id width k algs) }
+        requires few { HasFewFaults self.old }
         ensures value { FromScene self.old result (λ t answered.
-            Follows (inits (record t { id = Some id; sessions = no_sessions }) (header_at id t.clock width k algs)).next answered self.old self.new) }
+            Follows (IsBehind (crash_of crash)) (under (crash_of crash) t (brings t (Event.Init id width k algs))) answered self.old self.new) }
     {
         self.id = Some(id);
+        let answered = self.make(id, width, k, algs, crash)?;
+        self.enter_anew()?;
+        Ok(answered)
+    }
+
+    /// Makes a store that begins now, or stops that.
+    fn make(
+        &mut self,
+        id: u64,
+        width: u32,
+        k: u8,
+        algs: u8,
+        crash: Option<Crash>,
+    ) -> Result<Answered, AllocError>
+        requires fits { FitsEvent (Event.Init id width k algs) }
+        requires few { HasFewFaults self.old }
+        ensures value { NoneFails self.old → IfOk result (λ answered. let t = bare_of self.old in
+            Follows IsLeft (under (crash_of crash) t (inits t (header_at id t.clock width k algs))) answered self.old self.new) }
+    {
         if self.clock > MAX_MOMENT {
-            self.enter_anew()?;
             return refuse(self.alloc, b"TooLate");
         }
         let header = Header {
@@ -134,24 +149,28 @@ impl Drill {
             k,
             algs,
         };
-        let is_made = self.make_store(&header)?;
-        self.enter_anew()?;
-        if is_made {
-            say_ready(self.alloc, id)
-        } else {
-            refuse(self.alloc, b"AlreadyThere")
-        }
+        self.let_fail(crash, 0)?;
+        self.make_store(&header, crash)
     }
 
-    /// Makes a store with this header, where the disk is free.
-    fn make_store(&mut self, header: &Header) -> Result<bool, AllocError>
+    /// Makes a store with this header where the disk is free, over devices that may stop.
+    fn make_store(&mut self, header: &Header, crash: Option<Crash>) -> Result<Answered, AllocError>
         requires fits { FitsHeader header.now }
-        ensures value { IfOk result (λ made. NoneFails self.old → MakesStore made header.now self.old self.new) }
+        ensures value { StopsBy (crash_of crash) 0 self.old → HasFewFaults self.old → IfOk result (λ answered. let t = bare_of self.old in
+            Follows IsLeft (under (crash_of crash) t (making t header.now)) answered self.old self.new) }
     {
         let head = encode_header(header);
         match create::<MemDisk, StoreShape>(&mut self.disk, &head) {
-            Ok(()) => Ok(true),
-            Err(fail) => is_taken(fail),
+            Ok(()) => {
+                self.let_pass();
+                say_ready(self.alloc, header.id)
+            }
+            Err(JournalFail::AlreadyThere) => {
+                self.let_pass();
+                refuse(self.alloc, b"AlreadyThere")
+            }
+            Err(JournalFail::DiskFault) => self.restart(crash),
+            Err(_) => Err(AllocError),
         }
     }
 }

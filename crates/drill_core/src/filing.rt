@@ -2,11 +2,10 @@
 
 ghost use Rattle.std.specs.Prelude.{◌≡◌, ◌↔◌, IsTrue, false, List, length, None, OnOk, IfOk, IfSome};
 ghost use Rattle.tuple_bytes.specs.declared.item.Item.{Item};
-ghost use Rattle.notary_link.specs.Batches.{Batch};
 ghost use Rattle.stmt_text.specs.declared.line.Line.TheVariants as lines;
 ghost use Rattle.stmt_text.specs.declared.stmt.Stmt.TheVariants as stmts;
 ghost use Rattle.store_engine.specs.Refusals.{tail_of};
-ghost use Rattle.validator.specs.Notarizing.{intent_of};
+ghost use Rattle.validator.specs.Notarizing.{Heard, intent_of};
 ghost use Rattle.validator.specs.Reaching.{frontier_calls};
 ghost use Rattle.store_world.specs.Steps.{IsWorldLine};
 ghost use Rattle.timeline_model.specs.Scene.{Scene, batches_of};
@@ -17,7 +16,7 @@ use crate::machine::Drill;
 use notary_link::Notary;
 use policy_eras::Eras;
 use std::alloc::{AllocError, Global};
-use stmt_text::{Line, Stmt};
+use stmt_text::{Line, LineKind, NotaryLine, WorldPart};
 use store_engine::Store;
 use tuple_bytes::Items;
 use validator::frontier_ahead;
@@ -26,17 +25,14 @@ use validator::frontier_ahead;
 fn is_notarization(line: &Line) -> bool
     ensures value { IsTrue result ↔ (line.now ≡ lines.Plain stmts.Notarize) }
 {
-    match line {
-        Line::Plain { stmt } => match stmt {
-            Stmt::Notarize => true,
-            Stmt::Create { .. } | Stmt::Insert { .. } | Stmt::Update { .. } | Stmt::Delete { .. } =>
-                false,
-            Stmt::Get { .. } | Stmt::Scan { .. } | Stmt::History { .. } => false,
-            Stmt::Begin | Stmt::Commit | Stmt::Abort => false,
-            Stmt::Validate | Stmt::Analyse { .. } | Stmt::Now { .. } => false,
-        },
-        Line::Blank | Line::InSession { .. } | Line::Drill { .. } => false,
-    }
+    matches!(
+        line.kind(),
+        LineKind::InWorld {
+            part: WorldPart::Notary {
+                asks: NotaryLine::Notarize
+            }
+        }
+    )
 }
 
 impl Drill {
@@ -86,8 +82,8 @@ impl Drill {
 /// How many changing calls the Frontier makes that a notarization stores at these clock seconds, where
 /// nothing speaks against it. A world keeps no closed store.
 fn calls_of_frontier(alloc: Global, store: &Store, filed: u32, now: u64) -> Result<u64, AllocError>
-    ensures value { IfOk result (λ count. (items : List Item) (batches : List Batch) → filed ≡ length batches
-        → let intent = intent_of (tail_of store.now) false now items batches in
+    ensures value { IfOk result (λ count. (items : List Item) (heard : Heard) → filed ≡ heard.count
+        → let intent = intent_of (tail_of store.now) false now items heard in
         intent.fault ≡ None → count ≡ length (frontier_calls store.now intent.frontier)) }
 {
     if store.is_closed() {

@@ -5,9 +5,9 @@ ghost use Rattle.timeline_model.specs.Scene.{nothing_yet};
 ghost use Rattle.drill_core.specs.Drills.{IsAt, faults_of};
 
 use disk_model::MemDisk;
-use store_world::World;
 use notary_link::{MemNotary, NotaryLimits};
 use std::alloc::Global;
+use store_world::World;
 
 /// A crash that is to come: after so many changing calls, and it leaves the image of this choice.
 #[derive(Clone, Copy, Debug, PartialEq, Eq)]

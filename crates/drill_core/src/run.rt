@@ -12,11 +12,11 @@ ghost use Rattle.drill_core.specs.Drilled.{Drills, text_of, is_refused};
 
 use crate::fail::DrillFail;
 use crate::machine::Drill;
-use store_world::Answered;
 use line_input::LineReader;
 use notary_book::BOOK_LIMITS;
 use outside_io::{Sink, Source, StreamFail, write_whole};
 use std::alloc::Global;
+use store_world::Answered;
 
 /// Writes a reply, if there is one, and answers whether it is a refusal.
 fn write_reply<O: Sink>(out: &mut O, answered: Option<Answered>) -> Result<bool, StreamFail>

@@ -5,9 +5,9 @@ ghost use Rattle.std.specs.Fmt.{decimal};
 ghost use Rattle.store_world.specs.Answers.{said, refusal};
 ghost use Rattle.timeline_model.specs.Timeline.{name_of};
 
-use store_world::Answered;
 use std::alloc::{AllocError, Global};
 use stmt_text::ParseFail;
+use store_world::Answered;
 use tuple_bytes::Blob;
 
 /// These words, on a line of their own.

@@ -1,29 +1,15 @@
 //! The next line of a drill.
 
-ghost use Rattle.std.specs.Prelude.{Ok, IfOk};
-ghost use Rattle.stmt_text.specs.Fits.{FitsParts};
+ghost use Rattle.std.specs.Prelude.{IfOk};
 ghost use Rattle.stmt_text.specs.Lines.{answer};
 ghost use Rattle.timeline_model.specs.Timeline.{IsReading, FitsReading};
-ghost use Rattle.drill_core.specs.Drills.{crash_of, HasFewFaults};
-ghost use Rattle.drill_core.specs.Taken.{FromScene, IsBlankOr, IsAnswered, IsTakenUnder, IsEvent};
+ghost use Rattle.drill_core.specs.Drills.{HasFewFaults};
+ghost use Rattle.drill_core.specs.Taken.{FromScene, IsBlankOr, IsAnswered, IsEvent};
 
-use crate::machine::{Crash, Drill};
-use store_world::Answered;
+use crate::machine::Drill;
 use std::alloc::AllocError;
-use stmt_text::{Line, ParseFail, parse_line};
-
-/// Whether a line is blank.
-fn says_nothing(line: &Line) -> bool
-    requires fits { FitsParts line.now }
-    ensures value { IsBlankOr result (Ok line.now) }
-{
-    match line {
-        Line::Blank => true,
-        Line::Plain { .. } => false,
-        Line::InSession { .. } => false,
-        Line::Drill { .. } => false,
-    }
-}
+use stmt_text::{Line, LineKind, ParseFail, parse_line};
+use store_world::Answered;
 
 /// Whether a line was blank, unless reading it wanted memory.
 fn is_blank(reading: &Result<Line, ParseFail>) -> Result<bool, AllocError>
@@ -31,7 +17,7 @@ fn is_blank(reading: &Result<Line, ParseFail>) -> Result<bool, AllocError>
     ensures value { IfOk result (λ blank. IsBlankOr blank reading.now) }
 {
     match reading {
-        Ok(line) => Ok(says_nothing(line)),
+        Ok(line) => Ok(matches!(line.kind(), LineKind::Blank)),
         Err(ParseFail::NoMemory) => Err(AllocError),
         Err(ParseFail::Syntax | ParseFail::NumberTooWide) => Ok(false),
     }
@@ -62,33 +48,19 @@ impl Drill {
         Ok(Some(self.line(reading)?))
     }
 
-    /// Takes what was read of the next line: it is carried out or refused, or stopped by the crash that
-    /// it is under.
+    /// Takes what was read of the next line, under the crash that is to come, if there is one. A crash
+    /// drops all sessions, also behind a line that it doesn't stop.
     fn line(&mut self, reading: &Result<Line, ParseFail>) -> Result<Answered, AllocError>
         requires reading { IsReading reading.now }
         requires fits { FitsReading reading.now }
         requires few { HasFewFaults self.old }
         ensures value { FromScene self.old result (λ t answered. IsEvent reading.now t answered self.old self.new) }
     {
-        match self.crash.take() {
-            None => self.act_on(reading),
-            Some(crash) => self.take_under(reading, crash),
+        let crash = self.crash.take();
+        let answered = self.act_on(reading, crash)?;
+        if crash.is_some() {
+            self.enter_anew()?;
         }
-    }
-
-    /// Takes what was read under this crash, which drops all sessions.
-    fn take_under(
-        &mut self,
-        reading: &Result<Line, ParseFail>,
-        crash: Crash,
-    ) -> Result<Answered, AllocError>
-        requires reading { IsReading reading.now }
-        requires fits { FitsReading reading.now }
-        requires few { HasFewFaults self.old }
-        ensures value { FromScene self.old result (λ t answered. IsTakenUnder (crash_of crash) reading.now t answered self.old self.new) }
-    {
-        let answered = self.stop_at(reading, crash)?;
-        self.enter_anew()?;
         Ok(answered)
     }
 }

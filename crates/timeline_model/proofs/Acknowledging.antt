@@ -27,9 +27,8 @@ use Rattle.statement_core.specs.declared.reply.Reply.TheVariants as replies
 use Rattle.statement_core.specs.Replies.{reply_text}
 use Rattle.statement_core.specs.World as statements
 use Rattle.statement_core.proofs.Promising.{none_more}
-use Rattle.session_model.specs.Standing.{reply_of}
 use Rattle.session_model.specs.Steps as session_steps
-use Rattle.session_model.specs.Steps.{Answer, Replied}
+use Rattle.session_model.specs.Steps.{Answer, Replied, reply_of}
 use Rattle.session_model.proofs.Promising.{steps_keep_promises}
 use Rattle.session_model.proofs.Storing.{StoresOrNot, stores_or_not}
 use Rattle.store_world.specs.Found.{Found}
@@ -38,7 +37,7 @@ use Rattle.store_world.specs.World.{no_sessions}
 use Rattle.store_world.specs.Steps as world_steps
 use Rattle.store_world.proofs.Acknowledging.{promised}
 use Rattle.store_world.proofs.Texts.{SaysOk, says_ok, reply_ok, notarized_no, validated_no, analysed_no}
-use Rattle.store_world.specs.Steps.{on_tables, notarized, sealed, all_filed, validated, algorithm_of, marked}
+use Rattle.store_world.specs.Steps.{on_tables, notarized, validated, algorithm_of, marked}
 use Rattle.txn_journal.specs.Create.{is_free}
 use Rattle.timeline_model.specs.Scene.{Scene, Crash, nothing_yet, store_in, world_with, world_of, held}
 use Rattle.store_world.specs.LineCalls.{notary_calls, items_added}
@@ -166,17 +165,17 @@ over_tables t (Some i) line parts found fits is = tables_acks i t line parts fou
 over_notarize : (t : Scene) (o : Option ℕ) (found : Found) → SaysOk (over_store t o (lines.Plain stmts.Notarize) found).next.text → ⊥
 unfolding world_steps.step
 over_notarize t None found ok = no_refusal t (codes "NotAStore") ok
-over_notarize t (Some i) found ok = notarized_no (world_of t i) (world_of t i).store t.clock ok
+over_notarize t (Some i) found ok = notarized_no (world_of t i) (world_of t i).store t.clock found.heard found.refusal ok
 
 over_validate : (t : Scene) (o : Option ℕ) (found : Found) → SaysOk (over_store t o (lines.Plain stmts.Validate) found).next.text → ⊥
 unfolding world_steps.step
 over_validate t None found ok = no_refusal t (codes "NotAStore") ok
-over_validate t (Some i) found ok = validated_no (world_of t i) t.clock found.verdict ok
+over_validate t (Some i) found ok = validated_no (world_of t i) t.clock found.verdict found.refusal ok
 
 over_analyse : (t : Scene) (algorithm : LineAlgorithm) (o : Option ℕ) (found : Found) → SaysOk (over_store t o (lines.Plain (stmts.Analyse algorithm)) found).next.text → ⊥
 unfolding world_steps.step
 over_analyse t algorithm None found ok = no_refusal t (codes "NotAStore") ok
-over_analyse t algorithm (Some i) found ok = analysed_no (world_of t i) (algorithm_of algorithm) t.clock found.analysis ok
+over_analyse t algorithm (Some i) found ok = analysed_no (world_of t i) (algorithm_of algorithm) found.analysis found.body ok
 
 says_only_ok : (t : Scene) → SaysOk (says t (codes "ok")).text → ⊥
 says_only_ok t ok = (let third = ok.third in omega (arith, third))

@@ -26,7 +26,7 @@ use Rattle.timeline_model.specs.Sound.{stored_by, IsFromInside, AllFromInside}
 use Rattle.timeline_model.specs.Acknowledged.{IsAcknowledged, IsStoredAs}
 use Rattle.timeline_model.specs.Stepping.{IsWhole}
 use Rattle.timeline_model.specs.Crashes.{LeavesHalfMade, WasAdded, made_under, calls_made, LeavesOnly, WholeLinesAreDurable, HasReached, SurvivesCrashes, CrashesAreSurvived}
-use Rattle.timeline_model.proofs.Events.{fit_after, nothing_fit}
+use Rattle.timeline_model.proofs.Events.{found_without_crash, fit_after, nothing_fit}
 use Rattle.timeline_model.proofs.Sessions.{IsFit}
 use Rattle.timeline_model.proofs.StayBytes.{still_fit}
 use Rattle.timeline_model.proofs.Sound.{SoundEither}
@@ -51,7 +51,7 @@ module _ (more : List Item) (t : Scene) (a : Act) (sound : SoundEither more t a)
 whole_event : (t : Scene) (e : Event) → IsFit t → MayCome t e → IsFromInside e.line → IsWhole t e → LeavesOnly t.bytes (calls_made t e) (step t e.line e.found).scene.bytes
 unfolding step
 whole_event t e fits may inside passes =
-    whole_lasts (stored_by t.id (without_crash t) e.line e.found) (without_crash t) (act_on (without_crash t) e.line e.found) (reading_sound (without_crash t) e.line e.found may.line inside may.fits (still_fit t fits)) t.crash passes
+    whole_lasts (stored_by t.id (without_crash t) e.line e.found) (without_crash t) (act_on (without_crash t) e.line e.found) (reading_sound (without_crash t) e.line e.found may.line inside may.fits (found_without_crash t.id t e.line e.found may.found) (still_fit t fits)) t.crash passes
 
 pub whole_durable : WholeLinesAreDurable
 unfolding after
@@ -88,7 +88,7 @@ module _ (more : List Item) (t : Scene) (a : Act) (sound : SoundEither more t a)
 durable_event : (t : Scene) (e : Event) → IsFit t → MayCome t e → IsFromInside e.line → (id index : ℕ) → WasAdded id index t (step t e.line e.found).scene → LeavesOnly t.bytes (calls_made t e) (step t e.line e.found).scene.bytes
 unfolding step
 durable_event t e fits may inside id index added =
-    durable (stored_by t.id (without_crash t) e.line e.found) (without_crash t) (act_on (without_crash t) e.line e.found) (reading_sound (without_crash t) e.line e.found may.line inside may.fits (still_fit t fits)) id index added.new t.crash added.filed
+    durable (stored_by t.id (without_crash t) e.line e.found) (without_crash t) (act_on (without_crash t) e.line e.found) (reading_sound (without_crash t) e.line e.found may.line inside may.fits (found_without_crash t.id t e.line e.found may.found) (still_fit t fits)) id index added.new t.crash added.filed
 
 -- the store that is filed has reached the end of each tile
 reached_by : (was : Scene) (e : Event) (is : Scene) (id index : ℕ) → LeavesOnly was.bytes (calls_made was e) is.bytes → index < length (batches_of is id) → (o : Option History) → held is ≡ o → HoldsFiled (batches_of is id) id o → HasReached index was e is

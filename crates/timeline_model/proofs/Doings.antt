@@ -17,7 +17,7 @@ use Rattle.tuple_bytes.specs.Limits.{max_moment}
 use Rattle.digest_model.specs.Laws.{HasSpelling}
 use Rattle.digest_model.proofs.Spelled.{has_spelling}
 use Rattle.notary_link.specs.declared.mark.Mark.{Mark}
-use Rattle.notary_link.specs.Notary.{Call, Lists, marks_in_all}
+use Rattle.notary_link.specs.Notary.{Call, Lists}
 use Rattle.stmt_text.specs.declared.event.Event.{Event}
 use Rattle.stmt_text.specs.declared.event.Event.TheVariants as events
 use Rattle.stmt_text.specs.declared.stmt.LineAlgorithm.{LineAlgorithm}
@@ -29,13 +29,12 @@ use Rattle.audit_model.specs.Altered.{history_in, history_with, under_id}
 use Rattle.validator.specs.declared.verdict.Verdict.{Verdict}
 use Rattle.validator.specs.declared.fail.AuditFail.{AuditFail}
 use Rattle.validator.specs.Verdicts.{IsFoundIn, mark_of}
-use Rattle.validator.specs.declared.fail.AuditFail.TheVariants as fails
 use Rattle.validator.specs.Texts.{verdict_text, refusal_text}
 use Rattle.store_world.specs.Found.{Found}
 use Rattle.store_world.specs.World as worlds
 use Rattle.store_world.specs.World.{no_sessions, with_mark}
 use Rattle.store_world.specs.Steps as world_steps
-use Rattle.store_world.specs.Steps.{on_tables, notarized, validated, algorithm_of, marked, history_of, MayFind}
+use Rattle.store_world.specs.Steps.{on_tables, notarized, validated, algorithm_of, marked, history_of}
 use Rattle.store_world.proofs.Analysing.{analysed_stays}
 use Rattle.store_world.proofs.LineKinds.{GoesToTables}
 use Rattle.txn_journal.specs.Create.{is_free}
@@ -188,7 +187,7 @@ module _ (id i : ℕ) (t : Scene) (found : Found) where
     w = world_with t i o
 
     abbrev a : Act
-    a = over_world t w line found (validated w t.clock found.verdict)
+    a = over_world t w line found (validated w t.clock found.verdict found.refusal)
 
     history_is : history_of o ≡ history_with i (stored t.bytes)
     history_is = ap history_of (sym is) ∙ history_same i (stored t.bytes).header (stored t.bytes)
@@ -260,23 +259,22 @@ module _ (id i : ℕ) (t : Scene) (found : Found) where
     validates : ActsEither id t a
     validates = by found.verdict refl
       where
-        by_room : (verdict : Verdict) (mark : Mark) → found.verdict ≡ Ok verdict → mark_of verdict t.clock ≡ Some mark → (b : Bool)
-            → ActsEither id t (over_world t w line found (if b then world_steps.says (worlds.with_lists w (with_mark i mark t.lists)) (verdict_text verdict) else world_steps.refuses w (refusal_text fails.Full)))
-        by_room verdict mark found_is mark_is true = noted (world_steps.says (worlds.with_lists w (with_mark i mark t.lists)) (verdict_text verdict)) refl verdict mark found_is mark_is refl
-        by_room verdict mark found_is mark_is false = left (world_steps.refuses w (refusal_text fails.Full)) refl refl
+        by_room : (verdict : Verdict) (mark : Mark) → found.verdict ≡ Ok verdict → mark_of verdict t.clock ≡ Some mark → (refusal : Option AuditFail) → ActsEither id t (over_world t w line found (marked w (Some mark) refusal (verdict_text verdict)))
+        by_room verdict mark found_is mark_is None = noted (world_steps.says (worlds.with_lists w (with_mark i mark t.lists)) (verdict_text verdict)) refl verdict mark found_is mark_is refl
+        by_room verdict mark found_is mark_is (Some fail) = left (world_steps.refuses w (refusal_text fail)) refl refl
 
-        by_mark : (verdict : Verdict) → found.verdict ≡ Ok verdict → (m : Option Mark) → mark_of verdict t.clock ≡ m → ActsEither id t (over_world t w line found (marked w m (verdict_text verdict)))
+        by_mark : (verdict : Verdict) → found.verdict ≡ Ok verdict → (m : Option Mark) → mark_of verdict t.clock ≡ m → ActsEither id t (over_world t w line found (marked w m found.refusal (verdict_text verdict)))
         by_mark verdict found_is None mark_is = left (world_steps.says w (verdict_text verdict)) refl refl
-        by_mark verdict found_is (Some mark) mark_is = by_room verdict mark found_is mark_is (nat_lt (marks_in_all t.lists) t.limits.marks)
+        by_mark verdict found_is (Some mark) mark_is = by_room verdict mark found_is mark_is found.refusal
 
-        by : (r : Result Verdict AuditFail) → found.verdict ≡ r → ActsEither id t (over_world t w line found (validated w t.clock r))
+        by : (r : Result Verdict AuditFail) → found.verdict ≡ r → ActsEither id t (over_world t w line found (validated w t.clock r found.refusal))
         by (Ok verdict) found_is = by_mark verdict found_is (mark_of verdict t.clock) refl
         by (Err fail) found_is = left (world_steps.refuses w (refusal_text fail)) refl refl
 
 pub validate_acts : (id : ℕ) (t : Scene) (o : Option ℕ) (found : Found) → MayBeFound o t (Ok (lines.Plain stmts.Validate)) found → ActsEither id t (over_store t o (lines.Plain stmts.Validate) found)
 unfolding world_of world_steps.step
 validate_acts id t None found may = without_notary id t (over_store t None (lines.Plain stmts.Validate) found) refl refl
-validate_acts id t (Some i) found may = validates id i t found (store_in i (stored t.bytes)) refl may
+validate_acts id t (Some i) found may = validates id i t found (store_in i (stored t.bytes)) refl may.0
 
 -- ---- an analysis
 
@@ -284,4 +282,4 @@ pub analyse_acts : (id : ℕ) (t : Scene) (algorithm : LineAlgorithm) (o : Optio
 unfolding world_of world_steps.step notary_calls
 analyse_acts id t algorithm None found = without_notary id t (over_store t None (lines.Plain (stmts.Analyse algorithm)) found) refl refl
 analyse_acts id t algorithm (Some i) found = without_notary id t (over_store t (Some i) (lines.Plain (stmts.Analyse algorithm)) found) refl
-    (ap (λ (w : worlds.World). w.lists) (analysed_stays (world_of t i) (algorithm_of algorithm) t.clock found.analysis))
+    (ap (λ (w : worlds.World). w.lists) (analysed_stays (world_of t i) (algorithm_of algorithm) found.analysis found.body))

@@ -1,6 +1,6 @@
 -- What a line finds is one thing, or two inputs clash.
 use Rattle.std.proofs.Common.{◌≡◌, ◌⊎◌, inl, inr, ℕ, zero, suc, ◌+◌, ◌-◌, ◌<◌, ◌≤◌, Bool, true, false, List, [], ◌∷◌, length, Option, Some, None, Result, Ok, Err, refl, sym, ap, subst, ◌∙◌, arith}
-use Rattle.std.specs.Prelude.{nat_le}
+use Rattle.std.specs.Prelude.{nat_le, ◌==◌, IfSome, IfOk}
 use Rattle.std.proofs.lemmas.Bool.{cases_lt}
 use Rattle.byte_grammar.specs.Reading.{IsBytes}
 use Rattle.history_model.specs.Stored.{stored}
@@ -12,7 +12,9 @@ use Rattle.digest_model.proofs.Layouts.{adjoin, ends_within, fewer}
 use Rattle.notary_link.specs.declared.answer.Answer.{Answer}
 use Rattle.notary_link.specs.declared.answer.Answer.TheVariants.{Same, Differs, Absent}
 use Rattle.notary_link.specs.declared.name.Name.TheVariants as names
+use Rattle.notary_link.specs.declared.mark.Mark.{Mark}
 use Rattle.notary_link.specs.declared.notary.NotaryLimits.{NotaryLimits}
+use Rattle.notary_link.specs.Filing.{fitting, room_in}
 use Rattle.notary_link.specs.Batches.{Batch, compared}
 use Rattle.audit_model.specs.Names.{digest}
 use Rattle.audit_model.specs.Notary.{header_answer, cums}
@@ -26,8 +28,10 @@ use Rattle.validator.specs.declared.verdict.Verdict.{Verdict}
 use Rattle.validator.specs.declared.verdict.Verdict.TheVariants as verdicts
 use Rattle.validator.specs.declared.fail.AuditFail.{AuditFail}
 use Rattle.validator.specs.declared.fail.AuditFail.TheVariants as fails
+use Rattle.validator.specs.Notarizing.{Heard, Intent}
+use Rattle.validator.specs.Texts.{verdict_text}
 use Rattle.validator.specs.Verdicts as judging
-use Rattle.validator.specs.Verdicts.{IsVerdict, IsFoundIn}
+use Rattle.validator.specs.Verdicts.{IsVerdict, IsFoundIn, mark_of}
 use Rattle.forensic_report.specs.declared.algorithm.Algorithm.{Algorithm}
 use Rattle.forensic_report.specs.declared.algorithm.Algorithm.TheVariants.{Mono, Tiled, TiledExactly, A3d}
 use Rattle.forensic_report.specs.declared.fail.AnalyseFail.{AnalyseFail}
@@ -35,14 +39,22 @@ use Rattle.forensic_report.specs.declared.fail.AnalyseFail.TheVariants as analys
 use Rattle.forensic_report.specs.Analysis.{Analysis, Region, Found}
 use Rattle.forensic_report.specs.Finding as analysing
 use Rattle.forensic_report.specs.Finding.{IsRegion, has_chains, IsFoundOf, IsAnalysisIn}
+use Rattle.forensic_report.specs.Texts.{kept_of, body_text}
 use Rattle.forensic_report.proofs.Filed.{not_absent}
+use Rattle.stmt_text.specs.declared.stmt.LineAlgorithm.{LineAlgorithm}
 use Rattle.stmt_text.specs.declared.stmt.Stmt.TheVariants as stmts
 use Rattle.stmt_text.specs.declared.line.Line.TheVariants as lines
-use Rattle.store_world.specs.Steps.{history_of, algorithm_of}
+use Rattle.store_world.specs.Found.{Found as FoundOf}
+use Rattle.store_world.specs.World.{World}
+use Rattle.store_world.specs.Steps as world_steps
+use Rattle.store_world.specs.Steps.{history_of, algorithm_of, intent_in, unless, carried_out, notarized, marked, validated, analysed}
+use Rattle.store_world.specs.Finding.{MayFile, MayMark, MayFind, full_unless}
 use Rattle.timeline_model.specs.Scene.{Scene, nothing_yet, store_in, world_of, held, batches_of}
 use Rattle.timeline_model.specs.Timeline.{Event, after, IsTimeline}
-use Rattle.timeline_model.specs.Kept.{IsFiledOver, HasClash, Kept}
-use Rattle.timeline_model.specs.Findings.{HasFiledClash, FindingsAreOne}
+use Rattle.timeline_model.specs.Filed.{IsFiledOver, HasClash}
+use Rattle.timeline_model.specs.Kept.{Kept}
+use Rattle.timeline_model.specs.Findings.{DoesSame, HasFiledClash, FindingsAreOne}
+use Rattle.statement_core.specs.World as statements
 use Rattle.timeline_model.proofs.Doings.{spelled_of, history_same}
 use Rattle.timeline_model.proofs.Judged.{audit, under_held}
 use Rattle.timeline_model.proofs.Steady.{Holds}
@@ -243,14 +255,75 @@ module _ (limits : NotaryLimits) (es : List Event) (id : ℕ) (is_timeline : IsT
   analyses_one algorithm (inr (h, n, over, kept)) r q x y =
       one_analysis batches id n h (HasFiledClash t es id) algorithm file r q (checked h n over) (found_of algorithm batches n file r over.count x) (found_of algorithm batches n file q over.count y)
 
+-- ---- so the line does the same
+
+module _ (w : World) (now : ℕ) where
+  filed_same : (one other : FoundOf) (o : Option statements.World) → IfSome o (MayFile w now one) → IfSome o (MayFile w now other) → notarized w o now one.heard one.refusal ≡ notarized w o now other.heard other.refusal
+  filed_same one other None x y = refl
+  filed_same one other (Some store) x y = ap (λ (h : Heard). notarized w (Some store) now h one.refusal) heard ∙ by intent.fault refl
+    where
+      heard : one.heard ≡ other.heard
+      heard = x.heard ∙ sym y.heard
+
+      intent : Intent
+      intent = intent_in store now other.heard
+
+      refused : Option AuditFail → Intent → Type 0
+      refused refusal i = i.fault ≡ None → refusal ≡ full_unless (fitting (room_in w.limits w.lists) i.batches == length i.batches)
+
+      same : intent.fault ≡ None → one.refusal ≡ other.refusal
+      same free = subst (λ (h : Heard). refused one.refusal (intent_in store now h)) heard x.refusal free ∙ sym (y.refusal free)
+
+      by : (fault : Option AuditFail) → intent.fault ≡ fault → unless fault w (carried_out w store intent one.refusal) ≡ unless fault w (carried_out w store intent other.refusal)
+      by None free = ap (carried_out w store intent) (same free)
+      by (Some fail) against = refl
+
+  marked_same : (verdict : Result Verdict AuditFail) (r q : Option AuditFail) → IfOk verdict (λ v. MayMark w (mark_of v now) r) → IfOk verdict (λ v. MayMark w (mark_of v now) q) → validated w now verdict r ≡ validated w now verdict q
+  marked_same (Err fail) r q x y = refl
+  marked_same (Ok v) r q x y = by (mark_of v now) x y
+    where
+      by : (o : Option Mark) → MayMark w o r → MayMark w o q → marked w o r (verdict_text v) ≡ marked w o q (verdict_text v)
+      by None x y = refl
+      by (Some mark) x y = ap (λ (refusal : Option AuditFail). marked w (Some mark) refusal (verdict_text v)) (x ∙ sym y)
+
+  validated_same : (one other : FoundOf) → MayFind w (lines.Plain stmts.Validate) now one → MayFind w (lines.Plain stmts.Validate) now other → one.verdict ≡ other.verdict
+      → validated w now one.verdict one.refusal ≡ validated w now other.verdict other.refusal
+  validated_same one other x y same = ap (λ (v : Result Verdict AuditFail). validated w now v one.refusal) same
+      ∙ marked_same other.verdict one.refusal other.refusal (subst (λ (r : Result Verdict AuditFail). IfOk r (λ v. MayMark w (mark_of v now) one.refusal)) same x.1) y.1
+
+  analysed_same : (algorithm : Algorithm) (r : Result Analysis AnalyseFail) (one other : List ℕ) → IfOk r (λ a. one ≡ body_text algorithm (kept_of w.lists w.id now) a) → IfOk r (λ a. other ≡ body_text algorithm (kept_of w.lists w.id now) a)
+      → analysed w algorithm r one ≡ analysed w algorithm r other
+  analysed_same algorithm (Err fail) one other x y = refl
+  analysed_same algorithm (Ok a) one other x y = ap (analysed w algorithm (Ok a)) (x ∙ sym y)
+
+  -- the verdicts or the analyses are one, and so is the rest
+  validates_one : {C : Type 0} (one other : FoundOf) → MayFind w (lines.Plain stmts.Validate) now one → MayFind w (lines.Plain stmts.Validate) now other → (one.verdict ≡ other.verdict) ⊎ C
+      → DoesSame w (lines.Plain stmts.Validate) now one other ⊎ C
+  unfolding world_steps.step
+  validates_one one other x y (inl same) = inl (record { finds = same; step = validated_same one other x y same })
+  validates_one one other x y (inr clash) = inr clash
+
+  analyses_as_one : {C : Type 0} (algorithm : LineAlgorithm) (one other : FoundOf) → MayFind w (lines.Plain (stmts.Analyse algorithm)) now one → MayFind w (lines.Plain (stmts.Analyse algorithm)) now other
+      → (one.analysis ≡ other.analysis) ⊎ C → DoesSame w (lines.Plain (stmts.Analyse algorithm)) now one other ⊎ C
+  unfolding world_steps.step
+  analyses_as_one algorithm one other x y (inl same) = inl (record {
+    finds = same;
+    step = ap (λ (r : Result Analysis AnalyseFail). analysed w (algorithm_of algorithm) r one.body) same
+        ∙ analysed_same (algorithm_of algorithm) other.analysis one.body other.body
+        (subst (λ (r : Result Analysis AnalyseFail). IfOk r (λ a. one.body ≡ body_text (algorithm_of algorithm) (kept_of w.lists w.id now) a)) same x.1) y.1;
+  })
+  analyses_as_one algorithm one other x y (inr clash) = inr clash
+
 pub findings_one : FindingsAreOne
-unfolding world_of
-findings_one limits es id (lines.Plain stmts.Validate) one other is x y =
-    verdicts_one limits es id is (each_kept limits es id is) one.verdict other.verdict
-    (subst (λ (o : Option History). IsFoundIn (batches_of (after (nothing_yet limits) es) id) o one.verdict) (file_is limits es id is) x)
-    (subst (λ (o : Option History). IsFoundIn (batches_of (after (nothing_yet limits) es) id) o other.verdict) (file_is limits es id is) y)
-findings_one limits es id (lines.Plain (stmts.Analyse algorithm)) one other is x y =
-    analyses_one limits es id is (algorithm_of algorithm) (each_kept limits es id is) one.analysis other.analysis
-    (subst (λ (o : Option History). IsAnalysisIn (algorithm_of algorithm) (batches_of (after (nothing_yet limits) es) id) o one.analysis) (file_is limits es id is) x)
-    (subst (λ (o : Option History). IsAnalysisIn (algorithm_of algorithm) (batches_of (after (nothing_yet limits) es) id) o other.analysis) (file_is limits es id is) y)
-findings_one limits es id line one other is x y = inl tt
+unfolding world_of world_steps.step
+findings_one limits es id (lines.Plain stmts.Notarize) one other is x y =
+    inl (record { finds = tt; step = filed_same (world_of (after (nothing_yet limits) es) id) (after (nothing_yet limits) es).clock one other (world_of (after (nothing_yet limits) es) id).store x y })
+findings_one limits es id (lines.Plain stmts.Validate) one other is x y = validates_one (world_of (after (nothing_yet limits) es) id) (after (nothing_yet limits) es).clock one other x y
+    (verdicts_one limits es id is (each_kept limits es id is) one.verdict other.verdict
+    (subst (λ (o : Option History). IsFoundIn (batches_of (after (nothing_yet limits) es) id) o one.verdict) (file_is limits es id is) x.0)
+    (subst (λ (o : Option History). IsFoundIn (batches_of (after (nothing_yet limits) es) id) o other.verdict) (file_is limits es id is) y.0))
+findings_one limits es id (lines.Plain (stmts.Analyse algorithm)) one other is x y = analyses_as_one (world_of (after (nothing_yet limits) es) id) (after (nothing_yet limits) es).clock algorithm one other x y
+    (analyses_one limits es id is (algorithm_of algorithm) (each_kept limits es id is) one.analysis other.analysis
+    (subst (λ (o : Option History). IsAnalysisIn (algorithm_of algorithm) (batches_of (after (nothing_yet limits) es) id) o one.analysis) (file_is limits es id is) x.0)
+    (subst (λ (o : Option History). IsAnalysisIn (algorithm_of algorithm) (batches_of (after (nothing_yet limits) es) id) o other.analysis) (file_is limits es id is) y.0))
+findings_one limits es id line one other is x y = inl (record { finds = tt; step = refl })

@@ -85,7 +85,7 @@ module _ (t : Scene) (scene_fits : IsFit t) (id : ℕ) (line : Line) (found : Fo
       subst (All IsStorable) (sym (txn_added (world_of t id) line t.clock new txn)) (All-cons IsStorable (items.Txn (new_txn txn.store txn.ops t.clock)) [] takes.storable (All-nil IsStorable))
   by_kind new (inr (inr frontier)) =
       subst (All IsStorable) (sym (frontier_added (world_of t id) line t.clock new frontier)) (All-cons IsStorable (items.Frontier frontier.moment) []
-      (sealing.frontier_takes id t found frontier.store frontier.store_is bytes frontier.free frontier.moment frontier.need).storable (All-nil IsStorable))
+      (sealing.frontier_takes id t (record found { heard = frontier.heard }) frontier.store frontier.store_is bytes frontier.free frontier.moment frontier.need).storable (All-nil IsStorable))
 
 all_storable : (t : Scene) (o : Option ℕ) (l : Result Line ParseFail) (found : Found) → IsFit t → FitsReading l → All IsStorable (stored_by o t l found)
 all_storable t None l found scene_fits fits = All-nil IsStorable

@@ -1,6 +1,6 @@
 -- Each report of a timeline names what is altered, and its spans hold a change.
 use Rattle.std.proofs.Common.{◌≡◌, ◌⊎◌, inl, inr, ℕ, ◌+◌, ◌≤◌, Bool, true, false, List, [], ◌∷◌, length, Option, Some, None, Result, Ok, Err, refl, sym, ap, subst, ◌∙◌, arith}
-use Rattle.std.specs.Prelude.{nat_le, IfSome}
+use Rattle.std.specs.Prelude.{nat_le, ◌++◌, IfSome, IfOk}
 use Rattle.std.proofs.lemmas.Bool.{le-leb}
 use Rattle.std.specs.Option.{option_map}
 use Rattle.byte_grammar.specs.Reading.{IsBytes}
@@ -10,7 +10,6 @@ use Rattle.history_model.specs.StoredHistory.{IsHistory}
 use Rattle.history_model.specs.History.{History, history}
 use Rattle.history_model.proofs.Stores.{stored_history}
 use Rattle.digest_model.specs.Layout.{layout}
-use Rattle.digest_model.proofs.Layouts.{tile_within}
 use Rattle.notary_link.specs.declared.notary.NotaryLimits.{NotaryLimits}
 use Rattle.notary_link.specs.Batches.{Batch}
 use Rattle.audit_model.specs.Altered.{history_with, HasPlacesOf, IsAltered, HashClash}
@@ -28,7 +27,7 @@ use Rattle.forensic_report.specs.Analysis.{Analysis, Unsealed, HeaderAltered, Fo
 use Rattle.forensic_report.specs.Finding.{IsAnalysisIn, IsFoundOf}
 use Rattle.forensic_report.specs.Held.{HoldsHistory}
 use Rattle.forensic_report.specs.Shows.{Shows}
-use Rattle.forensic_report.specs.Texts.{Kept, report_text}
+use Rattle.forensic_report.specs.Texts.{Kept, span_of, first_span_of, head_line, body_text, report_text}
 use Rattle.forensic_report.proofs.Showing.{shows}
 use Rattle.store_world.specs.Found.{Found as FoundOf}
 use Rattle.store_world.specs.World as worlds
@@ -39,11 +38,12 @@ use Rattle.store_world.specs.LineCalls.{notary_calls}
 use Rattle.timeline_model.specs.Scene.{Scene, Crash, nothing_yet, store_in, world_of, held, batches_of}
 use Rattle.timeline_model.specs.Lines.{over_world, over_store, act}
 use Rattle.timeline_model.specs.Timeline.{Event, calls_in, under, without_crash, act_on, step, after, MayBeFound, IsTimeline, SomeEvent}
-use Rattle.timeline_model.specs.Kept.{IsFiledOver, HasAlteredIn, HasClash}
-use Rattle.timeline_model.specs.Changes.{ClockRises, Changed, ChangedTile, begins, ends}
+use Rattle.timeline_model.specs.Filed.{IsFiledOver, HasAlteredIn, HasClash}
+use Rattle.timeline_model.specs.Changes.{ClockRises, kept_in, Changed, ChangedTile, AreChanged}
 use Rattle.timeline_model.specs.Stepping.{IsWhole}
 use Rattle.timeline_model.specs.Printed.{Prints, PrintsFirst}
-use Rattle.timeline_model.specs.Reports.{IsReported, kept_in, NamesFiled, PrintsSpans, SpansHoldChanges, IsRightReport, ReportsNameAltered, ReportsHaveChanges, EachReportIsRight}
+use Rattle.timeline_model.specs.Reports.{IsReported, NamesFiled, PrintsSpans, SpansHoldChanges, IsRightReport}
+use Rattle.timeline_model.specs.Laws.{ReportsNameAltered, ReportsHaveChanges, EachReportIsRight}
 use Rattle.store_world.proofs.LineItems.{none_added}
 use Rattle.timeline_model.proofs.Acts.{some_weaker}
 use Rattle.timeline_model.proofs.Doings.{spelled_of, history_same}
@@ -52,7 +52,7 @@ use Rattle.timeline_model.proofs.Steady.{Holds}
 use Rattle.timeline_model.proofs.Events.{each_kept, fit_after, nothing_fit}
 use Rattle.timeline_model.proofs.Stepping.{take_step}
 use Rattle.timeline_model.proofs.Analyses.{known_of, clash_at_last}
-use Rattle.timeline_model.proofs.Changes.{spans_have, firsts_have}
+use Rattle.timeline_model.proofs.Changes.{spans_have}
 use Rattle.timeline_model.proofs.Printing.{same_analysis, IsLookedAt, looked_at, IsSpanOf, in_span, first_altered, spans_named}
 use Rattle.timeline_model.proofs.PrintedLines.{IsTold, unsealed_told, other_told, found_told, line_stands, first_stands, first_span}
 
@@ -65,7 +65,7 @@ module _ (t : Scene) (id : ℕ) (algorithm : LineAlgorithm) (found : FoundOf) (o
   none_in_world : (w : worlds.World) → calls_in (over_world t w line found (world_steps.step w line t.clock found)) ≡ 0
   unfolding world_steps.step notary_calls
   none_in_world w =
-      ap (λ (x : worlds.World). calls_in (over_world t w line found (record { world = x; text = []; is_refused = false }))) (analysed_stays w (algorithm_of algorithm) t.clock found.analysis)
+      ap (λ (x : worlds.World). calls_in (over_world t w line found (record { world = x; text = []; is_refused = false }))) (analysed_stays w (algorithm_of algorithm) found.analysis found.body)
       ∙ rw (none_added w.store) refl
 
   no_calls : calls_in (act t line found) ≡ 0
@@ -130,7 +130,7 @@ module _ (limits : NotaryLimits) (e : Event) (es : List Event) (id : ℕ) (state
 
   found_in_world : IsAnalysisIn algorithm batches (history_of (store_in id (stored now.bytes))) e.found.analysis
   unfolding world_of
-  found_in_world = may
+  found_in_world = may.0
 
   found : IsAnalysisIn algorithm batches file (Ok a)
   found = subst (λ (o : Option History). IsAnalysisIn algorithm batches o (Ok a)) (history_same id (stored now.bytes).header (stored now.bytes))
@@ -138,9 +138,13 @@ module _ (limits : NotaryLimits) (e : Event) (es : List Event) (id : ℕ) (state
 
   -- ---- the reply
 
+  body : e.found.body ≡ body_text algorithm kept a
+  unfolding world_of
+  body = subst (λ (r : Result Analysis AnalyseFail). IfOk r (λ a. e.found.body ≡ body_text algorithm kept a)) reported.found may.1
+
   said : (world_steps.step (world_of now id) asked now.clock e.found).text ≡ report_text algorithm id kept a
-  unfolding world_steps.step world_of
-  said = ap (λ (r : Result Analysis AnalyseFail). (analysed (world_of now id) algorithm now.clock r).text) reported.found
+  unfolding world_steps.step world_of report_text
+  said = ap (λ (r : Result Analysis AnalyseFail). (analysed (world_of now id) algorithm r e.found.body).text) reported.found ∙ ap (λ (b : List ℕ). head_line algorithm id a ++ b) body
 
   text : (step now e.line e.found).text ≡ report_text algorithm id kept a
   text = (take_step limits e es id asked is_timeline reported.own reported.line tt (whole_line now e id statement reported.line reported.own)).text ∙ said
@@ -256,23 +260,26 @@ module _ (limits : NotaryLimits) (e : Event) (es : List Event) (id : ℕ) (state
     ]
 
     module _ (rises : ClockRises t es) where
+      own : AreChanged t es id h n
+      own = spans_have limits es id h n is_timeline.0 rises over
+
       -- within the printed span, which is that of the granule's tile or a longer one
-      within : (g : ℕ) (span : Span) → IsAltered h (held now) n g → IsSpanOf h g kept span → SomeEvent (Changed h id span.from span.to g) t es ⊎ HasClash t es h n
-      within g span altered of = elim (spans_have limits es id h n of.tile g is_timeline.0 rises over (tile_within (layout h) n of.tile g of.place.from altered.is_sealed) of.place altered) [
-        | inl some ↦ inl (some_weaker (Changed h id (begins now id of.tile) now.clock g) (Changed h id span.from span.to g)
+      within : (g : ℕ) (span : Span) → IsAltered h (held now) n g → IsSpanOf h g kept span → SomeEvent (Changed h id span g) t es ⊎ HasClash t es h n
+      within g span altered of = elim (own.each of.tile g of.place altered) [
+        | inl some ↦ inl (some_weaker (Changed h id (span_of kept of.tile) g) (Changed h id span g)
             (λ was is c. record {
               since = (let low = of.from in let from = c.since in omega (arith, low, from));
-              before = (let to = of.to in let until = c.before in omega (arith, to, until));
+              until = (let to = of.to in let until = c.until in omega (arith, to, until));
               changed = c.changed;
             }) t es some)
         | inr clash ↦ inr clash
       ]
 
-      changed : (g : ℕ) (span : Span) (line : List ℕ) → IsAltered h (held now) n g → Prints algorithm kept a g span line → SomeEvent (Changed h id span.from span.to g) t es ⊎ HasClash t es h n
+      changed : (g : ℕ) (span : Span) (line : List ℕ) → IsAltered h (held now) n g → Prints algorithm kept a g span line → SomeEvent (Changed h id span g) t es ⊎ HasClash t es h n
       changed g span line altered prints = elim (span_is g span line altered prints) [ inl of ↦ within g span altered of | inr clash ↦ inr clash ]
 
-      first_by : (tile : ℕ) (span : Span) → span ≡ record { from = begins now id tile; to = ends now id tile } → HasAlteredIn h (held now) n tile → SomeEvent (ChangedTile h id span.from span.to tile) t es ⊎ HasClash t es h n
-      first_by tile span is has = subst (λ (x : Span). SomeEvent (ChangedTile h id x.from x.to tile) t es ⊎ HasClash t es h n) (sym is) (firsts_have limits es id h n tile is_timeline.0 rises over has)
+      first_by : (tile : ℕ) (span : Span) → span ≡ first_span_of kept tile → HasAlteredIn h (held now) n tile → SomeEvent (ChangedTile h id span tile) t es ⊎ HasClash t es h n
+      first_by tile span is has = subst (λ (x : Span). SomeEvent (ChangedTile h id x tile) t es ⊎ HasClash t es h n) (sym is) (own.first tile has)
 
   names : NamesFiled t e es id algorithm a
   names = record {
@@ -284,6 +291,7 @@ module _ (limits : NotaryLimits) (e : Event) (es : List Event) (id : ℕ) (state
 
   holds_changes : ClockRises t es → SpansHoldChanges t es id algorithm a
   holds_changes rises = record {
+    own = λ h n over. own h n over rises;
     changed = λ h n g span line over altered prints. changed h n over rises g span line altered prints;
     first = λ h n tile span line over prints. elim (first_is h n over tile span line prints) [
       | inl has ↦ first_by h n over rises tile span (first_span kept a tile span line prints) has
@@ -330,11 +338,11 @@ module _ (limits : NotaryLimits) (e : Event) (es : List Event) (algorithm : Line
     spans = λ rises. holds_changes limits e es id algorithm a is_timeline reported rises;
   }
 
-  right_found : (id : ℕ) (r : Result Analysis AnalyseFail) → was.id ≡ Some id → e.found.analysis ≡ r → (analysed (world_of was id) (algorithm_of algorithm) was.clock r).is_refused ≡ false → IsRightReport empty e es algorithm
+  right_found : (id : ℕ) (r : Result Analysis AnalyseFail) → was.id ≡ Some id → e.found.analysis ≡ r → (analysed (world_of was id) (algorithm_of algorithm) r e.found.body).is_refused ≡ false → IsRightReport empty e es algorithm
   right_found id (Ok a) own is told = right_by id a (record { own = own; line = line_is; found = is })
   right_found id (Err fail) own is told = absurd cc
 
-  refused_as : (id : ℕ) → was.id ≡ Some id → IsWhole was e → (step was e.line e.found).is_refused ≡ (analysed (world_of was id) (algorithm_of algorithm) was.clock e.found.analysis).is_refused
+  refused_as : (id : ℕ) → was.id ≡ Some id → IsWhole was e → (step was e.line e.found).is_refused ≡ (analysed (world_of was id) (algorithm_of algorithm) e.found.analysis e.found.body).is_refused
   unfolding world_steps.step
   refused_as id own passes = (take_step limits e es id (lines.Plain (stmts.Analyse algorithm)) is_timeline own line_is tt passes).refused
 

@@ -1,6 +1,6 @@
 -- What a notarization files over a timeline, stopped or not.
-use Rattle.std.proofs.Common.{◌≡◌, ◌⊎◌, inl, inr, ℕ, zero, suc, ◌+◌, ◌-◌, ◌^◌, ◌<◌, ◌≤◌, ◌==◌, Bool, true, false, List, [], ◌∷◌, ◌++◌, length, map, filter, take, Option, Some, None, refl, sym, ap, subst, ◌∙◌, arith, length-take, length-take-le}
-use Rattle.std.specs.Prelude.{nat_le, nat_lt, ◌&&◌, if◌then◌else◌, codes}
+use Rattle.std.proofs.Common.{◌≡◌, ◌⊎◌, inl, inr, ℕ, zero, suc, ◌+◌, ◌-◌, ◌^◌, ◌<◌, ◌≤◌, Bool, true, false, List, [], ◌∷◌, ◌++◌, length, map, filter, take, Option, Some, None, IfSome, Ok, refl, sym, ap, subst, ◌∙◌, arith, length-take, length-take-le}
+use Rattle.std.specs.Prelude.{nat_le, nat_lt, ◌&&◌, if◌then◌else◌}
 use Rattle.std.specs.List.{All, range_with_len}
 use Rattle.std.specs.Option.{option_map}
 use Rattle.std.proofs.lemmas.Bool.{cases_eq, eq-eqb, ne_eqb}
@@ -44,26 +44,25 @@ use Rattle.stmt_text.specs.declared.line.Line.TheVariants as lines
 use Rattle.statement_core.specs.World as statements
 use Rattle.validator.specs.declared.fail.AuditFail.{AuditFail}
 use Rattle.validator.specs.declared.fail.AuditFail.TheVariants as fails
-use Rattle.number_text.specs.Numbered.{numbered}
 use Rattle.policy_eras.specs.Policy.{first_past}
-use Rattle.validator.specs.Texts.{refusal_text}
 use Rattle.validator.specs.Tiles.{tiles_at, end_of}
-use Rattle.validator.specs.Notarizing.{next_batches, sealed_after, frontier_for, else_cause, early_fault, fault_by, chain_fault, filed_fault, room_fault, notarize_fault}
+use Rattle.validator.specs.Notarizing.{Heard, heard_of, next_batches, frontier_for, else_cause, early_fault, fault_by, chain_fault, filed_fault, room_fault, notarize_fault}
 use Rattle.validator.specs.Reaching.{with_frontier_for}
 use Rattle.validator.proofs.Growing.{ended_within, around_places}
 use Rattle.store_world.specs.Found.{Found}
 use Rattle.store_world.specs.World as worlds
 use Rattle.store_world.specs.World.{with_batches}
 use Rattle.store_world.specs.Steps as world_steps
-use Rattle.store_world.specs.Steps.{notarized, sealed, reached, filed, all_filed}
+use Rattle.store_world.specs.Steps.{notarized, intent_in, carried_out, reached, filed}
+use Rattle.store_world.specs.Finding.{MayFile}
 use Rattle.timeline_model.specs.Scene.{Scene, Crash, store_in, world_with, world_of, held}
 use Rattle.txn_journal.specs.Held.{standing}
 use Rattle.store_engine.specs.Appended.{with_record, Takes}
 use Rattle.store_engine.proofs.Appended.{gate_inside, stores_record}
 use Rattle.store_world.specs.LineCalls.{items_added, with_items, appends, notary_calls, filing_calls, unless}
 use Rattle.timeline_model.specs.Lines.{Act, over_world, over_store}
-use Rattle.timeline_model.specs.Timeline.{with_calls, calls_in, stopped}
-use Rattle.store_world.proofs.LineItems.{drop_all}
+use Rattle.timeline_model.specs.Timeline.{with_calls, calls_in, stopped, MayBeFound}
+use Rattle.store_world.proofs.LineItems.{drop_all, carried_world}
 use Rattle.timeline_model.proofs.Acts.{Acts}
 use Rattle.timeline_model.proofs.Bytes.{all_calls, one_last}
 use Rattle.timeline_model.proofs.Doings.{ActsOn, ActsEither, without_notary, spelled_of, StoreIs, store_is}
@@ -144,8 +143,8 @@ frontier_room t moment later free = by (is_full t.end (length (spell_frontier mo
     by false is = is
     by true is = let fault = rw (past, is) at free in absurd cc
 
-frontier_is : (l : Layout) (t : Tail) (now : ℕ) (batches : List Batch) (moment : ℕ) → frontier_for l t now batches ≡ Some moment → (t.last < moment) × (moment ≡ end_of l t.header (tiles_at l t.header now))
-frontier_is l t now batches moment e = by (nat_le (length batches) (tiles_at l t.header now)) (nat_lt t.last (end_of l t.header (tiles_at l t.header now))) refl e
+frontier_is : (l : Layout) (t : Tail) (now count moment : ℕ) → frontier_for l t now count ≡ Some moment → (t.last < moment) × (moment ≡ end_of l t.header (tiles_at l t.header now))
+frontier_is l t now count moment e = by (nat_le count (tiles_at l t.header now)) (nat_lt t.last (end_of l t.header (tiles_at l t.header now))) refl e
   where
     by : (a b : Bool) → nat_lt t.last (end_of l t.header (tiles_at l t.header now)) ≡ b → (if a && b then Some (end_of l t.header (tiles_at l t.header now)) else None) ≡ Some moment → (t.last < moment) × (moment ≡ end_of l t.header (tiles_at l t.header now))
     by true true lt same = let is = same_Some (end_of l t.header (tiles_at l t.header now)) moment same in let less : t.last < end_of l t.header (tiles_at l t.header now) = grind (arith, nat_tests, lt) in (omega (arith, less, is), sym is)
@@ -227,10 +226,10 @@ module _ (i : ℕ) (t : Scene) (found : Found) (store : statements.World) (is : 
   tail = statements.tail_of_world store
 
   abbrev need : Option ℕ
-  need = frontier_for (layout h) tail now batches
+  need = frontier_for (layout h) tail now found.heard.count
 
   abbrev next : List Batch
-  next = next_batches h now batches
+  next = next_batches h now found.heard.count
 
   abbrev fit : ℕ
   fit = fitting (room_in t.limits t.lists) next
@@ -264,12 +263,12 @@ module _ (i : ℕ) (t : Scene) (found : Found) (store : statements.World) (is : 
   pub stores_before : Stores store.header store.items t.bytes
   stores_before = record { header_is = facts.header; items_are = facts.items }
 
-  module _ (free : notarize_fault tail false now store.items batches ≡ None) where
+  module _ (free : notarize_fault tail false now store.items found.heard ≡ None) where
     pub early : early_fault tail false now ≡ None
-    early = (cause_none (early_fault tail false now) (else_cause (filed_fault batches h) (room_fault tail need)) free).0
+    early = (cause_none (early_fault tail false now) (else_cause found.heard.against (room_fault tail need)) free).0
 
-    pub later_causes : (filed_fault batches h ≡ None) × (room_fault tail need ≡ None)
-    later_causes = cause_none (filed_fault batches h) (room_fault tail need) (cause_none (early_fault tail false now) (else_cause (filed_fault batches h) (room_fault tail need)) free).1
+    pub later_causes : (found.heard.against ≡ None) × (room_fault tail need ≡ None)
+    later_causes = cause_none found.heard.against (room_fault tail need) (cause_none (early_fault tail false now) (else_cause found.heard.against (room_fault tail need)) free).1
 
     pub within : first_granule (layout h) (tiles_at (layout h) store.header now) ≤ max_granules
     within = ended_within (layout h) tail now (not_late tail now early)
@@ -278,7 +277,7 @@ module _ (i : ℕ) (t : Scene) (found : Found) (store : statements.World) (is : 
     module _ (moment : ℕ) (need_is : need ≡ Some moment) where
       pub moment_fits : moment < 2 ^ 64
       moment_fits =
-          let m = (frontier_is (layout h) tail now batches moment need_is).1 in
+          let m = (frontier_is (layout h) tail now found.heard.count moment need_is).1 in
           let width = fits.width.1 in
           let le = mul-le (first_granule (layout h) (tiles_at (layout h) store.header now)) store.header.width 1048576 86400 within width in
           omega (arith, m, le)
@@ -287,7 +286,7 @@ module _ (i : ℕ) (t : Scene) (found : Found) (store : statements.World) (is : 
       frontier_takes = record {
         storable = record { fits = moment_fits; short = omega arith };
         room = ap (λ (e : ℕ). is_full e (length (spell_frontier moment))) facts.end
-            ∙ frontier_room tail moment (frontier_is (layout h) tail now batches moment need_is).0 (ap (room_fault tail) (sym need_is) ∙ later_causes.1);
+            ∙ frontier_room tail moment (frontier_is (layout h) tail now found.heard.count moment need_is).0 (ap (room_fault tail) (sym need_is) ∙ later_causes.1);
       }
 
       stores_frontier : Stores store.header (store.items ++ items.Frontier moment ∷ []) (bytes_with (items.Frontier moment ∷ []))
@@ -322,12 +321,12 @@ module _ (i : ℕ) (t : Scene) (found : Found) (store : statements.World) (is : 
 
     -- ---- the batches
 
-    pub many : length next ≡ suc (tiles_at (layout h) store.header now) - length batches
-    many = length-map-range_with_len (λ index. batch_of now (batch h index)) (length batches) (suc (tiles_at (layout h) store.header now) - length batches)
+    pub many : length next ≡ suc (tiles_at (layout h) store.header now) - found.heard.count
+    many = length-map-range_with_len (λ index. batch_of now (batch h index)) found.heard.count (suc (tiles_at (layout h) store.header now) - found.heard.count)
 
-    -- some of them, and at least one, are filed
-    files_some : (id j : ℕ) (after : Scene) → id ≡ i → suc j ≤ length next → after.bytes ≡ bytes_with (added need) → after.clock ≡ t.clock → HasMore i (take (suc j) next) t.lists after.lists → ActsOn id t after
-    files_some id j after own few bytes_are clock_same more bytes = inr (inl (record {
+    -- some of them, and at least one, are filed, where what is heard is what was filed
+    files_some : found.heard ≡ heard_of batches h → (id j : ℕ) (after : Scene) → id ≡ i → suc j ≤ length next → after.bytes ≡ bytes_with (added need) → after.clock ≡ t.clock → HasMore i (take (suc j) next) t.lists after.lists → ActsOn id t after
+    files_some hears id j after own few bytes_are clock_same more bytes = inr (inl (record {
       store = s;
       held_is = held_after after bytes_are;
       spelled = spelled_of after.bytes s bytes (held_after after bytes_are);
@@ -336,42 +335,46 @@ module _ (i : ℕ) (t : Scene) (found : Found) (store : statements.World) (is : 
       batches = subst (λ (x : ℕ). after.lists.batches x ≡ t.lists.batches x ++ take (suc j) next) (sym own) more.here;
       seals = subst (λ (x : ℕ). map (λ (b : Batch). b.seals) (take (suc j) next) ≡ map (batch s) (range_with_len (length (t.lists.batches x)) (length (take (suc j) next)))) (sym own) seals_are;
       within = subst (λ (x : ℕ). first_granule (layout s) (length (t.lists.batches x) + length (take (suc j) next) - 1) ≤ max_granules) (sym own) tiles_within;
-      free = subst (λ (x : ℕ). filed_fault (t.lists.batches x) s ≡ None) (sym own) (sym (fault_alike batches h s refl (around_places store.header store.items need) (around_rows store.header store.items need)) ∙ later_causes.0);
+      free = subst (λ (x : ℕ). filed_fault (t.lists.batches x) s ≡ None) (sym own) (sym (fault_alike batches h s refl (around_places store.header store.items need) (around_rows store.header store.items need)) ∙ ap (λ (x : Heard). x.against) (sym hears) ∙ later_causes.0);
       moments = subst (λ (c : ℕ). All (λ (b : Batch). b.moment ≡ c) (take (suc j) next)) (sym clock_same) moments_are;
       marks = more.marks id;
     }))
       where
+        count_is : found.heard.count ≡ length batches
+        count_is = ap (λ (x : Heard). x.count) hears
+
         length_is : length (take (suc j) next) ≡ suc j
         length_is = length-take-le (suc j) next few
 
         seals_are : map (λ (b : Batch). b.seals) (take (suc j) next) ≡ map (batch s) (range_with_len (length batches) (length (take (suc j) next)))
         seals_are =
-            ap (map (λ (b : Batch). b.seals)) (take-map-range_with_len (λ index. batch_of now (batch h index)) (length batches) (suc (tiles_at (layout h) store.header now) - length batches) (suc j) (omega (arith, few, many)))
-            ∙ seals_made now h s (around_batch store.header store.items need) (range_with_len (length batches) (suc j))
+            ap (map (λ (b : Batch). b.seals)) (take-map-range_with_len (λ index. batch_of now (batch h index)) found.heard.count (suc (tiles_at (layout h) store.header now) - found.heard.count) (suc j) (omega (arith, few, many)))
+            ∙ seals_made now h s (around_batch store.header store.items need) (range_with_len found.heard.count (suc j))
+            ∙ ap (λ (n : ℕ). map (batch s) (range_with_len n (suc j))) count_is
             ∙ ap (λ (n : ℕ). map (batch s) (range_with_len (length batches) n)) (sym length_is)
 
         moments_are : All (λ (b : Batch). b.moment ≡ now) (take (suc j) next)
-        moments_are = subst (All (λ (b : Batch). b.moment ≡ now)) (sym (take-map-range_with_len (λ index. batch_of now (batch h index)) (length batches) (suc (tiles_at (layout h) store.header now) - length batches) (suc j) (omega (arith, few, many))))
-            (moments_made now h (range_with_len (length batches) (suc j)))
+        moments_are = subst (All (λ (b : Batch). b.moment ≡ now)) (sym (take-map-range_with_len (λ index. batch_of now (batch h index)) found.heard.count (suc (tiles_at (layout h) store.header now) - found.heard.count) (suc j) (omega (arith, few, many))))
+            (moments_made now h (range_with_len found.heard.count (suc j)))
 
         tiles_within : first_granule (layout s) (length batches + length (take (suc j) next) - 1) ≤ max_granules
         tiles_within =
             let last : ℕ = length batches + length (take (suc j) next) - 1 in
-            let le = ascends (layout h) last (tiles_at (layout h) store.header now) (omega (arith, length_is, few, many)) in
+            let le = ascends (layout h) last (tiles_at (layout h) store.header now) (omega (arith, length_is, few, many, count_is)) in
             let begin = layouts.same_begins (layout h) (layout s) last (around_places store.header store.items need last) in
             omega (arith, le, within, begin)
 
     -- of so many, under any id; where it is none, whatever the bytes are
-    files_any : (id j : ℕ) (after : Scene) → j ≤ length next → (0 < j → after.bytes ≡ bytes_with (added need)) → after.clock ≡ t.clock → HasMore i (take j next) t.lists after.lists → ActsOn id t after
-    files_any id zero after few bytes_are clock_same more bytes = by (cases_eq id i)
+    files_any : found.heard ≡ heard_of batches h → (id j : ℕ) (after : Scene) → j ≤ length next → (0 < j → after.bytes ≡ bytes_with (added need)) → after.clock ≡ t.clock → HasMore i (take j next) t.lists after.lists → ActsOn id t after
+    files_any hears id zero after few bytes_are clock_same more bytes = by (cases_eq id i)
       where
         by : (id ≡ i) ⊎ (id ≡ i → ⊥) → Acts id t after
         by (inl own) = inl (record { batches = subst (λ (x : ℕ). after.lists.batches x ≡ t.lists.batches x) (sym own) (more.here ∙ append-nil batches); marks = more.marks id })
         by (inr other) = inl (record { batches = more.others id other; marks = more.marks id })
-    files_any id (suc j) after few bytes_are clock_same more bytes = by (cases_eq id i)
+    files_any hears id (suc j) after few bytes_are clock_same more bytes = by (cases_eq id i)
       where
         by : (id ≡ i) ⊎ (id ≡ i → ⊥) → Acts id t after
-        by (inl own) = files_some id j after own few (bytes_are (omega arith)) clock_same more bytes
+        by (inl own) = files_some hears id j after own few (bytes_are (omega arith)) clock_same more bytes
         by (inr other) = inl (record { batches = more.others id other; marks = more.marks id })
 
     -- ---- the whole line, and a part of it
@@ -379,7 +382,7 @@ module _ (i : ℕ) (t : Scene) (found : Found) (store : statements.World) (is : 
     abbrev new_world : worlds.World
     new_world = filed (worlds.with_store w (reached need store)) next
 
-    module _ (id : ℕ) (step : world_steps.Step) (world_is : step.world ≡ new_world) (calls_are : notary_calls w line now found ≡ filing_calls w next) where
+    module _ (hears : found.heard ≡ heard_of batches h) (id : ℕ) (step : world_steps.Step) (world_is : step.world ≡ new_world) (calls_are : notary_calls w line now found ≡ filing_calls w next) where
       abbrev a : Act
       a = over_world t w line found step
 
@@ -387,7 +390,7 @@ module _ (i : ℕ) (t : Scene) (found : Found) (store : statements.World) (is : 
       items_same = ap (λ (x : worlds.World). items_added (Some store) x.store) world_is
 
       whole : ActsOn id t a.next.scene
-      whole = files_any id fit a.next.scene (fitting_few (room_in t.limits t.lists) next) (λ some. ap bytes_with items_same) refl
+      whole = files_any hears id fit a.next.scene (fitting_few (room_in t.limits t.lists) next) (λ some. ap bytes_with items_same) refl
           (subst (λ (x : worlds.World). HasMore i (take fit next) t.lists x.lists) (sym world_is) (more_with i (take fit next) t.lists))
 
       all_calls_are : length (notary_calls w line now found) ≤ suc fit
@@ -413,7 +416,7 @@ module _ (i : ℕ) (t : Scene) (found : Found) (store : statements.World) (is : 
             ∙ image_by need refl crash.choice ∙ ap bytes_with (sym (added_is need))
 
         in_part : ActsOn id t (stopped t crash a)
-        in_part = files_any id j (stopped t crash a) j_few bytes_are refl
+        in_part = files_any hears id j (stopped t crash a) j_few bytes_are refl
             (subst (λ (calls : List Call). HasMore i (take j next) t.lists (with_calls calls t.lists)) (sym taken_are) (calls_file i (length batches) j next t.lists))
 
       files_either : ActsEither id t a
@@ -421,41 +424,37 @@ module _ (i : ℕ) (t : Scene) (found : Found) (store : statements.World) (is : 
 
   -- ---- by what speaks against it
 
-  module _ (id : ℕ) where
+  module _ (hears : found.heard ≡ heard_of batches h) (id : ℕ) where
     abbrev act_of : world_steps.Step → Act
     act_of step = over_world t w line found step
 
-    pub world_of_all : (b : Bool) (new : worlds.World) (text : List ℕ) → (if b then world_steps.says new text else world_steps.refuses new (refusal_text fails.Full)).world ≡ new
-    world_of_all true new text = refl
-    world_of_all false new text = refl
-
-    free_acts : notarize_fault tail false now store.items batches ≡ None → ActsEither id t (act_of (notarized w (Some store) now))
+    free_acts : notarize_fault tail false now store.items found.heard ≡ None → ActsEither id t (act_of (notarized w (Some store) now found.heard found.refusal))
     unfolding notary_calls line
-    free_acts free = files_either free id (notarized w (Some store) now)
-        (ap (λ (fault : Option AuditFail). (world_steps.unless fault w (sealed w store now)).world) free ∙ world_of_all (fit == length next) (new_world free) (numbered (codes "sealed ") (sealed_after (layout h) store.header now batches)))
+    free_acts free = files_either free hears id (notarized w (Some store) now found.heard found.refusal)
+        (ap (λ (fault : Option AuditFail). (world_steps.unless fault w (carried_out w store (intent_in store now found.heard) found.refusal)).world) free ∙ carried_world w store (intent_in store now found.heard) found.refusal)
         (ap (λ (fault : Option AuditFail). unless fault (filing_calls w next)) free)
 
-    refused_acts : (fail : AuditFail) → notarize_fault tail false now store.items batches ≡ Some fail → ActsEither id t (act_of (notarized w (Some store) now))
+    refused_acts : (fail : AuditFail) → notarize_fault tail false now store.items found.heard ≡ Some fail → ActsEither id t (act_of (notarized w (Some store) now found.heard found.refusal))
     unfolding notary_calls line
-    refused_acts fail cause = without_notary id t (act_of (notarized w (Some store) now))
+    refused_acts fail cause = without_notary id t (act_of (notarized w (Some store) now found.heard found.refusal))
         (ap (λ (fault : Option AuditFail). unless fault (filing_calls w next)) cause)
-        (ap (λ (fault : Option AuditFail). (world_steps.unless fault w (sealed w store now)).world.lists) cause)
+        (ap (λ (fault : Option AuditFail). (world_steps.unless fault w (carried_out w store (intent_in store now found.heard) found.refusal)).world.lists) cause)
 
-    store_acts : ActsEither id t (act_of (notarized w (Some store) now))
-    store_acts = by (notarize_fault tail false now store.items batches) refl
+    store_acts : ActsEither id t (act_of (notarized w (Some store) now found.heard found.refusal))
+    store_acts = by (notarize_fault tail false now store.items found.heard) refl
       where
-        by : (fault : Option AuditFail) → notarize_fault tail false now store.items batches ≡ fault → ActsEither id t (act_of (notarized w (Some store) now))
+        by : (fault : Option AuditFail) → notarize_fault tail false now store.items found.heard ≡ fault → ActsEither id t (act_of (notarized w (Some store) now found.heard found.refusal))
         by None free = free_acts free
         by (Some fail) cause = refused_acts fail cause
 
 -- ---- whatever is stored
 
-with_store : (id i : ℕ) (t : Scene) (found : Found) → IsBytes t.bytes → (o : Option statements.World) → store_in i (stored t.bytes) ≡ o → ActsEither id t (over_world t (world_with t i o) line found (notarized (world_with t i o) o t.clock))
+with_store : (id i : ℕ) (t : Scene) (found : Found) → IsBytes t.bytes → (o : Option statements.World) → store_in i (stored t.bytes) ≡ o → IfSome o (MayFile (world_with t i o) t.clock found) → ActsEither id t (over_world t (world_with t i o) line found (notarized (world_with t i o) o t.clock found.heard found.refusal))
 unfolding notary_calls line
-with_store id i t found bytes None is = without_notary id t (over_world t (world_with t i None) line found (notarized (world_with t i None) None t.clock)) refl refl
-with_store id i t found bytes (Some store) is = store_acts i t found store is bytes id
+with_store id i t found bytes None is may = without_notary id t (over_world t (world_with t i None) line found (notarized (world_with t i None) None t.clock found.heard found.refusal)) refl refl
+with_store id i t found bytes (Some store) is may = store_acts i t found store is bytes may.heard id
 
-pub notarize_acts : (id : ℕ) (t : Scene) (o : Option ℕ) (found : Found) → IsBytes t.bytes → ActsEither id t (over_store t o (lines.Plain stmts.Notarize) found)
+pub notarize_acts : (id : ℕ) (t : Scene) (o : Option ℕ) (found : Found) → MayBeFound o t (Ok (lines.Plain stmts.Notarize)) found → IsBytes t.bytes → ActsEither id t (over_store t o (lines.Plain stmts.Notarize) found)
 unfolding world_of world_steps.step line
-notarize_acts id t None found bytes = without_notary id t (over_store t None (lines.Plain stmts.Notarize) found) refl refl
-notarize_acts id t (Some i) found bytes = with_store id i t found bytes (store_in i (stored t.bytes)) refl
+notarize_acts id t None found may bytes = without_notary id t (over_store t None (lines.Plain stmts.Notarize) found) refl refl
+notarize_acts id t (Some i) found may bytes = with_store id i t found bytes (store_in i (stored t.bytes)) refl may

@@ -20,12 +20,13 @@ use Rattle.stmt_text.specs.declared.line.Line.TheVariants as lines
 use Rattle.stmt_text.specs.Fits.{FitsParts}
 use Rattle.statement_core.specs.World as statements
 use Rattle.statement_core.specs.Replies.{reply_text}
-use Rattle.validator.specs.Notarizing.{frontier_for}
+use Rattle.validator.specs.declared.fail.AuditFail.{AuditFail}
+use Rattle.validator.specs.Notarizing.{Heard, frontier_for}
 use Rattle.validator.proofs.Growing.{need_follows}
 use Rattle.session_model.specs.World as sessions
 use Rattle.session_model.specs.World.{Session}
 use Rattle.session_model.specs.Serial.{IsSerialAt}
-use Rattle.session_model.specs.Standing.{reply_of}
+use Rattle.session_model.specs.Steps.{reply_of}
 use Rattle.session_model.specs.Steps as session_steps
 use Rattle.session_model.specs.Later.{IsLater}
 use Rattle.session_model.specs.Runs.{Logs, no_logs}
@@ -35,7 +36,7 @@ use Rattle.store_world.specs.Found.{Found}
 use Rattle.store_world.specs.World as worlds
 use Rattle.store_world.specs.World.{no_sessions}
 use Rattle.store_world.specs.Steps as world_steps
-use Rattle.store_world.specs.Steps.{filed_for, reached, notarized, validated, on_tables, algorithm_of}
+use Rattle.store_world.specs.Steps.{reached, notarized, validated, on_tables, algorithm_of}
 use Rattle.store_world.proofs.Acknowledging.{by_line}
 use Rattle.store_world.proofs.Analysing.{analysed_stays}
 use Rattle.timeline_model.specs.Scene.{Scene, Crash, nothing_yet, without_sessions, sessions_over, store_in, world_with, world_of}
@@ -88,30 +89,30 @@ module _ (w : worlds.World) (now : ℕ) (logs : Logs) where
       subst (λ (x : Option statements.World). HeldIn (option_map (with_begun new) x) logs) (sym store_is)
       (subst (λ (begun : ℕ → Option Session). HeldIn (option_map (λ store. record { store = store; sessions = begun }) w.store) logs) (sym same) held)
 
-  notarized_held : (o : Option statements.World) → w.store ≡ o → HeldIn (store_of w) logs → HeldIn (store_of (notarized w o now).world) logs
-  notarized_held None is held = held
-  notarized_held (Some store) is held = elim (notarized_store w store now) [
-    | inl same ↦ stays_held (notarized w (Some store) now).world same (notarized_rest w (Some store) is now).sessions held
-    | inr gets ↦ goes_on store (reached need store) (notarized w (Some store) now).world (later need refl) gets.is (notarized_rest w (Some store) is now).sessions
+  notarized_held : (heard : Heard) (refusal : Option AuditFail) (o : Option statements.World) → w.store ≡ o → HeldIn (store_of w) logs → HeldIn (store_of (notarized w o now heard refusal).world) logs
+  notarized_held heard refusal None is held = held
+  notarized_held heard refusal (Some store) is held = elim (notarized_store w store now heard refusal) [
+    | inl same ↦ stays_held (notarized w (Some store) now heard refusal).world same (notarized_rest w (Some store) is now heard refusal).sessions held
+    | inr gets ↦ goes_on store (reached need store) (notarized w (Some store) now heard refusal).world (later need refl) gets.is (notarized_rest w (Some store) is now heard refusal).sessions
         (subst (λ (x : Option statements.World). HeldIn (option_map (with_begun w) x) logs) is held)
   ]
     where
       need : Option ℕ
-      need = frontier_for (layout (history store.header store.items)) (statements.tail_of_world store) now (filed_for w)
+      need = frontier_for (layout (history store.header store.items)) (statements.tail_of_world store) now heard.count
 
-      later : (o : Option ℕ) → frontier_for (layout (history store.header store.items)) (statements.tail_of_world store) now (filed_for w) ≡ o → IsLater store (reached o store)
+      later : (o : Option ℕ) → frontier_for (layout (history store.header store.items)) (statements.tail_of_world store) now heard.count ≡ o → IsLater store (reached o store)
       later None e = later_same store
-      later (Some moment) e = later_frontier store moment (need_follows (layout (history store.header store.items)) (statements.tail_of_world store) store.items refl now (filed_for w) moment e)
+      later (Some moment) e = later_frontier store moment (need_follows (layout (history store.header store.items)) (statements.tail_of_world store) store.items refl now heard.count moment e)
 
   plain_held : (stmt : Stmt) (new : worlds.World) → HeldIn (store_of new) logs → HeldIn (store_of new) (told_more logs (store_of w) (Ok (lines.Plain stmt)) now)
   plain_held stmt new held = subst (HeldIn (store_of new)) (sym (told_plain (store_of w) stmt now logs)) held
 
   step_held : (line : Line) (found : Found) → HeldIn (store_of w) logs → HeldIn (store_of (world_steps.step w line now found).world) (told_more logs (store_of w) (Ok line) now)
   step_held line found held = by_line (λ line s. HeldIn (store_of s.world) (told_more logs (store_of w) (Ok line) now)) w line now found (λ line. tables_held w.store refl line held)
-      (plain_held stmts.Notarize (notarized w w.store now).world (notarized_held w.store refl held))
-      (plain_held stmts.Validate (validated w now found.verdict).world (stays_held (validated w now found.verdict).world (with_validated w now found.verdict).0 (validated_rest w now found.verdict).sessions held))
-      (λ algorithm. plain_held (stmts.Analyse algorithm) (world_steps.analysed w (algorithm_of algorithm) now found.analysis).world
-      (subst (λ (x : worlds.World). HeldIn (store_of x) logs) (sym (analysed_stays w (algorithm_of algorithm) now found.analysis)) held))
+      (plain_held stmts.Notarize (notarized w w.store now found.heard found.refusal).world (notarized_held found.heard found.refusal w.store refl held))
+      (plain_held stmts.Validate (validated w now found.verdict found.refusal).world (stays_held (validated w now found.verdict found.refusal).world (with_validated w now found.verdict found.refusal).store (validated_rest w now found.verdict found.refusal).sessions held))
+      (λ algorithm. plain_held (stmts.Analyse algorithm) (world_steps.analysed w (algorithm_of algorithm) found.analysis found.body).world
+      (subst (λ (x : worlds.World). HeldIn (store_of x) logs) (sym (analysed_stays w (algorithm_of algorithm) found.analysis found.body)) held))
 
 -- ---- a scene
 

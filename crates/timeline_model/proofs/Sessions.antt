@@ -1,18 +1,14 @@
 -- What sessions want to store stays what a line can hold; and what becomes of the sessions of a world.
-use Rattle.std.proofs.Common.{◌≡◌, ℕ, Bool, true, false, List, [], ◌∷◌, ◌++◌, length, Option, Some, None, IfSome, Result, Ok, Err, refl, sym, ap, subst}
-use Rattle.std.specs.Prelude.{◌==◌, nat_lt, if◌then◌else◌, is_some, codes}
+use Rattle.std.proofs.Common.{◌≡◌, ℕ, List, [], ◌∷◌, ◌++◌, Option, Some, None, IfSome, Result, Ok, Err, refl, sym, ap, subst}
+use Rattle.std.specs.Prelude.{is_some}
 use Rattle.std.specs.List.{AllByRecursion}
 use Rattle.byte_grammar.specs.Reading.{IsBytes}
 use Rattle.tuple_bytes.specs.declared.op.Op.{Op}
 use Rattle.history_model.specs.declared.change.TableFail.{TableFail}
 use Rattle.history_model.specs.declared.change.Write.{Write}
 use Rattle.history_model.specs.Answers.{prepared}
-use Rattle.history_model.specs.History.{history}
 use Rattle.history_model.specs.State.{after_ops}
 use Rattle.history_model.specs.Stored.{stored}
-use Rattle.digest_model.specs.Layout.{layout}
-use Rattle.notary_link.specs.Filing.{fitting, room_in}
-use Rattle.notary_link.specs.Notary.{marks_in_all}
 use Rattle.notary_link.specs.declared.mark.Mark.{Mark}
 use Rattle.store_engine.specs.declared.fail.StoreFail.{StoreFail}
 use Rattle.stmt_text.specs.declared.stmt.Stmt.{Stmt}
@@ -25,11 +21,9 @@ use Rattle.statement_core.specs.Steps.{write_in}
 use Rattle.statement_core.proofs.Preparing.{op_is}
 use Rattle.validator.specs.declared.verdict.Verdict.{Verdict}
 use Rattle.validator.specs.declared.fail.AuditFail.{AuditFail}
-use Rattle.validator.specs.Notarizing.{notarize_fault, next_batches, sealed_after, frontier_for}
-use Rattle.number_text.specs.Numbered.{numbered}
-use Rattle.validator.specs.declared.fail.AuditFail.TheVariants as fails
+use Rattle.validator.specs.Notarizing.{Heard}
 use Rattle.validator.specs.Verdicts.{mark_of}
-use Rattle.validator.specs.Texts.{verdict_text, refusal_text}
+use Rattle.validator.specs.Texts.{verdict_text}
 use Rattle.session_model.specs.World as sessions
 use Rattle.session_model.specs.World.{Session}
 use Rattle.session_model.specs.Statements.{size_fault, pended, pend, change_or_read, say}
@@ -40,7 +34,7 @@ use Rattle.store_world.specs.Found.{Found}
 use Rattle.store_world.specs.World as worlds
 use Rattle.store_world.specs.World.{no_sessions}
 use Rattle.store_world.specs.Steps as world_steps
-use Rattle.store_world.specs.Steps.{filed, filed_for, notarized, sealed, reached, validated, algorithm_of, marked, on_tables}
+use Rattle.store_world.specs.Steps.{Step, notarized, intent_in, carried_out, unless, validated, algorithm_of, marked, on_tables}
 use Rattle.store_world.proofs.Acknowledging.{by_line}
 use Rattle.store_world.proofs.Analysing.{analysed_stays}
 use Rattle.timeline_model.specs.Scene.{Scene, sessions_over, world_of, store_in}
@@ -103,31 +97,24 @@ pub record KeepsRest (w new : worlds.World) : Type 0 where
 rest_same : (w : worlds.World) → KeepsRest w w
 rest_same w = record { id = refl; limits = refl; sessions = refl; store = refl }
 
-pub notarized_rest : (w : worlds.World) (o : Option statements.World) → w.store ≡ o → (now : ℕ) → KeepsRest w (notarized w o now).world
-notarized_rest w None is now = rest_same w
-notarized_rest w (Some store) is now = by (notarize_fault (statements.tail_of_world store) false now store.items (filed_for w))
+unless_rest : (w : worlds.World) (fault : Option AuditFail) (new : worlds.World) (s : Step) → KeepsRest w new → KeepsRest w s.world → KeepsRest w (unless fault new s).world
+unless_rest w (Some fail) new s one other = one
+unless_rest w None new s one other = other
+
+pub notarized_rest : (w : worlds.World) (o : Option statements.World) → w.store ≡ o → (now : ℕ) (heard : Heard) (refusal : Option AuditFail) → KeepsRest w (notarized w o now heard refusal).world
+notarized_rest w None is now heard refusal = rest_same w
+notarized_rest w (Some store) is now heard refusal =
+    let i = intent_in store now heard in
+    let rest : KeepsRest w (world_steps.filed (worlds.with_store w (world_steps.reached i.frontier store)) i.batches) = record { id = refl; limits = refl; sessions = refl; store = sym (ap is_some is) } in
+    unless_rest w i.fault w (carried_out w store i refusal) (rest_same w) (unless_rest w refusal _ _ rest rest)
+
+pub validated_rest : (w : worlds.World) (now : ℕ) (found : Result Verdict AuditFail) (refusal : Option AuditFail) → KeepsRest w (validated w now found refusal).world
+validated_rest w now (Err fail) refusal = rest_same w
+validated_rest w now (Ok verdict) refusal = by (mark_of verdict now)
   where
-    of_room : (b : Bool) (new : worlds.World) (tiles : ℕ) → KeepsRest w new → KeepsRest w (if b then world_steps.says new (numbered (codes "sealed ") tiles) else world_steps.refuses new (refusal_text fails.Full)).world
-    of_room true new tiles keeps = keeps
-    of_room false new tiles keeps = keeps
-
-    by : (fault : Option AuditFail) → KeepsRest w (world_steps.unless fault w (sealed w store now)).world
-    by (Some fail) = rest_same w
-    by None = of_room (fitting (room_in w.limits w.lists) (next_batches (history store.header store.items) now (filed_for w)) == length (next_batches (history store.header store.items) now (filed_for w)))
-        (filed (worlds.with_store w (reached (frontier_for (layout (history store.header store.items)) (statements.tail_of_world store) now (filed_for w)) store)) (next_batches (history store.header store.items) now (filed_for w))) (sealed_after (layout (history store.header store.items)) store.header now (filed_for w))
-        (record { id = refl; limits = refl; sessions = refl; store = sym (ap is_some is) })
-
-pub validated_rest : (w : worlds.World) (now : ℕ) (found : Result Verdict AuditFail) → KeepsRest w (validated w now found).world
-validated_rest w now (Err fail) = rest_same w
-validated_rest w now (Ok verdict) = by (mark_of verdict now)
-  where
-    of_room : (mark : Mark) (b : Bool) → KeepsRest w (if b then world_steps.says (worlds.with_lists w (worlds.with_mark w.id mark w.lists)) (verdict_text verdict) else world_steps.refuses w (refusal_text fails.Full)).world
-    of_room mark true = record { id = refl; limits = refl; sessions = refl; store = refl }
-    of_room mark false = rest_same w
-
-    by : (m : Option Mark) → KeepsRest w (marked w m (verdict_text verdict)).world
+    by : (m : Option Mark) → KeepsRest w (marked w m refusal (verdict_text verdict)).world
     by None = rest_same w
-    by (Some mark) = of_room mark (nat_lt (marks_in_all w.lists) w.limits.marks)
+    by (Some mark) = unless_rest w refusal w _ (rest_same w) (record { id = refl; limits = refl; sessions = refl; store = refl })
 
 -- ---- a line
 
@@ -157,8 +144,8 @@ tables_under w (Some store) line now fits = record { id = refl; limits = refl; o
 
 pub step_under : (w : worlds.World) (line : Line) (now : ℕ) (found : Found) → FitsParts line → StaysUnder w (world_steps.step w line now found).world
 step_under w line now found = by_line (λ line s. FitsParts line → StaysUnder w s.world) w line now found (λ line. tables_under w w.store line now)
-    (λ fits. stays_under w (notarized w w.store now).world (notarized_rest w w.store refl now)) (λ fits. stays_under w (validated w now found.verdict).world (validated_rest w now found.verdict))
-    (λ algorithm fits. subst (StaysUnder w) (sym (analysed_stays w (algorithm_of algorithm) now found.analysis)) (stays_under w w (rest_same w)))
+    (λ fits. stays_under w (notarized w w.store now found.heard found.refusal).world (notarized_rest w w.store refl now found.heard found.refusal)) (λ fits. stays_under w (validated w now found.verdict found.refusal).world (validated_rest w now found.verdict found.refusal))
+    (λ algorithm fits. subst (StaysUnder w) (sym (analysed_stays w (algorithm_of algorithm) found.analysis found.body)) (stays_under w w (rest_same w)))
 
 -- ---- the world of a scene
 

@@ -39,9 +39,8 @@ use Rattle.stmt_text.specs.Fits.{FitsParts}
 use Rattle.statement_core.specs.World as statements
 use Rattle.validator.specs.declared.verdict.Verdict.{Verdict}
 use Rattle.validator.specs.declared.fail.AuditFail.{AuditFail}
-use Rattle.validator.specs.Notarizing.{notarize_fault, next_batches, frontier_for, sealed_after}
+use Rattle.validator.specs.Notarizing.{Heard, heard_of, notarize_fault, next_batches, frontier_for}
 use Rattle.validator.specs.Reaching.{with_frontier_for}
-use Rattle.number_text.specs.Numbered.{numbered}
 use Rattle.validator.specs.Verdicts.{mark_of}
 use Rattle.validator.proofs.Growing.{IsFiledUpTo, need_follows, counted_more, notarized_more}
 use Rattle.store_world.specs.Found.{Found}
@@ -50,21 +49,22 @@ use Rattle.store_world.proofs.SoundWorlds.{sound_worlds}
 use Rattle.store_world.specs.World as worlds
 use Rattle.store_world.specs.World.{no_sessions}
 use Rattle.store_world.specs.Steps as world_steps
-use Rattle.store_world.specs.Steps.{notarized, validated, analysed, algorithm_of, marked, sealed, reached, history_of, MayFind}
+use Rattle.store_world.specs.Steps.{notarized, intent_in, carried_out, validated, analysed, algorithm_of, marked, reached, history_of}
+use Rattle.store_world.specs.Finding.{MayFile, MayFind}
 use Rattle.store_world.proofs.LineKinds.{goes_to_tables}
 use Rattle.store_world.proofs.Analysing.{analysed_stays}
 use Rattle.timeline_model.specs.Scene.{Scene, Crash, nothing_yet, store_in, world_with, world_of, held, batches_of}
 use Rattle.txn_journal.specs.Held.{standing}
 use Rattle.store_world.specs.LineCalls.{end_of_store, items_added, with_items, appends, notary_calls, validate_calls, noting, filing_calls, unless}
 use Rattle.timeline_model.specs.Lines.{Act, says, refuses, over_world, over_store, header_at, act}
-use Rattle.timeline_model.specs.Timeline.{Event, step, without_crash, act_on, name_of, after, with_calls, calls_in, stopped, IsDrillLine, IsReading, FitsReading, IsTimeline, MayCome}
+use Rattle.timeline_model.specs.Timeline.{Event, step, without_crash, act_on, name_of, after, with_calls, calls_in, stopped, IsDrillLine, IsReading, FitsReading, MayBeFound, IsTimeline, MayCome}
 use Rattle.timeline_model.specs.Sound.{IsFromInside, stored_by, stores, AllFromInside, HasAlso, TimelinesStaySound, EventsKeepItems, NextLinesTellNoAlteration}
-use Rattle.store_world.proofs.LineItems.{none_added}
+use Rattle.store_world.proofs.LineItems.{none_added, carried_world}
 use Rattle.timeline_model.proofs.Acts.{take_none}
 use Rattle.timeline_model.proofs.Bytes.{all_calls, ItemsLast, none_last, none_stopped}
 use Rattle.timeline_model.proofs.Stopped.{stopped_stores}
 use Rattle.timeline_model.proofs.Doings.{history_same, StoreIs, store_is}
-use Rattle.timeline_model.proofs.Events.{fit_after, nothing_fit}
+use Rattle.timeline_model.proofs.Events.{found_without_crash, fit_after, nothing_fit}
 use Rattle.timeline_model.proofs.StayBytes.{still_fit}
 use Rattle.timeline_model.proofs.Sessions.{IsFit}
 use Rattle.store_world.proofs.Validating.{with_validated}
@@ -99,11 +99,11 @@ asked_by i t line found o s store_same batches_same calls_same = record {
     none : items_added o s.world.store ≡ []
     none = ap (items_added o) store_same ∙ none_added o
 
-validate_by : (i : ℕ) (t : Scene) (found : Found) → (o : Option statements.World) → SoundEither (items_added o (validated (world_with t i o) t.clock found.verdict).world.store) t (over_world t (world_with t i o) (lines.Plain stmts.Validate) found (validated (world_with t i o) t.clock found.verdict))
+validate_by : (i : ℕ) (t : Scene) (found : Found) → (o : Option statements.World) → SoundEither (items_added o (validated (world_with t i o) t.clock found.verdict found.refusal).world.store) t (over_world t (world_with t i o) (lines.Plain stmts.Validate) found (validated (world_with t i o) t.clock found.verdict found.refusal))
 unfolding notary_calls
 validate_by i t found o =
-    let parts = with_validated (world_with t i o) t.clock found.verdict in
-    asked_by i t (lines.Plain stmts.Validate) found o (validated (world_with t i o) t.clock found.verdict) parts.0 parts.1 (λ n id. validated_batches n (world_with t i o) t.clock found.verdict t.lists id)
+    let parts = with_validated (world_with t i o) t.clock found.verdict found.refusal in
+    asked_by i t (lines.Plain stmts.Validate) found o (validated (world_with t i o) t.clock found.verdict found.refusal) parts.store parts.batches (λ n id. validated_batches n (world_with t i o) t.clock found.verdict t.lists id)
 
 validate_sound : (t : Scene) (o : Option ℕ) (found : Found) → SoundEither (stored_by o t (Ok (lines.Plain stmts.Validate)) found) t (over_store t o (lines.Plain stmts.Validate) found)
 unfolding world_of world_steps.step
@@ -113,11 +113,11 @@ validate_sound t (Some i) found = validate_by i t found (store_in i (stored t.by
 -- ---- an analysis
 
 analyse_by : (i : ℕ) (t : Scene) (algorithm : LineAlgorithm) (found : Found) → (o : Option statements.World)
-    → SoundEither (items_added o (analysed (world_with t i o) (algorithm_of algorithm) t.clock found.analysis).world.store) t (over_world t (world_with t i o) (lines.Plain (stmts.Analyse algorithm)) found (analysed (world_with t i o) (algorithm_of algorithm) t.clock found.analysis))
+    → SoundEither (items_added o (analysed (world_with t i o) (algorithm_of algorithm) found.analysis found.body).world.store) t (over_world t (world_with t i o) (lines.Plain (stmts.Analyse algorithm)) found (analysed (world_with t i o) (algorithm_of algorithm) found.analysis found.body))
 unfolding notary_calls
 analyse_by i t algorithm found o =
-    let stays_so = analysed_stays (world_with t i o) (algorithm_of algorithm) t.clock found.analysis in
-    asked_by i t (lines.Plain (stmts.Analyse algorithm)) found o (analysed (world_with t i o) (algorithm_of algorithm) t.clock found.analysis)
+    let stays_so = analysed_stays (world_with t i o) (algorithm_of algorithm) found.analysis found.body in
+    asked_by i t (lines.Plain (stmts.Analyse algorithm)) found o (analysed (world_with t i o) (algorithm_of algorithm) found.analysis found.body)
     (ap (λ (w : worlds.World). w.store) stays_so) (λ id. ap (λ (w : worlds.World). w.lists.batches id) stays_so) (λ n id. ap (λ (calls : List Call). (with_calls calls t.lists).batches id) (take_none n))
 
 analyse_sound : (t : Scene) (algorithm : LineAlgorithm) (o : Option ℕ) (found : Found) → SoundEither (stored_by o t (Ok (lines.Plain (stmts.Analyse algorithm))) found) t (over_store t o (lines.Plain (stmts.Analyse algorithm)) found)
@@ -135,7 +135,8 @@ unfolding frontier_items
 around_is None its = sym (append-nil its)
 around_is (Some moment) its = refl
 
-module _ (i : ℕ) (t : Scene) (found : Found) (store : statements.World) (is : store_in i (stored t.bytes) ≡ Some store) (bytes_before : IsBytes t.bytes) where
+module _ (i : ℕ) (t : Scene) (found : Found) (store : statements.World) (is : store_in i (stored t.bytes) ≡ Some store) (bytes_before : IsBytes t.bytes)
+    (hears : found.heard ≡ heard_of (t.lists.batches i) (history store.header store.items)) where
   abbrev h : History
   h = history store.header store.items
 
@@ -152,10 +153,10 @@ module _ (i : ℕ) (t : Scene) (found : Found) (store : statements.World) (is : 
   tail = statements.tail_of_world store
 
   abbrev need : Option ℕ
-  need = frontier_for (layout h) tail now batches
+  need = frontier_for (layout h) tail now found.heard.count
 
   abbrev next : List Batch
-  next = next_batches h now batches
+  next = next_batches h now found.heard.count
 
   abbrev fit : ℕ
   fit = fitting (room_in t.limits t.lists) next
@@ -196,23 +197,33 @@ module _ (i : ℕ) (t : Scene) (found : Found) (store : statements.World) (is : 
         by : (o : Option ℕ) → need ≡ o → HoldsFiled (batches_of t id) id (Some h) → HoldsFiled (batches_of t id) id (Some (history store.header (with_frontier_for o store.items)))
         by None e held_filed = held_filed
         by (Some moment) e (inl none) = inl none
-        by (Some moment) e (inr known) = inr (known.0, known.1, added_stays (batches_of t id) id known.0 store.header store.items (items.Frontier moment) (sealing.fits i t found store is bytes_before) known.2 (need_follows (layout h) tail store.items refl now batches moment e))
+        by (Some moment) e (inr known) = inr (known.0, known.1, added_stays (batches_of t id) id known.0 store.header store.items (items.Frontier moment) (sealing.fits i t found store is bytes_before) known.2 (need_follows (layout h) tail store.items refl now found.heard.count moment e))
 
     -- with some of the next batches
-    more_filed : notarize_fault tail false now store.items batches ≡ None → (j : ℕ) → suc j ≤ length next → HoldsFiled (batches ++ take (suc j) next) i (Some s)
-    more_filed free j few = inr (
-      length batches + suc j - 1,
-      counted_more tail store.items refl now batches (sealing.within i t found store is bytes_before free) filed_before (suc j) (omega arith) few,
-      subst (λ (id : ℕ). IsNotarized (batches ++ take (suc j) next) id (length batches + suc j - 1) s) facts.own
-          (notarized_more tail store.items refl now batches (sealing.within i t found store is bytes_before free) filed_before (suc j) (omega arith) few),
-    )
+    more_filed : notarize_fault tail false now store.items found.heard ≡ None → (j : ℕ) → suc j ≤ length next → HoldsFiled (batches ++ take (suc j) next) i (Some s)
+    more_filed free j few = by found.heard.count (ap (λ (x : Heard). x.count) hears) few
+      where
+        MoreFor : ℕ → Type 0
+        MoreFor count = suc j ≤ length (next_batches h now count)
+            → HoldsFiled (batches ++ take (suc j) (next_batches h now count)) i (Some (history store.header (with_frontier_for (frontier_for (layout h) tail now count) store.items)))
+
+        by_length : MoreFor (length batches)
+        by_length few = inr (
+          length batches + suc j - 1,
+          counted_more tail store.items refl now batches (sealing.within i t found store is bytes_before free) filed_before (suc j) (omega arith) few,
+          subst (λ (id : ℕ). IsNotarized (batches ++ take (suc j) (next_batches h now (length batches))) id (length batches + suc j - 1) (history store.header (with_frontier_for (frontier_for (layout h) tail now (length batches)) store.items))) facts.own
+              (notarized_more tail store.items refl now batches (sealing.within i t found store is bytes_before free) filed_before (suc j) (omega arith) few),
+        )
+
+        by : (count : ℕ) → count ≡ length batches → MoreFor count
+        by count is_length = subst MoreFor (sym is_length) by_length
 
     -- another id has nothing
     nothing_else : (id : ℕ) → (id ≡ i → ⊥) → HoldsFiled (batches_of t id) id (Some h) → batches_of t id ≡ []
     nothing_else id other (inl none) = none
     nothing_else id other (inr known) = absurd (other (sym known.2.filed.header ∙ facts.own))
 
-    sound_after : notarize_fault tail false now store.items batches ≡ None → (after : Scene) (j : ℕ) → j ≤ length next → (held after ≡ Some h) ⊎ (held after ≡ Some s) → (0 < j → held after ≡ Some s) → HasMore i (take j next) t.lists after.lists → IsSoundScene after
+    sound_after : notarize_fault tail false now store.items found.heard ≡ None → (after : Scene) (j : ℕ) → j ≤ length next → (held after ≡ Some h) ⊎ (held after ≡ Some s) → (0 < j → held after ≡ Some s) → HasMore i (take j next) t.lists after.lists → IsSoundScene after
     sound_after free after j few either reached_end more id = by (cases_eq id i)
       where
         here : (k : ℕ) → j ≡ k → HoldsFiled (after.lists.batches i) i (held after)
@@ -227,7 +238,7 @@ module _ (i : ℕ) (t : Scene) (found : Found) (store : statements.World) (is : 
         by (inl own) = subst (λ (x : ℕ). HoldsFiled (after.lists.batches x) x (held after)) (sym own) (here j refl)
         by (inr other) = inl (more.others id other ∙ nothing_else id other (sound_now id))
 
-  module _ (free : notarize_fault tail false now store.items batches ≡ None) where
+  module _ (free : notarize_fault tail false now store.items found.heard ≡ None) where
     -- some of the calls of its Frontier
     part_by : (o : Option ℕ) → need ≡ o → (choice k : ℕ) (after : Scene) → after.bytes ≡ image_of choice t.bytes (after_calls is_done (take k (appends (standing store.end t.bytes) (frontier_items o))) []) → (held after ≡ Some h) ⊎ (held after ≡ Some (history store.header (with_frontier_for o store.items)))
     unfolding frontier_items
@@ -263,7 +274,7 @@ module _ (i : ℕ) (t : Scene) (found : Found) (store : statements.World) (is : 
           same : history store.header store.items ≡ k
           same = same_Some (history store.header store.items) k (sym held_now ∙ some)
 
-          by : (held after ≡ Some (history store.header store.items)) ⊎ (held after ≡ Some (history store.header (with_frontier_for (frontier_for (layout (history store.header store.items)) (statements.tail_of_world store) t.clock (t.lists.batches i)) store.items)))
+          by : (held after ≡ Some (history store.header store.items)) ⊎ (held after ≡ Some (history store.header (with_frontier_for (frontier_for (layout (history store.header store.items)) (statements.tail_of_world store) t.clock found.heard.count) store.items)))
               → (held after ≡ Some k) ⊎ (held after ≡ Some (history k.header (k.items ++ items_added (Some store) step.world.store)))
           by (inl old) = inl (old ∙ ap (λ (x : History). Some x) same)
           by (inr new) = inr (new ∙ ap (λ (l : List Item). Some (history store.header l)) (around_is need store.items ∙ ap (λ (l : List Item). store.items ++ l) (sym (items_same ∙ sealing.added_is i t found store is bytes_before need)))
@@ -277,7 +288,7 @@ module _ (i : ℕ) (t : Scene) (found : Found) (store : statements.World) (is : 
         bare = stored_already a.next.scene;
       }
         where
-          full : held (over_world t (world_with t i (Some store)) line found step).next.scene ≡ Some (history store.header (with_frontier_for (frontier_for (layout (history store.header store.items)) (statements.tail_of_world store) t.clock (t.lists.batches i)) store.items))
+          full : held (over_world t (world_with t i (Some store)) line found step).next.scene ≡ Some (history store.header (with_frontier_for (frontier_for (layout (history store.header store.items)) (statements.tail_of_world store) t.clock found.heard.count) store.items))
           full = sealing.held_after i t found store is bytes_before free (over_world t (world_with t i (Some store)) line found step).next.scene (ap bytes_to items_same)
 
       module _ (crash : Crash) (soon : crash.after < calls_in a) where
@@ -321,61 +332,62 @@ module _ (i : ℕ) (t : Scene) (found : Found) (store : statements.World) (is : 
         lasts = subst (ItemsLast t.bytes store.end) (sym (items_same ∙ sealing.added_is i t found store is bytes_before need)) (sealing.image_by i t found store is bytes_before free need refl);
       }
 
-  store_sound : SoundEither (items_added (Some store) (notarized w (Some store) now).world.store) t (over_world t w line found (notarized w (Some store) now))
+  store_sound : SoundEither (items_added (Some store) (notarized w (Some store) now found.heard found.refusal).world.store) t (over_world t w line found (notarized w (Some store) now found.heard found.refusal))
   unfolding notary_calls line
-  store_sound = by (notarize_fault tail false now store.items batches) refl
+  store_sound = by (notarize_fault tail false now store.items found.heard) refl
     where
-      by : (fault : Option AuditFail) → notarize_fault tail false now store.items batches ≡ fault → SoundEither (items_added (Some store) (notarized w (Some store) now).world.store) t (over_world t w line found (notarized w (Some store) now))
-      by None free = files_sound free (notarized w (Some store) now)
-          (ap (λ (fault : Option AuditFail). (world_steps.unless fault w (sealed w store now)).world) free ∙ sealing.world_of_all i t found store is bytes_before 0 (fit == length next) (new_world free) (numbered (codes "sealed ") (sealed_after (layout h) store.header now batches)))
+      by : (fault : Option AuditFail) → notarize_fault tail false now store.items found.heard ≡ fault → SoundEither (items_added (Some store) (notarized w (Some store) now found.heard found.refusal).world.store) t (over_world t w line found (notarized w (Some store) now found.heard found.refusal))
+      by None free = files_sound free (notarized w (Some store) now found.heard found.refusal)
+          (ap (λ (fault : Option AuditFail). (world_steps.unless fault w (carried_out w store (intent_in store now found.heard) found.refusal)).world) free ∙ carried_world w store (intent_in store now found.heard) found.refusal)
           (ap (λ (fault : Option AuditFail). unless fault (filing_calls w next)) free)
       by (Some fail) cause = stays i t line found store is bytes_before (ap (λ (fault : Option AuditFail). unless fault (filing_calls w next)) cause)
-          (items_added (Some store) (notarized w (Some store) now).world.store) (notarized w (Some store) now)
-          (ap (λ (fault : Option AuditFail). (world_steps.unless fault w (sealed w store now)).world.store) cause)
-          (ap (λ (fault : Option AuditFail). (world_steps.unless fault w (sealed w store now)).world.lists) cause)
+          (items_added (Some store) (notarized w (Some store) now found.heard found.refusal).world.store) (notarized w (Some store) now found.heard found.refusal)
+          (ap (λ (fault : Option AuditFail). (world_steps.unless fault w (carried_out w store (intent_in store now found.heard) found.refusal)).world.store) cause)
+          (ap (λ (fault : Option AuditFail). (world_steps.unless fault w (carried_out w store (intent_in store now found.heard) found.refusal)).world.lists) cause)
 
-with_store : (i : ℕ) (t : Scene) (found : Found) → IsFit t → (o : Option statements.World) → store_in i (stored t.bytes) ≡ o → SoundEither (items_added o (notarized (world_with t i o) o t.clock).world.store) t (over_world t (world_with t i o) line found (notarized (world_with t i o) o t.clock))
+with_store : (i : ℕ) (t : Scene) (found : Found) → IsFit t → (o : Option statements.World) → store_in i (stored t.bytes) ≡ o → IfSome o (MayFile (world_with t i o) t.clock found)
+    → SoundEither (items_added o (notarized (world_with t i o) o t.clock found.heard found.refusal).world.store) t (over_world t (world_with t i o) line found (notarized (world_with t i o) o t.clock found.heard found.refusal))
 unfolding notary_calls line
-with_store i t found fits None is = tables_by i t line (tt, refl) found fits None is (notarized (world_with t i None) None t.clock) refl refl
-with_store i t found fits (Some store) is = store_sound i t found store is fits.bytes
+with_store i t found fits None is may = tables_by i t line (tt, refl) found fits None is (notarized (world_with t i None) None t.clock found.heard found.refusal) refl refl
+with_store i t found fits (Some store) is may = store_sound i t found store is fits.bytes may.heard
 
-notarize_sound : (t : Scene) (o : Option ℕ) (found : Found) → IsFit t → SoundEither (stored_by o t (Ok (lines.Plain stmts.Notarize)) found) t (over_store t o (lines.Plain stmts.Notarize) found)
+notarize_sound : (t : Scene) (o : Option ℕ) (found : Found) → MayBeFound o t (Ok (lines.Plain stmts.Notarize)) found → IsFit t → SoundEither (stored_by o t (Ok (lines.Plain stmts.Notarize)) found) t (over_store t o (lines.Plain stmts.Notarize) found)
 unfolding world_of world_steps.step line
-notarize_sound t None found fits = quiet_sound [] t (refuses t (codes "NotAStore")) refl refl
-notarize_sound t (Some i) found fits = with_store i t found fits (store_in i (stored t.bytes)) refl
+notarize_sound t None found may fits = quiet_sound [] t (refuses t (codes "NotAStore")) refl refl
+notarize_sound t (Some i) found may fits = with_store i t found fits (store_in i (stored t.bytes)) refl may
 
 -- ---- each line
 
-stmt_sound : (t : Scene) (stmt : Stmt) (found : Found) → IsDrillLine (lines.Plain stmt) → FitsParts (lines.Plain stmt) → IsFit t → SoundEither (stored_by t.id t (Ok (lines.Plain stmt)) found) t (act t (lines.Plain stmt) found)
+stmt_sound : (t : Scene) (stmt : Stmt) (found : Found) → IsDrillLine (lines.Plain stmt) → FitsParts (lines.Plain stmt) → MayBeFound t.id t (Ok (lines.Plain stmt)) found → IsFit t → SoundEither (stored_by t.id t (Ok (lines.Plain stmt)) found) t (act t (lines.Plain stmt) found)
 unfolding act world_steps.step notary_calls
-stmt_sound t stmts.Notarize found is parts fits = notarize_sound t t.id found fits
-stmt_sound t stmts.Validate found is parts fits = validate_sound t t.id found
-stmt_sound t (stmts.Now moment) found is parts fits = quiet_sound (stored_by t.id t (Ok (lines.Plain (stmts.Now moment))) found) t (says (record t { clock = moment }) (codes "ok")) refl refl
-stmt_sound t (stmts.Create table columns) found is parts fits = tables_sound t t.id (lines.Plain (stmts.Create table columns)) parts found fits (goes_to_tables (lines.Plain (stmts.Create table columns)) tt)
-stmt_sound t (stmts.Insert table row) found is parts fits = tables_sound t t.id (lines.Plain (stmts.Insert table row)) parts found fits (goes_to_tables (lines.Plain (stmts.Insert table row)) tt)
-stmt_sound t (stmts.Update table row) found is parts fits = tables_sound t t.id (lines.Plain (stmts.Update table row)) parts found fits (goes_to_tables (lines.Plain (stmts.Update table row)) tt)
-stmt_sound t (stmts.Delete table key) found is parts fits = tables_sound t t.id (lines.Plain (stmts.Delete table key)) parts found fits (goes_to_tables (lines.Plain (stmts.Delete table key)) tt)
-stmt_sound t (stmts.Get table key moment) found is parts fits = tables_sound t t.id (lines.Plain (stmts.Get table key moment)) parts found fits (goes_to_tables (lines.Plain (stmts.Get table key moment)) tt)
-stmt_sound t (stmts.Scan table filter moment) found is parts fits = tables_sound t t.id (lines.Plain (stmts.Scan table filter moment)) parts found fits (goes_to_tables (lines.Plain (stmts.Scan table filter moment)) tt)
-stmt_sound t (stmts.History table key) found is parts fits = tables_sound t t.id (lines.Plain (stmts.History table key)) parts found fits (goes_to_tables (lines.Plain (stmts.History table key)) tt)
-stmt_sound t stmts.Begin found is parts fits = absurd is
-stmt_sound t stmts.Commit found is parts fits = absurd is
-stmt_sound t stmts.Abort found is parts fits = absurd is
-stmt_sound t (stmts.Analyse algorithm) found is parts fits = analyse_sound t algorithm t.id found
+stmt_sound t stmts.Notarize found is parts may fits = notarize_sound t t.id found may fits
+stmt_sound t stmts.Validate found is parts may fits = validate_sound t t.id found
+stmt_sound t (stmts.Now moment) found is parts may fits = quiet_sound (stored_by t.id t (Ok (lines.Plain (stmts.Now moment))) found) t (says (record t { clock = moment }) (codes "ok")) refl refl
+stmt_sound t (stmts.Create table columns) found is parts may fits = tables_sound t t.id (lines.Plain (stmts.Create table columns)) parts found fits (goes_to_tables (lines.Plain (stmts.Create table columns)) tt)
+stmt_sound t (stmts.Insert table row) found is parts may fits = tables_sound t t.id (lines.Plain (stmts.Insert table row)) parts found fits (goes_to_tables (lines.Plain (stmts.Insert table row)) tt)
+stmt_sound t (stmts.Update table row) found is parts may fits = tables_sound t t.id (lines.Plain (stmts.Update table row)) parts found fits (goes_to_tables (lines.Plain (stmts.Update table row)) tt)
+stmt_sound t (stmts.Delete table key) found is parts may fits = tables_sound t t.id (lines.Plain (stmts.Delete table key)) parts found fits (goes_to_tables (lines.Plain (stmts.Delete table key)) tt)
+stmt_sound t (stmts.Get table key moment) found is parts may fits = tables_sound t t.id (lines.Plain (stmts.Get table key moment)) parts found fits (goes_to_tables (lines.Plain (stmts.Get table key moment)) tt)
+stmt_sound t (stmts.Scan table filter moment) found is parts may fits = tables_sound t t.id (lines.Plain (stmts.Scan table filter moment)) parts found fits (goes_to_tables (lines.Plain (stmts.Scan table filter moment)) tt)
+stmt_sound t (stmts.History table key) found is parts may fits = tables_sound t t.id (lines.Plain (stmts.History table key)) parts found fits (goes_to_tables (lines.Plain (stmts.History table key)) tt)
+stmt_sound t stmts.Begin found is parts may fits = absurd is
+stmt_sound t stmts.Commit found is parts may fits = absurd is
+stmt_sound t stmts.Abort found is parts may fits = absurd is
+stmt_sound t (stmts.Analyse algorithm) found is parts may fits = analyse_sound t algorithm t.id found
 
-line_sound : (t : Scene) (line : Line) (found : Found) → IsDrillLine line → IsFromInside (Ok line) → FitsParts line → IsFit t → SoundEither (stored_by t.id t (Ok line) found) t (act t line found)
+line_sound : (t : Scene) (line : Line) (found : Found) → IsDrillLine line → IsFromInside (Ok line) → FitsParts line → MayBeFound t.id t (Ok line) found → IsFit t → SoundEither (stored_by t.id t (Ok line) found) t (act t line found)
 unfolding act world_steps.step notary_calls
-line_sound t (lines.Plain stmt) found is inside parts fits = stmt_sound t stmt found is parts fits
-line_sound t (lines.Drill (events.Init id width k algs)) found is inside parts fits = init_sound (stored_by t.id t (Ok (lines.Drill (events.Init id width k algs))) found) (record t { id = Some id; sessions = no_sessions }) t (header_at id t.clock width k algs) refl refl
-line_sound t (lines.Drill (events.Crash after choice)) found is inside parts fits = quiet_sound (stored_by t.id t (Ok (lines.Drill (events.Crash after choice))) found) t (says (record t { crash = Some (record { after = after; choice = choice }) }) (codes "ok")) refl refl
-line_sound t (lines.Drill (events.Alter place bytes)) found is inside parts fits = absurd inside
-line_sound t (lines.Drill (events.Cut n)) found is inside parts fits = absurd inside
-line_sound t lines.Blank found is inside parts fits = absurd is
-line_sound t (lines.InSession session stmt) found is inside parts fits = tables_sound t t.id (lines.InSession session stmt) parts found fits (goes_to_tables (lines.InSession session stmt) tt)
+line_sound t (lines.Plain stmt) found is inside parts may fits = stmt_sound t stmt found is parts may fits
+line_sound t (lines.Drill (events.Init id width k algs)) found is inside parts may fits = init_sound (stored_by t.id t (Ok (lines.Drill (events.Init id width k algs))) found) (record t { id = Some id; sessions = no_sessions }) t (header_at id t.clock width k algs) refl refl
+line_sound t (lines.Drill (events.Crash after choice)) found is inside parts may fits = quiet_sound (stored_by t.id t (Ok (lines.Drill (events.Crash after choice))) found) t (says (record t { crash = Some (record { after = after; choice = choice }) }) (codes "ok")) refl refl
+line_sound t (lines.Drill (events.Alter place bytes)) found is inside parts may fits = absurd inside
+line_sound t (lines.Drill (events.Cut n)) found is inside parts may fits = absurd inside
+line_sound t lines.Blank found is inside parts may fits = absurd is
+line_sound t (lines.InSession session stmt) found is inside parts may fits = tables_sound t t.id (lines.InSession session stmt) parts found fits (goes_to_tables (lines.InSession session stmt) tt)
 
-pub reading_sound : (t : Scene) (l : Result Line ParseFail) (found : Found) → IsReading l → IsFromInside l → FitsReading l → IsFit t → SoundEither (stored_by t.id t l found) t (act_on t l found)
-reading_sound t (Ok l) found is inside parts fits = line_sound t l found is inside parts fits
-reading_sound t (Err fail) found is inside parts fits = quiet_sound (stored_by t.id t (Err fail) found) t (refuses t (name_of fail)) refl refl
+pub reading_sound : (t : Scene) (l : Result Line ParseFail) (found : Found) → IsReading l → IsFromInside l → FitsReading l → MayBeFound t.id t l found → IsFit t → SoundEither (stored_by t.id t l found) t (act_on t l found)
+reading_sound t (Ok l) found is inside parts may fits = line_sound t l found is inside parts may fits
+reading_sound t (Err fail) found is inside parts may fits = quiet_sound (stored_by t.id t (Err fail) found) t (refuses t (name_of fail)) refl refl
 
 -- ---- all events
 
@@ -389,7 +401,7 @@ pub event_good : (t : Scene) (e : Event) → IsFit t → MayCome t e → IsFromI
 unfolding step
 event_good t e fits may inside =
     let good = under_sound (stored_by t.id (without_crash t) e.line e.found) (without_crash t) (act_on (without_crash t) e.line e.found) t.crash
-    (reading_sound (without_crash t) e.line e.found may.line inside may.fits (still_fit t fits)) in
+    (reading_sound (without_crash t) e.line e.found may.line inside may.fits (found_without_crash t.id t e.line e.found may.found) (still_fit t fits)) in
     record {
       sound = good.sound;
       extends = λ h some. subst (λ (more : List Item). HasAlso h more (held (step t e.line e.found).scene)) (stored_without_crash t.id t e.line e.found) (good.extends h some);
@@ -421,7 +433,7 @@ fit_header : (t : Scene) (id : ℕ) → IsBytes t.bytes → (o : Option statemen
 fit_header t id bytes None is = tt
 fit_header t id bytes (Some store) is = (let facts = store_is id t.bytes store is in ((stored_history t.bytes store.header bytes facts.header).header, facts.own))
 
-tells : (t : Scene) (id : ℕ) (line : Line) (found : Found) → IsBytes t.bytes → IsSoundScene t → MayFind (world_of t id) line found → TellsNoAlteration (world_of t id) line found
+tells : (t : Scene) (id : ℕ) (line : Line) (found : Found) → IsBytes t.bytes → IsSoundScene t → MayFind (world_of t id) line t.clock found → TellsNoAlteration (world_of t id) line found
 unfolding world_of
 tells t id line found bytes sound may =
     let under : HoldsFiled (batches_of t id) id (history_of (store_in id (stored t.bytes))) =

@@ -11,7 +11,7 @@ use Rattle.stmt_text.specs.declared.stmt.Stmt.TheVariants as stmts
 use Rattle.stmt_text.specs.declared.line.Line.{Line}
 use Rattle.stmt_text.specs.declared.line.Line.TheVariants as lines
 use Rattle.validator.specs.declared.fail.AuditFail.{AuditFail}
-use Rattle.validator.specs.Notarizing.{notarize_fault, frontier_for}
+use Rattle.validator.specs.Notarizing.{Heard, notarize_fault, frontier_for}
 use Rattle.statement_core.specs.World as statements
 use Rattle.statement_core.specs.World.{tail_of_world, with_txn}
 use Rattle.session_model.specs.World as sessions
@@ -19,12 +19,12 @@ use Rattle.session_model.proofs.Storing.{AsksFor, stores_or_not}
 use Rattle.store_world.specs.Found.{Found}
 use Rattle.store_world.specs.World as worlds
 use Rattle.store_world.specs.Steps as world_steps
-use Rattle.store_world.specs.Steps.{on_tables, filed_for, notarized, sealed, reached, filed, validated, algorithm_of, marked}
+use Rattle.store_world.specs.Steps.{on_tables, notarized, intent_in, carried_out, reached, filed, validated, algorithm_of, marked}
 use Rattle.store_world.proofs.Acknowledging.{by_line}
 use Rattle.store_world.proofs.Analysing.{analysed_stays}
 use Rattle.store_world.proofs.Validating.{with_validated}
 use Rattle.store_world.specs.LineCalls.{items_added}
-use Rattle.store_world.proofs.LineItems.{none_added, sealed_store}
+use Rattle.store_world.proofs.LineItems.{none_added, carried_world}
 use Rattle.digest_model.specs.Layout.{layout}
 
 -- ---- a statement on tables, or a line of a session
@@ -40,16 +40,20 @@ with_begun w store = record { store = store; sessions = w.sessions }
 -- ---- a notarization
 
 -- the store gets its Frontier, where nothing speaks against it
-pub record GetsFrontier (w : worlds.World) (store : statements.World) (now : ℕ) (s : world_steps.Step) : Type 0 where
-  pub free : notarize_fault (tail_of_world store) false now store.items (filed_for w) ≡ None
-  pub is : s.world.store ≡ Some (reached (frontier_for (layout (history store.header store.items)) (tail_of_world store) now (filed_for w)) store)
+pub record GetsFrontier (store : statements.World) (now : ℕ) (heard : Heard) (s : world_steps.Step) : Type 0 where
+  pub free : notarize_fault (tail_of_world store) false now store.items heard ≡ None
+  pub is : s.world.store ≡ Some (reached (frontier_for (layout (history store.header store.items)) (tail_of_world store) now heard.count) store)
 
-pub notarized_store : (w : worlds.World) (store : statements.World) (now : ℕ) → ((notarized w (Some store) now).world.store ≡ w.store) ⊎ GetsFrontier w store now (notarized w (Some store) now)
-notarized_store w store now = by (notarize_fault (tail_of_world store) false now store.items (filed_for w)) refl
+pub notarized_store : (w : worlds.World) (store : statements.World) (now : ℕ) (heard : Heard) (refusal : Option AuditFail)
+    → ((notarized w (Some store) now heard refusal).world.store ≡ w.store) ⊎ GetsFrontier store now heard (notarized w (Some store) now heard refusal)
+notarized_store w store now heard refusal = by (notarize_fault (tail_of_world store) false now store.items heard) refl
   where
-    by : (fault : Option AuditFail) → notarize_fault (tail_of_world store) false now store.items (filed_for w) ≡ fault → ((world_steps.unless fault w (sealed w store now)).world.store ≡ w.store) ⊎ GetsFrontier w store now (world_steps.unless fault w (sealed w store now))
+    carried : world_steps.Step
+    carried = carried_out w store (intent_in store now heard) refusal
+
+    by : (fault : Option AuditFail) → notarize_fault (tail_of_world store) false now store.items heard ≡ fault → ((world_steps.unless fault w carried).world.store ≡ w.store) ⊎ GetsFrontier store now heard (world_steps.unless fault w carried)
     by (Some fail) is = inl refl
-    by None is = inr (record { free = is; is = sealed_store w store now })
+    by None is = inr (record { free = is; is = ap (λ (x : worlds.World). x.store) (carried_world w store (intent_in store now heard) refusal) })
 
 -- ---- a line
 
@@ -63,13 +67,14 @@ pub record IsTxnOf (w : worlds.World) (line : Line) (now : ℕ) (new : Option st
   pub free : commit_fault (tail_of_world store) false ops now ≡ None
   pub new_is : new ≡ Some (with_txn store (new_txn store ops now))
 
--- the Frontier of a notarization
+-- the Frontier of a notarization, by what was heard
 pub record IsFrontierOf (w : worlds.World) (now : ℕ) (new : Option statements.World) : Type 0 where
+  pub heard : Heard
   pub store : statements.World
   pub store_is : w.store ≡ Some store
-  pub free : notarize_fault (tail_of_world store) false now store.items (filed_for w) ≡ None
+  pub free : notarize_fault (tail_of_world store) false now store.items heard ≡ None
   pub moment : ℕ
-  pub need : frontier_for (layout (history store.header store.items)) (tail_of_world store) now (filed_for w) ≡ Some moment
+  pub need : frontier_for (layout (history store.header store.items)) (tail_of_world store) now heard.count ≡ Some moment
   pub new_is : new ≡ Some (statements.with_frontier store moment)
 
 -- the store of a world stays, or has one of these more
@@ -84,20 +89,20 @@ module _ (w : worlds.World) (line : Line) (now : ℕ) where
     | inr one ↦ inr (inl (record { store = store; store_is = is; ops = one.ops; asked = one.asked; some = one.some; free = one.free; new_is = ap (λ (x : statements.World). Some x) one.store }))
   ]
 
-  of_notarize : (o : Option statements.World) → w.store ≡ o → Stores w line now (notarized w o now).world.store
-  of_notarize None is = inl refl
-  of_notarize (Some store) is = elim (notarized_store w store now) [
+  of_notarize : (heard : Heard) (refusal : Option AuditFail) (o : Option statements.World) → w.store ≡ o → Stores w line now (notarized w o now heard refusal).world.store
+  of_notarize heard refusal None is = inl refl
+  of_notarize heard refusal (Some store) is = elim (notarized_store w store now heard refusal) [
     | inl same ↦ inl same
-    | inr gets ↦ subst (Stores w line now) (sym gets.is) (by gets.free (frontier_for (layout (history store.header store.items)) (tail_of_world store) now (filed_for w)) refl)
+    | inr gets ↦ subst (Stores w line now) (sym gets.is) (by gets.free (frontier_for (layout (history store.header store.items)) (tail_of_world store) now heard.count) refl)
   ]
     where
-      by : notarize_fault (tail_of_world store) false now store.items (filed_for w) ≡ None → (need : Option ℕ) → frontier_for (layout (history store.header store.items)) (tail_of_world store) now (filed_for w) ≡ need → Stores w line now (Some (reached need store))
+      by : notarize_fault (tail_of_world store) false now store.items heard ≡ None → (need : Option ℕ) → frontier_for (layout (history store.header store.items)) (tail_of_world store) now heard.count ≡ need → Stores w line now (Some (reached need store))
       by free None need = inl (sym is)
-      by free (Some moment) need = inr (inr (record { store = store; store_is = is; free = free; moment = moment; need = need; new_is = refl }))
+      by free (Some moment) need = inr (inr (record { heard = heard; store = store; store_is = is; free = free; moment = moment; need = need; new_is = refl }))
 
 pub step_stores : (w : worlds.World) (line : Line) (now : ℕ) (found : Found) → Stores w line now (world_steps.step w line now found).world.store
-step_stores w line now found = by_line (λ line s. Stores w line now s.world.store) w line now found (λ line. of_tables w line now w.store refl) (of_notarize w (lines.Plain stmts.Notarize) now w.store refl)
-    (inl (with_validated w now found.verdict).0) (λ algorithm. inl (ap (λ (x : worlds.World). x.store) (analysed_stays w (algorithm_of algorithm) now found.analysis)))
+step_stores w line now found = by_line (λ line s. Stores w line now s.world.store) w line now found (λ line. of_tables w line now w.store refl) (of_notarize w (lines.Plain stmts.Notarize) now found.heard found.refusal w.store refl)
+    (inl (with_validated w now found.verdict found.refusal).store) (λ algorithm. inl (ap (λ (x : worlds.World). x.store) (analysed_stays w (algorithm_of algorithm) found.analysis found.body)))
 
 -- the items of that
 module _ (w : worlds.World) (line : Line) (now : ℕ) (new : Option statements.World) where

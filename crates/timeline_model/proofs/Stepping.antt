@@ -23,7 +23,7 @@ use Rattle.session_model.specs.World.{Session}
 use Rattle.store_world.specs.Found.{Found}
 use Rattle.store_world.specs.World as worlds
 use Rattle.store_world.specs.Steps as world_steps
-use Rattle.store_world.specs.Steps.{on_tables, notarized, sealed, filed, filed_for, reached, validated, algorithm_of, marked, IsWorldStmt, IsWorldLine}
+use Rattle.store_world.specs.Steps.{on_tables, notarized, filed, reached, validated, algorithm_of, marked, IsWorldStmt, IsWorldLine}
 use Rattle.store_engine.specs.Appended.{with_record, Takes}
 use Rattle.store_engine.proofs.Appended.{append_adds, append_puts, stores_record}
 use Rattle.store_world.specs.LineCalls.{items_added, with_items, end_of_store}
@@ -100,7 +100,7 @@ module _ (id : ℕ) (t : Scene) (line : Line) (found : Found) (scene_fits : IsFi
       ap (λ (y : List ℕ). store_in id (stored y)) y_is ∙ read_more id t txn.store txn.store_is bytes item in_file ∙ sym txn.new_is
   read_by new (inr (inr frontier)) =
       let item : Item = items.Frontier frontier.moment in
-      let in_file = sealing.frontier_takes id t found frontier.store frontier.store_is bytes frontier.free frontier.moment frontier.need in
+      let in_file = sealing.frontier_takes id t (record found { heard = frontier.heard }) frontier.store frontier.store_is bytes frontier.free frontier.moment frontier.need in
       let y_is : bytes_to new ≡ with_items frontier.store.end (item ∷ []) t.bytes = with_one new frontier.store item frontier.store_is (frontier_added w line t.clock new frontier) in
       ap (λ (y : List ℕ). store_in id (stored y)) y_is ∙ read_more id t frontier.store frontier.store_is bytes item in_file ∙ sym frontier.new_is
 

@@ -11,14 +11,13 @@ use Rattle.history_model.specs.Stored.{stored}
 use Rattle.txn_journal.specs.Held.{Standing, standing}
 use Rattle.txn_journal.specs.Append.{append_calls, closed_gate}
 use Rattle.txn_journal.specs.Create.{is_free, creation}
-use Rattle.notary_link.specs.Notary.{Lists, Keeps}
 use Rattle.store_engine.specs.declared.fail.StoreFail.{StoreFail}
 use Rattle.store_engine.specs.declared.fail.StoreFail.TheVariants as fails
 use Rattle.statement_core.specs.World as statements
 use Rattle.session_model.specs.World.{Session}
 use Rattle.session_model.specs.Standing.{NoneKept}
 use Rattle.store_world.specs.declared.open_store.OpenStore.{OpenStore}
-use Rattle.store_world.specs.World.{StoreIsIn, IsIn, IsEntered}
+use Rattle.store_world.specs.Standing.{StoreIsIn, IsIn, IsEntered}
 use Rattle.timeline_model.specs.Scene.{Scene, without_sessions, store_in, world_of}
 use Rattle.store_world.specs.LineCalls.{with_items, appends}
 
@@ -57,12 +56,12 @@ abbrev pub WorldsGoByBytes : Type 0
 WorldsGoByBytes = (id : ℕ) (w : Option statements.World) (begun : ℕ → Option Session) (kept : Option OpenStore) (bytes : List ℕ) → StoreIsIn id w begun kept bytes → store_in id (stored bytes) ≡ w
 
 -- what a machine stands for behind an answer of entering, if it came to one: a world without sessions
-abbrev pub StandsEntered : Scene → ℕ → Result (Unit {0}) StoreFail → Option OpenStore → Lists → Type 0
-StandsEntered t id (Ok _) kept lists = IsIn (world_of (without_sessions t) id) (record { id = id; opened = kept }) t.bytes lists
-StandsEntered t id (Err fails.NotAStore) kept lists = IsIn (world_of (without_sessions t) id) (record { id = id; opened = None }) t.bytes lists
-StandsEntered t id (Err fail) kept lists = Unit {0}
+abbrev pub StandsEntered : Scene → ℕ → Result (Unit {0}) StoreFail → Option OpenStore → Type 0
+StandsEntered t id (Ok _) kept = IsIn (world_of (without_sessions t) id) (record { id = id; opened = kept }) t.bytes
+StandsEntered t id (Err fails.NotAStore) kept = IsIn (world_of (without_sessions t) id) (record { id = id; opened = None }) t.bytes
+StandsEntered t id (Err fail) kept = Unit {0}
 
 -- The other way round: a machine that entered over a scene's bytes, without sessions, stands for the world that a timeline reads.
 abbrev pub EnteredStandForWorlds : Type 0
-EnteredStandForWorlds = (t : Scene) (id : ℕ) (result : Result (Unit {0}) StoreFail) (kept : Option OpenStore) (lists : Lists) → Keeps t.lists lists
-    → IsEntered id t.bytes result kept → IfSome kept (λ o. NoneKept o.sessions) → StandsEntered t id result kept lists
+EnteredStandForWorlds = (t : Scene) (id : ℕ) (result : Result (Unit {0}) StoreFail) (kept : Option OpenStore)
+    → IsEntered id t.bytes result kept → IfSome kept (λ o. NoneKept o.sessions) → StandsEntered t id result kept

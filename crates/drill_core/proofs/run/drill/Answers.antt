@@ -27,7 +27,7 @@ returns-in_err-read_line-clause-told g c =
     let O = g.O.Sink.state in
     let fail = c.in_err-read_line.field-0.0 in
     let same : c.from_residual.result ≡ Err (of_input fail) = search rules in
-    rw same (read_failed (nothing_yet book_limits) (each_right book_limits) (I c.args.input.now) (I c.lines.input) c.lines.reader (O c.args.out.now) (O c.lines.out) c.lines.drill c.lines.refused c.lines.invariant (I c.read_line.new.input) c.read_line.new.self c.read_line.ensures.taken fail c.in_err-read_line.ensures.told c.in_err-read_line.ensures.input_limit c.in_err-read_line.ensures.read_fault)
+    rw same (read_failed (nothing_yet book_limits) (each_right book_limits) (I c.args.input.now) (I c.lines.input) c.lines.reader (O c.args.out.now) (O c.lines.out) c.lines.drill c.lines.refused c.lines.invariant (I c.read_line.new.input) c.read_line.new.self c.read_line.ensures.taken fail c.in_err-read_line.ensures.told c.in_err-read_line.ensures.sees c.in_err-read_line.ensures.input_limit c.in_err-read_line.ensures.read_fault)
 
 pub returns-in_err-answered-clause-told : goal.returns-in_err-answered-clause-told
 returns-in_err-answered-clause-told g c =
@@ -50,4 +50,4 @@ pub returns-clause-told : goal.returns-clause-told
 returns-clause-told g c =
     let I = g.I.Source.state in
     let O = g.O.Sink.state in
-    ended (nothing_yet book_limits) (each_right book_limits) (I c.args.input.now) (I c.lines.input) c.lines.reader (O c.args.out.now) (O c.lines.out) c.lines.drill c.lines.refused c.lines.invariant (I c.read_line.new.input) c.read_line.new.self c.read_line.ensures.taken (rw c.if-branch.false at c.in_ok-read_line.ensures.told) (rw c.if-branch.false at c.in_ok-read_line.ensures.end refl)
+    ended (nothing_yet book_limits) (each_right book_limits) (I c.args.input.now) (I c.lines.input) c.lines.reader (O c.args.out.now) (O c.lines.out) c.lines.drill c.lines.refused c.lines.invariant (I c.read_line.new.input) c.read_line.new.self c.read_line.ensures.taken (rw c.if-branch.false at c.in_ok-read_line.ensures.told) (rw c.if-branch.false at c.in_ok-read_line.ensures.sees) (rw c.if-branch.false at c.in_ok-read_line.ensures.end refl)

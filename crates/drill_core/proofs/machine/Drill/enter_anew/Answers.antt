@@ -1,7 +1,7 @@
 use Rattle.std.proofs.Common.{◌≡◌, ℕ, Err, ap, ◌∙◌, subst}
 use Rattle.store_engine.specs.declared.fail.StoreFail.{StoreFail}
 use Rattle.store_engine.specs.declared.fail.StoreFail.TheVariants as store_fails
-use Rattle.store_world.specs.World.{IsEntered}
+use Rattle.store_world.specs.Standing.{IsEntered}
 use Rattle.drill_core.specs.Drills.{NoneFails}
 use Rattle.drill_core.specs.Devices.{EntersAnew}
 use Rattle.drill_core.proofs.Ready.{ok_map}

@@ -1,23 +1,25 @@
-use Rattle.std.proofs.Common.{◌≡◌, Some, None, sym, ap, ◌∙◌}
-use Rattle.std.specs.Option.{option_map}
+use Rattle.std.proofs.Common.{◌≡◌, None, sym, ap, subst, ◌∙◌}
 use Rattle.timeline_model.specs.Scene.{Scene}
+use Rattle.drill_core.specs.declared.machine.Drill.{Drill}
 use Rattle.drill_core.specs.Drills.{crash_of}
-use Rattle.drill_core.proofs.Ready.{ok_map, at_crash}
-use Rattle.drill_core.proofs.Coming.{acted_event, stopped_event}
+use Rattle.drill_core.specs.Taken.{IsEvent}
+use Rattle.drill_core.proofs.Ready.{at_crash}
+use Rattle.drill_core.proofs.Coming.{some_of, none_of, none_fails_behind, whole_event, entered_event}
 use Rattle.drill_core.proofs.machine.Drill.line.Goals as goal
+use Rattle.drill_core.proofs.machine.Drill.line.Goals.{then-is_some+in_ok-enter_anew, else-is_some}
 
-pub returns-in-None : goal.returns-in-None
-returns-in-None c = record {
+pub returns : goal.returns
+returns c = record {
   value = λ t at.
-      let none : t.crash ≡ None = ap (λ (s : Scene). s.crash) at.fields ∙ ap (option_map crash_of) (sym c.take.ensures.value ∙ c.in-None.is) in
-      ok_map c.act_on.result _ _ (c.act_on.ensures.value _ (at_crash t c.args.self.now at c.take.new.self))
-      (λ answered a. acted_event c.args.reading.now t answered c.args.self.now c.act_on.new.self c.requires.reading c.requires.fits none (option_map crash_of c.take.new.self) c.take.new.self (ap (option_map crash_of) c.take.ensures.after) a);
-}
-
-pub returns-in-Some : goal.returns-in-Some
-returns-in-Some c = record {
-  value = λ t at.
-      let some : t.crash ≡ Some (crash_of c.in-Some.crash) = ap (λ (s : Scene). s.crash) at.fields ∙ ap (option_map crash_of) (sym c.take.ensures.value ∙ c.in-Some.is) in
-      ok_map c.take_under.result _ _ (c.take_under.ensures.value _ (at_crash t c.args.self.now at c.take.new.self))
-      (λ answered s. stopped_event c.args.reading.now t answered c.args.self.now c.take_under.new.self c.requires.reading c.requires.fits (crash_of c.in-Some.crash) some (option_map crash_of c.take.new.self) c.take.new.self (ap (option_map crash_of) c.take.ensures.after) s);
+      let crash_is : t.crash ≡ crash_of c.take-crash.result = ap (λ (s : Scene). s.crash) at.left.fields ∙ ap crash_of (sym c.take-crash.ensures.value) in
+      let none_is : crash_of c.take-crash.new.self ≡ None = ap crash_of c.take-crash.ensures.after in
+      let acted = c.in_ok-answered.ensures.value (record t { crash = crash_of c.take-crash.new.self }) (at_crash t c.args.self.now at c.take-crash.new.self) in
+      elim c.if-is_some.branch [
+        | then-is_some+in_ok-enter_anew w ↦ subst (λ (d : Drill). IsEvent c.args.reading.now t c.in_ok-answered.answered c.args.self.now d) (sym w.self-is)
+            (entered_event c.args.reading.now t c.in_ok-answered.answered c.args.self.now c.requires.reading c.requires.fits (crash_of c.take-crash.result) crash_is (crash_of c.take-crash.new.self) none_is c.take-crash.new.self
+            c.act_on.new.self w.enter_anew.new.self (some_of c.take-crash.result (sym w.if-is_some.ensures)) acted (w.in_ok-enter_anew.ensures.value (none_fails_behind (crash_of c.take-crash.result) _ c.act_on.new.self acted.follows.at)))
+        | else-is_some w ↦ subst (λ (d : Drill). IsEvent c.args.reading.now t c.in_ok-answered.answered c.args.self.now d) (sym w.self-is)
+            (whole_event c.args.reading.now t c.in_ok-answered.answered c.args.self.now c.requires.reading c.requires.fits (crash_of c.take-crash.result) crash_is (crash_of c.take-crash.new.self) none_is c.take-crash.new.self
+            c.act_on.new.self (none_of c.take-crash.result (sym w.if-is_some.ensures)) acted)
+      ];
 }
