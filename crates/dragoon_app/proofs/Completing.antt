@@ -17,16 +17,19 @@ use Rattle.drill_core.specs.declared.fail.DrillFail.{DrillFail}
 use Rattle.drill_core.specs.declared.fail.DrillFail.TheVariants as drill_fails
 use Rattle.drill_core.specs.Drilled as drilled
 use Rattle.dragoon_app.specs.declared.command.NewStore.{NewStore}
-use Rattle.dragoon_app.specs.declared.status.Status.{Status}
-use Rattle.dragoon_app.specs.declared.status.Status.TheVariants as statuses
-use Rattle.dragoon_app.specs.Outcome.{Outcome, CutsOff, Said, Answers, refused}
-use Rattle.dragoon_app.specs.Devices.{Content, Devices, Effect, WhereBothTell, AllGoOn, HasCauses, content}
-use Rattle.dragoon_app.specs.Commands.{OnHeader, OnStore}
+use Rattle.line_runs.specs.declared.status.Status.{Status}
+use Rattle.line_runs.specs.declared.status.Status.TheVariants as statuses
+use Rattle.line_runs.specs.Outcome.{Outcome, CutsOff, Said, refused}
+use Rattle.dragoon_app.specs.Answers.{Answers}
+use Rattle.outside_words.specs.Faults.{Rose}
+use Rattle.notary_link.specs.Notary as notaries
+use Rattle.line_runs.specs.Devices.{Content, Devices, Effect, WhereBothTell, AllGoOn, HasCauses, content}
+use Rattle.line_runs.specs.OnStore.{OnHeader, OnStore}
 use Rattle.dragoon_app.specs.Linked.{Links, link_under, link_outcome}
 use Rattle.dragoon_app.specs.Init.{Inits, init_outcome, says_ready}
-use Rattle.dragoon_app.specs.Running.{Running, Timed, carried}
-use Rattle.dragoon_app.specs.Ran.{CauseOf, IsToTell, Reads, RunsOn, RunsHeader, RunsStore, Writes, lines_in, opened, text_before}
-use Rattle.dragoon_app.specs.Made.{MakesOn, MakesHeader, MakesStore, Tells, TellsFault, made_outcome, all_but_two}
+use Rattle.line_runs.specs.Running.{Running, Timed, carried}
+use Rattle.line_runs.specs.Ran.{CauseOf, IsToTell, Reads, RunsOn, RunsHeader, RunsStore, Writes, lines_in, opened, text_before}
+use Rattle.line_runs.specs.Made.{MakesOn, MakesHeader, MakesStore, Tells, TellsFault, made_outcome, all_but_two}
 use Rattle.dragoon_app.specs.Drilled.{DrillsBeside, EndsDrill}
 use Rattle.dragoon_app.specs.Completes.{NoneFailed, TellsBytes, DeskTells, EndsInTime, HasHeader, EndsDone, EndsReplied, MayLink, MayInit, MayRun, MayMake, MayDrill}
 
@@ -50,6 +53,14 @@ both_told old new held P none goes holds told =
     let lists = telling old.desk.notary.lists new.desk.notary.lists held.lists _ holds.notary (λ e. none.notary (goes.notary.told.ends (ap is_some holds.notary) e)) disk.1 in
     (content disk.0 lists.0, lists.1)
 
+-- of the disk alone
+pub disk_told : (old new : Devices) (held : Content) (P : List ℕ → List ℕ → Type 0) → AllGoOn old new → DeskTells held old.desk → WhereTold old.desk.disk.reads new.desk.disk.reads P → (after : List ℕ) × P held.bytes after
+disk_told old new held P goes holds told = telling old.desk.disk.reads new.desk.disk.reads held.bytes P holds.store.told (still_told old.desk.disk.reads new.desk.disk.reads held.bytes goes.disk.told holds.store.told) told
+
+-- and of the notary alone
+pub lists_told : (old new : Devices) (held : Content) (P : notaries.Lists → notaries.Lists → Type 0) → NoneFailed old new → AllGoOn old new → DeskTells held old.desk → WhereTold old.desk.notary.lists new.desk.notary.lists P → (later : notaries.Lists) × P held.lists later
+lists_told old new held P none goes holds told = telling old.desk.notary.lists new.desk.notary.lists held.lists P holds.notary (λ e. none.notary (goes.notary.told.ends (ap is_some holds.notary) e)) told
+
 -- ---- what was said
 
 module _ (P : Status → Type 0) (result : Status) (none_written : result ≡ statuses.WriteFault → ⊥) (memory : P statuses.NoMemory) where
@@ -67,10 +78,13 @@ module _ (result : Status) (old new : Devices) (none : NoneFailed old new) (caus
   pub none_written : result ≡ statuses.WriteFault → ⊥
   none_written e = none.out (causes.write e)
 
-  -- what is defined was said, or that the disk failed
-  answered_well : (d : Outcome) → EndsDone d.status → Answers d result old.out new.out → EndsDone result
+  abbrev Failing : Outcome → Type 0
+  Failing d = Answers (Rose old.desk.disk.faults new.desk.disk.faults) d result old.out new.out
+
+  -- what is defined was said
+  answered_well : (d : Outcome) → EndsDone d.status → Failing d → EndsDone result
   answered_well d done (inl said) = said_well EndsDone result none_written tt d old.out new.out (λ e. subst EndsDone (sym e) done) said
-  answered_well d done (inr failed) = said_well EndsDone result none_written tt (refused statuses.DiskFault) old.out new.out (λ e. absurd (none.disk (causes.disk e))) failed
+  answered_well d done (inr failed) = absurd (none.disk failed.0)
 
 links_done : (o : Option Header) (header : Header) (ts : List Txn) → o ≡ Some header → EndsDone (link_under o ts).status
 links_done None header ts is = absurd cc
@@ -79,7 +93,7 @@ links_done (Some h) header ts is = tt
 pub link_completes : (result : Status) (old new : Devices) → Links result old new → HasCauses result old new → (header : Header) (bytes : List ℕ) → MayLink header bytes old new → EndsDone result
 link_completes result old new links causes header bytes may =
     answered_well result old new may.none_failed causes (link_outcome bytes) (links_done (stored bytes).header header (txns (stored bytes).items) may.header_is)
-    (if_told old.desk.disk.reads bytes (λ (b : List ℕ). Answers (link_outcome b) result old.out new.out) may.store.told links.answers)
+    (if_told old.desk.disk.reads bytes (λ (b : List ℕ). Answers (Rose old.desk.disk.faults new.desk.disk.faults) (link_outcome b) result old.out new.out) may.store.told links.answers)
 
 inits_done : (s : NewStore) (late free : Bool) → late ≡ false → free ≡ true → EndsDone (if late then refused statuses.TooLate else if free then says_ready s.id else refused statuses.AlreadyThere).status
 inits_done s true free early is = absurd cc
@@ -91,7 +105,7 @@ init_completes s result old new inits causes bytes may =
     let within : inits.now ≤ max_moment = may.in_time inits.now inits.taken in
     let early : nat_lt max_moment inits.now ≡ false = grind (arith, nat_tests, within) in
     answered_well result old new may.none_failed causes (init_outcome s inits.now bytes) (inits_done s (nat_lt max_moment inits.now) (is_free bytes) early may.free)
-    (if_told old.desk.disk.reads bytes (λ (b : List ℕ). Answers (init_outcome s inits.now b) result old.out new.out) may.store.told inits.inits.answers)
+    (if_told old.desk.disk.reads bytes (λ (b : List ℕ). Answers (Rose old.desk.disk.faults new.desk.disk.faults) (init_outcome s inits.now b) result old.out new.out) may.store.told inits.inits.answers)
 
 -- ---- on a store
 
@@ -138,9 +152,9 @@ module _ (result : Status) (old new : Devices) (none : NoneFailed old new) (goes
       by : (result ≡ statuses.NoMemory) ⊎ RunsHeader scripted header result old new → EndsReplied result
       by (inl wanting) = subst EndsReplied (sym wanting) tt
       by (inr runs) =
-          let at = both_told old new held (RunsStore scripted header result old new) none goes may.desk runs.runs in
+          let at = disk_told old new held (RunsStore scripted header result old new) goes may.desk runs in
           let r = at.1.runs in
-          ran_by (r.next.line ≡ []) (IsToTell r.done r.next old new) (text_before scripted (opened header old held) r.done) (carried scripted (opened header old held) r.done)
+          ran_by (r.next.line ≡ []) (IsToTell r.done r.next old new) (text_before scripted (opened header old held.bytes) r.done) (carried scripted (opened header old held.bytes) r.done)
           (λ told. cause_none may.input r.done r.next told.read told.cause) r.said
 
   told_made : (made : Outcome) (done : List Timed) (next : Timed) (text : List ℕ) → EndsReplied made.status → Tells made done next text result old new → EndsReplied result
@@ -158,9 +172,9 @@ module _ (result : Status) (old new : Devices) (none : NoneFailed old new) (goes
       by : (result ≡ statuses.NoMemory) ⊎ MakesHeader seed count header result old new → EndsReplied result
       by (inl wanting) = subst EndsReplied (sym wanting) tt
       by (inr makes) =
-          let at = both_told old new held (MakesStore seed count header result old new) none goes may.desk makes.makes in
+          let at = disk_told old new held (MakesStore seed count header result old new) goes may.desk makes in
           let m = at.1.makes in
-          let begin : Running = opened header old held in
+          let begin : Running = opened header old held.bytes in
           let r : Running = carried true begin m.done in
           told_made (made_outcome count (all_but_two begin m.done) r) m.done m.next (script header.width (last_moment (stored held.bytes).items) seed count) (ends_replied (nat_lt 0 r.refused)) m.tells
 

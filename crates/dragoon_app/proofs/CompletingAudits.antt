@@ -29,9 +29,11 @@ use Rattle.validator.specs.declared.verdict.Verdict.{Verdict}
 use Rattle.validator.specs.declared.verdict.Verdict.TheVariants as verdicts
 use Rattle.validator.specs.declared.fail.AuditFail.{AuditFail}
 use Rattle.validator.specs.declared.fail.AuditFail.TheVariants as fails
-use Rattle.validator.specs.Notarizing.{else_cause, fault_by, chain_fault, IsEarly, early_fault, filed_fault, room_fault, frontier_for, next_batches, notarize_fault, IsRefusedBy}
-use Rattle.validator.specs.Reaching.{Notarizes}
-use Rattle.validator.specs.Filing.{FilesFor}
+use Rattle.tuple_bytes.specs.declared.item.Item.{Item}
+use Rattle.validator.specs.Notarizing.{Heard, heard_of, Intent, intent_of, else_cause, fault_by, chain_fault, IsEarly, early_fault, filed_fault, room_fault, frontier_for, next_batches, notarize_fault, IsRefusedBy}
+use Rattle.validator.specs.Reaching.{IsReached, Notarizes}
+use Rattle.validator.proofs.Telling as listed
+use Rattle.validator.specs.Filing.{Files, FilesFor}
 use Rattle.validator.specs.Verdicts.{IsFound, IsFoundIn, IsNotMarked, Validates, mark_of}
 use Rattle.validator.proofs.Shown.{broken_altered, missing_clash}
 use Rattle.forensic_report.specs.declared.algorithm.Algorithm.{Algorithm}
@@ -42,13 +44,13 @@ use Rattle.forensic_report.specs.Finding.{has_chains, IsAnalysis, IsAnalysisIn}
 use Rattle.forensic_report.specs.Held.{HoldsHistory}
 use Rattle.forensic_report.specs.Reporting.{Analyses, IsFoundOn}
 use Rattle.forensic_report.proofs.Refusals.{refusals_clash}
-use Rattle.dragoon_app.specs.declared.status.Status.{Status}
-use Rattle.dragoon_app.specs.declared.status.Status.TheVariants as statuses
-use Rattle.dragoon_app.specs.Devices.{Content, Desk, Devices, AllGoOn, HasCauses, content}
+use Rattle.line_runs.specs.declared.status.Status.{Status}
+use Rattle.line_runs.specs.declared.status.Status.TheVariants as statuses
+use Rattle.line_runs.specs.Devices.{Content, Desk, Devices, AllGoOn, HasCauses, content}
 use Rattle.dragoon_app.specs.Audited.{NotarizesOn, NotarizesHeader, ValidatesOn, notarize_outcome, validate_outcome, verdict_status}
 use Rattle.dragoon_app.specs.Analysed.{AnalysesOn, analyse_outcome, report_status}
 use Rattle.dragoon_app.specs.Completes.{NoneFailed, DeskTells, IsTrusted, MayFileAt, tail_in, EndsJudged, EndsSealed, MayNotarize, MayValidate, MayAnalyse}
-use Rattle.dragoon_app.proofs.Completing.{telling, if_told, both_told, on_store, said_well}
+use Rattle.dragoon_app.proofs.Completing.{disk_told, lists_told, telling, if_told, on_store, said_well}
 
 -- ---- what the bytes hold
 
@@ -173,17 +175,22 @@ tail_is s header bytes is at =
 none_full : (id : ℕ) (limits : NotaryLimits) (batches : List Batch) (lists later : notaries.Lists) → fitting (room_in limits lists) batches ≡ length batches → FilesFor {A = ℕ} id limits batches (Err fails.Full) lists later → ⊥
 none_full id limits batches lists later fit files = let left = files.left in omega (arith, fit, left)
 
+-- what the lists say of a notarization
+abbrev Told : ℕ → Intent → Result ℕ AuditFail → Opened → Opened → List Item → Desk → Desk → List ℕ → List ℕ → notaries.Lists → notaries.Lists → Type 0
+Told id intent answer s later_s its old new before after lists later = intent.first ≡ length (lists.batches id)
+    → Files id intent answer (IsReached intent.frontier s later_s its old.disk new.disk before after) old.notary new.notary lists later
+
 module _ (n : ℕ) (h : History) (header : Header) (bytes : List ℕ) (are : IsBytes bytes) (spelled : HasSpelling h) (is : (stored bytes).header ≡ Some header) (lists : notaries.Lists) (trusted : IsTrusted (lists.batches header.id) header.id n h bytes) where
   module _ (limits : NotaryLimits) (now : ℕ) (may : MayFileAt header (content bytes lists) limits now) where
-    fault_is : (fail : AuditFail) → notarize_fault (tail_in header bytes) false now (stored bytes).items (lists.batches header.id) ≡ Some fail → filed_fault (lists.batches header.id) (history header (stored bytes).items) ≡ Some fail
+    fault_is : (fail : AuditFail) → notarize_fault (tail_in header bytes) false now (stored bytes).items (heard_of (lists.batches header.id) (history header (stored bytes).items)) ≡ Some fail → filed_fault (lists.batches header.id) (history header (stored bytes).items) ≡ Some fail
     fault_is fail e =
         let filed = filed_fault (lists.batches header.id) (history header (stored bytes).items) in
-        let room = room_fault (tail_in header bytes) (frontier_for (layout (history header (stored bytes).items)) (tail_in header bytes) now (lists.batches header.id)) in
+        let room = room_fault (tail_in header bytes) (frontier_for (layout (history header (stored bytes).items)) (tail_in header bytes) now (length (lists.batches header.id))) in
         else_alone filed fail (sym (ap (λ (x : Option AuditFail). else_cause x (else_cause filed room)) may.early ∙ ap (else_cause filed) may.frontier) ∙ e)
 
     notarized_status : (later : notaries.Lists) (answer : Result ℕ AuditFail) → IsEarly (early_fault (tail_in header bytes) false now) answer
-        → IsRefusedBy (notarize_fault (tail_in header bytes) false now (stored bytes).items (lists.batches header.id)) answer
-        → FilesFor header.id limits (next_batches (history header (stored bytes).items) now (lists.batches header.id)) answer lists later
+        → IsRefusedBy (notarize_fault (tail_in header bytes) false now (stored bytes).items (heard_of (lists.batches header.id) (history header (stored bytes).items))) answer
+        → FilesFor header.id limits (next_batches (history header (stored bytes).items) now (length (lists.batches header.id))) answer lists later
         → ((notarize_outcome answer).status ≡ statuses.DiskFault → ⊥) → ((notarize_outcome answer).status ≡ statuses.NotaryFault → ⊥)
         → EndsSealed n h bytes (notarize_outcome answer).status
     notarized_status later (Ok tiles) early refused files disk notary = tt
@@ -191,7 +198,7 @@ module _ (n : ℕ) (h : History) (header : Header) (bytes : List ℕ) (are : IsB
     notarized_status later (Err fails.DiskFault) early refused files disk notary = absurd (disk refl)
     notarized_status later (Err fails.NotaryFault) early refused files disk notary = absurd (notary refl)
     notarized_status later (Err fails.NoMemory) early refused files disk notary = tt
-    notarized_status later (Err (fails.OutOfTurn count)) early refused files disk notary = absurd refused
+    notarized_status later (Err (fails.OutOfTurn count)) early refused files disk notary = absurd files
     notarized_status later (Err fails.Closed) early refused files disk notary = absurd (disk refl)
     notarized_status later (Err (fails.ClockBack last)) early refused files disk notary = absurd (subst (λ (o : Option AuditFail). IsEarly {A = ℕ} o (Err (fails.ClockBack last))) may.early early)
     notarized_status later (Err fails.TooLate) early refused files disk notary = absurd (subst (λ (o : Option AuditFail). IsEarly {A = ℕ} o (Err fails.TooLate)) may.early early)
@@ -199,35 +206,42 @@ module _ (n : ℕ) (h : History) (header : Header) (bytes : List ℕ) (are : IsB
     notarized_status later (Err fails.Broken) early refused files disk notary = fault_broken header.id n h bytes are spelled (lists.batches header.id) trusted header is (fault_is fails.Broken refused)
     notarized_status later (Err (fails.SealMissing name)) early refused files disk notary = absurd (fault_missing header.id n h bytes are spelled (lists.batches header.id) trusted header is name (fault_is (fails.SealMissing name) refused))
 
-    notarized : (answer : Result ℕ AuditFail) (s later_s : Opened) (old new : Desk) (after : Content) → old.notary.limits ≡ limits → s.header ≡ header → s.at.is_closed ≡ false → IsOpenOn s (stored bytes).items bytes
-        → IsEarly (early_fault (tail_of s) false now) answer → Notarizes now (stored bytes).items answer s later_s old new (content bytes lists) after
+    notarized : (answer : Result ℕ AuditFail) (s later_s : Opened) (old new : Desk) (after : List ℕ) (later : notaries.Lists) → old.notary.limits ≡ limits → s.header ≡ header → s.at.is_closed ≡ false → IsOpenOn s (stored bytes).items bytes
+        → IsEarly (early_fault (tail_of s) false now) answer → (m : Notarizes now (stored bytes).items answer s later_s old new bytes after) → m.heard ≡ heard_of (lists.batches s.header.id) (history s.header (stored bytes).items)
+        → Told s.header.id (intent_of (tail_of s) s.at.is_closed now (stored bytes).items m.heard) answer s later_s (stored bytes).items old new bytes after lists later
         → ((notarize_outcome answer).status ≡ statuses.DiskFault → ⊥) → ((notarize_outcome answer).status ≡ statuses.NotaryFault → ⊥)
         → EndsSealed n h bytes (notarize_outcome answer).status
-    notarized answer s later_s old new after limits_are header_is is_open at early does disk notary =
+    notarized answer s later_s old new after later limits_are header_is is_open at early m heard_is told disk notary =
         let tail = tail_is s header bytes header_is at in
-        notarized_status after.lists answer
+        let hears : Header → Heard = λ x. heard_of (lists.batches x.id) (history x (stored bytes).items) in
+        let refused : IsRefusedBy (notarize_fault (tail_of s) s.at.is_closed now (stored bytes).items (hears s.header)) answer =
+        subst (λ (x : Heard). IsRefusedBy (notarize_fault (tail_of s) s.at.is_closed now (stored bytes).items x) answer) heard_is m.does.refused in
+        let files : FilesFor s.header.id old.notary.limits (next_batches (history s.header (stored bytes).items) now (length (lists.batches s.header.id))) answer lists later =
+        subst (λ (x : Heard). FilesFor s.header.id old.notary.limits (next_batches (history s.header (stored bytes).items) now x.count) answer lists later) heard_is (told (ap (λ (x : Heard). x.count) heard_is)).files in
+        notarized_status later answer
         (subst (λ (t : Tail). IsEarly (early_fault t false now) answer) tail early)
-        (subst (λ (id : ℕ). IsRefusedBy (notarize_fault (tail_in header bytes) false now (stored bytes).items (lists.batches id)) answer) (ap (λ (x : Header). x.id) header_is)
-        (subst (λ (t : Tail). IsRefusedBy (notarize_fault t false now (stored bytes).items (lists.batches s.header.id)) answer) tail
-        (subst (λ (b : Bool). IsRefusedBy (notarize_fault (tail_of s) b now (stored bytes).items (lists.batches s.header.id)) answer) is_open does.refused)))
-        (subst (λ (l : NotaryLimits). FilesFor header.id l (next_batches (history header (stored bytes).items) now (lists.batches header.id)) answer lists after.lists) limits_are
-        (subst (λ (x : Header). FilesFor x.id old.notary.limits (next_batches (history x (stored bytes).items) now (lists.batches x.id)) answer lists after.lists) header_is does.files))
+        (subst (λ (x : Header). IsRefusedBy (notarize_fault (tail_in header bytes) false now (stored bytes).items (hears x)) answer) header_is
+        (subst (λ (t : Tail). IsRefusedBy (notarize_fault t false now (stored bytes).items (hears s.header)) answer) tail
+        (subst (λ (b : Bool). IsRefusedBy (notarize_fault (tail_of s) b now (stored bytes).items (hears s.header)) answer) is_open refused)))
+        (subst (λ (l : NotaryLimits). FilesFor header.id l (next_batches (history header (stored bytes).items) now (length (lists.batches header.id))) answer lists later) limits_are
+        (subst (λ (x : Header). FilesFor x.id old.notary.limits (next_batches (history x (stored bytes).items) now (length (lists.batches x.id))) answer lists later) header_is files))
         disk notary
 
 pub notarize_completes : (id : ℕ) (result : Status) (old new : Devices) → NotarizesOn id result old new → HasCauses result old new → AllGoOn old new → (n : ℕ) (h : History) (header : Header) (held : Content) → MayNotarize id n h header held old new → EndsSealed n h held.bytes result
 notarize_completes id result old new on causes goes n h header held may = ⊎_elim
     (λ (e : result ≡ statuses.NoMemory). subst (EndsSealed n h held.bytes) (sym e) tt)
-    (λ (once : NotarizesHeader header result old new). by once (both_told old new held (λ before after. Notarizes once.now (stored before.bytes).items once.answer once.done.store once.done.later_store old.desk new.desk before after) may.none_failed goes may.desk once.done.notarizes))
+    (λ (once : NotarizesHeader header result old new). by once (disk_told old new held (λ before after. Notarizes once.now (stored before).items once.answer once.done.store once.done.later_store old.desk new.desk before after) goes may.desk once.done.notarizes))
     (on_store id NotarizesHeader result old new may.none_failed goes header held.bytes may.desk.store may.is_store on)
   where
-    by : (once : NotarizesHeader header result old new) → ((after : Content) × Notarizes once.now (stored held.bytes).items once.answer once.done.store once.done.later_store old.desk new.desk held after) → EndsSealed n h held.bytes result
+    by : (once : NotarizesHeader header result old new) → ((after : List ℕ) × Notarizes once.now (stored held.bytes).items once.answer once.done.store once.done.later_store old.desk new.desk held.bytes after) → EndsSealed n h held.bytes result
     by once at =
+        let lists = lists_told old new held _ may.none_failed goes may.desk (listed.told_both old.desk.notary.lists new.desk.notary.lists _ _ at.1.told at.1.does.told) in
         let trusted = subst (λ (x : ℕ). IsTrusted (held.lists.batches x) x n h held.bytes) (sym may.is_store.id_is) may.filed.trusted in
         said_well (EndsSealed n h held.bytes) result (λ e. may.none_failed.out (causes.write e)) tt (notarize_outcome once.answer) old.out new.out
         (λ e. subst (EndsSealed n h held.bytes) (sym e)
         (notarized n h header held.bytes may.desk.store.are_bytes may.filed.spelled may.is_store.header_is held.lists trusted old.desk.notary.limits once.now (may.room once.now once.taken)
-        once.answer once.done.store once.done.later_store old.desk new.desk at.0 refl once.done.header_is once.done.is_open
-        (if_told old.desk.disk.reads held.bytes _ may.desk.store.told once.done.opened) once.done.early at.1
+        once.answer once.done.store once.done.later_store old.desk new.desk at.0 lists.0 refl once.done.header_is once.done.is_open
+        (if_told old.desk.disk.reads held.bytes _ may.desk.store.told once.done.opened) once.done.early at.1 lists.1.0 lists.1.1
         (λ e. may.none_failed.disk (once.disk_cause e)) (λ e. may.none_failed.notary (once.notary_cause e))))
         once.said
 

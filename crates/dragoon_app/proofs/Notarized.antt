@@ -1,6 +1,7 @@
 -- A command on a store that was opened before, or wasn't.
 use Rattle.std.proofs.Common.{◌≡◌, ◌⊎◌, ◌≤◌, ◌+◌, ℕ, Bool, false, List, Option, refl, sym, ap, subst, ◌∙◌, inl, inr, ⊎_elim, Result, Ok, Err}
 use Rattle.std.specs.Prelude.{IfSome, IsSome}
+use Rattle.outside_words.specs.Told.{WhereTold}
 use Rattle.outside_words.proofs.Told.{told_map}
 use Rattle.disk_words.specs.declared.DiskFail.{DiskFail}
 use Rattle.disk_words.specs.declared.DiskFail.TheVariants as disk_fails
@@ -13,7 +14,6 @@ use Rattle.tuple_bytes.specs.declared.item.Item.{Item}
 use Rattle.history_model.specs.Stored.{stored}
 use Rattle.store_engine.specs.Refusals.{tail_of}
 use Rattle.store_engine.specs.Opened.{Opened, IsOpenOn}
-use Rattle.validator.specs.Desk.{content}
 use Rattle.validator.specs.declared.fail.AuditFail.{AuditFail}
 use Rattle.validator.specs.declared.fail.AuditFail.TheVariants as fails
 use Rattle.history_model.specs.History.{history}
@@ -21,10 +21,12 @@ use Rattle.digest_model.specs.Layout.{layout}
 use Rattle.validator.specs.Notarizing.{frontier_for, early_fault, IsEarly}
 use Rattle.validator.proofs.Disks.{order_behind}
 use Rattle.validator.specs.Reaching.{frontier_calls, IsLeft, IsReached, StandsAfter, MakesFor, Notarizes}
-use Rattle.dragoon_app.specs.declared.status.Status.{Status}
-use Rattle.dragoon_app.specs.Devices.{Desk, Content, Devices, WhereBothTell, desk}
-use Rattle.dragoon_app.specs.Audited.{notarize_outcome, NotarizesStore, NotarizesHeader, NotarizesOpened, NotarizesOn}
-use Rattle.dragoon_app.proofs.OnStore.{only_before, every_image_from, told_from, told_of, both_map, both_from, at_disk, once_from, opened_on}
+use Rattle.line_runs.specs.declared.status.Status.{Status}
+use Rattle.line_runs.specs.Devices.{Desk, Devices, desk}
+use Rattle.dragoon_app.specs.Audited.{notarize_outcome, NotarizesStore, NotarizesHeader, NotarizesOn}
+use Rattle.dragoon_app.specs.Parts.{NotarizesOpened}
+use Rattle.line_runs.proofs.OnStore.{only_before, every_image_from, told_from, told_of, at_disk, opened_on}
+use Rattle.dragoon_app.proofs.Once.{once_from}
 
 -- ---- from the state before the store was opened
 
@@ -63,7 +65,7 @@ module _ (calls : List disks.Call) (first old new : disks.State) (e : old.trace 
   makes_from (Err fails.Closed) made = made ∙ e
   makes_from (Err fails.Broken) made = made ∙ e
   makes_from (Err (fails.SealMissing name)) made = made ∙ e
-  makes_from (Err (fails.OutOfTurn count)) made = made ∙ e
+  makes_from (Err (fails.OutOfTurn count)) made = calls_from calls (Ok tt) first old new e made
 
 left_reached_or_shut : (reached left reached' left' shut : Type 0) → (reached → reached') → (left → left') → left ⊎ reached ⊎ shut → left' ⊎ reached' ⊎ shut
 left_reached_or_shut reached left reached' left' shut f g s = ⊎_elim (λ (l : left). inl (g l))
@@ -81,23 +83,31 @@ stands_from (Err fails.StoreFull) reached left reached' left' shut f g s = g s
 stands_from (Err fails.Closed) reached left reached' left' shut f g s = g s
 stands_from (Err fails.Broken) reached left reached' left' shut f g s = g s
 stands_from (Err (fails.SealMissing name)) reached left reached' left' shut f g s = g s
-stands_from (Err (fails.OutOfTurn count)) reached left reached' left' shut f g s = g s
+stands_from (Err (fails.OutOfTurn count)) reached left reached' left' shut f g s = f s
 
-notarizes_from : (now : ℕ) (items : List Item) (result : Result ℕ AuditFail) (s later_s : Opened) (first old new : disks.State) (before after : List ℕ) (filed later : notaries.State) (lists later_lists : notaries.Lists) → disks.Unchanged first old
-    → Notarizes now items result s later_s (desk old filed) (desk new later) (content before lists) (content after later_lists) → Notarizes now items result s later_s (desk first filed) (desk new later) (content before lists) (content after later_lists)
-notarizes_from now items result s later_s first old new before after filed later lists later_lists same n = record {
-  free = λ some. (unchanged_then first old new same (n.free some).0, (n.free some).1, (n.free some).2);
-  refused = n.refused;
-  value = n.value;
-  files = n.files;
-  calls = n.calls;
-  stands = stands_from result _ _ _ _ _ (λ r. reached_from _ r) (λ l. (l.0, unchanged_then first old new same l.1)) n.stands;
-  ordered = λ some. reached_from _ (n.ordered some);
-  images = λ only. every_image_from first old new _ same (n.images (only_before first old before same only));
-  kept = λ only. n.kept (only_before first old before same only);
-  trace = makes_from (frontier_calls s (frontier_for (layout (history s.header items)) (tail_of s) now (lists.batches s.header.id))) first old new same.trace result n.trace;
-  order = told_map filed.trace later.trace _ _ n.order (λ was is order. order_behind (frontier_calls s (frontier_for (layout (history s.header items)) (tail_of s) now (lists.batches s.header.id))) first old new was was is same.trace refl order);
-}
+notarizes_from : (now : ℕ) (items : List Item) (result : Result ℕ AuditFail) (s later_s : Opened) (first old new : disks.State) (before after : List ℕ) (filed later : notaries.State) → disks.Unchanged first old
+    → Notarizes now items result s later_s (desk old filed) (desk new later) before after → Notarizes now items result s later_s (desk first filed) (desk new later) before after
+notarizes_from now items result s later_s first old new before after filed later same m =
+    let n = m.does in
+    let need : Option ℕ = frontier_for (layout (history s.header items)) (tail_of s) now m.heard.count in
+    record {
+      heard = m.heard;
+      may = m.may;
+      told = m.told;
+      does = record {
+        free = λ some. (unchanged_then first old new same (n.free some).0, (n.free some).1);
+        refused = n.refused;
+        value = n.value;
+        stands = stands_from result _ _ _ _ _ (λ r. reached_from _ r) (λ l. (l.0, unchanged_then first old new same l.1)) n.stands;
+        images = λ only. every_image_from first old new _ same (n.images (only_before first old before same only));
+        kept = λ only. n.kept (only_before first old before same only);
+        trace = makes_from (frontier_calls s need) first old new same.trace result n.trace;
+        order = told_map filed.trace later.trace _ _ n.order (λ was is order. order_behind (frontier_calls s need) first old new was was is same.trace refl order);
+        told = told_map filed.lists later.lists _ _ n.told (λ lists later_lists files count.
+            let f = files count in
+            record { free = f.free; files = f.files; calls = f.calls; ordered = λ some. reached_from _ (f.ordered some) });
+      };
+    }
   where
     reached_from : (need : Option ℕ) → IsReached need s later_s items old new before after → IsReached need s later_s items first new before after
     reached_from need r = record { store_is = r.store_is; open_on = r.open_on; settled = λ only. r.settled (only_before first old before same only) }
@@ -106,7 +116,7 @@ notarizes_from now items result s later_s first old new before after filed later
 pub notarizes_opened : (now : ℕ) (answer : Result ℕ AuditFail) (s later_s : Opened) (old new : Desk) → s.at.is_closed ≡ false → IsEarly (early_fault (tail_of s) s.at.is_closed now) answer
     → (IsSome (early_fault (tail_of s) s.at.is_closed now) → IsLeft s later_s old.disk new.disk × (new.notary ≡ old.notary))
     → IfSome old.disk.reads (λ bytes. IsOpenOn s (stored bytes).items bytes)
-    → WhereBothTell old new (λ before after. (items : List Item) → IsOpenOn s items before.bytes → Notarizes now items answer s later_s old new before after)
+    → WhereTold old.disk.reads new.disk.reads (λ before after. (items : List Item) → IsOpenOn s items before → Notarizes now items answer s later_s old new before after)
     → new.notary.asked ≤ old.notary.asked + 2
     → NotarizesStore s.header now answer old new
 notarizes_opened now answer s later_s old new is_open early untouched opened told asked = record {
@@ -117,7 +127,7 @@ notarizes_opened now answer s later_s old new is_open early untouched opened tol
   header_is = refl;
   early = subst (λ (b : Bool). IsEarly (early_fault (tail_of s) b now) answer) is_open early;
   untouched = λ some. let left = untouched (subst (λ (b : Bool). IsSome (early_fault (tail_of s) b now)) (sym is_open) some) in record { disk = left.0.1; notary = left.1 };
-  notarizes = told_from old.disk.reads old.disk.reads new.disk.reads _ _ _ refl opened told (λ before after at h. told_map old.notary.lists new.notary.lists _ _ h (λ lists later n. n (stored before).items at));
+  notarizes = told_from old.disk.reads old.disk.reads new.disk.reads _ _ _ refl opened told (λ before after at n. n (stored before).items at);
   asked = asked;
 }
 
@@ -130,13 +140,13 @@ store_from header now answer first old new same n = record {
   header_is = n.header_is;
   early = n.early;
   untouched = λ some. record { disk = unchanged_then first old.disk new.disk same (n.untouched some).disk; notary = (n.untouched some).notary };
-  notarizes = both_from first old new (Done first) same.reads (both_map old new (Done old.disk) (Done first) n.notarizes (λ before after m.
-      notarizes_from now (stored before.bytes).items answer n.store n.later_store first old.disk new.disk before.bytes after.bytes old.notary new.notary before.lists after.lists same m));
+  notarizes = subst (λ (o : Option (List ℕ)). WhereTold o new.disk.reads (Done first)) same.reads (told_map old.disk.reads new.disk.reads (Done old.disk) (Done first) n.notarizes (λ before after m.
+      notarizes_from now (stored before).items answer n.store n.later_store first old.disk new.disk before after old.notary new.notary same m));
   asked = n.asked;
 }
   where
-    Done : disks.State → Content → Content → Type 0
-    Done disk before after = Notarizes now (stored before.bytes).items answer n.store n.later_store (desk disk old.notary) new before after
+    Done : disks.State → List ℕ → List ℕ → Type 0
+    Done disk before after = Notarizes now (stored before).items answer n.store n.later_store (desk disk old.notary) new before after
 
 -- the store was opened before
 pub notarized_opened : (id : ℕ) (s : Opened) (result : Status) (first : disks.State) (old new : Devices) → IfSome first.reads (λ bytes. IsOpenOn s (stored bytes).items bytes) → s.header.id ≡ id

@@ -25,23 +25,13 @@ use Rattle.audit_model.specs.Sound.{IsSound, AllNotarized, HoldsNotarized}
 use Rattle.store_engine.specs.Opened.{Opened, IsOpenOn}
 use Rattle.validator.specs.Desk.{KeepsSound, desk}
 use Rattle.dragoon_app.specs.declared.command.NewStore.{NewStore}
-use Rattle.dragoon_app.specs.declared.status.Status.{Status}
-use Rattle.dragoon_app.specs.Devices.{Devices, StaysSound}
+use Rattle.line_runs.specs.declared.status.Status.{Status}
+use Rattle.line_runs.specs.Devices.{Devices, StaysSound}
 use Rattle.dragoon_app.specs.Init.{Inits, MakesStore, header_at as new_header}
-use Rattle.dragoon_app.proofs.OnStore.{only_before, told_from}
-use Rattle.dragoon_app.proofs.Behaving.{unchanged_same}
+use Rattle.line_runs.proofs.OnStore.{only_before, told_from}
+use Rattle.line_runs.proofs.SoundKept.{sound_images}
 
 -- ---- an unchanged store
-
-pub sound_images : (old new : disks.State) (batches : List Batch) (id : ℕ) → disks.SameImages old new → IsSound old.is_image batches id → IsSound new.is_image batches id
-sound_images old new batches id same sound = ⊎_elim
-    (λ (none : batches ≡ []). inl none)
-    (λ (some : (n : ℕ) × (length batches ≡ n + 1) × AllNotarized old.is_image batches id n). inr (some.0, some.1, λ bytes is. some.2 bytes ((same bytes).0 is)))
-    sound
-
-pub sound_unchanged : (Stands : List ℕ → Type 0) (old new : disks.State) (filed : notaries.State) → disks.Unchanged old new → KeepsSound Stands (desk old filed) (desk new filed)
-sound_unchanged Stands old new filed same =
-    told_same old.reads new.reads _ same.reads (λ before. told_same filed.lists filed.lists _ refl (λ lists id stands only sound. sound_images old new (lists.batches id) id same.images sound))
 
 pub image_on : (first old : disks.State) → disks.Unchanged first old → IfSome first.reads first.is_image → IfSome old.reads old.is_image
 image_on first old same image = by first.reads old.reads same.reads image
@@ -51,10 +41,6 @@ image_on first old same image = by first.reads old.reads same.reads image
     by None (Some b) e is = absurd cc
     by (Some b) None e is = tt
     by (Some b) (Some a) e is = let x : a ≡ b = cc in (same.images a).1 (subst first.is_image (sym x) is)
-
--- nothing was called
-pub sound_same : (Stands : List ℕ → Type 0) (s : disks.State) (filed : notaries.State) → KeepsSound Stands (desk s filed) (desk s filed)
-sound_same Stands s filed = sound_unchanged Stands s s filed (unchanged_same s)
 
 -- the store was opened before
 pub sound_opened : (s : Opened) (first old new : disks.State) (filed later : notaries.State) → IfSome first.reads (λ bytes. IsOpenOn s (stored bytes).items bytes) → disks.Unchanged first old

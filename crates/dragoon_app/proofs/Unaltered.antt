@@ -22,17 +22,29 @@ use Rattle.validator.specs.declared.verdict.Verdict.{Verdict}
 use Rattle.validator.specs.declared.verdict.Verdict.TheVariants as verdicts
 use Rattle.validator.specs.declared.fail.AuditFail.{AuditFail}
 use Rattle.validator.specs.declared.fail.AuditFail.TheVariants as fails
-use Rattle.validator.specs.Notarizing.{else_cause, where_true, early_fault, filed_fault, of_store, room_fault, frontier_for, notarize_fault, IsRefusedBy}
+use Rattle.validator.specs.Notarizing.{Heard, else_cause, where_true, early_fault, filed_fault, of_store, room_fault, frontier_for, notarize_fault, IsRefusedBy}
+use Rattle.validator.specs.Filing.{FilesFor}
+use Rattle.notary_link.specs.declared.notary.NotaryLimits.{NotaryLimits}
 use Rattle.validator.specs.Verdicts.{IsFound, IsFoundIn, Validates}
 use Rattle.validator.specs.Laws.{SoundIsClean, SoundIsNotRefused}
-use Rattle.validator.proofs.Telling.{if_both}
-use Rattle.dragoon_app.specs.declared.status.Status.{Status}
-use Rattle.dragoon_app.specs.declared.status.Status.TheVariants as statuses
-use Rattle.dragoon_app.specs.Outcome.{Outcome, CutsOff, Said}
-use Rattle.dragoon_app.specs.Devices.{Desk, Content, Devices, desk}
-use Rattle.dragoon_app.specs.Audited.{status_of_audit, notarize_outcome, validate_outcome, NotarizesHeader, NotarizesOpened, ValidatesOn, IsUnaltered, SaysUnaltered}
-use Rattle.dragoon_app.proofs.OnStore.{told_from, told_of, both_map, both_from}
-use Rattle.dragoon_app.proofs.SoundKept.{sound_images, image_on}
+use Rattle.validator.proofs.Telling.{if_both, told_both}
+use Rattle.line_runs.specs.declared.status.Status.{Status}
+use Rattle.line_runs.specs.declared.status.Status.TheVariants as statuses
+use Rattle.line_runs.specs.Outcome.{Outcome, CutsOff, Said}
+use Rattle.line_runs.specs.Devices.{Desk, Content, Devices, WhereBothTell, content, desk}
+use Rattle.dragoon_app.specs.Audited.{status_of_audit, notarize_outcome, validate_outcome, NotarizesHeader, ValidatesOn, IsUnaltered, SaysUnaltered}
+use Rattle.dragoon_app.specs.Parts.{NotarizesOpened}
+use Rattle.line_runs.proofs.OnStore.{told_from, told_of}
+use Rattle.line_runs.proofs.SoundKept.{sound_images}
+use Rattle.dragoon_app.proofs.SoundKept.{image_on}
+
+-- ---- what both tell
+
+both_map : (old new : Desk) (P Q : Content → Content → Type 0) → WhereBothTell old new P → ((before after : Content) → P before after → Q before after) → WhereBothTell old new Q
+both_map old new P Q told f = told_map old.disk.reads new.disk.reads _ _ told (λ before after h. told_map old.notary.lists new.notary.lists _ _ h (λ filed later. f (record { bytes = before; lists = filed }) (record { bytes = after; lists = later })))
+
+both_from : (first : disks.State) (old new : Desk) (P : Content → Content → Type 0) → old.disk.reads ≡ first.reads → WhereBothTell old new P → WhereBothTell (desk first old.notary) new P
+both_from first old new P e told = subst (λ (o : Option (List ℕ)). WhereTold o new.disk.reads (λ before after. WhereTold old.notary.lists new.notary.lists (λ filed later. P (content before filed) (content after later)))) e told
 
 -- ---- what was said
 
@@ -112,25 +124,44 @@ room_harmless t None = tt
 room_harmless t (Some moment) = store_harmless (frontier_fault t false moment)
 
 -- where nothing that is filed speaks against it
-fault_harmless : (t : Tail) (is_closed : Bool) (now : ℕ) (items : List Item) (batches : List Batch) → filed_fault batches (history t.header items) ≡ None → IsHarmless (notarize_fault t is_closed now items batches)
-fault_harmless t is_closed now items batches none =
+fault_harmless : (t : Tail) (is_closed : Bool) (now : ℕ) (items : List Item) (heard : Heard) → heard.against ≡ None → IsHarmless (notarize_fault t is_closed now items heard)
+fault_harmless t is_closed now items heard none =
     else_harmless (early_fault t is_closed now) _
     (where_harmless is_closed fails.Closed _ tt (where_harmless (is_back t now) (fails.ClockBack t.last) _ tt (where_harmless (is_late t now) fails.TooLate None tt tt)))
-    (else_harmless (filed_fault batches (history t.header items)) _ (subst IsHarmless (sym none) tt) (room_harmless t (frontier_for (layout (history t.header items)) t now batches)))
+    (else_harmless heard.against _ (subst IsHarmless (sym none) tt) (room_harmless t (frontier_for (layout (history t.header items)) t now heard.count)))
 
-refused_harmless : (fault : Option AuditFail) (answer : Result ℕ AuditFail) → IsHarmless fault → IsRefusedBy fault answer → IsUnaltered (notarize_outcome answer).status
-refused_harmless fault (Ok tiles) is r = tt
-refused_harmless fault (Err fails.Full) is r = tt
-refused_harmless fault (Err fails.DiskFault) is r = tt
-refused_harmless fault (Err fails.NotaryFault) is r = tt
-refused_harmless fault (Err fails.NoMemory) is r = tt
-refused_harmless fault (Err (fails.OutOfTurn count)) is r = absurd r
-refused_harmless fault (Err fails.Closed) is r = tt
-refused_harmless fault (Err (fails.ClockBack last)) is r = tt
-refused_harmless fault (Err fails.TooLate) is r = tt
-refused_harmless fault (Err fails.StoreFull) is r = tt
-refused_harmless fault (Err fails.Broken) is r = absurd (subst IsHarmless r is)
-refused_harmless fault (Err (fails.SealMissing name)) is r = absurd (subst IsHarmless r is)
+-- none of this notary's batches is out of turn
+abbrev IsInTurn : Result ℕ AuditFail → Type 0
+IsInTurn (Err (fails.OutOfTurn count)) = ⊥
+IsInTurn answer = Unit {0}
+
+in_turn : (id : ℕ) (limits : NotaryLimits) (batches : List Batch) (answer : Result ℕ AuditFail) (lists later : notaries.Lists) → FilesFor id limits batches answer lists later → IsInTurn answer
+in_turn id limits batches (Ok tiles) lists later files = tt
+in_turn id limits batches (Err fails.Full) lists later files = tt
+in_turn id limits batches (Err fails.DiskFault) lists later files = tt
+in_turn id limits batches (Err fails.NotaryFault) lists later files = tt
+in_turn id limits batches (Err fails.NoMemory) lists later files = tt
+in_turn id limits batches (Err (fails.OutOfTurn count)) lists later files = files
+in_turn id limits batches (Err fails.Closed) lists later files = tt
+in_turn id limits batches (Err (fails.ClockBack last)) lists later files = tt
+in_turn id limits batches (Err fails.TooLate) lists later files = tt
+in_turn id limits batches (Err fails.StoreFull) lists later files = tt
+in_turn id limits batches (Err fails.Broken) lists later files = tt
+in_turn id limits batches (Err (fails.SealMissing name)) lists later files = tt
+
+refused_harmless : (fault : Option AuditFail) (answer : Result ℕ AuditFail) → IsHarmless fault → IsInTurn answer → IsRefusedBy fault answer → IsUnaltered (notarize_outcome answer).status
+refused_harmless fault (Ok tiles) is turn r = tt
+refused_harmless fault (Err fails.Full) is turn r = tt
+refused_harmless fault (Err fails.DiskFault) is turn r = tt
+refused_harmless fault (Err fails.NotaryFault) is turn r = tt
+refused_harmless fault (Err fails.NoMemory) is turn r = tt
+refused_harmless fault (Err (fails.OutOfTurn count)) is turn r = absurd turn
+refused_harmless fault (Err fails.Closed) is turn r = tt
+refused_harmless fault (Err (fails.ClockBack last)) is turn r = tt
+refused_harmless fault (Err fails.TooLate) is turn r = tt
+refused_harmless fault (Err fails.StoreFull) is turn r = tt
+refused_harmless fault (Err fails.Broken) is turn r = absurd (subst IsHarmless r is)
+refused_harmless fault (Err (fails.SealMissing name)) is turn r = absurd (subst IsHarmless r is)
 
 sound_filed : SoundIsNotRefused → (is_image : List ℕ → Type 0) (batches : List Batch) (id : ℕ) (bytes : List ℕ) (header : Header) → is_image bytes → (stored bytes).header ≡ Some header → IsSound is_image batches id
     → filed_fault batches (history header (stored bytes).items) ≡ None
@@ -145,11 +176,12 @@ notarized : SoundIsNotRefused → (id : ℕ) (header : Header) (result : Status)
 notarized law id header result old new is image once =
     let n = once.done in
     let is_image = old.desk.disk.is_image in
-    told_from old.desk.disk.reads old.desk.disk.reads new.desk.disk.reads _ _ _ refl (if_both old.desk.disk.reads is_image _ image n.opened) n.notarizes (λ before after here h. told_map old.desk.notary.lists new.desk.notary.lists _ _ h (λ lists later_lists m sound.
+    told_from old.desk.disk.reads old.desk.disk.reads new.desk.disk.reads _ _ _ refl (if_both old.desk.disk.reads is_image _ image n.opened) n.notarizes (λ before after here m. told_map old.desk.notary.lists new.desk.notary.lists _ _ (told_both old.desk.notary.lists new.desk.notary.lists _ _ m.told m.does.told) (λ lists later_lists both sound.
     let same : id ≡ n.store.header.id = sym (ap (λ (h : Header). h.id) n.header_is ∙ is) in
     let none = sound_filed law is_image (lists.batches n.store.header.id) id before n.store.header here.0 here.1.stores.header_is (subst (λ (i : ℕ). IsSound is_image (lists.batches i) id) same sound) in
     unaltered_said (notarize_outcome once.answer) result old.out new.out once.said
-    (refused_harmless _ once.answer (fault_harmless (tail_of n.store) n.store.at.is_closed once.now (stored before).items (lists.batches n.store.header.id) none) m.refused)))
+    (refused_harmless _ once.answer (fault_harmless (tail_of n.store) n.store.at.is_closed once.now (stored before).items m.heard (ap (λ (x : Heard). x.against) both.0 ∙ none))
+    (in_turn _ _ _ once.answer lists later_lists (both.1 (ap (λ (x : Heard). x.count) both.0)).files) m.does.refused)))
 
 -- it was refused before anything was asked
 pub refused_unaltered : (id : ℕ) (result : Status) (old new : Desk) → IsUnaltered result → SaysUnaltered id result old new

@@ -1,7 +1,6 @@
 -- What `notarize` and `validate` write, and what becomes of the store, the notary and the clock.
-use Rattle.std.specs.Prelude.{◌≡◌, ◌≤◌, ◌+◌, ℕ, false, List, ◌++◌, ◌∷◌, [], codes, IsSome, IfOk, IfErr, IfSome, Result, Ok, Err}
+use Rattle.std.specs.Prelude.{◌≡◌, ◌≤◌, ◌+◌, ℕ, false, List, ◌++◌, ◌∷◌, [], codes, IsSome, IfSome, Result, Ok, Err}
 use Rattle.outside_words.specs.Told.{WhereTold}
-use Rattle.disk_words.specs.Disk as disks
 use Rattle.tuple_bytes.specs.declared.header.Header.{Header}
 use Rattle.history_model.specs.Stored.{stored}
 use Rattle.store_engine.specs.Opened.{Opened, IsOpenOn}
@@ -12,16 +11,17 @@ use Rattle.validator.specs.declared.verdict.Verdict.TheVariants as verdicts
 use Rattle.validator.specs.declared.fail.AuditFail.{AuditFail}
 use Rattle.validator.specs.declared.fail.AuditFail.TheVariants as fails
 use Rattle.number_text.specs.Numbered.{numbered}
-use Rattle.validator.specs.Texts.{verdict_text, refusal_text}
-use Rattle.validator.specs.Verdicts.{Validates, MakesMark, IsOfValidation, questions}
+use Rattle.validator.specs.Texts.{verdict_text}
 use Rattle.validator.specs.Notarizing.{early_fault, IsEarly}
 use Rattle.validator.specs.Reaching.{Notarizes}
-use Rattle.dragoon_app.specs.declared.status.Status.{Status}
-use Rattle.dragoon_app.specs.declared.status.Status.TheVariants as statuses
-use Rattle.dragoon_app.specs.Texts.{status_name, fault_line}
-use Rattle.dragoon_app.specs.Outcome.{Outcome, IsSaid}
-use Rattle.dragoon_app.specs.Devices.{Desk, DeskIsLeft, Effect, WhereBothTell}
-use Rattle.dragoon_app.specs.Commands.{DoesOnce, OnStore}
+use Rattle.store_world.specs.AtDesk.{Judges}
+use Rattle.line_runs.specs.declared.status.Status.{Status}
+use Rattle.line_runs.specs.declared.status.Status.TheVariants as statuses
+use Rattle.line_runs.specs.Texts.{fault_line}
+use Rattle.line_runs.specs.Outcome.{Outcome}
+use Rattle.line_runs.specs.Devices.{Desk, DeskIsLeft, Effect, WhereBothTell}
+use Rattle.line_runs.specs.OnStore.{OnStore}
+use Rattle.dragoon_app.specs.Once.{DoesOnce}
 
 -- ---- the output
 
@@ -47,10 +47,6 @@ text_of_audit fail = fault_line (status_of_audit fail)
 -- what a command writes that was refused so
 abbrev pub refused_audit : AuditFail → Outcome
 refused_audit fail = record { status = status_of_audit fail; text = text_of_audit fail }
-
--- the status has the refusal's name, and its detail
-abbrev pub IsNamed : AuditFail → Status → Type 0
-IsNamed fail status = IsSaid status × (status_name status ≡ refusal_text fail)
 
 -- a line, and the status that goes with it
 abbrev pub says_line : Status → List ℕ → Outcome
@@ -84,7 +80,7 @@ pub record NotarizesStore (header : Header) (now : ℕ) (answer : Result ℕ Aud
   pub header_is : store.header ≡ header
   pub early : IsEarly (early_fault (tail_of store) false now) answer
   pub untouched : IsSome (early_fault (tail_of store) false now) → DeskIsLeft old new
-  pub notarizes : WhereBothTell old new (λ before after. Notarizes now (stored before.bytes).items answer store later_store old new before after)
+  pub notarizes : WhereTold old.disk.reads new.disk.reads (λ before after. Notarizes now (stored before).items answer store later_store old new before after)
   -- of the header and the last sealed tile, whatever is told
   pub asked : new.notary.asked ≤ old.notary.asked + 2
 
@@ -94,19 +90,7 @@ NotarizesHeader header = DoesOnce notarize_outcome (NotarizesStore header)
 abbrev pub NotarizesOn : ℕ → Effect
 NotarizesOn id = OnStore id NotarizesHeader
 
--- over a store that was opened, where it stands for the bytes
-abbrev pub NotarizesOpened : Opened → Effect
-NotarizesOpened store result old new = IfSome old.desk.disk.reads (λ bytes. IsOpenOn store (stored bytes).items bytes) → NotarizesHeader store.header result old new
-
 -- ---- `validate`
-
--- what was found and marked, over a store that is as it was, and how often the notary was asked
-pub record Judges (id now : ℕ) (answer : Result Verdict AuditFail) (old new : Desk) : Type 0 where
-  pub same : disks.Unchanged old.disk new.disk
-  pub none_other : IfErr answer IsOfValidation
-  pub found : IfSome old.disk.reads (λ bytes. WhereTold old.notary.lists new.notary.lists (Validates id now old.notary.limits (stored bytes) answer old.notary.trace new.notary.trace))
-  pub trace : WhereTold old.notary.trace new.notary.trace (MakesMark id now answer)
-  pub asked : IfOk answer (λ verdict. new.notary.asked ≤ old.notary.asked + questions verdict)
 
 abbrev pub ValidatesOn : ℕ → Effect
 ValidatesOn id = DoesOnce validate_outcome (Judges id)

@@ -12,7 +12,7 @@ use Rattle.tuple_bytes.specs.Limits.{max_moment}
 use Rattle.history_model.specs.History.{History, history}
 use Rattle.history_model.specs.Stored.{stored}
 use Rattle.digest_model.specs.Layout.{layout}
-use Rattle.digest_model.specs.Laws.{HasSpelling}
+use Rattle.digest_model.specs.Spelled.{HasSpelling}
 use Rattle.notary_link.specs.declared.notary.NotaryLimits.{NotaryLimits}
 use Rattle.notary_link.specs.Batches.{Batch}
 use Rattle.notary_link.specs.Notary.{Lists, marks_in_all}
@@ -27,10 +27,10 @@ use Rattle.forensic_report.specs.declared.algorithm.Algorithm.{Algorithm}
 use Rattle.forensic_report.specs.Finding.{has_chains}
 use Rattle.dragoon_app.specs.declared.command.Command.{Command}
 use Rattle.dragoon_app.specs.declared.command.Command.TheVariants as commands
-use Rattle.dragoon_app.specs.declared.status.Status.{Status}
-use Rattle.dragoon_app.specs.declared.status.Status.TheVariants as statuses
-use Rattle.dragoon_app.specs.Devices.{Content, Desk, Devices, Effect}
-use Rattle.dragoon_app.specs.Running.{world_of}
+use Rattle.line_runs.specs.declared.status.Status.{Status}
+use Rattle.line_runs.specs.declared.status.Status.TheVariants as statuses
+use Rattle.line_runs.specs.Devices.{Content, Desk, Devices, Effect}
+use Rattle.line_runs.specs.Running.{world_of}
 
 -- ---- what is supposed of the devices
 
@@ -82,8 +82,8 @@ tail_in header bytes = tail_of_world (world_of header bytes)
 -- nothing speaks against it early at these clock seconds, and there is room for what it stores and files
 pub record HasRoomFor (t : Tail) (s : History) (lists : Lists) (limits : NotaryLimits) (now : ℕ) : Type 0 where
   pub early : early_fault t false now ≡ None
-  pub frontier : room_fault t (frontier_for (layout s) t now (lists.batches s.header.id)) ≡ None
-  pub batches : fitting (room_in limits lists) (next_batches s now (lists.batches s.header.id)) ≡ length (next_batches s now (lists.batches s.header.id))
+  pub frontier : room_fault t (frontier_for (layout s) t now (length (lists.batches s.header.id))) ≡ None
+  pub batches : fitting (room_in limits lists) (next_batches s now (length (lists.batches s.header.id))) ≡ length (next_batches s now (length (lists.batches s.header.id)))
 
 abbrev pub MayFileAt : Header → Content → NotaryLimits → ℕ → Type 0
 MayFileAt header held = HasRoomFor (tail_in header held.bytes) (history header (stored held.bytes).items) held.lists

@@ -1,0 +1,14 @@
+pub mod Texts
+pub mod Outcome
+pub mod Saying
+pub mod Devices
+pub mod OnStore
+pub mod Ends
+pub mod Running
+pub mod Failing
+pub mod Ran
+pub mod Made
+pub mod Laws
+pub mod Serial
+pub mod Carrying
+pub mod MakingLines
