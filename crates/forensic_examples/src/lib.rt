@@ -6,7 +6,6 @@
 //! | File | Shows |
 //! |---|---|
 //! | `reports` | reports, and how many nodes a descent asks |
-//! | `targets` | the candidates of a tile, by its target and by how many granules are altered |
 //! | `spans` | when a tile was changed; how many events a diagram has |
 #![tactic(auto)]
 
@@ -16,5 +15,3 @@ mod desk;
 mod reports;
 #[cfg(test)]
 mod spans;
-#[cfg(test)]
-mod targets;

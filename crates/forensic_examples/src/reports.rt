@@ -79,6 +79,7 @@ fn reports_say_what_was_altered(rt: HostRuntime) -> Result<(), Fail> {
     let alloc = rt.alloc();
     for (stood, text) in &REPORTS {
         let told = report_of(alloc, stood)?;
+        assert!(rt; told.0);
         assert_eq!(rt; told.1.as_slice(), text.as_bytes());
     }
     Ok(())

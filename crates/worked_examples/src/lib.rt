@@ -1,15 +1,14 @@
 //! Worked examples: the program as one call over devices in memory, and over a real file.
 //!
 //! Each file of tests shows one thing that a user does. What the program answers is proved where
-//! it stands; the examples hold the definitions against texts that were written by hand.
+//! it stands; the examples hold the definitions against texts that were written by hand. Most of
+//! them are stories, which `story` reads.
 #![tactic(auto)]
 
 #[cfg(test)]
 mod analysed;
 #[cfg(test)]
 mod commands;
-#[cfg(test)]
-mod crashes;
 #[cfg(test)]
 mod desk;
 #[cfg(test)]

@@ -1,80 +1,98 @@
-//! What is as large as it may be, and a little larger; a source and a sink that fail.
+//! A text that is as large as it may be; an input and an output that fail; a store in a file.
 
-use crate::desk::{call, ended, made, notary};
+use crate::desk::{call, ended, made, notary, tells};
+use crate::story::{NEW, tell};
+use disk_model::FileDisk;
 use outside_io::MemSource;
+use std::alloc::{AllocError, Global};
 use std::test::Fail;
+
+const LARGEST: &str = "\
+the largest text has 32,737 letters
+$ run 7 scripted = 3
+< create t k int v text; insert t 1 '[32737*a]'; insert t 2 '[32738*a]'
+> ok 1; ok 2; refused TooLong";
 
 #[test]
 fn the_largest_text_has_32737_letters(rt: HostRuntime) -> Result<(), Fail> {
-    let alloc = rt.alloc();
-    let mut store = made(alloc, "init 7 60 3 m")?;
-    let mut script = b"create t k int v text\n".to_vec(alloc)?;
-    for (key, letters) in [(b'1', 32_737), (b'2', 32_738)] {
-        script.extend_from_slice(b"insert t ")?;
-        script.push(key)?;
-        script.extend_from_slice(b" '")?;
-        script.extend_from_slice(&vec![in alloc; b'a'; letters]?)?;
-        script.extend_from_slice(b"'\n")?;
-    }
-    let (_, text) = call(alloc, &mut store, "run 7 scripted", &script, &[])?;
-    assert_eq!(rt;
-        text.as_slice(),
-        b"ok 1\nok 2\nrefused TooLong\n".as_slice()
-    );
-    Ok(())
+    tell(&rt, rt.alloc(), NEW, LARGEST)
 }
 
-/// A line, how many spaces follow it, and how many times both stand in the input; how much of the input comes at
-/// once; which read fails and which write; the status, and what is written.
-type Stopped = (
-    (&'static [u8], usize, u32),
-    usize,
-    (u64, u64),
-    u8,
-    &'static [u8],
-);
-
-const SCRIPT: &[u8] = b"create t k int\ninsert t 1\ninsert t 2";
-
-const STOPPED: [Stopped; 4] = [
-    ((SCRIPT, 0, 1), 10, (1, 0), 7, b"fault ReadFault\n"),
-    (
-        (SCRIPT, 0, 1),
-        10,
-        (4, 0),
-        7,
-        b"ok 1\nok 2\nfault ReadFault\n",
-    ),
-    ((SCRIPT, 0, 1), 10, (0, 2), 8, b"ok 1\n"),
-    // an input without an end
-    ((b"", 4095, 16_384), 4096, (0, 0), 17, b"fault InputLimit\n"),
-];
+/// How a run ends over a new store whose input comes in such pieces, where this read fails or this write.
+fn run(
+    alloc: Global,
+    bytes: Vec<u8>,
+    piece: usize,
+    read: u64,
+    write: u64,
+) -> Result<(u8, Vec<u8>), AllocError> {
+    let mut store = made(alloc, "init 7 60 3 m")?;
+    let mut input = MemSource::new(bytes, piece, [read].to_vec(alloc)?);
+    let words = ["run", "7", "scripted"];
+    let filed = &mut notary(alloc);
+    ended(alloc, &words, &mut store, filed, &[], &mut input, &[write])
+}
 
 #[test]
 fn an_input_or_an_output_that_fails_ends_the_run(rt: HostRuntime) -> Result<(), Fail> {
     let alloc = rt.alloc();
-    for ((line, spaces, times), piece, (read, write), status, text) in STOPPED {
-        let mut store = made(alloc, "init 7 60 3 m")?;
-        let mut line = line.to_vec(alloc)?;
-        line.extend_from_slice(&vec![in alloc; b' '; spaces]?)?;
-        line.push(b'\n')?;
-        let mut bytes = Vec::new(alloc);
-        for _ in 0..times {
-            bytes.extend_from_slice(&line)?;
-        }
-        let mut input = MemSource::new(bytes, piece, [read].to_vec(alloc)?);
-        let mut filed = notary(alloc);
-        let words = ["run", "7", "scripted"];
-        let told = ended(
-            alloc,
-            &words,
-            &mut store,
-            &mut filed,
-            &[],
-            &mut input,
-            &[write],
-        )?;
-        assert_eq!(rt; (told.0, told.1.as_slice()), (status, text));
+    for (read, write, status, text) in [
+        (1, 0, 7, "fault ReadFault\n"),
+        (4, 0, 7, "ok 1\nok 2\nfault ReadFault\n"),
+        (0, 2, 8, "ok 1\n"),
+    ] {
+        let lines = b"create t k int\ninsert t 1\ninsert t 2\n".to_vec(alloc)?;
+        let told = run(alloc, lines, 10, read, write)?;
+        tells(&rt, "a run", &told, status, text);
     }
+    Ok(())
+}
+
+#[test]
+fn an_input_without_an_end_has_a_limit(rt: HostRuntime) -> Result<(), Fail> {
+    let alloc = rt.alloc();
+    let mut line = vec![in alloc; b' '; 4095]?;
+    line.push(b'\n')?;
+    let mut lines = Vec::new(alloc);
+    for _ in 0..16_384u32 {
+        lines.extend_from_slice(&line)?;
+    }
+    let told = run(alloc, lines, 4096, 0, 0)?;
+    tells(&rt, "a run", &told, 17, "fault InputLimit\n");
+    Ok(())
+}
+
+/// The words of a call, its input, and what is written.
+const IN_A_FILE: [(&str, &str, &str); 5] = [
+    ("init 7 60 3 m", "", "ready 7\n"),
+    ("init 7 60 3 m", "", "fault AlreadyThere\n"),
+    (
+        "link",
+        "",
+        "txns 0\nlink 7472d54d4aa35e0f4ee072819cb3c15cb704c8fc1c71d3baac0dba7c6fabc9d9\n",
+    ),
+    (
+        "run 7",
+        "create t k int v int\ninsert t 5 1\nupdate t 5 2\n",
+        "ok 1\nok 2\nok 3\n",
+    ),
+    (
+        "run 7",
+        "get t 5\nhistory t 5\nget t 5 as of 1\n",
+        "row 5 2\nversion 1 2 row 5 1\nversion 2 - row 5 2\nversions 2\nrow 5 1\n",
+    ),
+];
+
+#[test]
+fn a_store_in_a_file_is_made_once_filled_and_asked(rt: HostRuntime) -> Result<(), Fail> {
+    let alloc = rt.alloc();
+    let path = "worked_examples_test_store";
+    let _ = std::fs::remove_file(&rt, path);
+    for (words, input, text) in IN_A_FILE {
+        let mut store = FileDisk::new(rt, String::from_str(alloc, path)?);
+        let (_, told) = call(alloc, &mut store, words, input, &[0, 1, 2])?;
+        assert_eq!(rt; told.as_slice(), text.as_bytes());
+    }
+    std::fs::remove_file(&rt, path)?;
     Ok(())
 }

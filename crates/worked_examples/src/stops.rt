@@ -1,50 +1,58 @@
 //! A disk or a notary that fails at each of its calls in turn, a crash after it, and the retry.
 
-use crate::desk::{audit, call, made, notary, sealed};
+use crate::desk::{audit, call, made, notary, sealed, tells};
 use disk_model::MemDisk;
 use notary_book::Book;
 use sha2::{Digest, Sha256};
 use std::alloc::{AllocError, Global};
 use std::test::Fail;
-use store_engine::Store;
 
-const SCRIPT: &[u8] = b"create t k int\ninsert t 1\nnow 240\ninsert t 2\nnotarize\nvalidate\n";
+const SCRIPT: &str = "create t k int\ninsert t 1\nnow 240\ninsert t 2\nnotarize\nvalidate\n";
 
-const REPLIES: &[u8] = b"ok 1\nok 2\nok\nok 3\nsealed 1\nclean 1\n";
+const REPLIES: &str = "ok 1\nok 2\nok\nok 3\nsealed 1\nclean 1\n";
+
+/// What the lines `get t 1` and `get t 2` are told where so many of the three transactions are stored.
+const STORED: [&str; 4] = [
+    "refused NoTable\nrefused NoTable\n",
+    "none\nnone\n",
+    "row 1\nnone\n",
+    "row 1\nrow 2\n",
+];
 
 #[test]
 fn a_disk_that_fails_keeps_what_was_acknowledged(rt: HostRuntime) -> Result<(), Fail> {
     let alloc = rt.alloc();
+    let [no_table, no_row, a_row, both] = STORED;
     for failing in 1u64..14 {
         for choice in [0, 1, 200] {
             let mut store = made(alloc, "init 9 60 2 m")?;
             store.failing(Vec::new(alloc), [failing].to_vec(alloc)?);
             let (_, told) = call(alloc, &mut store, "run 9 scripted", SCRIPT, &[])?;
-            let (wanted, count) = match failing {
-                1..=4 => (b"fault DiskFault\n".as_slice(), 0),
-                5..=8 => (b"ok 1\nfault DiskFault\n".as_slice(), 1),
-                9..=12 => (b"ok 1\nok 2\nok\nfault DiskFault\n".as_slice(), 2),
-                _ => (REPLIES, 3),
+            let (wanted, acknowledged, or_more) = match failing {
+                1..=4 => ("fault DiskFault\n", no_table, no_row),
+                5..=8 => ("ok 1\nfault DiskFault\n", no_row, a_row),
+                9..=12 => ("ok 1\nok 2\nok\nfault DiskFault\n", a_row, both),
+                _ => (REPLIES, both, both),
             };
-            assert_eq!(rt; told.as_slice(), wanted);
+            assert_eq!(rt; told.as_slice(), wanted.as_bytes());
             store.crash(choice)?;
-            let stored = match Store::open_store(alloc, &mut store, 9) {
-                Ok(opened) => opened.txn_count(),
-                Err(_) => 0,
-            };
-            assert!(rt; stored == count || stored == count + 1);
+            store.failing(Vec::new(alloc), Vec::new(alloc));
+            let asked = "get t 1\nget t 2\n";
+            let (_, told) = call(alloc, &mut store, "run 9 scripted", asked, &[])?;
+            let told = told.as_slice();
+            assert!(rt; told == acknowledged.as_bytes() || told == or_more.as_bytes());
         }
     }
     Ok(())
 }
 
-const BEFORE_FILING: &[u8] = b"ok 1\nok 2\nok\nok 3\nfault NotaryFault\n";
+const BEFORE_FILING: &str = "ok 1\nok 2\nok\nok 3\nfault NotaryFault\n";
 
-const BEFORE_VERDICT: &[u8] = b"ok 1\nok 2\nok\nok 3\nsealed 1\nfault NotaryFault\n";
+const BEFORE_VERDICT: &str = "ok 1\nok 2\nok\nok 3\nsealed 1\nfault NotaryFault\n";
 
-const RETRY: (&[u8], &[u8]) = (b"now 240\nnotarize\nvalidate\n", b"ok\nsealed 1\nclean 1\n");
+const RETRY: (&str, &str) = ("now 240\nnotarize\nvalidate\n", "ok\nsealed 1\nclean 1\n");
 
-const AT_ONCE: (&[u8], &[u8]) = (b"notarize\nvalidate\n", b"sealed 1\nclean 1\n");
+const AT_ONCE: (&str, &str) = ("notarize\nvalidate\n", "sealed 1\nclean 1\n");
 
 /// The second at which the store is made; which question of the notary fails and which changing call; what the run
 /// says; and the run after it with what that says.
@@ -52,8 +60,8 @@ type Asked = (
     u64,
     (u64, u64),
     u8,
-    &'static [u8],
-    (&'static [u8], &'static [u8]),
+    &'static str,
+    (&'static str, &'static str),
 );
 
 /// The questions are the count; then the count, the header and the last link. The changing calls are the header's
@@ -80,39 +88,29 @@ fn a_notary_that_fails_is_asked_again(rt: HostRuntime) -> Result<(), Fail> {
         let mut store = MemDisk::new(alloc);
         let mut filed = notary(alloc);
         for (words, script, (asked, changed), status, text) in [
-            (
-                "init 9 60 2 m",
-                b"".as_slice(),
-                (0, 0),
-                0,
-                b"ready 9\n".as_slice(),
-            ),
+            ("init 9 60 2 m", "", (0, 0), 0, "ready 9\n"),
             ("run 9 scripted", SCRIPT, (question, change), ended, wanted),
             ("run 9 scripted", retry, (0, 0), 0, again),
         ] {
             filed.failing([asked].to_vec(alloc)?, [changed].to_vec(alloc)?);
             let told = audit(alloc, &mut store, &mut filed, words, script, &[second])?;
-            assert_eq!(rt;
-                (told.0, told.1.as_slice()),
-                (status, text),
-                "{question} {change}"
-            );
+            tells(&rt, words, &told, status, text);
         }
     }
     Ok(())
 }
 
 /// The words of a call over sealed granules, its input, how many reading calls of the disk it makes, and how it ends.
-const READS: [(&str, &[u8], u64, u8); 9] = [
-    ("link", b"", 2, 0),
-    ("init 7 60 3 ta", b"", 1, 13),
-    ("run 7", b"insert t 9 9\n", 2, 0),
-    ("run 8", b"", 1, 4),
-    ("notarize 7", b"", 4, 0),
-    ("validate 7", b"", 2, 0),
-    ("analyse 7 mono", b"", 2, 0),
-    ("analyse 7 tiled", b"", 2, 0),
-    ("analyse 7 a3d", b"", 2, 0),
+const READS: [(&str, &str, u64, u8); 9] = [
+    ("link", "", 2, 0),
+    ("init 7 60 3 ta", "", 1, 13),
+    ("run 7", "insert t 9 9\n", 2, 0),
+    ("run 8", "", 1, 4),
+    ("notarize 7", "", 4, 0),
+    ("validate 7", "", 2, 0),
+    ("analyse 7 mono", "", 2, 0),
+    ("analyse 7 tiled", "", 2, 0),
+    ("analyse 7 a3d", "", 2, 0),
 ];
 
 /// A reading call of the disk fails, the store is as it was, and the next call ends as if there had been none before.
@@ -127,11 +125,7 @@ fn a_disk_that_cannot_be_read_is_left_as_it_was(rt: HostRuntime) -> Result<(), F
             store.failing([failing].to_vec(alloc)?, Vec::new(alloc));
             let told = audit(alloc, &mut store, &mut filed, words, input, &[960])?;
             if failing <= reads {
-                assert_eq!(rt;
-                    (told.0, told.1.as_slice()),
-                    (5, b"fault DiskFault\n".as_slice()),
-                    "{words}: {failing}"
-                );
+                tells(&rt, words, &told, 5, "fault DiskFault\n");
                 assert!(rt; store.bytes() == before.as_slice());
                 let again = audit(alloc, &mut store, &mut filed, words, input, &[960])?;
                 assert_eq!(rt; again.0, status, "{words}: {failing}");
@@ -143,21 +137,6 @@ fn a_disk_that_cannot_be_read_is_left_as_it_was(rt: HostRuntime) -> Result<(), F
     Ok(())
 }
 
-/// A store whose clock is at the end of its first tile, with a book in memory that is empty.
-fn filled(alloc: Global) -> Result<MemDisk, AllocError> {
-    let mut store = made(alloc, "init 9 60 2 ta")?;
-    let script = b"create t k int\ninsert t 1\n";
-    let _filled = audit(
-        alloc,
-        &mut store,
-        &mut notary(alloc),
-        "run 9 scripted",
-        script,
-        &[],
-    )?;
-    Ok(store)
-}
-
 /// A notarization at the end of the first tile that is stopped by a failing call, with the store and
 /// the book as a crash leaves them.
 fn crash_in_notarize(
@@ -166,19 +145,15 @@ fn crash_in_notarize(
     of_book: u64,
     choice: u64,
 ) -> Result<(MemDisk, MemDisk), AllocError> {
-    let mut store = filled(alloc)?;
+    let mut store = made(alloc, "init 9 60 2 ta")?;
+    let script = "create t k int\ninsert t 1\n";
+    let _filled = call(alloc, &mut store, "run 9 scripted", script, &[])?;
     store.failing(Vec::new(alloc), vec![in alloc; of_store]?);
     let mut device = MemDisk::new(alloc);
     device.failing(Vec::new(alloc), vec![in alloc; of_book]?);
     let mut book = Book::new(alloc, device);
-    let _stopped = audit(
-        alloc,
-        &mut store,
-        &mut book,
-        "run 9 scripted",
-        b"now 240\nnotarize\n",
-        &[],
-    )?;
+    let script = "now 240\nnotarize\n";
+    let _stopped = audit(alloc, &mut store, &mut book, "run 9 scripted", script, &[])?;
     store.crash(choice)?;
     let mut device = book.into_disk();
     device.crash(choice)?;
@@ -200,7 +175,7 @@ fn a_crash_between_the_store_and_the_book_leaves_both_sound(rt: HostRuntime) -> 
             };
             let (mut store, device) = crash_in_notarize(alloc, of_store, of_book, choice)?;
             let mut book = Book::new(alloc, device);
-            let script = b"validate\nnow 140\ninsert t 2\nnow 240\nnotarize\nvalidate\n";
+            let script = "validate\nnow 140\ninsert t 2\nnow 240\nnotarize\nvalidate\n";
             let (_, text) = audit(alloc, &mut store, &mut book, "run 9 scripted", script, &[])?;
             assert!(rt; text.ends_with(b"ok\nsealed 1\nclean 1\n"));
             assert!(rt; text.starts_with(b"unsealed\n") || text.starts_with(b"clean "));
@@ -219,38 +194,22 @@ fn a_crash_between_the_store_and_the_book_leaves_both_sound(rt: HostRuntime) -> 
 #[test]
 fn the_worked_store_and_its_book_are_these_bytes(rt: HostRuntime) -> Result<(), Fail> {
     let alloc = rt.alloc();
-    let mut store = made(alloc, "init 7 60 3 ta")?;
     let mut book = Book::new(alloc, MemDisk::new(alloc));
-    let mut script = b"create t k int v int\n".to_vec(alloc)?;
-    for granule in 0u32..8 {
-        let moment = granule * 60;
-        let lines = format!(in alloc; "now {moment}\ninsert t {granule} 0\n")?;
-        script.extend_from_slice(lines.as_bytes())?;
-    }
-    script.extend_from_slice(b"now 480\nnotarize\n")?;
-    let (_, text) = audit(alloc, &mut store, &mut book, "run 7 scripted", &script, &[])?;
-    assert!(rt; text.ends_with(b"ok\nsealed 1\n"));
+    let mut store = sealed(alloc, "init 7 60 3 ta", 8, &mut book)?;
     let device = book.into_disk();
-    for (bytes, length, digest) in [
-        (
-            store.bytes(),
-            445,
-            "13a65c8eb32e72a5db254dbe00abbf8708e45a1825f7baafc8cbbab4a661af26",
-        ),
-        (
-            device.bytes(),
-            913,
-            "00fc928e99647354b4fae36b3cfbc87b08c45f1a855a295db221d487e59df44a",
-        ),
-    ] {
+    for (bytes, length, digest) in [(store.bytes(), 445, STORE), (device.bytes(), 913, BOOK)] {
         assert_eq!(rt; bytes.len(), length);
         let mut hash = Sha256::new();
         hash.update(bytes);
         assert_eq!(rt; hex::encode(alloc, hash.finalize())?.as_str(), digest);
     }
     let mut again = Book::new(alloc, device);
-    let answered = audit(alloc, &mut store, &mut again, "validate 7", b"", &[500])?;
-    assert_eq!(rt; answered.1.as_slice(), b"clean 1\n".as_slice());
+    let told = audit(alloc, &mut store, &mut again, "validate 7", "", &[500])?;
+    tells(&rt, "validate 7", &told, 0, "clean 1\n");
     assert_eq!(rt; again.into_disk().bytes().len(), 944);
     Ok(())
 }
+
+const STORE: &str = "13a65c8eb32e72a5db254dbe00abbf8708e45a1825f7baafc8cbbab4a661af26";
+
+const BOOK: &str = "00fc928e99647354b4fae36b3cfbc87b08c45f1a855a295db221d487e59df44a";

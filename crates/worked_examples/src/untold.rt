@@ -6,26 +6,26 @@ use notary_link::{Notary, Untold as UntoldNotary};
 use std::alloc::{AllocError, Global};
 use std::test::Fail;
 
-const LINES: &[u8] =
-    b"get t 1\ns3 begin\ns3 delete t 0\ns3 commit\nvalidate\nanalyse a3d\nnotarize\nget u 1\n";
+const LINES: &str =
+    "get t 1\ns3 begin\ns3 delete t 0\ns3 commit\nvalidate\nanalyse a3d\nnotarize\nget u 1\n";
 
 /// The words of a call, its input, and how it ends over eight sealed granules.
-const CALLS: [(&str, &[u8], u8); 15] = [
-    ("link", b"", 0),
-    ("init 7 60 3 ta", b"", 13),
+const CALLS: [(&str, &str, u8); 15] = [
+    ("link", "", 0),
+    ("init 7 60 3 ta", "", 13),
     ("run 7", LINES, 3),
     ("run 7 scripted", LINES, 3),
-    ("run 8", b"get t 1\n", 4),
-    ("notarize 7", b"", 0),
-    ("notarize 8", b"", 4),
-    ("validate 7", b"", 0),
-    ("validate 8", b"", 0),
-    ("analyse 7 mono", b"", 0),
-    ("analyse 7 tiled", b"", 0),
-    ("analyse 7 tiled 2", b"", 0),
-    ("analyse 7 a3d", b"", 0),
-    ("make 7 1 20", b"", 0),
-    ("drill", b"init 9 60 2 m\ncreate t k int\nnotarize\n", 0),
+    ("run 8", "get t 1\n", 4),
+    ("notarize 7", "", 0),
+    ("notarize 8", "", 4),
+    ("validate 7", "", 0),
+    ("validate 8", "", 0),
+    ("analyse 7 mono", "", 0),
+    ("analyse 7 tiled", "", 0),
+    ("analyse 7 tiled 2", "", 0),
+    ("analyse 7 a3d", "", 0),
+    ("make 7 1 20", "", 0),
+    ("drill", "init 9 60 2 m\ncreate t k int\nnotarize\n", 0),
 ];
 
 /// How a call ends at second 960, and what it writes; behind that what then is found of the store.
@@ -34,11 +34,11 @@ fn told<D: Disk, N: Notary>(
     store: &mut D,
     filed: &mut N,
     words: &str,
-    input: &[u8],
+    input: &str,
 ) -> Result<(u8, Vec<u8>), AllocError> {
     let (status, mut text) = audit(alloc, store, filed, words, input, &[960])?;
     for command in ["link", "validate 7"] {
-        let (_, found) = audit(alloc, store, filed, command, b"", &[960])?;
+        let (_, found) = audit(alloc, store, filed, command, "", &[960])?;
         text.extend_from_slice(&found)?;
     }
     Ok((status, text))
