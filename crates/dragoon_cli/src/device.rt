@@ -47,7 +47,7 @@ impl<R: Files<File = File> + Drop> Device<R> {
 
 impl<R: Files<File = File> + Drop> Disk for Device<R> {
     ghost use Rattle.std.proofs.Common.{ap};
-    ghost use Rattle.std.specs.Prelude.{Some};
+    ghost use Rattle.std.specs.Prelude.{Some, true};
     ghost use Rattle.dragoon_cli.specs.declared.device.Device.TheVariants.{File, Memory};
     ghost use Rattle.disk_model.specs.Calls.{first_of, trace_of};
     ghost use Rattle.disk_model.specs.Memory.{state_of};
@@ -59,6 +59,8 @@ impl<R: Files<File = File> + Drop> Disk for Device<R> {
       | File file ↦ ⟦<FileDisk<R> as Disk>⟧.state file
       | Memory memory ↦ state_of memory
     ] };
+
+    ghost takes_memory = { true };
 
     ghost replayed = { elim [
       | File file ↦ tt

@@ -1,5 +1,6 @@
 //! How far a long call is: one line on standard error, written over about once a second, and taken away at the end.
 
+use crate::shared::Shared;
 use std::alloc::AllocError;
 use std::fmt;
 use std::rt::Runtime;
@@ -18,23 +19,28 @@ pub(crate) enum Step {
 
 /// A line of progress about one device, where it is wanted.
 #[derive(Drop)]
-pub(crate) struct Progress<R: Runtime> {
+pub(crate) struct Progress<'a, R: Runtime> {
     rt: R,
+    shared: &'a Shared,
     device: &'static str,
     is_wanted: bool,
     /// When it was shown last, or the device was made.
     last: Option<Instant>,
-    is_shown: bool,
 }
 
-impl<R: Runtime> Progress<R> {
-    pub(crate) fn new(rt: &R, device: &'static str, is_wanted: bool) -> Result<Self, AllocError> {
+impl<'a, R: Runtime> Progress<'a, R> {
+    pub(crate) fn new(
+        rt: &R,
+        shared: &'a Shared,
+        device: &'static str,
+        is_wanted: bool,
+    ) -> Result<Self, AllocError> {
         Ok(Progress {
             rt: rt.clone()?,
+            shared,
             device,
             is_wanted,
             last: Instant::now(rt).ok(),
-            is_shown: false,
         })
     }
 
@@ -43,7 +49,7 @@ impl<R: Runtime> Progress<R> {
         if self.is_wanted && self.is_due() {
             let device = self.device;
             let _ = eprint!(self.rt; "\r\x1b[Kdragoon: the {device}: {step}");
-            self.is_shown = true;
+            self.shared.is_shown.set(true);
             self.last = Instant::now(&self.rt).ok();
         }
     }
@@ -59,18 +65,23 @@ impl<R: Runtime> Progress<R> {
         }
     }
 
-    /// Takes the line away, where this device has shown one.
-    pub(crate) fn end(&mut self) {
-        if self.is_shown {
+    /// Says how a person gives the lines of an input that is a terminal.
+    pub(crate) fn ask(&self) {
+        let _ = eprintln!(self.rt; "dragoon: one statement a line; end with Ctrl-D");
+    }
+
+    /// The same where the output goes to the terminal, too.
+    pub(crate) fn clear_before_output(&self) {
+        if self.is_wanted {
             self.clear();
-            self.is_shown = false;
         }
     }
 
-    /// Takes away whatever line there is.
-    pub(crate) fn clear(&mut self) {
-        if self.is_wanted {
+    /// Takes the line away, where one is shown.
+    pub(crate) fn clear(&self) {
+        if self.shared.is_shown.get() {
             let _ = eprint!(self.rt; "\r\x1b[K");
+            self.shared.is_shown.set(false);
         }
     }
 }

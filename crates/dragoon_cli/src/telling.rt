@@ -1,43 +1,82 @@
-//! What is said on standard error beside a fault line: what happened to which file, and what to do next.
+//! What is said on standard error at the end: beside a fault line what happened to which file and what to do next, and
+//! else what the output and the status alone don't say.
 
-use crate::usage::USAGE;
+use crate::ask::Ask;
+use crate::date::Date;
+use crate::heard::Heard;
+use crate::lines::Refused;
+use crate::nearest::tell_usage;
+use crate::peek::Found;
+use crate::shown::Shown;
+use crate::warnings::tell_warnings;
 use dragoon_app::Status;
 use std::io::ErrorKind;
 use std::{fmt, io};
 
-/// A device as whoever runs the program knows it: what it is called, its file where one was named, and
-/// why its last call that failed did so.
-#[derive(Drop)]
-pub struct Named<'a> {
-    pub name: &'a str,
-    pub path: Option<&'a str>,
-    pub error: Option<io::Error>,
+/// A device as whoever runs the program knows it: what it is called, its file where one was named, why its last call
+/// that failed did so, and what was found there before the call.
+#[derive(Clone, Copy)]
+pub(crate) struct Named<'a> {
+    pub(crate) name: &'static str,
+    pub(crate) path: Option<&'a str>,
+    pub(crate) error: Option<io::Error>,
+    pub(crate) found: Found,
+}
+
+impl<'a> Named<'a> {
+    pub(crate) fn new(
+        name: &'static str,
+        path: Option<&'a str>,
+        error: Option<io::Error>,
+        found: Found,
+    ) -> Named<'a> {
+        Named {
+            name,
+            path,
+            error,
+            found,
+        }
+    }
 }
 
 /// How a run ended, with what its devices tell of it.
 #[derive(Drop)]
-pub struct Ending<'a> {
-    pub status: Status,
-    pub store: Named<'a>,
-    pub notary: Named<'a>,
-    pub input: Option<io::Error>,
-    pub output: Option<io::Error>,
+pub(crate) struct Ending<'a> {
+    pub(crate) ask: Ask,
+    pub(crate) status: Status,
+    pub(crate) store: Named<'a>,
+    pub(crate) notary: Named<'a>,
+    pub(crate) input: Option<io::Error>,
+    pub(crate) output: Option<io::Error>,
+    pub(crate) heard: &'a Heard<'a>,
+    pub(crate) refused: Option<&'a Refused>,
+    /// The clock's second at the end.
+    pub(crate) now: u64,
 }
 
-/// Says how the run ended, in one line, where it ended with a fault; of words that are no command, the usage page.
-pub(crate) fn tell<R: Eprint>(rt: &R, ending: &Ending<'_>) -> io::Result<()> {
+/// Says how the run ended, in one line where it ended with a fault, and then what else there is to say.
+pub(crate) fn tell<R: Eprint + AllocGlobal>(
+    rt: &R,
+    call: &[String],
+    ending: &Ending<'_>,
+) -> io::Result<()> {
     match ending.status {
-        Status::Ok | Status::Altered | Status::Refused => Ok(()),
-        Status::Usage => eprint!(rt; "{USAGE}"),
-        _ => eprintln!(rt; "dragoon: {ending}"),
+        Status::Usage => return tell_usage(rt, call),
+        Status::Ok | Status::Altered | Status::Refused => {}
+        _ => eprintln!(rt; "dragoon: {ending}")?,
     }
+    tell_warnings(rt, ending)
 }
 
 impl fmt::Display for Named<'_> {
     fn fmt<W: fmt::Write>(&self, f: &mut fmt::Formatter<W>) -> fmt::Result {
         let name = self.name;
         match self.path {
-            Some(path) => write!(f, "the {name} {path}"),
+            Some(path) if path.is_empty() => write!(f, "the {name} of an empty path"),
+            Some(path) => {
+                let path = Shown(path);
+                write!(f, "the {name} {path}")
+            }
             None => write!(f, "the {name} in memory (no file was named)"),
         }
     }
@@ -48,6 +87,28 @@ fn reason(error: Option<io::Error>) -> io::Error {
     error.unwrap_or(ErrorKind::Other.into())
 }
 
+/// What a file is that isn't what it should be.
+#[derive(Clone, Copy)]
+struct Kind(Found);
+
+impl fmt::Display for Kind {
+    fn fmt<W: fmt::Write>(&self, f: &mut fmt::Formatter<W>) -> fmt::Result {
+        match self.0 {
+            Found::Store { header, .. } => {
+                let id = header.id;
+                let begin = Date(header.epoch);
+                write!(f, "holds a store with the id {id}, which begins at {begin}")
+            }
+            Found::Book { .. } => write!(f, "holds a notary's book"),
+            Found::Missing => write!(f, "is missing"),
+            Found::Empty => write!(f, "is empty"),
+            Found::Unused | Found::Other | Found::Unread => {
+                write!(f, "holds neither a store nor a notary's book")
+            }
+        }
+    }
+}
+
 // Of a device that failed.
 fn tell_failed<W: fmt::Write>(device: &Named<'_>, f: &mut fmt::Formatter<W>) -> fmt::Result {
     match device.error {
@@ -55,13 +116,103 @@ fn tell_failed<W: fmt::Write>(device: &Named<'_>, f: &mut fmt::Formatter<W>) -> 
             f,
             "{device} is locked by another process, or named as store and book at once: start again when it is free"
         ),
+        Some(error) if is_not_writable(error) => write!(
+            f,
+            "{device}: {error}; mend this and start again, what was answered is kept. Asking opens a file for writing, too: examples/on_copy asks over a copy"
+        ),
         Some(error) => write!(
             f,
             "{device}: {error}; mend this and start again, what was answered is kept"
         ),
-        None => write!(
+        None => tell_odd(device, f),
+    }
+}
+
+fn is_not_writable(error: io::Error) -> bool {
+    error.kind() == ErrorKind::PermissionDenied || error.kind() == ErrorKind::ReadOnlyFilesystem
+}
+
+// Of a book that is none.
+fn tell_odd<W: fmt::Write>(device: &Named<'_>, f: &mut fmt::Formatter<W>) -> fmt::Result {
+    match device.found {
+        Found::Book { .. } => write!(
             f,
-            "{device} holds something else and stays as it is: name another file"
+            "{device} is damaged: its records don't follow one another as a notary's do; it stays as it is, so look for copies first (docs/OPERATING.md)"
+        ),
+        found => {
+            let kind = Kind(found);
+            write!(
+                f,
+                "{device} {kind}; it stays as it is, so look for copies of the book first (docs/OPERATING.md)"
+            )
+        }
+    }
+}
+
+// Of a store that none of this id stands in.
+fn tell_other<W: fmt::Write>(store: &Named<'_>, f: &mut fmt::Formatter<W>) -> fmt::Result {
+    match store.found {
+        Found::Unused | Found::Unread => write!(
+            f,
+            "{store} is no store, or has another id: make one by `init`, or name the right file and id"
+        ),
+        found => {
+            let kind = Kind(found);
+            write!(
+                f,
+                "{store} {kind}: make one by `init`, or name the right file and id"
+            )
+        }
+    }
+}
+
+// Of the clock of a store, whose last moment is so many seconds behind its first.
+fn tell_clock_back<W: fmt::Write>(
+    store: &Named<'_>,
+    last: u64,
+    f: &mut fmt::Formatter<W>,
+) -> fmt::Result {
+    match store.found {
+        Found::Store { header, .. } => {
+            let moment = Date(header.epoch.saturating_add(last));
+            write!(
+                f,
+                "the clock is behind {store}, whose last moment is second {last}, {moment}: set it right and start again"
+            )
+        }
+        _ => write!(
+            f,
+            "the clock is behind {store}, whose last moment is second {last}: set it right and start again"
+        ),
+    }
+}
+
+fn tell_too_late<W: fmt::Write>(store: &Named<'_>, f: &mut fmt::Formatter<W>) -> fmt::Result {
+    match store.found {
+        Found::Store { header, .. } => {
+            let granules = u64::from(header.width).saturating_mul(1_048_576);
+            let end = Date(header.epoch.saturating_add(granules));
+            write!(
+                f,
+                "the clock is beyond what {store} can tell, which ends at {end}: set it right, or make another store by `init`"
+            )
+        }
+        _ => write!(
+            f,
+            "the clock is beyond what a store can tell: set it right, or make another store by `init`"
+        ),
+    }
+}
+
+fn tell_taken<W: fmt::Write>(store: &Named<'_>, f: &mut fmt::Formatter<W>) -> fmt::Result {
+    match store.found {
+        Found::Store { .. } | Found::Book { .. } => {
+            let kind = Kind(store.found);
+            write!(f, "{store} {kind}, and stays as it is: name another file")
+        }
+        _ => write!(
+            f,
+            "{store} holds something and stays as it is: name another file"
         ),
     }
 }
@@ -87,10 +238,7 @@ impl fmt::Display for Ending<'_> {
                     "the output: {error}; what was stored stays, so look before you start again"
                 )
             }
-            Status::NotAStore => write!(
-                f,
-                "{store} is no store, or has another id: make one by `init`, or name the right file and id"
-            ),
+            Status::NotAStore => tell_other(store, f),
             Status::Broken => write!(
                 f,
                 "{store} isn't what was filed with {notary}: keep both as they are, and `validate`"
@@ -102,18 +250,9 @@ impl fmt::Display for Ending<'_> {
             Status::OutOfTurn { .. } => {
                 write!(f, "somebody else filed with {notary}: `notarize` again")
             }
-            Status::AlreadyThere => write!(
-                f,
-                "{store} holds something and stays as it is: name another file"
-            ),
-            Status::ClockBack { last } => write!(
-                f,
-                "the clock is behind {store}, whose last moment is second {last}: set it right and start again"
-            ),
-            Status::TooLate => write!(
-                f,
-                "the clock is beyond what a store can tell: set it right, or make another store by `init`"
-            ),
+            Status::AlreadyThere => tell_taken(store, f),
+            Status::ClockBack { last } => tell_clock_back(store, last, f),
+            Status::TooLate => tell_too_late(store, f),
             Status::Full => write!(
                 f,
                 "{store} or {notary} is full: go on with another store and another book"

@@ -1,22 +1,25 @@
 //! Devices whose calls move a line of progress. Each hands its calls on, and tells what the one below tells.
 
+use crate::heard::Heard;
+use crate::lines::Lines;
 use crate::progress::{Progress, Step};
+use crate::shared::Shared;
 use disk_model::{Disk, DiskFail};
 use outside_io::{Sink, Source, StreamFail};
 use std::rt::Runtime;
 
 /// A disk that shows how much was read of it, and written.
 #[derive(Drop)]
-pub(crate) struct WatchedDisk<D: Drop, R: Runtime> {
+pub(crate) struct WatchedDisk<'a, D: Drop, R: Runtime> {
     below: D,
-    progress: Progress<R>,
+    progress: Progress<'a, R>,
     /// What its length was, where it was asked.
     length: u64,
     written: u64,
 }
 
-impl<D: Disk + Drop, R: Runtime> WatchedDisk<D, R> {
-    pub(crate) fn new(below: D, progress: Progress<R>) -> Self {
+impl<'a, D: Disk + Drop, R: Runtime> WatchedDisk<'a, D, R> {
+    pub(crate) fn new(below: D, progress: Progress<'a, R>) -> Self {
         WatchedDisk {
             below,
             progress,
@@ -25,15 +28,17 @@ impl<D: Disk + Drop, R: Runtime> WatchedDisk<D, R> {
         }
     }
 
-    /// Ends the line, and gives the disk below.
-    pub(crate) fn below(&mut self) -> &D {
-        self.progress.end();
+    /// Takes the line of progress away, and gives the disk below.
+    pub(crate) fn below(&self) -> &D {
+        self.progress.clear();
         &self.below
     }
 }
 
-impl<D: Disk + Drop, R: Runtime> Disk for WatchedDisk<D, R> {
+impl<'a, D: Disk + Drop, R: Runtime> Disk for WatchedDisk<'a, D, R> {
     ghost state = { λ d. D.state d.below };
+
+    ghost takes_memory = { D.takes_memory };
 
     ghost replayed = { λ d. D.replayed d.below };
 
@@ -74,37 +79,57 @@ impl<D: Disk + Drop, R: Runtime> Disk for WatchedDisk<D, R> {
     }
 }
 
-/// An input that shows how many lines were read.
+/// An input that shows how many lines were read, and keeps the first line that was refused.
 #[derive(Drop)]
-pub(crate) struct WatchedSource<I: Drop, R: Runtime> {
+pub(crate) struct WatchedSource<'a, I: Drop, R: Runtime> {
     below: I,
-    progress: Progress<R>,
-    lines: u64,
+    progress: Progress<'a, R>,
+    shared: &'a Shared,
+    /// Whether it is said, before the first read, how lines are given.
+    is_asked: bool,
+    count: u64,
+    pub(crate) lines: Lines,
 }
 
-impl<I: Source + Drop, R: Runtime> WatchedSource<I, R> {
-    pub(crate) fn new(below: I, progress: Progress<R>) -> Self {
+impl<'a, I: Source + Drop, R: Runtime> WatchedSource<'a, I, R> {
+    pub(crate) fn new(
+        below: I,
+        progress: Progress<'a, R>,
+        shared: &'a Shared,
+        is_asked: bool,
+        lines: Lines,
+    ) -> Self {
         WatchedSource {
             below,
             progress,
-            lines: 0,
+            shared,
+            is_asked,
+            count: 0,
+            lines,
         }
     }
 
-    /// Ends the line, and gives the input below.
+    /// Takes the line of progress away, and gives the input below.
     pub(crate) fn below(&mut self) -> &I {
-        self.progress.end();
+        self.progress.clear();
+        self.lines.look_back(self.shared.first_refused.get());
         &self.below
     }
 }
 
-impl<I: Source + Drop, R: Runtime> Source for WatchedSource<I, R> {
+impl<'a, I: Source + Drop, R: Runtime> Source for WatchedSource<'a, I, R> {
     ghost state = { λ s. I.state s.below };
 
     fn read(&mut self, into: &mut [u8]) -> Result<usize, StreamFail> {
-        self.progress.show(Step::Lines { lines: self.lines });
+        if self.is_asked {
+            self.progress.ask();
+            self.is_asked = false;
+        }
+        self.progress.show(Step::Lines { lines: self.count });
+        self.lines.look_back(self.shared.first_refused.get());
         let count = self.below.read(into)?;
-        self.lines = self.lines.saturating_add(ends_in(&into[..count]));
+        self.count = self.count.saturating_add(ends_in(&into[..count]));
+        self.lines.take(&into[..count]);
         Ok(count)
     }
 }
@@ -120,16 +145,21 @@ fn ends_in(piece: &[u8]) -> u64 {
     ends
 }
 
-/// An output that takes the line of progress away before it writes to the same terminal.
+/// An output that takes the line of progress away before it writes to the same terminal, and hears what is written.
 #[derive(Drop)]
-pub(crate) struct WatchedSink<O: Drop, R: Runtime> {
+pub(crate) struct WatchedSink<'a, O: Drop, R: Runtime> {
     below: O,
-    progress: Progress<R>,
+    progress: Progress<'a, R>,
+    pub(crate) heard: Heard<'a>,
 }
 
-impl<O: Sink + Drop, R: Runtime> WatchedSink<O, R> {
-    pub(crate) fn new(below: O, progress: Progress<R>) -> Self {
-        WatchedSink { below, progress }
+impl<'a, O: Sink + Drop, R: Runtime> WatchedSink<'a, O, R> {
+    pub(crate) fn new(below: O, progress: Progress<'a, R>, heard: Heard<'a>) -> Self {
+        WatchedSink {
+            below,
+            progress,
+            heard,
+        }
     }
 
     pub(crate) fn below(&self) -> &O {
@@ -137,11 +167,13 @@ impl<O: Sink + Drop, R: Runtime> WatchedSink<O, R> {
     }
 }
 
-impl<O: Sink + Drop, R: Runtime> Sink for WatchedSink<O, R> {
+impl<'a, O: Sink + Drop, R: Runtime> Sink for WatchedSink<'a, O, R> {
     ghost state = { λ o. O.state o.below };
 
     fn write(&mut self, piece: &[u8]) -> Result<usize, StreamFail> {
-        self.progress.clear();
-        self.below.write(piece)
+        self.progress.clear_before_output();
+        let count = self.below.write(piece)?;
+        self.heard.take(piece, count);
+        Ok(count)
     }
 }

@@ -1,0 +1,73 @@
+//! Which command the words ask for, for what is told of it.
+
+/// By the first word alone: whether the others fit is found where the call is made.
+#[derive(Clone, Copy, PartialEq, Eq)]
+pub(crate) enum Ask {
+    Link,
+    Init,
+    Run,
+    Make,
+    Drill,
+    Notarize,
+    Validate,
+    Analyse,
+    Nothing,
+}
+
+impl Ask {
+    pub(crate) fn of(call: &[String]) -> Ask {
+        match call.first() {
+            Some(word) => named(word.as_str()),
+            None => Ask::Nothing,
+        }
+    }
+
+    pub(crate) fn uses_store(self) -> bool {
+        self != Ask::Drill && self != Ask::Nothing
+    }
+
+    pub(crate) fn uses_notary(self) -> bool {
+        self.uses_store() && self != Ask::Link && self != Ask::Init
+    }
+
+    /// Whether it writes nothing into an empty file.
+    pub(crate) fn only_asks(self) -> bool {
+        self == Ask::Link || self == Ask::Validate || self == Ask::Analyse
+    }
+
+    /// Whether it holds one thing against another, or says what is there.
+    pub(crate) fn compares(self) -> bool {
+        self.only_asks() || self == Ask::Notarize || self == Ask::Run
+    }
+
+    /// Whether what it replies may be a verdict over a file.
+    pub(crate) fn gives_verdict(self) -> bool {
+        self == Ask::Validate || self == Ask::Analyse || self == Ask::Run
+    }
+
+    pub(crate) fn takes_lines(self) -> bool {
+        self == Ask::Run || self == Ask::Drill
+    }
+}
+
+fn named(word: &str) -> Ask {
+    if word == "link" {
+        Ask::Link
+    } else if word == "init" {
+        Ask::Init
+    } else if word == "run" {
+        Ask::Run
+    } else if word == "make" {
+        Ask::Make
+    } else if word == "drill" {
+        Ask::Drill
+    } else if word == "notarize" {
+        Ask::Notarize
+    } else if word == "validate" {
+        Ask::Validate
+    } else if word == "analyse" {
+        Ask::Analyse
+    } else {
+        Ask::Nothing
+    }
+}

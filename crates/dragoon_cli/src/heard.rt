@@ -1,0 +1,157 @@
+//! What went to the output, as far as something is told of it at the end.
+
+use crate::shared::Shared;
+use std::str;
+
+/// As many bytes of a reply are kept.
+const FRONT: usize = 80;
+
+/// The front of a text.
+#[derive(Clone, Copy)]
+pub(crate) struct Front {
+    bytes: [u8; FRONT],
+    length: usize,
+}
+
+impl Front {
+    pub(crate) fn new() -> Front {
+        Front {
+            bytes: [0; FRONT],
+            length: 0,
+        }
+    }
+
+    /// Keeps the front of the first line of a text.
+    fn of(text: &[u8]) -> Front {
+        let mut front = Front::new();
+        let line = text.split(|byte| *byte == b'\n').next().unwrap_or(text);
+        for (kept, byte) in front.bytes.iter_mut().zip(line) {
+            *kept = *byte;
+        }
+        front.length = line.len().min(FRONT);
+        front
+    }
+
+    /// Its text, or none where it is cut within a character.
+    pub(crate) fn text(&self) -> &str {
+        match self.bytes.get(..self.length) {
+            Some(bytes) => str::from_utf8(bytes).unwrap_or(""),
+            None => "",
+        }
+    }
+}
+
+/// Each reply is written by calls of its own, which write all of it unless the output fails.
+#[derive(Drop)]
+pub(crate) struct Heard<'a> {
+    shared: &'a Shared,
+    /// So many bytes of the reply that is being written are not out yet.
+    left: usize,
+    pub(crate) replies: u64,
+    pub(crate) refused: u64,
+    pub(crate) first_refusal: Front,
+    /// The last verdict of `validate` or `analyse`, and the first one that says altered.
+    pub(crate) verdict: Front,
+    pub(crate) altered: Front,
+    /// Whether something was filed with the notary, or marked.
+    pub(crate) is_filed: bool,
+    /// Whether a report says that something happened between a moment and an earlier one.
+    pub(crate) goes_back: bool,
+}
+
+impl<'a> Heard<'a> {
+    pub(crate) fn new(shared: &'a Shared) -> Heard<'a> {
+        Heard {
+            shared,
+            left: 0,
+            replies: 0,
+            refused: 0,
+            first_refusal: Front::new(),
+            verdict: Front::new(),
+            altered: Front::new(),
+            is_filed: false,
+            goes_back: false,
+        }
+    }
+
+    /// So many bytes of this piece went out.
+    pub(crate) fn take(&mut self, piece: &[u8], count: usize) {
+        if self.left == 0 {
+            self.begin(piece);
+        }
+        self.left = piece.len().saturating_sub(count);
+    }
+
+    fn begin(&mut self, reply: &[u8]) {
+        let front = Front::of(reply);
+        if reply.starts_with(b"refused ".as_slice()) {
+            if self.refused == 0 {
+                self.first_refusal = front;
+                self.shared.first_refused.set(Some(self.replies));
+            }
+            self.refused = self.refused.saturating_add(1);
+        }
+        self.hear(front);
+        self.goes_back = self.goes_back || goes_back(reply);
+        self.replies = self.replies.saturating_add(1);
+    }
+
+    /// What the notary was given or asked by a line with this reply.
+    fn hear(&mut self, reply: Front) {
+        let text = reply.text();
+        self.is_filed = self.is_filed || text.starts_with("sealed ") || is_of_validate(text);
+        if text == "unsealed" || text.starts_with("report ") || is_of_validate(text) {
+            self.verdict = reply;
+            if self.altered.length == 0 && says_altered(text) {
+                self.altered = reply;
+            }
+        }
+    }
+
+    /// Whether the last verdict compared nothing.
+    pub(crate) fn is_unsealed(&self) -> bool {
+        self.verdict.text().ends_with("unsealed")
+    }
+
+    /// Whether the notary was given or asked something.
+    pub(crate) fn uses_notary(&self) -> bool {
+        self.is_filed || self.verdict.length > 0
+    }
+}
+
+/// Of a store of which something is filed.
+fn is_of_validate(reply: &str) -> bool {
+    reply.starts_with("clean ") || says_altered_first(reply)
+}
+
+fn says_altered_first(reply: &str) -> bool {
+    reply.starts_with("altered ") || reply.starts_with("header altered ")
+}
+
+/// Of a verdict, or the first line of a report.
+fn says_altered(verdict: &str) -> bool {
+    says_altered_first(verdict) || verdict.ends_with(" altered")
+}
+
+/// Whether a line of a report ends in `when FROM to TO` with TO before FROM.
+fn goes_back(reply: &[u8]) -> bool {
+    reply.starts_with(b"report ".as_slice())
+        && reply
+            .split(|byte| *byte == b'\n')
+            .any(|line| is_backward(line))
+}
+
+fn is_backward(line: &[u8]) -> bool {
+    let mut words = line.rsplit(|byte| *byte == b' ');
+    let until = words.next().and_then(number);
+    let word = words.next();
+    let from = words.next().and_then(number);
+    match (from, until) {
+        (Some(from), Some(until)) => word == Some(b"to".as_slice()) && until < from,
+        _ => false,
+    }
+}
+
+fn number(digits: &[u8]) -> Option<u64> {
+    str::from_utf8(digits).ok()?.parse::<u64>().ok()
+}

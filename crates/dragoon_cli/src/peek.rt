@@ -1,0 +1,240 @@
+//! A look at a file before the call, for what is told of it at the end. It is opened for reading alone, and
+//! takes no lock; what it finds changes nothing of the call.
+
+ghost use Rattle.std.specs.Prelude.{◌≡◌, ◌≤◌, false, length, IfOk, IsErrOf};
+ghost use Rattle.outside_words.specs.Faults.{HasCause, HidesNoFault};
+ghost use Rattle.disk_words.specs.declared.DiskFail.TheVariants.{Failed, NoMemory};
+ghost use Rattle.disk_model.specs.Untold.{untold_state};
+
+use disk_model::{Disk, DiskFail};
+use notary_book::BookShape;
+use std::alloc::Global;
+use std::fs::{self, File, OpenFile};
+use std::io::{self, ErrorKind, Read, Seek, SeekFrom};
+use std::rt::Files;
+use tuple_bytes::{Header, decode_header};
+use txn_journal::{Records, Shape, StoreShape, is_free};
+
+/// What was found where a device was named.
+#[derive(Clone, Copy)]
+pub(crate) enum Found {
+    /// No file was named, or the command uses none.
+    Unused,
+    Missing,
+    /// Nothing, or what a making leaves that was cut off: it counts as empty.
+    Empty,
+    Store {
+        header: Header,
+        behind: Option<Behind>,
+    },
+    Book {
+        /// The second of the last batch.
+        filed: Option<u64>,
+        behind: Option<Behind>,
+    },
+    Other,
+    /// It is no plain file, or it couldn't be read.
+    Unread,
+}
+
+/// Bytes behind the last closed gate that an append which was cut off doesn't leave.
+#[derive(Clone, Copy)]
+pub(crate) struct Behind {
+    /// So many bytes has the file up to that gate, and with it.
+    pub(crate) end: u64,
+    pub(crate) bytes: u64,
+}
+
+/// A file that is only read.
+#[derive(Drop)]
+struct Peek {
+    file: File,
+    faults: u64,
+}
+
+impl Peek {
+    fn counted<T>(&mut self, outcome: io::Result<T>) -> Result<T, DiskFail>
+        ensures value { IfOk result (λ value. outcome ≡ Ok value) }
+        ensures frame { self.old.faults ≤ self.new.faults }
+        ensures cause { HasCause Failed self.old.faults self.new.faults result }
+        ensures counted { HidesNoFault self.old.faults self.new.faults result }
+        ensures memory { ¬ IsErrOf result NoMemory }
+    {
+        match outcome {
+            Ok(value) => Ok(value),
+            Err(_) => {
+                self.faults = self.faults.saturating_add(1);
+                Err(DiskFail::Failed)
+            }
+        }
+    }
+
+    fn refused(&mut self) -> Result<(), DiskFail>
+        ensures frame { self.old.faults ≤ self.new.faults }
+        ensures cause { HasCause Failed self.old.faults self.new.faults result }
+        ensures counted { HidesNoFault self.old.faults self.new.faults result }
+        ensures memory { ¬ IsErrOf result NoMemory }
+    {
+        self.counted(Err(ErrorKind::Unsupported.into()))
+    }
+}
+
+fn read_on(file: &mut File, place: u64, into: &mut [u8]) -> io::Result<usize>
+    ensures fits { IfOk result (λ n. n ≤ length into.old) }
+{
+    file.seek(SeekFrom::Start(place))?;
+    let mut done = 0;
+    while done < into.len() {
+        let count = file.read(&mut into[done..])?;
+        if count == 0 {
+            break;
+        }
+        done += count;
+    }
+    Ok(done)
+}
+
+impl Disk for Peek {
+    ghost state = { λ d. untold_state d.faults };
+
+    ghost takes_memory = { false };
+
+    ghost replayed = { λ d. tt };
+
+    ghost reads_image = { λ d. tt };
+
+    ghost counts_now = { λ d t c le now. tt };
+
+    ghost only_now = { λ d c was. tt };
+
+    fn length(&mut self) -> Result<u64, DiskFail> {
+        let outcome = length_of(&self.file);
+        self.counted(outcome)
+    }
+
+    fn read_at(&mut self, place: u64, into: &mut [u8]) -> Result<usize, DiskFail> {
+        let outcome = read_on(&mut self.file, place, into);
+        self.counted(outcome)
+    }
+
+    fn write_at(&mut self, _place: u64, _bytes: &[u8]) -> Result<(), DiskFail> {
+        self.refused()
+    }
+
+    fn cut(&mut self, _length: u64) -> Result<(), DiskFail> {
+        self.refused()
+    }
+
+    fn sync(&mut self) -> Result<(), DiskFail> {
+        self.refused()
+    }
+}
+
+fn length_of(file: &File) -> io::Result<u64> {
+    Ok(file.metadata()?.len())
+}
+
+/// Looks at the file of this path. A file that is no plain one is left alone: to open a pipe may wait.
+pub(crate) fn look<R: Files<File = File>>(rt: &R, alloc: Global, path: Option<&str>) -> Found {
+    let Some(path) = path else {
+        return Found::Unused;
+    };
+    match fs::metadata(rt, path) {
+        Err(error) if error.kind() == ErrorKind::NotFound => Found::Missing,
+        Ok(about) if about.is_file() => match fs::open(rt, path) {
+            Ok(file) => look_into(alloc, &mut Peek { file, faults: 0 }).unwrap_or(Found::Unread),
+            Err(_) => Found::Unread,
+        },
+        _ => Found::Unread,
+    }
+}
+
+/// The length is taken first: what another process adds meanwhile is then not taken for bytes behind the end.
+fn look_into(alloc: Global, disk: &mut Peek) -> Result<Found, DiskFail> {
+    let length = disk.length()?;
+    let mut head = [0; 64];
+    disk.read_at(0, &mut head)?;
+    if length > 64 && BookShape::head(&head) {
+        let (filed, behind) = walk::<BookShape>(alloc, disk, length, true)?;
+        return Ok(Found::Book { filed, behind });
+    }
+    if length > 64 {
+        if let Some(header) = decode_header(&head) {
+            let (_, behind) = walk::<StoreShape>(alloc, disk, length, false)?;
+            return Ok(Found::Store { header, behind });
+        }
+    }
+    if is_free(disk)? {
+        Ok(Found::Empty)
+    } else {
+        Ok(Found::Other)
+    }
+}
+
+/// Goes over all records: when the last batch of a book was filed, and what stands behind the last closed gate.
+fn walk<S: Shape>(
+    alloc: Global,
+    disk: &mut Peek,
+    length: u64,
+    is_book: bool,
+) -> Result<(Option<u64>, Option<Behind>), DiskFail> {
+    let mut records = Records::<S>::at_first(alloc)?;
+    records.read_head(disk)?;
+    let mut filed = None;
+    for _ in 0..u64::MAX {
+        if !records.advance(disk)? {
+            break;
+        }
+        if is_book {
+            filed = filed_at(records.payload()).or(filed);
+        }
+    }
+    let end = records.place().saturating_add(1);
+    let bytes = length.saturating_sub(end);
+    if bytes == 0 || is_cut_append::<S>(alloc, disk, records.place(), bytes)? {
+        return Ok((filed, None));
+    }
+    Ok((filed, Some(Behind { end, bytes })))
+}
+
+/// The second of a batch: behind `01`, an id of eight bytes and an index of four.
+fn filed_at(payload: &[u8]) -> Option<u64> {
+    let moment = payload.get(13..21)?;
+    match (payload.first(), moment.first_chunk::<8>()) {
+        (Some(1), Some(moment)) => Some(u64::from_be_bytes(*moment)),
+        _ => None,
+    }
+}
+
+/// Whether an append that was cut off leaves such bytes behind a gate. It does so behind a closed gate as
+/// it is written, and they are no more than one record. A whole one is no sign of that: a hidden one looks the same.
+fn is_cut_append<S: Shape>(
+    alloc: Global,
+    disk: &mut Peek,
+    gate: u64,
+    bytes: u64,
+) -> Result<bool, DiskFail> {
+    if bytes > u64::from(S::PAYLOAD) + 5 {
+        return Ok(false);
+    }
+    let mut read = vec![in alloc; 0; 1 + bytes as usize]?;
+    let count = disk.read_at(gate, &mut read)?;
+    match read.get(..count).and_then(|read| read.split_first()) {
+        Some((0, behind)) => Ok(!begins_whole::<S>(behind)),
+        _ => Ok(false),
+    }
+}
+
+/// Whether a length, a payload of the shape and one byte more stand at the front.
+fn begins_whole<S: Shape>(bytes: &[u8]) -> bool {
+    match bytes.split_first_chunk::<4>() {
+        Some((length, rest)) => {
+            let length = u32::from_be_bytes(*length) as usize;
+            match rest.get(..length) {
+                Some(payload) => rest.len() > length && S::accepts(payload),
+                None => false,
+            }
+        }
+        None => false,
+    }
+}

@@ -1,0 +1,331 @@
+//! What output and status alone don't say, of a call that was carried out.
+
+use crate::ask::Ask;
+use crate::date::Date;
+use crate::lines::Refused;
+use crate::peek::{Behind, Found};
+use crate::refusal::meaning;
+use crate::shown::ShownBytes;
+use crate::telling::{Ending, Named};
+use crate::wording::first_wrong;
+use dragoon_app::Status;
+use std::{fmt, io};
+
+/// One thing to say.
+#[derive(Clone, Copy)]
+enum Warning<'a> {
+    /// Bytes stand behind the last closed gate of a file.
+    Behind {
+        device: &'a Named<'a>,
+        behind: Behind,
+    },
+    /// The file was missing, or empty.
+    Nothing {
+        device: &'a Named<'a>,
+        is_missing: bool,
+        is_made: bool,
+        /// Whether something was filed later, and compared.
+        is_compared: bool,
+    },
+    /// No store was named.
+    Unnamed,
+    /// It stood in memory.
+    Gone {
+        word: &'static str,
+        what: &'static str,
+    },
+    Unsealed {
+        notary: &'a Named<'a>,
+    },
+    HeaderAlone,
+    Altered {
+        ending: &'a Ending<'a>,
+    },
+    /// The clock says less than when something was filed.
+    ClockBehind {
+        now: u64,
+        filed: u64,
+    },
+    /// A report's span ends before it begins.
+    SpanBack,
+    /// Lines were refused.
+    Refused {
+        ending: &'a Ending<'a>,
+    },
+}
+
+/// Says each on a line of its own.
+pub(crate) fn tell_warnings<R: Eprint>(rt: &R, ending: &Ending<'_>) -> io::Result<()> {
+    let all = [
+        behind_of(&ending.store),
+        behind_of(&ending.notary),
+        nothing_in(ending, &ending.store),
+        nothing_in(ending, &ending.notary),
+        unnamed(ending),
+        gone(ending),
+        compared(ending),
+        altered(ending),
+        clock_of(ending),
+        refused(ending),
+    ];
+    for warning in all.iter().flatten() {
+        eprintln!(rt; "dragoon: {warning}")?;
+    }
+    Ok(())
+}
+
+/// Whether the call was carried out to its end.
+fn is_done(ending: &Ending<'_>) -> bool {
+    matches!(
+        &ending.status,
+        Status::Ok | Status::Altered | Status::Refused
+    )
+}
+
+fn behind_of<'a>(device: &'a Named<'a>) -> Option<Warning<'a>> {
+    match device.found {
+        Found::Store { behind, .. } | Found::Book { behind, .. } => match behind {
+            Some(behind) => Some(Warning::Behind { device, behind }),
+            None => None,
+        },
+        _ => None,
+    }
+}
+
+fn nothing_in<'a>(ending: &'a Ending<'a>, device: &'a Named<'a>) -> Option<Warning<'a>> {
+    let is_missing = matches!(&device.found, Found::Missing);
+    let is_empty = matches!(&device.found, Found::Empty);
+    let is_used = ending.ask != Ask::Run || ending.heard.uses_notary();
+    if !(is_missing || is_empty) || !is_done(ending) || !ending.ask.compares() || !is_used {
+        return None;
+    }
+    Some(Warning::Nothing {
+        device,
+        is_missing,
+        is_made: is_missing && !ending.ask.only_asks(),
+        is_compared: is_later_compared(ending),
+    })
+}
+
+fn is_later_compared(ending: &Ending<'_>) -> bool {
+    let heard = ending.heard;
+    ending.ask == Ask::Run && heard.verdict.text() != "" && !heard.is_unsealed()
+}
+
+/// Whether something stood where the store is named.
+fn has_store(ending: &Ending<'_>) -> bool {
+    !matches!(
+        &ending.store.found,
+        Found::Missing | Found::Empty | Found::Unused
+    )
+}
+
+fn unnamed<'a>(ending: &'a Ending<'a>) -> Option<Warning<'a>> {
+    if ending.store.path.is_none() && is_done(ending) && ending.ask.gives_verdict() {
+        Some(Warning::Unnamed)
+    } else {
+        None
+    }
+}
+
+fn gone<'a>(ending: &'a Ending<'a>) -> Option<Warning<'a>> {
+    if !is_done(ending) {
+        return None;
+    }
+    if ending.ask == Ask::Init && ending.store.path.is_none() {
+        return Some(Warning::Gone {
+            word: "store=FILE",
+            what: "the store",
+        });
+    }
+    let files = ending.ask == Ask::Notarize
+        || ending.ask == Ask::Make
+        || ending.ask == Ask::Run && ending.heard.is_filed;
+    if files && ending.notary.path.is_none() {
+        return Some(Warning::Gone {
+            word: "notary=FILE",
+            what: "what was filed",
+        });
+    }
+    None
+}
+
+/// What the last verdict was of, where that is less than it may seem.
+fn compared<'a>(ending: &'a Ending<'a>) -> Option<Warning<'a>> {
+    if !ending.ask.gives_verdict() || !is_done(ending) {
+        return None;
+    }
+    let said = ending.heard.verdict.text();
+    let is_there = matches!(&ending.notary.found, Found::Book { .. } | Found::Unused);
+    if ending.heard.is_unsealed() && is_there {
+        return Some(Warning::Unsealed {
+            notary: &ending.notary,
+        });
+    }
+    if said == "clean 0" || said.ends_with(" tiles 0 clean") {
+        return Some(Warning::HeaderAlone);
+    }
+    None
+}
+
+fn altered<'a>(ending: &'a Ending<'a>) -> Option<Warning<'a>> {
+    let is_altered = ending.heard.altered.text() != "";
+    if is_altered && is_done(ending) && ending.ask.gives_verdict() && has_store(ending) {
+        Some(Warning::Altered { ending })
+    } else {
+        None
+    }
+}
+
+fn clock_of<'a>(ending: &'a Ending<'a>) -> Option<Warning<'a>> {
+    if !ending.ask.gives_verdict() || !is_done(ending) {
+        return None;
+    }
+    match ending.notary.found {
+        Found::Book {
+            filed: Some(filed),
+            ..
+        } if ending.ask != Ask::Run && ending.now < filed => Some(Warning::ClockBehind {
+            now: ending.now,
+            filed,
+        }),
+        _ if ending.heard.goes_back => Some(Warning::SpanBack),
+        _ => None,
+    }
+}
+
+fn refused<'a>(ending: &'a Ending<'a>) -> Option<Warning<'a>> {
+    match ending.status {
+        Status::Refused if ending.ask.takes_lines() => Some(Warning::Refused { ending }),
+        _ => None,
+    }
+}
+
+fn tell_nothing<W: fmt::Write>(
+    device: &Named<'_>,
+    is_missing: bool,
+    is_made: bool,
+    is_compared: bool,
+    f: &mut fmt::Formatter<W>,
+) -> fmt::Result {
+    let was = if is_missing { "missing" } else { "empty" };
+    write!(f, "{device} was {was}")?;
+    if !is_compared {
+        write!(f, ": nothing was compared")?;
+    }
+    if is_made {
+        write!(f, ", and it was made anew")
+    } else {
+        Ok(())
+    }
+}
+
+fn tell_behind<W: fmt::Write>(
+    device: &Named<'_>,
+    behind: Behind,
+    f: &mut fmt::Formatter<W>,
+) -> fmt::Result {
+    let Behind { end, bytes } = behind;
+    write!(
+        f,
+        "{device} ends at byte {end}, and {bytes} bytes stand behind it: a crash leaves such bytes, and so does whoever hides records; docs/NOTARY.md"
+    )
+}
+
+fn tell_altered<W: fmt::Write>(ending: &Ending<'_>, f: &mut fmt::Formatter<W>) -> fmt::Result {
+    let store = &ending.store;
+    let notary = &ending.notary;
+    let said = ending.heard.altered.text();
+    if said.starts_with("header ") {
+        return write!(
+            f,
+            "{store} doesn't begin as the store that was filed: keep it and {notary} as they are, copy both, and compare with older copies; docs/OPERATING.md"
+        );
+    }
+    if said.starts_with("altered ") {
+        return write!(
+            f,
+            "{store} isn't what was filed: keep it and {notary} as they are, and copy both; `analyse` says which granules, and since when; docs/OPERATING.md"
+        );
+    }
+    write!(
+        f,
+        "{store} isn't what was filed: keep it and {notary} as they are, and copy both; docs/ANALYSIS.md says how to read the report"
+    )
+}
+
+fn tell_refused<W: fmt::Write>(ending: &Ending<'_>, f: &mut fmt::Formatter<W>) -> fmt::Result {
+    let refused = ending.heard.refused;
+    let replies = ending.heard.replies;
+    let reply = ending.heard.first_refusal.text();
+    let refusal = reply.strip_prefix("refused ").unwrap_or(reply);
+    write!(f, "{refused} of {replies} lines were refused")?;
+    match ending.refused {
+        Some(line) => tell_line(line, refusal, ending.ask == Ask::Drill, f),
+        None => {
+            let means = meaning(refusal);
+            write!(f, "; the first one as {refusal}: {means}")
+        }
+    }
+}
+
+fn tell_line<W: fmt::Write>(
+    line: &Refused,
+    refusal: &str,
+    is_drill: bool,
+    f: &mut fmt::Formatter<W>,
+) -> fmt::Result {
+    let number = line.number;
+    let text = ShownBytes(line.text.as_slice());
+    write!(f, "; the first one is line {number}, `{text}`: {refusal}, ")?;
+    if refusal == "Syntax" {
+        if let Some(wrong) = first_wrong(line.text.as_slice(), is_drill) {
+            let column = wrong.column;
+            let wanted = wrong.wanted;
+            return write!(f, "at column {column}: {wanted}");
+        }
+    }
+    let means = meaning(refusal);
+    write!(f, "{means}")
+}
+
+impl fmt::Display for Warning<'_> {
+    fn fmt<W: fmt::Write>(&self, f: &mut fmt::Formatter<W>) -> fmt::Result {
+        match *self {
+            Warning::Behind { device, behind } => tell_behind(device, behind, f),
+            Warning::Nothing {
+                device,
+                is_missing,
+                is_made,
+                is_compared,
+            } => tell_nothing(device, is_missing, is_made, is_compared, f),
+            Warning::Unnamed => write!(f, "no store=FILE was named: nothing was compared"),
+            Warning::Gone { word, what } => write!(
+                f,
+                "no {word} was named: {what} stood in memory, and is gone"
+            ),
+            Warning::Unsealed { notary } => write!(
+                f,
+                "nothing was compared: {notary} had nothing that was filed under this id"
+            ),
+            Warning::HeaderAlone => write!(
+                f,
+                "only the header was compared: no tile is filed yet, and no row is compared before its tile is"
+            ),
+            Warning::Altered { ending } => tell_altered(ending, f),
+            Warning::ClockBehind { now, filed } => {
+                let now = Date(now);
+                let filed = Date(filed);
+                write!(
+                    f,
+                    "the clock went back: it says {now}, and the last batch was filed at {filed}"
+                )
+            }
+            Warning::SpanBack => write!(
+                f,
+                "the clock went back: a span of the report ends before it begins"
+            ),
+            Warning::Refused { ending } => tell_refused(ending, f),
+        }
+    }
+}

@@ -1,0 +1,281 @@
+#!/usr/bin/env python3
+"""Tries what the program says on standard error beside its output and its status: each row of the table in docs/COMMANDS.md.
+
+    python3 examples/checks/telling.py
+
+Each try runs in a folder of its own with the worked store and book, and is held against status, output and what is told.
+"""
+import os
+import pathlib
+import pty
+import re
+import select
+import shutil
+import subprocess
+import sys
+import tempfile
+
+from program import DRAGOON, EXAMPLES, Wrong, count_of
+
+PROGRAM = str(pathlib.Path(DRAGOON).resolve()) if "/" in DRAGOON else DRAGOON
+STORE, BOOK = "store=worked.store", "notary=worked.book"
+WHOLE = "usage: dragoon [store=FILE] [notary=FILE] COMMAND"
+BEHIND = "a crash leaves such bytes, and so does whoever hides records; docs/NOTARY.md"
+KEEP = "isn't what was filed: keep it and the notary's book worked.book as they are, and copy both"
+REFUSED = "lines were refused; the first one is line"
+GONE = "stood in memory, and is gone"
+
+
+def put(name, place, new):
+    """The file with these bytes from a place on, and behind its end where the place is None."""
+    file = pathlib.Path(name)
+    old = file.read_bytes()
+    place = len(old) if place is None else place
+    file.write_bytes(old[:place] + new + old[place + len(new):])
+
+
+def new_store():
+    call(["store=new.store", "init", "7", "60", "3", "ta"], "")
+
+
+def later_book():
+    """The second of the last filing is set far ahead."""
+    put("worked.book", 125 + 5 + 13, (1 << 40).to_bytes(8, "big"))
+
+
+def two_batches_with_one_index():
+    put("worked.book", 125 + 5 + 9, (7).to_bytes(4, "big"))
+
+
+# what, what is done before, the words, the input, the status, the output, and what is told line by line; .. stands for anything
+ROWS = [
+    ("no words", None, [], "", 2, "fault Usage\n", [WHOLE, ".."]),
+    ("--help", None, ["--help"], "", 2, "fault Usage\n", [WHOLE, ".."]),
+    ("a command that is none", None, ["runn", "7"], "", 2, "fault Usage\n",
+     ["dragoon: `runn` is no command: is `run` meant?", "  run ID            carries out..", ".."]),
+    ("a command that is far from all", None, ["SELECT"], "", 2, "fault Usage\n",
+     ["dragoon: `SELECT` is no command: those are link, init, run, make, drill, notarize, validate and analyse"]),
+    ("algorithms in another order", None, ["init", "7", "60", "3", "at"], "", 2, "fault Usage\n",
+     ["dragoon: `at` isn't what `init` takes there: ALGS, one of m, t, a and ta", "  init ID W K ALGS..", ".."]),
+    ("a number out of its range", None, ["init", "7", "0", "3", "ta"], "", 2, "fault Usage\n",
+     ["dragoon: `0` isn't what `init` takes there: W, the seconds of a granule, 1 to 86400", "  init ID W K ALGS..", ".."]),
+    ("a word that is missing", None, [STORE, "validate"], "", 2, "fault Usage\n",
+     ["dragoon: `validate` lacks a word: ID, a number of 64 bits, without a sign or zeros at its front", "  validate ID ..", ".."]),
+    ("a word too many", None, [STORE, "analyse", "7", "mono", "3"], "", 2, "fault Usage\n",
+     ["dragoon: `3` is one word too many for `analyse`", "  analyse ID ALG ..", ".."]),
+    ("a device behind the command", None, ["link", STORE], "", 2, "fault Usage\n",
+     ["dragoon: `store=worked.store` names a device, which is done once, and before the command: [store=FILE] [notary=FILE] COMMAND"]),
+    ("nothing odd", None, [STORE, BOOK, "validate", "7"], "", 0, "clean 1\n", []),
+    ("an altered store", None, ["store=altered.store", BOOK, "validate", "7"], "", 1, "altered 1 from 0\n",
+     [f"dragoon: the store altered.store {KEEP}; `analyse` says which granules, and since when; docs/OPERATING.md"]),
+    ("an altered store, analysed", None, ["store=altered.store", BOOK, "analyse", "7", "mono"], "", 1, None,
+     [f"dragoon: the store altered.store {KEEP}; docs/ANALYSIS.md says how to read the report"]),
+    ("an altered header", lambda: put("worked.store", 30, b"\x01"), [STORE, BOOK, "validate", "7"], "", 1, "header altered 1\n",
+     ["dragoon: the store worked.store doesn't begin as the store that was filed: keep it and the notary's book worked.book as they are, .."]),
+    ("a gate of the book that was turned", lambda: put("worked.book", 125, b"\xa6"), [STORE, BOOK, "validate", "7"], "", 0, "clean 0\n",
+     [f"dragoon: the notary's book worked.book ends at byte 126, and 787 bytes stand behind it: {BEHIND}", "dragoon: only the header was compared: .."]),
+    ("a gate of the book that was closed", lambda: put("worked.book", 125, b"\x00"), [STORE, BOOK, "validate", "7"], "", 0, "clean 0\n",
+     [f"dragoon: the notary's book worked.book ends at byte 126, and 787 bytes stand behind it: {BEHIND}", "dragoon: only the header was compared: .."]),
+    ("a gate of the store that was turned, and hidden records", lambda: put("worked.store", 94, b"\xa6"), [STORE, "link"], "", 0, None,
+     [f"dragoon: the store worked.store ends at byte 95, and 350 bytes stand behind it: {BEHIND}"]),
+    ("an open gate before a broken record", lambda: put("worked.store", 99, b"\x09"), [STORE, "link"], "", 0, None,
+     [f"dragoon: the store worked.store ends at byte 95, and 350 bytes stand behind it: {BEHIND}"]),
+    ("what an append leaves that was cut off", lambda: put("worked.store", None, bytes.fromhex("0000002501000000")), [STORE, "link"], "", 0, None, []),
+    ("more than an append can leave", lambda: put("worked.store", None, bytes(33000)), [STORE, "link"], "", 0, None,
+     [f"dragoon: the store worked.store ends at byte 445, and 33000 bytes stand behind it: {BEHIND}"]),
+    ("a filing without a book", new_store, ["store=new.store", "notarize", "7"], "", 0, "sealed 0\n",
+     [f"dragoon: no notary=FILE was named: what was filed {GONE}"]),
+    ("a store without a file", None, ["init", "7", "60", "3", "ta"], "", 0, "ready 7\n",
+     [f"dragoon: no store=FILE was named: the store {GONE}"]),
+    ("a run that files without a book", None, [STORE, "run", "7", "scripted"], "notarize\n", 0, "sealed 1\n",
+     [f"dragoon: no notary=FILE was named: what was filed {GONE}"]),
+    ("a run that files nothing", None, [STORE, "run", "7"], "get t 1\n", 0, "row 1 0\n", []),
+    ("a validation without a book", None, [STORE, "validate", "7"], "", 0, "unsealed\n",
+     ["dragoon: nothing was compared: the notary's book in memory (no file was named) had nothing that was filed under this id"]),
+    ("a book that is missing", None, [STORE, "notary=none", "validate", "7"], "", 0, "unsealed\n",
+     ["dragoon: the notary's book none was missing: nothing was compared"]),
+    ("a book that is empty", lambda: pathlib.Path("none").touch(), [STORE, "notary=none", "analyse", "7", "mono"], "", 0, "report mono id 7 tiles 0 unsealed\n",
+     ["dragoon: the notary's book none was empty: nothing was compared"]),
+    ("a filing with a book that is missing", new_store, ["store=new.store", "notary=none", "notarize", "7"], "", 0, "sealed 0\n",
+     ["dragoon: the notary's book none was missing: nothing was compared, and it was made anew"]),
+    ("a store that is missing", None, ["store=none", "link"], "", 4, "fault NotAStore\n",
+     ["dragoon: the store none is missing: make one by `init`, or name the right file and id"]),
+    ("a book with nothing under the id", None, ["store=worked.store", "notary=worked.book", "validate", "9"], "", 0, "unsealed\n",
+     ["dragoon: nothing was compared: the notary's book worked.book had nothing that was filed under this id"]),
+    ("another id", None, [STORE, "run", "8"], "", 4, "fault NotAStore\n",
+     ["dragoon: the store worked.store holds a store with the id 7, which begins at 1970-01-01 00:00:00 UTC: make one by `init`, or name the right file and id"]),
+    ("a store that is there already", None, [STORE, "init", "8", "60", "3", "ta"], "", 13, "fault AlreadyThere\n",
+     ["dragoon: the store worked.store holds a store with the id 7, which begins at 1970-01-01 00:00:00 UTC, and stays as it is: name another file"]),
+    ("a store in the place of the book", None, [STORE, "notary=altered.store", "validate", "7"], "", 6, "fault NotaryFault\n",
+     ["dragoon: the notary's book altered.store holds a store with the id 7, which begins at 1970-01-01 00:00:00 UTC; it stays as it is, so look for copies of the book first (docs/OPERATING.md)"]),
+    ("a book in the place of the store", None, ["store=worked.book", "run", "7"], "", 4, "fault NotAStore\n",
+     ["dragoon: the store worked.book holds a notary's book: make one by `init`, or name the right file and id"]),
+    ("a run that asks a book that is missing", None, [STORE, "notary=none", "run", "7"], "validate\n", 0, "unsealed\n",
+     ["dragoon: the notary's book none was missing: nothing was compared, and it was made anew"]),
+    ("a run that has a book analysed that is empty", lambda: pathlib.Path("none").touch(), [STORE, "notary=none", "run", "7"], "analyse mono\nget t 1\n", 0, None,
+     ["dragoon: the notary's book none was empty: nothing was compared"]),
+    ("a run that asks no book, and none is there", None, [STORE, "notary=none", "run", "7"], "get t 1\n", 0, "row 1 0\n", []),
+    ("a run that asks without a book", None, [STORE, "run", "7"], "validate\nanalyse mono\n", 0, None,
+     ["dragoon: nothing was compared: the notary's book in memory (no file was named) had nothing that was filed under this id"]),
+    ("a run that finds nothing odd", None, [STORE, BOOK, "run", "7"], "validate\nanalyse mono\n", 0, "clean 1\nreport mono id 7 tiles 1 clean\n", []),
+    ("a run that asks of a header alone", new_store, ["store=new.store", "notary=new.book", "run", "7"], "validate\nnotarize\nvalidate\n", 0, "unsealed\nsealed 0\nclean 0\n",
+     ["dragoon: the notary's book new.book was missing, and it was made anew", "dragoon: only the header was compared: .."]),
+    ("a run that finds the store altered", None, ["store=altered.store", BOOK, "run", "7"], "validate\nanalyse mono\n", 0, None,
+     [f"dragoon: the store altered.store {KEEP}; `analyse` says which granules, and since when; docs/OPERATING.md"]),
+    ("a run whose report runs back", later_book, ["store=altered.store", BOOK, "run", "7"], "analyse mono\n", 0, None,
+     [f"dragoon: the store altered.store {KEEP}; docs/ANALYSIS.md says how to read the report", "dragoon: the clock went back: a span of the report ends before it begins"]),
+    ("a validation of a store that is missing", None, ["store=none", BOOK, "validate", "7"], "", 1, "header altered 1\n",
+     ["dragoon: the store none was missing: nothing was compared"]),
+    ("an analysis of a store that is empty", lambda: pathlib.Path("none").touch(), ["store=none", BOOK, "analyse", "7", "mono"], "", 1, None,
+     ["dragoon: the store none was empty: nothing was compared"]),
+    ("a validation without a store", None, [BOOK, "validate", "7"], "", 1, "header altered 1\n",
+     ["dragoon: no store=FILE was named: nothing was compared"]),
+    ("a drill's line that isn't whole", None, ["drill"], "init 7 60 3 ta\ncrash 4\n", 3, "ready 7\nrefused Syntax\n",
+     [f"dragoon: 1 of 2 {REFUSED} 2, `crash 4`: Syntax, at column 8: a number stands there"]),
+    ("a line of a drill that is none", None, ["drill"], "init 7 60 3 ta\nselect t\n", 3, "ready 7\nrefused Syntax\n",
+     [f"dragoon: 1 of 2 {REFUSED} 2, `select t`: Syntax, at column 1: a line of a drill begins with init, crash, alter, cut, create, .."]),
+    ("bytes of a drill that aren't hexadecimal", None, ["drill"], "init 7 60 3 ta\nalter 9 0g\n", 3, "ready 7\nrefused Syntax\n",
+     [f"dragoon: 1 of 2 {REFUSED} 2, `alter 9 0g`: Syntax, at column 9: the bytes stand there, in hexadecimal"]),
+    ("a drill with verdicts", None, ["drill"], "init 7 60 3 ta\nvalidate\n", 0, "ready 7\nunsealed\n", []),
+    ("a device in capitals", None, ["STORE=worked.store", "link"], "", 2, "fault Usage\n",
+     ["dragoon: `STORE=worked.store` is no command, and names no device: store=FILE does, and notary=FILE, in lower case"]),
+    ("an empty path", None, ["store=", "link"], "", 4, "fault NotAStore\n",
+     ["dragoon: the store of an empty path is missing: make one by `init`, or name the right file and id"]),
+    ("a damaged book", two_batches_with_one_index, [STORE, BOOK, "validate", "7"], "", 6, "fault NotaryFault\n",
+     ["dragoon: the notary's book worked.book is damaged: its records don't follow one another as a notary's do; it stays as it is, so look for copies first (docs/OPERATING.md)"]),
+    ("a clock behind the last filing", later_book, [STORE, BOOK, "validate", "7"], "", 0, "clean 1\n",
+     ["dragoon: the clock went back: it says 20.., and the last batch was filed at 36812-02-20 00:36:16 UTC"]),
+    ("a clock that went back", lambda: put("worked.store", 17, (1 << 39).to_bytes(8, "big")), [STORE, "run", "7"], "insert t 9 9\n", 3, "refused ClockBack 480\n",
+     [f"dragoon: 1 of 1 {REFUSED} 1, `insert t 9 9`: ClockBack 480, the clock is behind the store's last moment, which is that one"]),
+    ("a filing by a clock that went back", lambda: put("worked.store", 17, (1 << 39).to_bytes(8, "big")), [STORE, "notarize", "7"], "", 14, "fault ClockBack 480\n",
+     ["dragoon: the clock is behind the store worked.store, whose last moment is second 480, 19391-01-25 12:26:08 UTC: set it right and start again"]),
+    ("a path with an escape code", None, ["store=a\x1b[2Jb", "link"], "", 4, "fault NotAStore\n",
+     ["dragoon: the store a\\u{1b}[2Jb is missing: make one by `init`, or name the right file and id"]),
+]
+
+LINES = [
+    ("no table", "get u 1\n", "NoTable, there is no table of this name", 1, "get u 1"),
+    ("behind lines that are carried out", "\n# so\nget t 1\n\nget u 1\r\n", "NoTable, there is no table of this name", 5, "get u 1\\r"),
+    ("a last line without an end", "get t 1\ninsert t 1 1", "RowExists, there is a row of this key already", 2, "insert t 1 1"),
+    ("capitals", "INSERT t 1 1\n", "Syntax, at column 1: words and names are in lower case", 1, "INSERT t 1 1"),
+    ("a name in capitals", "get T 1\n", "Syntax, at column 5: words and names are in lower case", 1, "get T 1"),
+    ("a semicolon", "insert t 9 9;\n", "Syntax, at column 12: no statement ends in `;`", 1, "insert t 9 9;"),
+    ("a byte order mark", "\ufeffget t 1\n", "Syntax, at column 1: a byte order mark stands there: save the file without one", 1, ".."),
+    ("a tab", "get\tt 1\n", "Syntax, at column 4: a tab stands there, and only spaces separate words", 1, "get\\tt 1"),
+    ("no statement", "select t\n", "Syntax, at column 1: a statement begins with create, ..", 1, "select t"),
+    ("a text that isn't ended", "insert t 9 'a\n", "Syntax, at column 12: a text begins there and isn't ended by `'`; ..", 1, "insert t 9 'a"),
+    ("a line of a drill", "crash 1 1\n", "Syntax, at column 1: init, crash, alter and cut are lines of a drill alone", 1, "crash 1 1"),
+    ("no value", "insert t 9 1.5\n", "Syntax, at column 12: a value stands there: ..", 1, "insert t 9 1.5"),
+    ("a word too many", "delete t 9 9\n", "Syntax, at column 12: the line has to end there", 1, "delete t 9 9"),
+    ("a kind that is none", "create u k integer\n", "Syntax, at column 12: int, text, bytes or bool stands there", 1, "create u k integer"),
+    ("a comparison that is none", "scan t k == 1\n", "Syntax, at column 10: =, !=, <, <=, > or >= stands there", 1, "scan t k == 1"),
+    ("a session that isn't begun", "s0 get t 1\n", "NoSession, the session isn't begun", 1, "s0 get t 1"),
+    ("what no session takes", "s0 notarize\n", "Syntax, at column 4: in a session stands create, ..", 1, "s0 notarize"),
+    ("an escape code", "get \x1b[2 1\n", "Syntax, at column 5: a name stands there: ..", 1, "get \\u{1b}[2 1"),
+]
+
+
+def fits(wanted, told):
+    """Whether each line is the wanted one. A last `..` stands for any more."""
+    if wanted and wanted[-1] == "..":
+        wanted, told = wanted[:-1], told[:len(wanted) - 1]
+    return len(wanted) == len(told) and all(
+        re.fullmatch(re.escape(line).replace(r"\.\.", ".*"), found) for line, found in zip(wanted, told))
+
+
+def call(words, lines):
+    done = subprocess.run([PROGRAM, *words], input=lines.encode(), stdout=subprocess.PIPE, stderr=subprocess.PIPE)
+    told = [line for line in done.stderr.decode().splitlines() if "this run is unproved" not in line]
+    return done.returncode, done.stdout.decode(), told
+
+
+def try_row(what, before, words, lines, status, output, told):
+    with tempfile.TemporaryDirectory() as folder:
+        for name in ("worked.store", "worked.book", "altered.store"):
+            shutil.copy(EXAMPLES / name, folder)
+        os.chdir(folder)
+        if before:
+            before()
+        there = sorted(os.listdir())
+        found = call(words, lines)
+        if found[0] != status or output not in (None, found[1]) or not fits(told, found[2]):
+            raise Wrong(f"{what}: {found}, and wanted is {(status, output, told)}")
+        if words[-1:] == ["link"] or {"validate", "analyse"} & set(words):
+            if sorted(os.listdir()) != there:
+                raise Wrong(f"{what}: a command that only asks has left {sorted(os.listdir())}")
+        os.chdir("/")
+
+
+def try_line(what, lines, why, number, text):
+    count = sum(1 for it in lines.split("\n") if it.strip() and not it.startswith("#"))
+    told = [f"dragoon: 1 of {count} {REFUSED} {number}, `{text}`: {why}"]
+    try_row(what, None, [STORE, "run", "7"], lines, 3, None, told)
+
+
+def at_terminal(words, lines):
+    """What a person sees, with input, output and standard error at one terminal."""
+    pid, terminal = pty.fork()
+    if pid == 0:
+        os.execvp(PROGRAM, [PROGRAM, *words])
+    os.write(terminal, lines.encode() + b"\x04")
+    seen = b""
+    while select.select([terminal], [], [], 20)[0]:
+        try:
+            piece = os.read(terminal, 4096)
+        except OSError:
+            break
+        if not piece:
+            break
+        seen += piece
+    os.close(terminal)
+    return os.waitstatus_to_exitcode(os.waitpid(pid, 0)[1]), seen.decode()
+
+
+def try_terminal():
+    with tempfile.TemporaryDirectory() as folder:
+        shutil.copy(EXAMPLES / "worked.store", folder)
+        os.chdir(folder)
+        status, seen = at_terminal([STORE, "run", "7"], "get t 1\n")
+        if status or "one statement a line; end with Ctrl-D" not in seen or "row 1 0" not in seen or "\x1b[" in seen:
+            raise Wrong(f"at a terminal: {status}, {seen!r}")
+        os.chdir("/")
+
+
+def try_account():
+    """Another account may read the store alone, and make no file beside it. (It may not reach the folder of ./dragoon.)"""
+    if os.geteuid() or pathlib.Path(PROGRAM).read_bytes().startswith(b"#!"):
+        return
+    nobody = {"user": 65534, "group": 65534, "extra_groups": []}
+    with tempfile.TemporaryDirectory() as folder:
+        os.chmod(folder, 0o755)
+        shutil.copy(EXAMPLES / "worked.store", folder)
+        shutil.copy(PROGRAM, folder + "/program")
+        os.chmod(folder + "/program", 0o755)
+        os.chdir(folder)
+        asking = "Asking opens a file for writing, too: examples/on_copy asks over a copy"
+        for name in ("worked.store", "none"):
+            done = subprocess.run(["./program", f"store={name}", "link"], stdout=subprocess.PIPE, stderr=subprocess.PIPE, **nobody)
+            told = done.stderr.decode()
+            if done.returncode != 5 or done.stdout != b"fault DiskFault\n" or asking not in told:
+                raise Wrong(f"{name} of another account: {done}")
+        os.chdir("/")
+
+
+def main():
+    count_of(sys.argv[1:], None, __doc__)
+    try:
+        for row in ROWS:
+            try_row(*row)
+        for row in LINES:
+            try_line(*row)
+        try_terminal()
+        try_account()
+    except Wrong as wrong:
+        print(f"telling.py: WRONG: {wrong}")
+        return 1
+    print(f"telling.py: {len(ROWS) + len(LINES) + 3} calls, each with the status, the output and the words that it has to have")
+    return 0
+
+
+if __name__ == "__main__":
+    sys.exit(main())
