@@ -1,26 +1,35 @@
 #!/usr/bin/env python3
 """Proves and builds the libraries of the program, or of the crates named, with as many crates side by side as there are
-processors and memory. ./dragoon calls it before it builds the program itself.
+processors and memory.
 
     build.py [CRATE ..]
+    build.py --program     the program, too
+    build.py --kept        no proof: takes the program that rt ci has proved of the same sources on this machine, or ends with 1
 
 One run of rt locks all crates that it stands on, so each lane works in a tree of its own: the sources, and by hard links what
 is built already. A crate is begun once those below it are done, the one with the longest way above it first. What a lane has
 proved goes to crates/*/out at once, so a run that was stopped goes on where it was.
 """
+import hashlib
+import importlib.machinery
+import importlib.util
+import json
 import os
 import pathlib
+import re
 import shutil
 import subprocess
 import sys
 import tempfile
 import time
+import types
 
 ROOT = pathlib.Path(__file__).resolve().parent
 # What a proof takes in memory, and what each further job of it takes, in GiB.
 PROOF, JOB = 2.5, 1.0
 # How often a line says how far the build is, in seconds.
 PAUSE = 20
+PROGRAM = ROOT / "crates/dragoon_cli/out/dragoon_cli"
 
 
 def crates_below(names):
@@ -97,6 +106,10 @@ class Lane:
         self.name, self.jobs = name, jobs
         self.call = subprocess.Popen(["rt", "lib", "--jobs", str(jobs)], cwd=self.crates / name, **how)
 
+    def tell(self):
+        """The crate's name, with how many of its functions are checked where rattle has said that."""
+        return self.name + how_far(self.log)
+
     def end(self):
         """Brings home what was proved, and answers what was said where it wasn't."""
         name, self.name, self.jobs = self.name, None, 0
@@ -122,6 +135,17 @@ def free_memory():
 
 def tell(text):
     print(f"dragoon: {text}", file=sys.stderr, flush=True)
+
+
+def since(begun):
+    passed = int(time.monotonic() - begun)
+    return f"{passed // 60} min {passed % 60:02} s"
+
+
+def how_far(log):
+    """What the last line of progress in this log says, in brackets."""
+    said = re.findall(rb"^so far: (\d+ of \d+) functions", os.pread(log.fileno(), 1 << 24, 0), re.MULTILINE)
+    return f" ({said[-1].decode()} functions)" if said else ""
 
 
 def build(names, room):
@@ -162,18 +186,96 @@ def build(names, room):
                 done.add(name)
         if time.monotonic() - told >= PAUSE:
             told = time.monotonic()
-            passed = int(told - begun)
-            tell(f"{len(done)} of {len(crates)} crates proved in {passed // 60} min {passed % 60:02} s; now {', '.join(it.name for it in lanes if it.name)}")
+            tell(f"{len(done)} of {len(crates)} libraries proved in {since(begun)}; now {', '.join(it.tell() for it in lanes if it.name)}")
     return 0
 
 
-def main(names):
+def build_program():
+    """Proves and builds the program itself, over its libraries."""
+    begun = told = time.monotonic()
+    with tempfile.TemporaryFile("w+", errors="replace") as log:
+        # `link` over no store ends with 4 once the program is built; rt itself ends with 1, 2 or 3.
+        call = subprocess.Popen(["rt", "run", "--", "link"], cwd=PROGRAM.parents[1], stdin=subprocess.DEVNULL, stdout=log, stderr=subprocess.STDOUT)
+        while call.poll() is None:
+            time.sleep(0.1)
+            if time.monotonic() - told >= PAUSE:
+                told = time.monotonic()
+                tell(f"all libraries are proved; the program itself, for {since(begun)}{how_far(log)}")
+        if call.returncode == 4 and PROGRAM.exists():
+            return 0
+        log.seek(0)
+        tell(f"the program is not proved:\n{''.join(log.readlines()[-40:])}")
+        return 1
+
+
+def kept_program():
+    """The file in which this machine keeps the program that rt ci proved of these sources, with its sum; an error where there is none.
+
+    What rt ci proved of a crate it keeps under a sum of all that the proof read: the kit, the sources, and the libraries below as they
+    were built. Its own functions take these sums here, lowest crate first."""
+    sys.dont_write_bytecode = True
+    loader = importlib.machinery.SourceFileLoader("rt", os.path.realpath(shutil.which("rt")))
+    rt = importlib.util.module_from_spec(importlib.util.spec_from_loader("rt", loader))
+    loader.exec_module(rt)
+    # as rt ci has them
+    rt.Crate.cuts_libraries = True
+    rt.Crate.allowed = rt.handles_of(str(ROOT))
+    rt.rtlib.Crate = rt.Crate
+    needed = crates_below(["dragoon_cli"])
+    sums = types.SimpleNamespace(rlibs={}, at=rt.STORE)
+    for crate in rt.rtlib.crates_below(str(ROOT)):
+        if crate.name in needed:
+            key = rt.Kept.key(sums, crate)
+            place = pathlib.Path(rt.Kept.place(sums, crate, False, key))
+            files = [(path, sum) for path, sum in json.loads((place / "made.json").read_text())["files"]]
+            sums.rlibs[crate.name] = hashlib.sha256(repr([] if crate.is_program else files).encode()).hexdigest()
+            if crate.name == PROGRAM.name:
+                return next((place / str(number), sum) for number, (path, sum) in enumerate(files) if path == PROGRAM.name)
+    raise LookupError(PROGRAM.name)
+
+
+def take_kept():
+    """Puts that program in its place, where there is one."""
+    try:
+        file, sum = kept_program()
+        made = file.read_bytes()
+        if hashlib.sha256(made).hexdigest() != sum:
+            return False
+        PROGRAM.parent.mkdir(exist_ok=True)
+        part = PROGRAM.with_name(f"{PROGRAM.name}.{os.getpid()}")
+        part.write_bytes(made)
+        part.chmod(0o755)
+        part.replace(PROGRAM)
+        return True
+    # (none is kept, or the functions are those of another kit)
+    except (Exception, SystemExit):
+        return False
+
+
+def build_libraries(names):
     git = ROOT / ".git"
     room = tempfile.mkdtemp(prefix="build-", dir=git if git.is_dir() else None)
     try:
-        return build(names or crates_below(["dragoon_cli"])["dragoon_cli"], pathlib.Path(room))
+        return build(names, pathlib.Path(room))
     finally:
         shutil.rmtree(room, ignore_errors=True)
+
+
+def main(names):
+    libraries = crates_below(["dragoon_cli"])["dragoon_cli"]
+    if names == ["--kept"]:
+        return 0 if take_kept() else 1
+    if names != ["--program"]:
+        return build_libraries(names or libraries)
+    if take_kept():
+        tell("rt ci has proved and built the program of these sources on this machine: it is taken from there")
+        return 0
+    begun = time.monotonic()
+    tell(f"proving and building the program; every {PAUSE} seconds a line says how far this is")
+    status = build_libraries(libraries) or build_program()
+    if status == 0:
+        tell(f"proved and built in {since(begun)}")
+    return status
 
 
 if __name__ == "__main__":
