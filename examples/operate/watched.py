@@ -1,86 +1,150 @@
-"""What a monitoring system asks of a store: read from its conf, its two files and what `job` left. Nothing is locked or changed."""
+"""What a monitoring system asks of a store, read from its conf, its two files and what `job` left; and what `job` keeps of the book."""
 import collections
+import hashlib
 import os
 import pathlib
+import re
 import struct
+import time
 
-STORE_LIMIT = 67_108_864
-OPEN = 0xA7
+STORE_LIMIT, GRANULES = 67_108_864, 1_048_576
+OPEN, LONGEST_RECORD = 0xA7, 262_149
+KEYS = ("STORE", "BOOK", "ID", "ALG", "STATE")
 
-Conf = collections.namedtuple("Conf", "name store book id state")
-Book = collections.namedtuple("Book", "tiles filed mark")
+Conf = collections.namedtuple("Conf", "name store book id alg state")
+Header = collections.namedtuple("Header", "bytes_left granules_left full_at tile_seconds")
+# `end` is the place of the closed gate: all bytes in front of it stay as they are
+Book = collections.namedtuple("Book", "content end tiles filed mark")
 Mark = collections.namedtuple("Mark", "moment outcome tiles bad")
 Ended = collections.namedtuple("Ended", "status moment answer")
+Kept = collections.namedtuple("Kept", "id tiles end digest moment")
 
 CLEAN, ALTERED, HEADER_ALTERED = range(3)
-# the statuses of a command that say something of the store's file, of the notary, or of the history
+# the statuses of a command that say something of the store's file, of the notary, or of the history; all others are faults
 STORE_STATUSES, NOTARY_STATUSES, ALTERED_STATUSES = {4, 5}, {6, 11, 12, 19}, {1, 10}
 
 
 class Wrong(Exception):
-    """Something can't be read, and why."""
+    """Something can't be read or isn't what it has to be, and why."""
+
+
+class Rewritten(Wrong):
+    """The book isn't what it was. A book only grows."""
+
+
+def date(seconds):
+    return time.strftime("%Y-%m-%d %H:%M:%S UTC", time.gmtime(seconds))
+
+
+# ---- the conf
 
 
 def read_conf(path):
+    """What a conf says. A Wrong names the line that can't be taken."""
     try:
-        lines = pathlib.Path(path).read_text().splitlines()
+        text = pathlib.Path(path).read_bytes().decode()
     except OSError as error:
         raise Wrong(f"{path}: {error.strerror}") from error
-    said = dict(line.split("=", 1) for line in lines if "=" in line and not line.startswith("#"))
-    try:
-        return Conf(pathlib.Path(path).stem, said["STORE"], said["BOOK"], int(said["ID"]), said["STATE"])
-    except (KeyError, ValueError) as error:
-        raise Wrong(f"{path}: no {error}") from error
+    except UnicodeDecodeError as error:
+        raise Wrong(f"{path}: this isn't UTF-8") from error
+    if text.startswith("\ufeff"):
+        raise Wrong(f"{path}: it begins with a byte order mark")
+    said = {}
+    for number, line in enumerate(text.split("\n"), 1):
+        if why := wrong_line(line, said):
+            raise Wrong(f"{path}: line {number}: {why}")
+    for key in KEYS:
+        if not said.get(key) and key != "ALG":
+            raise Wrong(f"{path}: there is no line {key}=")
+    if not re.fullmatch("0|[1-9][0-9]{0,19}", said["ID"]) or int(said["ID"]) >= 1 << 64:
+        raise Wrong(f"{path}: ID={said['ID']} is no id")
+    if not re.fullmatch("mono|tiled( [1-9][0-9]{0,3})?|a3d", said.setdefault("ALG", "mono")):
+        raise Wrong(f"{path}: ALG={said['ALG']} is none of mono, tiled and a3d")
+    if not os.path.isdir(said["STATE"]):
+        raise Wrong(f"{path}: STATE={said['STATE']} is no folder")
+    return Conf(pathlib.Path(path).stem, said["STORE"], said["BOOK"], int(said["ID"]), said["ALG"], said["STATE"])
 
 
-def front_of(path, length):
+def wrong_line(line, said):
+    """Puts what the line says into `said`, or answers why it can't be taken."""
+    if line.endswith("\r"):
+        return "it ends with a carriage return: plain line ends are wanted"
+    if not line.strip() or line.startswith("#"):
+        return None
+    key, equals, value = line.partition("=")
+    if not equals:
+        return "it isn't KEY=VALUE"
+    if key not in KEYS:
+        return f"{key} is none of {', '.join(KEYS)}"
+    if key in said:
+        return f"{key} stands there twice"
+    if value[:1] in "'\"" or value[-1:] in "'\"":
+        return "a value stands without quotes" if value else f"{key} has no value"
+    if value != value.strip():
+        return "blanks stand round the value"
+    said[key] = value
+    return None
+
+
+# ---- the two files
+
+
+def content_of(path, most=None, durable=False):
+    """The bytes of a file, and its length. With `durable` they are on the disk, too."""
     try:
         with open(path, "rb") as file:
-            return file.read(length), os.fstat(file.fileno()).st_size
+            content, length = file.read(most), os.fstat(file.fileno()).st_size
+            if durable:
+                os.fsync(file.fileno())
+            return content, length
     except OSError as error:
         raise Wrong(f"{path}: {error.strerror}") from error
 
 
-def bytes_left(conf):
-    """How many bytes the store has left, where the file is a store of this id."""
-    head, length = front_of(conf.store, 65)
+def read_header(conf):
+    """How much the store can still take, where the file is a store of this id."""
+    head, length = content_of(conf.store, 65)
     if len(head) < 65 or head[:9] != b"\xa7DRAGOON1":
         raise Wrong(f"{conf.store} is no store")
-    if struct.unpack_from(">Q", head, 9)[0] != conf.id:
+    id, epoch, width, exponent = struct.unpack_from(">QQIB", head, 9)
+    if id != conf.id:
         raise Wrong(f"{conf.store} has another id")
-    return max(0, STORE_LIMIT - length)
+    if not width:
+        raise Wrong(f"{conf.store} is no store")
+    granule = max(0, int(time.time()) - epoch) // width
+    return Header(max(0, STORE_LIMIT - length), max(0, GRANULES - granule), epoch + GRANULES * width, width << min(exponent, 10))
 
 
-def payloads(path, book):
-    """The payloads of a book; what stands behind the first closed gate doesn't count."""
-    place = 64
-    while True:
-        if place >= len(book):
-            raise Wrong(f"{path} ends within a record")
-        if book[place] != OPEN:
-            return
-        length = int.from_bytes(book[place + 1:place + 5], "big")
-        yield memoryview(book)[place + 5:place + 5 + length]
-        place += 5 + length
-
-
-def read_book(conf):
-    """How many tiles of the id are sealed, when the last batch was filed, and the last mark."""
-    book, _ = front_of(conf.book, 1 << 31)
-    if book[:9] != b"\xa7DRAGBOK1":
+def read_book(conf, content):
+    """What these bytes of a book hold under the id."""
+    if len(content) < 2 or len(content) <= 65 and content[0] != OPEN:
+        raise Wrong(f"{conf.book} is empty: the first `notarize` is made by hand")
+    if len(content) < 65 or content[:64] != b"\xa7DRAGBOK1" + bytes(55):
         raise Wrong(f"{conf.book} is no book")
-    batches, filed, mark = 0, None, None
-    try:
-        for payload in payloads(conf.book, book):
-            kind, of, = struct.unpack_from(">BQ", payload)
+    place, batches, filed, mark = 64, 0, None, None
+    while content[place] == OPEN:
+        length = int.from_bytes(content[place + 1:place + 5], "big")
+        payload, place = memoryview(content)[place + 5:place + 5 + length], place + 5 + length
+        if place >= len(content):
+            raise Wrong(f"{conf.book} ends within a record")
+        try:
+            kind, of = struct.unpack_from(">BQ", payload)
             if of == conf.id and kind == 1:
                 batches, filed = batches + 1, struct.unpack_from(">Q", payload, 13)[0]
             elif of == conf.id and kind == 2:
                 moment, tiles, outcome, bad = struct.unpack_from(">QIBI", payload, 9)
                 mark = Mark(moment, outcome, tiles, bad)
-    except struct.error as error:
-        raise Wrong(f"{conf.book} has a damaged record") from error
-    return Book(max(0, batches - 1), filed, mark)
+        except struct.error as error:
+            raise Wrong(f"{conf.book} has a damaged record") from error
+    return Book(content, place, max(0, batches - 1), filed, mark)
+
+
+def hidden(book):
+    """How many bytes stand behind the closed gate that an append which was cut off doesn't leave. The program counts them so, too."""
+    behind = memoryview(book.content)[book.end + 1:]
+    length, payload = int.from_bytes(behind[:4], "big"), bytes(behind[4:])
+    is_piece = len(payload) <= length or payload[:1] not in (b"\1", b"\2")
+    return 0 if book.content[book.end] == 0 and len(behind) <= LONGEST_RECORD and is_piece else len(behind)
 
 
 def verdict(mark):
@@ -90,8 +154,102 @@ def verdict(mark):
     return f"altered {mark.tiles} from {mark.bad}" if mark.outcome == ALTERED else f"header altered {mark.tiles}"
 
 
+# ---- what `job` keeps of the book
+
+
+def digest(content, end):
+    return hashlib.sha256(memoryview(content)[:end]).hexdigest()
+
+
+def kept_file(conf):
+    return pathlib.Path(conf.state) / f"{conf.name}.book"
+
+
+def read_kept(conf):
+    """What was kept, or None where nothing was yet."""
+    if conf.state is None:
+        return None
+    try:
+        id, tiles, end, was, moment = kept_file(conf).read_text().split()
+        return Kept(int(id), int(tiles), int(end), was, int(moment))
+    except FileNotFoundError:
+        return last_filed(conf)
+    except (OSError, ValueError) as error:
+        raise Wrong(f"{kept_file(conf)} can't be read, so nobody knows what the book was") from error
+
+
+def last_filed(conf):
+    """What the last `notarize` alone says of the book: how many tiles were sealed."""
+    ended = last_end(conf, "notarize")
+    said = ended and re.fullmatch("sealed ([0-9]+)", ended.answer)
+    return Kept(conf.id, int(said[1]), 0, digest(b"", 0), ended.moment) if said else None
+
+
+def hold(conf, durable=False):
+    """The book, held against what was kept of it; and that. Where its bytes weren't kept, no record may stand behind its end."""
+    kept, (content, _) = read_kept(conf), content_of(conf.book, durable=durable)
+    if kept and len(content) <= kept.end:
+        raise Rewritten(f"{conf.book} was cut: it has {len(content)} bytes, and had more than {kept.end} on {date(kept.moment)}")
+    if kept and digest(content, kept.end) != kept.digest:
+        raise Rewritten(f"{conf.book} was rewritten: its first {kept.end} bytes aren't those of {date(kept.moment)}")
+    book, least = read_book(conf, content), sealed(conf, kept)
+    if book.tiles < least:
+        raise Rewritten(f"{conf.book} has {book.tiles} sealed tiles, and had {least} on {date(kept.moment)}")
+    if not (kept and kept.end) and hidden(book):
+        raise Rewritten(f"{conf.book} ends at byte {book.end + 1}, and {hidden(book)} bytes stand behind it: records may be hidden there")
+    return book, kept
+
+
+def sealed(conf, kept):
+    """How many tiles of the id were sealed, at least, when it was kept."""
+    return kept.tiles if kept and kept.id == conf.id else 0
+
+
+def keep_behind(conf, answer):
+    """Keeps what the book is behind a call that was answered so, where that is what it was, and grown."""
+    book, kept = hold(conf, durable=True)
+    least, told = sealed(conf, kept), re.match(r"(?:sealed|clean) ([0-9]+)$", answer)
+    if told and int(told[1]) < least:
+        raise Wrong(f"{answer}, and {least} tiles were sealed on {date(kept.moment)}")
+    keep(conf, book, max(least, book.tiles))
+
+
+def keep(conf, book, tiles):
+    """Keeps what the book is now."""
+    write_kept(conf, Kept(conf.id, tiles, book.end, digest(book.content, book.end), int(time.time())))
+
+
+def keep_last_filed(conf):
+    """Keeps what the last `notarize` said, where nothing else is kept: so an alarm stays when the next one says another thing."""
+    kept = read_kept(conf)
+    if kept and not kept_file(conf).exists():
+        write_kept(conf, kept)
+
+
+def write_kept(conf, kept):
+    write_whole(kept_file(conf), " ".join(map(str, kept)) + "\n")
+
+
+def write_whole(path, text):
+    """Whatever stops it, the file is the old one or the new one."""
+    new = path.with_name(path.name + ".new")
+    with open(new, "w") as file:
+        file.write(text)
+        file.flush()
+        os.fsync(file.fileno())
+    os.replace(new, path)
+    folder = os.open(path.parent, os.O_RDONLY)
+    try:
+        os.fsync(folder)
+    finally:
+        os.close(folder)
+
+
+# ---- how `job` saw its commands end
+
+
 def last_end(conf, command):
-    """How `job` saw this command end the last time, or None."""
+    """How this command ended the last time, or None."""
     try:
         status, moment, answer = (pathlib.Path(conf.state) / f"{conf.name}.{command}").read_text().rstrip("\n").split(" ", 2)
         return Ended(int(status), int(moment), answer)
@@ -99,10 +257,26 @@ def last_end(conf, command):
         return None
 
 
-def failed(conf, statuses):
-    """What the last notarize or validate said, where it ended with one of these statuses."""
-    for command in ("notarize", "validate"):
+def alarm_of(status):
+    """The alarm that a status other than 0 is."""
+    alarms = {"altered": ALTERED_STATUSES, "store": STORE_STATUSES, "notary": NOTARY_STATUSES}
+    return next((alarm for alarm, statuses in alarms.items() if status in statuses), "fault")
+
+
+def behind_store(conf):
+    """What the program said of bytes that stand behind the end of the store, or None. It stays until somebody removes the file."""
+    try:
+        return (pathlib.Path(conf.state) / f"{conf.name}.behind").read_text().rstrip("\n")
+    except FileNotFoundError:
+        return None
+    except (OSError, ValueError) as error:
+        raise Wrong(f"{conf.state}/{conf.name}.behind can't be read") from error
+
+
+def failed(conf, alarm):
+    """What the last notarize or validate said, where it ended with this alarm; of `altered` also the last analysis."""
+    for command in ("notarize", "validate", "analyse")[:3 if alarm == "altered" else 2]:
         ended = last_end(conf, command)
-        if ended and ended.status in statuses:
+        if ended and ended.status and alarm_of(ended.status) == alarm:
             return f"{command} ended with {ended.status}, {ended.answer}"
     return None
