@@ -24,7 +24,7 @@ def prove(folder, libraries):
     """The log of rt where the program isn't proved."""
     crates = build.crates_below(libraries)
     # the libraries are built with the program, where it isn't current
-    if subprocess.run([ROOT / "dragoon", f"store={ROOT}/examples/worked.store", "link"], stdout=subprocess.DEVNULL).returncode:
+    if subprocess.run([ROOT / "dragoon", "--prove"]).returncode:
         return "the program is not built\n"
     with tempfile.TemporaryDirectory(prefix="bench-") as room:
         subprocess.run(["git", "init", "-q", room], check=True)
@@ -68,4 +68,9 @@ def main(folder, libraries):
 
 
 if __name__ == "__main__":
+    if sys.argv[1:] == ["--help"]:
+        sys.exit(print(__doc__.strip()))
+    if len(sys.argv) < 3 or not (pathlib.Path(sys.argv[1]) / "src").is_dir():
+        print(f"usage: {__doc__.splitlines()[2].strip()}", file=sys.stderr)
+        sys.exit(2)
     sys.exit(main(pathlib.Path(sys.argv[1]), sys.argv[2:]))

@@ -6,16 +6,17 @@
 
     --names A,B,..      the columns' names, in place of those in the heading
     --key NAME          the key column, the first one if none is named; in the table it stands first
-    --kind NAME=KIND    the kind of a column: int, text, bool, bytes (the field is hexadecimal) or utf8 (see below)
+    --kind NAME=KIND    the kind of a column: int, text, bool (TRUE or True is true), bytes (the field is hexadecimal) or utf8 (see below)
     --empty-text        an empty field of a text, bytes or utf8 column has no bytes; otherwise every empty field is null
     --add               the table is there already: no `create`
     --session N         transactions of many rows, by session N (0 to 15)
     --rows N            so many rows in a transaction at most, 256 if not given
-    --delimiter C       between fields, a comma if not given
+    --delimiter C       between fields, a comma if not given; `tab` is a tab
 
 A kind that isn't given is found: int if each field is a number of 64 bits as it would be printed, bool if each is `true` or
 `false`, else text. (`007` is text, and a number of 20 digits too.) A text of the language holds no line end, tab or other
 byte below 0x20, nor 0x7F. A column of kind utf8 is of kind bytes in the table: the UTF-8 of the field, whatever it holds.
+A column of which text is made, though it looks like something else (`TRUE`, `12,50`, `2026-12-31`), is named on standard error.
 
 What the language can't hold is refused with its row and column, and so is a row with too few or too many fields, a key that
 is empty or stands there twice, and a name that is none. Nothing is written then, and the status is 1. The heading is row 1.
@@ -25,13 +26,26 @@ the rest goes in.
 """
 import argparse
 import csv
+import io
 import re
 import sys
+import unicodedata
 
 NAME = re.compile(r"[a-z_][a-z0-9_]{0,31}")
 BARRED = re.compile(r"[\x00-\x1f\x7f]")
 KINDS = {"int": "int", "text": "text", "bool": "bool", "bytes": "bytes", "utf8": "bytes"}
 TXN_LIMIT, OPERATIONS, LINE_LIMIT, INPUT_LIMIT = 32_768, 256, 65_536, 67_108_864
+
+
+# what a column looks like that becomes text, and what there is to do
+LOOKS = (
+    ("(?i:true|false)", "`true` and `false` in capitals stay text: --kind {0}=bool makes them bool"),
+    (r"[+-]?[0-9][0-9.,' ]*[.,][0-9]+", "numbers with a fraction stay text: no kind has one, so whole cents would have to stand there"),
+    (r"[+-]?[0-9]{1,3}([.,' ][0-9]{3})+", "numbers with signs between their digits stay text"),
+    (r"[0-9]{1,2}[./-][0-9]{1,2}[./-][0-9]{2,4}.*",
+        "dates stay text, and sort by their day first: 2026-12-31 would sort by time, and as 20261231 it would be an int"),
+    (r"[0-9]{4}[./-][0-9]{1,2}[./-][0-9]{1,2}([ T].*)?", "dates stay text, and sort by time: written as 20261231 they would be ints"),
+)
 
 
 class Refused(Exception):
@@ -62,9 +76,9 @@ def value(field, kind, empty_text):
             raise Refused("isn't a number of 64 bits")
         return str(number_of(field)), 9
     if kind == "bool":
-        if field not in ("true", "false"):
+        if field.lower() not in ("true", "false"):
             raise Refused("is neither true nor false")
-        return field, 2
+        return field.lower(), 2
     if kind == "bytes":
         if not re.fullmatch(r"([0-9a-fA-F]{2})*", field):
             raise Refused("isn't an even number of hexadecimal digits")
@@ -72,7 +86,7 @@ def value(field, kind, empty_text):
     try:
         content = field.encode()
     except UnicodeEncodeError:
-        raise Refused("isn't valid UTF-8") from None
+        raise Refused("isn't valid UTF-8 (of Latin letters, `iconv -f LATIN1 -t UTF-8` makes it)") from None
     if kind == "utf8":
         return f"x'{content.hex()}'", 3 + len(content)
     if found := BARRED.search(field):
@@ -80,15 +94,42 @@ def value(field, kind, empty_text):
     return "'" + field.replace("'", "''") + "'", 3 + len(content)
 
 
+def legal(heading):
+    """For each column of a heading a name that a table takes, and that stands there once."""
+    names = []
+    for number, name in enumerate(heading, 1):
+        plain = unicodedata.normalize("NFKD", name).encode("ascii", "ignore").decode().lower()
+        plain = re.sub("[^a-z0-9]+", "_", plain).strip("_") or f"column_{number}"
+        plain = (plain if NAME.match(plain) else f"c_{plain}")[:32]
+        names.append(plain if plain not in names else f"{plain[:28]}_{number}")
+    return ",".join(names)
+
+
+def note_looks(columns, rows):
+    """Says of which columns text is made, though they look like something else."""
+    for name, at, kind in columns:
+        said = [row[at] for _, row in rows if row[at]]
+        for pattern, note in LOOKS if kind == "text" and said else ():
+            if all(re.fullmatch(pattern, field) for field in said):
+                print(f"csv_in: column {name}: {note.format(name)}", file=sys.stderr)
+                break
+
+
 def read(file, delimiter):
     """The heading, and the rows with their numbers. Empty lines are passed over."""
-    rows = csv.reader(file, delimiter=delimiter, strict=True)
+    text = file.read()
+    if text[:2] in ("\udcff\udcfe", "\udcfe\udcff") or "\0" in text[:2]:
+        raise Refused("this is UTF-16: `iconv -f UTF-16 -t UTF-8` makes UTF-8 of it")
+    rows = csv.reader(io.StringIO(text, newline=""), delimiter=delimiter, strict=True)
     try:
         table = [(number, row) for number, row in enumerate(rows, 1) if row]
     except csv.Error as fault:
         raise Refused(f"line {rows.line_num}: {fault}") from None
     if not table:
         raise Refused("there is no heading")
+    for sign, name in ((";", "';'"), ("\t", "tab"), ("|", "'|'"), (",", "','")):
+        if len(table[0][1]) == 1 and sign in table[0][1][0]:
+            raise Refused(f"row 1: this is one column with {name} in its name: --delimiter {name} cuts there")
     return table[0][1], table[1:]
 
 
@@ -100,7 +141,7 @@ def columns_of(heading, rows, options):
         raise Refused(f"there are {len(names)} names for {len(heading)} columns")
     for name in names:
         if not NAME.fullmatch(name) or names.count(name) > 1:
-            raise Refused(f"row 1, column {name}: no name, or one that stands there twice (--names can give others)")
+            raise Refused(f"row 1, column {name}: no name, or one that stands there twice (--names {legal(heading)} would do)")
     if len(names) > 32:
         raise Refused(f"there are {len(names)} columns, and a table has at most 32")
     key = options.key or names[0]
@@ -155,6 +196,7 @@ def in_transactions(lines, session, rows):
 def statements(file, options):
     heading, rows = read(file, options.delimiter)
     columns = columns_of(heading, rows, options)
+    note_looks([column for column in columns if column[0] not in dict(options.kind)], rows)
     if not options.add:
         yield f"create {options.table} " + " ".join(f"{name} {KINDS[kind]}" for name, _, kind in columns)
     lines = inserts(rows, columns, options)
@@ -177,12 +219,14 @@ def words():
         return word
 
     def delimiter(word):
+        word = {"tab": "\t", "\\t": "\t"}.get(word, word)
         if len(word) != 1 or word in '"\r\n':
             raise argparse.ArgumentTypeError(f"{word} isn't one sign that can stand between fields")
         return word
 
     options = "[--names A,B,..] [--key NAME] [--kind NAME=KIND].. [--empty-text] [--add] [--session N [--rows N]]"
-    parser = argparse.ArgumentParser(usage=f"csv_in.py {options} [--delimiter C] TABLE FILE", add_help=False)
+    parser = argparse.ArgumentParser(usage=f"csv_in.py {options} [--delimiter C] TABLE FILE", description=__doc__,
+        formatter_class=argparse.RawDescriptionHelpFormatter)
     parser.add_argument("--names")
     parser.add_argument("--key")
     parser.add_argument("--kind", action="append", type=kind, default=[])

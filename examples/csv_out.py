@@ -65,7 +65,8 @@ def lines_of(text, names, utf8):
 
 
 def words():
-    parser = argparse.ArgumentParser(usage="csv_out.py [--utf8 NAME].. NAMES", add_help=False)
+    parser = argparse.ArgumentParser(usage="csv_out.py [--utf8 NAME].. NAMES", description=__doc__,
+        formatter_class=argparse.RawDescriptionHelpFormatter)
     parser.add_argument("--utf8", action="append", default=[])
     parser.add_argument("names", type=lambda word: word.split(","))
     options = parser.parse_args()

@@ -1,7 +1,10 @@
 #!/usr/bin/env python3
 """Draws the corruption diagram of a report: tiles across, events down.
 
-    ./dragoon store=PATH notary=PATH analyse 7 tiled | python3 examples/diagram_svg.py >report.svg
+    python3 examples/diagram_svg.py [REPORT] >report.svg
+
+REPORT is a file with what `analyse` printed, or else the report comes on standard input:
+`./dragoon store=PATH notary=PATH analyse 7 tiled | python3 examples/diagram_svg.py >report.svg`.
 
 Each sign of the diagram is a coloured field. The span in which a bad tile was changed is shaded, and that of the first
 change is outlined. The picture is made from the report's lines alone, so it says no more than they do. Where the report
@@ -106,11 +109,21 @@ def drawn(head, events, tiles, granules, first):
     return picture(width, low + 84, fields + shades + signs + words)
 
 
-def main():
-    text = open(sys.argv[1]).read() if len(sys.argv) > 1 else sys.stdin.read()
+def main(words):
+    if words == ["--help"]:
+        return print(__doc__.strip())
+    if len(words) > 1 or words and words[0].startswith("-"):
+        print(f"usage: {__doc__.splitlines()[2].strip()}", file=sys.stderr)
+        return 2
+    try:
+        text = open(words[0]).read() if words else sys.stdin.read()
+    except (OSError, UnicodeDecodeError) as fault:
+        return f"diagram_svg: {words[0] if words else 'standard input'} can't be read: {fault}"
     if not text.startswith("report "):
-        sys.exit("diagram_svg: this is no report")
+        return "diagram_svg: this is no report"
     head, events, *rest = read(text)
+    if len({len(signs) for _, signs in events}) > 1:
+        return "diagram_svg: the report isn't whole: its events have not the same tiles"
     if events:
         sys.stdout.write(drawn(head, events, *rest))
     else:
@@ -120,4 +133,4 @@ def main():
 
 
 if __name__ == "__main__":
-    main()
+    sys.exit(main(sys.argv[1:]))

@@ -119,6 +119,9 @@ def main(folder):
 
 
 if __name__ == "__main__":
-    if len(sys.argv) != 2:
-        sys.exit(__doc__)
+    if sys.argv[1:] == ["--help"]:
+        sys.exit(print(__doc__.strip()))
+    if len(sys.argv) != 2 or sys.argv[1].startswith("-"):
+        print(f"usage: {__doc__.splitlines()[2].strip()}", file=sys.stderr)
+        sys.exit(2)
     main(sys.argv[1])

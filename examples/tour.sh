@@ -11,15 +11,14 @@ root=$(cd "$(dirname "${BASH_SOURCE[0]}")/.." && pwd)
 program=${DRAGOON:-$root/dragoon}
 
 if [ "${1:-}" = --check ]; then
+    [ $# -eq 1 ] || { echo 'usage: bash examples/tour.sh [--check]' >&2; exit 2; }
     diff <(bash "${BASH_SOURCE[0]}") "$root/examples/tour.txt" && echo "tour: as in examples/tour.txt"
     exit
-elif [ $# -gt 0 ]; then
-    sed -n '2,8s/^# \{0,1\}//p' "${BASH_SOURCE[0]}" >&2
-    exit 2
 fi
+. "$root/examples/words.sh" && takes 0 "$@"
 
-# the program is built first where it isn't
-"$program" "store=$root/examples/worked.store" link >/dev/null || exit
+# where the program isn't proved, ./dragoon says what to do
+"$root/examples/on_copy" "store=$root/examples/worked.store" link >/dev/null || exit
 work=$(mktemp -d) || exit
 trap 'rm -rf "$work"' EXIT
 cp "$root"/examples/{ledger.script,sessions.script,worked.script,worked.store,worked.book,altered.store} "$work" && cd "$work" || exit

@@ -102,6 +102,18 @@ def records(content, read, payload_limit, file_limit):
         yield value, source.content
 
 
+STORE = (Source.item, 32_768, 67_108_864)
+BOOK = (Source.filing, 262_144, 2_147_483_648)
+
+
+def tell_hidden(name, content, kind):
+    """Says on standard error where bytes stand behind the gate that ends the records."""
+    end = FIRST_GATE + sum(5 + len(payload) for _, payload in records(content, *kind)) if len(content) > FIRST_GATE else len(content)
+    behind = len(content) - end - 1
+    if behind > 0:
+        print(f"verify: {name} ends at byte {end}, and {behind} bytes stand behind it: a crash leaves such bytes, and so does whoever hides records", file=sys.stderr)
+
+
 def header_of(content):
     """The header fields, and of them the id, the width, the tile exponent and the algorithms; or None."""
     if len(content) <= FIRST_GATE or content[:9] != b"\xa7DRAGOON1" or any(content[31:FIRST_GATE]):
@@ -133,7 +145,7 @@ def ended_nodes(granule, leaf, waiting):
 def plan(content, tiles):
     fields, _id, width, k, algorithms = header_of(content)
     granules, waiting, cum = [[] for _ in range(tiles << k)], [], digest(b"\x00", fields)
-    for moment, item in records(content, Source.item, 32_768, 67_108_864):
+    for moment, item in records(content, *STORE):
         if moment is not None and moment // width < len(granules):
             granules[moment // width].append(item)
     yield {"header": digest(b"\x05", fields)}
@@ -156,7 +168,7 @@ def batches_of(content, id):
     batches = {}
     if len(content) <= FIRST_GATE or content[:FIRST_GATE] != b"\xa7DRAGBOK1" + bytes(55):
         raise ValueError("the second file is no notary's book")
-    filings = (filing for filing, _ in records(content, Source.filing, 262_144, 2_147_483_648) if filing)
+    filings = (filing for filing, _ in records(content, *BOOK) if filing)
     for under, index, seals in filings:
         if index != len(batches.setdefault(under, [])):
             raise ValueError("the second file is no notary's book: a batch is out of turn")
@@ -184,11 +196,13 @@ def report(store, batches, id):
 
 def main(words):
     if len(words) != 3 or not re.fullmatch(r"0|[1-9][0-9]{0,19}", words[2]) or int(words[2]) >= 1 << 64:
-        print(__doc__, file=sys.stderr)
-        return 2
+        print(__doc__, file=sys.stdout if words == ["--help"] else sys.stderr)
+        return 0 if words == ["--help"] else 2
     try:
         store, book = (open(name, "rb").read() for name in words[:2])
         lines = report(store, batches_of(book, int(words[2])), int(words[2]))
+        tell_hidden(words[0], store, STORE)
+        tell_hidden(words[1], book, BOOK)
     except (OSError, ValueError) as fault:
         print(f"verify: {fault}", file=sys.stderr)
         return 3

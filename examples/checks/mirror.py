@@ -158,6 +158,13 @@ def main(words):
         status, _, told = script("mirror/attach.py", "--utf8", "invoice.memo", folder / "shop.db", "customer", "invoice")
         if status or dragoon(f"store={folder / 'store'}", "init", "7", "60", "3", "m")[0]:
             raise Wrong(f"the mirror can't be made: {told}")
+        status, _, told = script("mirror/drain.py", folder / "shop.db", folder / "store", "8")
+        if status != 1 or "no store with the id 8" not in told:
+            raise Wrong(f"a drain with a wrong id ends with {status}: {told}")
+        for wanted in ("drained 3\n", "drained 0\n"):
+            status, said, told = script("mirror/drain.py", folder / "shop.db", folder / "store", "7")
+            if (status, said, told) != (0, wanted, ""):
+                raise Wrong(f"a drain where nothing is wrong ends with {status}: {said}{told}")
         killed = [one_time(folder, rng) for _ in range(count)]
         for _ in range(50):
             status, _, told = script("mirror/drain.py", folder / "shop.db", folder / "store", "7")

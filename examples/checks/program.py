@@ -5,6 +5,8 @@ import subprocess
 import sys
 
 EXAMPLES = pathlib.Path(__file__).resolve().parent.parent
+# none of the scripts runs what isn't proved
+os.environ["DRAGOON_PROVED"] = "1"
 DRAGOON = os.environ.get("DRAGOON") or str(EXAMPLES.parent / "dragoon")
 
 
@@ -22,9 +24,12 @@ def script(name, *words, lines=""):
 
 
 def count_of(words, most, page):
-    """The one number that a check may be given."""
-    if len(words) > 1 or words and not words[0].isdecimal():
-        print(page, file=sys.stderr)
+    """The one number that a check may be given; of one that takes none, `most` is None."""
+    if words == ["--help"]:
+        print(page.strip())
+        sys.exit(0)
+    if len(words) > (most is not None) or words and not words[0].isdecimal():
+        print(f"usage: {page.splitlines()[2].strip()}", file=sys.stderr)
         sys.exit(2)
     return int(words[0]) if words else most
 

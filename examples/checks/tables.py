@@ -11,6 +11,7 @@ import csv
 import io
 import pathlib
 import random
+import re
 import sys
 import tempfile
 
@@ -80,6 +81,15 @@ REFUSED = [  # options, heading, rows, and what is said
     (["--names", "a"], "a,b", ["1,x"], "there are 1 names for 2 columns"),
     (["--key", "c"], "a,b", ["1,x"], "there is no column c"),
     ([], "a,b", ['1,"x'], "line 2: unexpected end"),
+    ([], "a;b", ["1;x"], "row 1: this is one column with ';' in its name: --delimiter ';' cuts there"),
+    ([], "a\tb", ["1\tx"], "row 1: this is one column with tab in its name: --delimiter tab cuts there"),
+    (["--delimiter", ";"], "a,b", ["1,x"], "row 1: this is one column with ',' in its name"),
+    ([], "Größe,2nd,,a b,a-b", ["1,2,3,4,5"], "row 1, column Größe: no name, or one that stands there twice (--names groe,c_2nd,column_3,a_b,a_b_5 would"),
+]
+# columns that become text, and what is said of them
+NOTED = [
+    ("TRUE,FALSE,", "--kind b=bool"), ("true,True", "--kind b=bool"), ('"12,50",7', None), ('"12,50","-1.234,00"', "a fraction"), ("12.50,0.1", "a fraction"),
+    ("31.12.2026,1/2/26", "20261231"), ("2026-12-31,2027-01-01", "20261231"), ("2026-12-31 10:00,2027-01-01T00:00:00Z", "dates"), ("true,false", None), ("x,TRUE", None), ("1'000,2'000", "between their digits"),
 ]
 NO_REPLIES = (
     "", "row 1\n", "row 1\nrows 2\n", "row 1 2\nrows 1\n", "rows 0\nrows 0\n", "version 1 - row 1\nrows 1\n", "none\n",
@@ -95,6 +105,20 @@ def refusals(folder):
     (folder / "in.csv").write_bytes(b"a,b\n1,x\n2,\xff\n")
     if "row 3, column b: isn't valid UTF-8" not in script("csv_in.py", "t", folder / "in.csv")[2]:
         raise Wrong("a field that isn't UTF-8 isn't refused")
+    for coding in ("utf-16", "utf-16-le", "utf-16-be"):
+        (folder / "in.csv").write_text("a,b\n1,x\n", encoding=coding)
+        if "this is UTF-16" not in script("csv_in.py", "t", folder / "in.csv")[2]:
+            raise Wrong(f"{coding} isn't named")
+    for fields, wanted in NOTED:
+        column = "".join(f"{number},{field}\n" for number, field in enumerate(re.findall('"[^"]*"|[^,]+', fields)))
+        (folder / "in.csv").write_text(f"\ufeffa,b\n{column}")
+        status, out, told = script("csv_in.py", "t", folder / "in.csv")
+        if status or not out.startswith("create t a int b ") or (wanted or "") not in told or bool(told) != bool(wanted):
+            raise Wrong(f"of {fields} is said {told}, and not {wanted}")
+    if script("csv_in.py", "--kind", "b=bool", "t", "-", lines="a,b\n1,TRUE\n2,False\n")[1] != "create t a int b bool\ninsert t 1 true\ninsert t 2 false\n":
+        raise Wrong("TRUE isn't taken for true")
+    if script("csv_in.py", "--delimiter", "tab", "t", "-", lines="a\tb\n1\tx\n")[0]:
+        raise Wrong("a tab isn't taken between fields")
     for reply in NO_REPLIES:
         if script("csv_out.py", "a", lines=reply)[:2] != (1, ""):
             raise Wrong(f"csv_out takes the reply {reply!r}")

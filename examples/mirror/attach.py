@@ -15,6 +15,7 @@ its column's, a key that is null, a text with a line end, a tab or another byte 
 32,000 bytes. Columns that a table gets afterwards aren't mirrored. Where another column than the key is unique, `replace` takes
 rows away without telling: the shop then sets `pragma recursive_triggers = on`.
 """
+import os
 import re
 import sqlite3
 import sys
@@ -100,12 +101,17 @@ def attach(db, table, utf8):
 
 
 def main(words):
+    if words == ["--help"]:
+        print(__doc__.strip())
+        return 0
     utf8 = set()
     while len(words) > 1 and words[0] == "--utf8":
         utf8.add(words[1])
         words = words[2:]
-    if len(words) < 2 or words[0].startswith("-"):
-        print(__doc__, file=sys.stderr)
+    if len(words) < 2 or words[0].startswith("-") or not os.path.isfile(words[0]):
+        if len(words) > 1:
+            print(f"attach: there is no file {words[0]}", file=sys.stderr)
+        print(f"usage: {__doc__.splitlines()[2].strip()}", file=sys.stderr)
         return 2
     try:
         db = sqlite3.connect(f"file:{quote(words[0])}?mode=rw", uri=True, isolation_level=None, timeout=60)

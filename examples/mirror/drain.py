@@ -14,18 +14,23 @@ was stored. So after a crash of either side, also between `ok N` and its reading
 drain asks for that row first. Before changes are sent, their number is made durable in the database, together with all that
 stands before it. A row that is none of the two numbers says that one side was put back from a copy, and nothing is sent.
 
-It ends with 0 if all was taken, 1 if it had to stop, and 2 on other words. DRAGOON names another program than ./dragoon.
+It ends with 0 if all was taken, 1 if it had to stop, 6 where records stand hidden in the book, and 2 on other words. DRAGOON names another program than ./dragoon.
 """
 import argparse
 import os
 import pathlib
+import re
 import sqlite3
 import subprocess
 import sys
+import threading
 from urllib.parse import quote
 
 DRAGOON = os.environ.get("DRAGOON") or str(pathlib.Path(__file__).resolve().parents[2] / "dragoon")
+HOLD = pathlib.Path(__file__).resolve().parents[1] / "operate" / "hold"
 CHANGES, WEIGHT = 255, 32_000
+# at the end the program names the first line that it refused: these are refused where nothing is wrong, and their replies are read
+EXPECTED = rb"dragoon: [0-9]+ of [0-9]+ lines were refused; the first one is line [0-9]+, `(get mirrored 0`: NoTable|s0 insert .*: RowExists)"
 
 
 class Stopped(Exception):
@@ -36,7 +41,14 @@ class Program:
     """A run of the program over the store."""
 
     def __init__(self, devices, id):
-        self.run = subprocess.Popen([DRAGOON, *devices, "run", id], stdin=subprocess.PIPE, stdout=subprocess.PIPE)
+        self.id = id
+        proved = {**os.environ, "DRAGOON_PROVED": "1"}
+        self.run = subprocess.Popen([DRAGOON, *devices, "run", id], stdin=subprocess.PIPE, stdout=subprocess.PIPE,
+            stderr=subprocess.PIPE, env=proved)
+        self.told = []
+        # read meanwhile, so that the program never waits for it
+        self.reader = threading.Thread(target=lambda: self.told.extend(self.run.stderr))
+        self.reader.start()
 
     def ask(self, line):
         """The reply of a line that has one line of reply."""
@@ -46,6 +58,8 @@ class Program:
         except BrokenPipeError:
             pass
         reply = self.run.stdout.readline().decode()
+        if reply == "fault NotAStore\n":
+            raise Stopped(f"there is no store with the id {self.id} (`init` makes one)")
         if not reply.endswith("\n") or reply.startswith("fault "):
             raise Stopped(f"the program ended ({reply.strip() or 'without a word'})")
         return reply[:-1]
@@ -58,8 +72,15 @@ class Program:
         return reply
 
     def end(self):
-        self.run.stdin.close()
+        try:
+            self.run.stdin.close()
+        except BrokenPipeError:
+            pass
+        self.reader.join()
         self.run.wait()
+        for line in self.told:
+            if not re.match(EXPECTED, line):
+                sys.stderr.write(line.decode(errors="replace"))
 
 
 def stored_up_to(program):
@@ -119,18 +140,34 @@ def drain(db, program, most):
     return taken
 
 
+def id_of(word):
+    if not re.fullmatch("0|[1-9][0-9]{0,19}", word) or int(word) >= 1 << 64:
+        raise argparse.ArgumentTypeError(f"{word} is no id")
+    return word
+
+
 def words():
-    parser = argparse.ArgumentParser(usage="drain.py [--notary BOOK] [--changes N] DATABASE STORE ID", add_help=False)
+    parser = argparse.ArgumentParser(usage="drain.py [--notary BOOK] [--changes N] DATABASE STORE ID", description=__doc__,
+        formatter_class=argparse.RawDescriptionHelpFormatter)
     parser.add_argument("--notary")
     parser.add_argument("--changes", type=int, choices=range(1, CHANGES + 1), default=CHANGES, metavar="N")
     parser.add_argument("database")
     parser.add_argument("store")
-    parser.add_argument("id")
+    parser.add_argument("id", type=id_of)
     return parser.parse_args()
 
 
 def main():
     options = words()
+    if not os.path.isfile(options.database):
+        print(f"drain: there is no file {options.database}", file=sys.stderr)
+        return 1
+    if options.notary:
+        # a filing would write over records that stand hidden behind the end of the book
+        held = subprocess.run([HOLD, options.notary, str(options.id)], stdout=subprocess.PIPE, text=True)
+        if held.returncode:
+            print(f"drain: nothing is taken and nothing is filed: {held.stdout.strip() or 'nobody could look into the book'}", file=sys.stderr)
+            return 6
     devices = [f"store={options.store}"] + ([f"notary={options.notary}"] if options.notary else [])
     try:
         db = sqlite3.connect(f"file:{quote(options.database)}?mode=rw", uri=True, isolation_level=None, timeout=60)

@@ -1,0 +1,77 @@
+#!/usr/bin/env python3
+"""Tries that every script of examples/ and bench/ answers --help by its head, and wrong words by its usage line.
+
+    python3 examples/checks/words.py
+
+Each is run in an empty folder, with an input that never ends and without a program: with `--help` (status 0), with `--wrong words`
+and with nine words that are none (status 2). None may take ten seconds, leave a file, or print a traceback. Where bench/ is missing,
+as in an installed copy, examples/ is tried alone.
+"""
+import concurrent.futures
+import os
+import pathlib
+import signal
+import subprocess
+import sys
+import tempfile
+
+from program import EXAMPLES, Wrong, count_of
+
+# what other scripts take in, and is no script itself
+PIECES = {"examples/words.sh", "examples/operate/watched.py", "examples/checks/program.py"}
+HELP, WRONG, NINE = ["--help"], ["--wrong", "words"], ["no", "such", "words", "are", "taken", "by", "any", "script", "here"]
+# a service of Nagios says by 3 that it can't tell
+OTHERWISE = {"examples/operate/check_dragoon": 3}
+
+
+def scripts():
+    """The scripts, each with the words that run it."""
+    for folder in ("examples", "bench"):
+        for path in sorted((EXAMPLES.parent / folder).rglob("*")):
+            name = str(path.relative_to(EXAMPLES.parent))
+            if path.is_file() and name not in PIECES and path.read_bytes()[:2] == b"#!":
+                is_python = b"python" in path.read_bytes().partition(b"\n")[0]
+                yield name, [sys.executable if is_python else "bash", path]
+
+
+def answer(call, words):
+    """What is wrong with the answer of this call, or None."""
+    name, run = call
+    reading, writing = os.pipe()
+    with tempfile.TemporaryDirectory() as folder, tempfile.TemporaryDirectory() as tools:
+        # whoever doesn't answer at once neither proves nor builds
+        for tool in ("rt", "cc"):
+            pathlib.Path(tools, tool).symlink_to("/bin/false")
+        place = {**os.environ, "DRAGOON": "/nowhere/dragoon", "TMPDIR": folder, "HOME": folder, "PATH": f"{tools}:{os.environ['PATH']}"}
+        how = {"stdin": reading, "stdout": subprocess.PIPE, "stderr": subprocess.PIPE, "text": True, "start_new_session": True}
+        with subprocess.Popen([*run, *words], cwd=folder, env=place, **how) as process:
+            try:
+                said, told = process.communicate(timeout=10)
+            except subprocess.TimeoutExpired:
+                os.killpg(process.pid, signal.SIGKILL)
+                return f"{name} {words[0]} goes on"
+            finally:
+                os.close(reading)
+                os.close(writing)
+        left = os.listdir(folder)
+    wanted = 0 if words == HELP else OTHERWISE.get(name, 2)
+    if process.returncode != wanted or pathlib.Path(name).name not in (told if wanted == 2 else said) or "Traceback" in told or left:
+        return f"{name} {words[0]} ends with {process.returncode}, leaves {left}, and says: {(said + told).strip()[:200]}"
+    return None
+
+
+def main(words):
+    count_of(words, None, __doc__)
+    tries = [(script, kind) for script in scripts() for kind in (HELP, WRONG, NINE)]
+    with concurrent.futures.ThreadPoolExecutor(os.cpu_count()) as pool:
+        wrong = [it for it in pool.map(answer, *zip(*tries)) if it]
+    if wrong:
+        raise Wrong(f"{len(wrong)} of {len(tries)}:\n" + "\n".join(wrong))
+    print(f"words: {len(tries) // 3} scripts answer --help, and refuse wrong words")
+
+
+if __name__ == "__main__":
+    try:
+        main(sys.argv[1:])
+    except Wrong as fault:
+        sys.exit(f"words: WRONG: {fault}")

@@ -1,0 +1,19 @@
+# Sourced by the scripts in bash. The words that a script takes stand in its head, in the first line that begins with `#     `.
+
+# None of these scripts runs what isn't proved: ./dragoon then ends with 70, and says what to do.
+export DRAGOON_PROVED=1
+
+# takes MOST WORDS..: for --help prints the head of the script and ends with 0; refuses more words than MOST, or one that begins with `-`
+takes() {
+    local most=$1 word
+    shift
+    [ "${1:-}" != --help ] || { sed -n '2,/^[^#]/s/^# \{0,1\}//p' "$0"; exit 0; }
+    [ $# -le "$most" ] || refuse
+    for word in "$@"; do [[ $word != -* ]] || refuse; done
+}
+
+# refuse: prints the words that the script takes, and ends with 2
+refuse() { sed -n '/^#     /{s/^# */usage: /; s/   .*//; p; q}' "$0" >&2; exit 2; }
+
+# behind TOLD: what the program told of bytes that stand behind the end of a file. Then `clean` is no verdict.
+behind() { sed -n 's/^dragoon: \(.* bytes stand behind it\):.*/\1/p' <<<"$1" | paste -s -d ';'; }
