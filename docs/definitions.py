@@ -155,6 +155,9 @@ def page_with(text):
 
 
 def main(words):
+    if words == ["--help"]:
+        print(__doc__.strip())
+        return
     if words not in ([], ["--check"]):
         raise SystemExit(__doc__)
     page = page_with(listed())
