@@ -13,9 +13,9 @@ use Rattle.history_model.specs.Stored.{stored}
 use Rattle.history_model.specs.History.{txns, last_moment}
 use Rattle.txn_journal.specs.Create.{is_free}
 use Rattle.workload_make.specs.Script.{script}
-use Rattle.store_world.specs.declared.fail.DrillFail.{DrillFail}
-use Rattle.store_world.specs.declared.fail.DrillFail.TheVariants as drill_fails
-use Rattle.store_world.specs.Drilled as drilled
+use Rattle.drill_core.specs.declared.fail.DrillFail.{DrillFail}
+use Rattle.drill_core.specs.declared.fail.DrillFail.TheVariants as drill_fails
+use Rattle.drill_core.specs.Drilled as drilled
 use Rattle.dragoon_app.specs.declared.command.NewStore.{NewStore}
 use Rattle.line_runs.specs.declared.status.Status.{Status}
 use Rattle.line_runs.specs.declared.status.Status.TheVariants as statuses
