@@ -50,11 +50,16 @@ class Source:
             raise ValueError("no bool")
 
     def item(self):
-        """The moment of a transaction, or None for a Frontier."""
-        is_frontier = self.number(1, 1, 2) == 2
-        self.take(0 if is_frontier else 4)
+        """The moment of a transaction, or None for a Frontier or a policy."""
+        kind = self.number(1, 1, 3)
+        if kind == 3:
+            self.take(8)
+            self.number(1, 0, 10)
+            self.number(1, 0, 3)
+            return None
+        self.take(4 if kind == 1 else 0)
         moment = self.number(8)
-        for _ in range(0 if is_frontier else self.number(2, 1, 256)):
+        for _ in range(self.number(2, 1, 256) if kind == 1 else 0):
             operation = self.number(1, 1, 3)
             self.word()
             for _ in range(1 if operation == 3 else self.number(1, 1, 32)):
@@ -63,12 +68,15 @@ class Source:
                     self.number(1, 1, 4)
                 else:
                     self.value()
-        return None if is_frontier else moment
+        return moment if kind == 1 else None
 
     def name(self):
-        kind = self.number(1, 0, 3)
-        if kind == 3:
-            return f"node {self.number(1, 0, 20)} {self.number(4)}"
+        kind = self.number(1, 0, 5)
+        if kind == 4:
+            return f"era {self.number(4)}"
+        if kind == 3 or kind == 5:
+            era = f"{self.number(4)} " if kind == 5 else ""
+            return f"node {era}{self.number(1, 0, 20)} {self.number(4)}"
         tile, part = self.number(4 if kind else 0), self.number(1) if kind == 2 else 0
         if 9 < part < 255:
             raise ValueError("no part")
@@ -106,12 +114,17 @@ STORE = (Source.item, 32_768, 67_108_864)
 BOOK = (Source.filing, 262_144, 2_147_483_648)
 
 
+def end_of(content, kind):
+    """The place of the gate that ends the records."""
+    return FIRST_GATE + sum(5 + len(payload) for _, payload in records(content, *kind))
+
+
 def tell_hidden(name, content, kind):
     """Says on standard error where bytes stand behind the gate that ends the records."""
-    end = FIRST_GATE + sum(5 + len(payload) for _, payload in records(content, *kind)) if len(content) > FIRST_GATE else len(content)
+    end = end_of(content, kind) if len(content) > FIRST_GATE else len(content)
     behind = len(content) - end - 1
     if behind > 0:
-        print(f"verify: {name} ends at byte {end}, and {behind} bytes stand behind it: a crash leaves such bytes, and so does whoever hides records", file=sys.stderr)
+        print(f"verify: {name} ends at byte {end + 1}, and {behind} bytes stand behind it: a crash leaves such bytes, and so does whoever hides records", file=sys.stderr)
 
 
 def header_of(content):
@@ -194,6 +207,26 @@ def report(store, batches, id):
     return [f"altered {tiles} from {bad[0]}" if bad else f"clean {tiles}", *(name for names in found for name in names)]
 
 
+def tell_little(verdict, name, store, id):
+    """Says on standard error where a verdict is of less than it may seem."""
+    header = header_of(store)
+    if verdict == "unsealed":
+        other = f"; {name} has the id {header[1]}" if header else ""
+        print(f"verify: nothing was compared: the book has nothing that was filed under the id {id}{other}", file=sys.stderr)
+    elif verdict == "clean 0":
+        print("verify: only the header was compared: no tile is filed yet", file=sys.stderr)
+
+
+def say(text, name="verify"):
+    """Prints a text. Where the output doesn't take it, that is no verdict."""
+    try:
+        with open(1, "w", closefd=False) as out:
+            print(text, file=out)
+    except OSError as fault:
+        print(f"{name}: the output: {fault.strerror}", file=sys.stderr)
+        sys.exit(3)
+
+
 def main(words):
     if len(words) != 3 or not re.fullmatch(r"0|[1-9][0-9]{0,19}", words[2]) or int(words[2]) >= 1 << 64:
         print(__doc__, file=sys.stdout if words == ["--help"] else sys.stderr)
@@ -203,10 +236,11 @@ def main(words):
         lines = report(store, batches_of(book, int(words[2])), int(words[2]))
         tell_hidden(words[0], store, STORE)
         tell_hidden(words[1], book, BOOK)
+        tell_little(lines[0], words[0], store, words[2])
     except (OSError, ValueError) as fault:
-        print(f"verify: {fault}", file=sys.stderr)
+        print(f"verify: {fault.filename}: {fault.strerror}" if isinstance(fault, OSError) else f"verify: {fault}", file=sys.stderr)
         return 3
-    print("\n".join(lines))
+    say("\n".join(lines))
     return 1 if "altered" in lines[0] else 0
 
 

@@ -42,6 +42,7 @@ lies_behind width moment g limit some below behind e = (let more = le-div limit 
 later_rows : (header : Header) (is : List Item) (item : Item) (g limit last : ℕ) → 0 < header.width → g < limit → limit * header.width ≤ last → MayFollow last item
     → rows (history header is) g ≡ rows (history header (is ++ item ∷ [])) g
 later_rows header is (items.Frontier moment) g limit last some below behind follows = frontier_rows header is moment g
+later_rows header is (items.Policy tile granule k algs) g limit last some below behind follows = rows_stay header is (items.Policy tile granule k algs) g refl
 later_rows header is (items.Txn t) g limit last some below behind follows =
     let other : nat_eq (t.moment / header.width) g ≡ false = ne_eqb (t.moment / header.width) g (lies_behind header.width t.moment g limit some below (omega arith)) in
     rows_stay header is (items.Txn t) g (rw other refl)

@@ -1,44 +1,31 @@
 -- What a notary that holds h's batches answers.
-use Rattle.std.proofs.Common.{◌≡◌, ℕ, ◌+◌, true, List, [], ◌∷◌, ◌++◌, length, map, refl, sym, ap, subst, ◌∙◌, ◌⊎◌, inl, inr, Option, Some, None}
+use Rattle.std.proofs.Common.{◌≡◌, ℕ, ◌+◌, List, [], ◌∷◌, ◌++◌, length, map, refl, sym, ap, subst, ◌∙◌, ◌⊎◌, inl, inr, Option, Some, None}
 use Rattle.std.specs.Prelude.{nat_eq}
 use Rattle.std.specs.List.{Contains, flat_map, find, range_with_len}
 use lib.Pointwise.{pointwise, bytes_decides}
-use Rattle.std.proofs.lemmas.Bool.{cases_Bool, and_parts, and_from, eqb-true, eq-eqb, false≢true}
+use Rattle.std.proofs.lemmas.Bool.{cases_Bool, false≢true}
 use Rattle.std.proofs.lemmas.List.{length-map, map-append}
 use Rattle.std.proofs.lemmas.List.FromFn.{length-range_with_len}
 use Rattle.std.proofs.lemmas.List.Folds.{flat_map-map}
 use Rattle.notary_link.specs.declared.name.Name.{Name}
-use Rattle.notary_link.specs.declared.name.Name.TheVariants as names
 use Rattle.notary_link.specs.declared.seal.Seal.{Seal}
 use Rattle.notary_link.specs.declared.answer.Answer.TheVariants.{Same, Differs, Absent}
 use Rattle.history_model.specs.History.{History}
 use Rattle.notary_link.specs.Batches.{Batch, same_name, filed, compared, answer_by, answer}
 use Rattle.digest_model.specs.Layout.{layout}
+use Rattle.notary_link.proofs.Names.{same_is, is_itself}
 use Rattle.audit_model.specs.Laws.{AnswersCompare, BatchesAreCounted, NotarizedIsSame, OthersAreAbsent}
 use Rattle.audit_model.specs.Names.{batch_names, planned, digest, seal, batch}
 use Rattle.audit_model.specs.Notary.{NotaryOf, answers}
 use Rattle.digest_model.proofs.Members.{here, there}
 use Rattle.digest_model.proofs.Lists.{one_of, none_of}
 
-pub same_name_is : (a b : Name) → same_name a b ≡ true → a ≡ b
-same_name_is names.Header names.Header e = refl
-same_name_is (names.Cum j) (names.Cum l) e = ap names.Cum (eqb-true j l e)
-same_name_is (names.Tile j a) (names.Tile l b) e = (let both = and_parts (nat_eq j l) (nat_eq a b) e in let p = eqb-true j l both.0 in let q = eqb-true a b both.1 in cc)
-same_name_is (names.Node l i) (names.Node m j) e = (let both = and_parts (nat_eq l m) (nat_eq i j) e in let p = eqb-true l m both.0 in let q = eqb-true i j both.1 in cc)
-same_name_is _ _ e = absurd (false≢true e)
-
-pub name_itself : (a : Name) → same_name a a ≡ true
-name_itself names.Header = refl
-name_itself (names.Cum j) = eq-eqb j j refl
-name_itself (names.Tile j a) = and_from (nat_eq j j) (nat_eq a a) (eq-eqb j j refl) (eq-eqb a a refl)
-name_itself (names.Node l i) = and_from (nat_eq l l) (nat_eq i i) (eq-eqb l l refl) (eq-eqb i i refl)
-
 found_seal : (h : History) (all : List Name) (name : Name) → Contains all name → find (λ (s : Seal). same_name s.name name) (map (seal h) all) ≡ Some (seal h name)
 found_seal h [] name is = absurd (none_of name is)
 found_seal h (m ∷ ms) name is = elim (cases_Bool (same_name m name)) [
-  | inl yes_it ↦ rw yes_it (ap (λ (x : Name). Some (seal h x)) (same_name_is m name yes_it))
+  | inl yes_it ↦ rw yes_it (ap (λ (x : Name). Some (seal h x)) (same_is m name yes_it))
   | inr no_it ↦ rw no_it (found_seal h ms name (elim (one_of m name ms is) [
-    | inl e ↦ absurd (false≢true (sym no_it ∙ ap (λ (x : Name). same_name x name) e ∙ name_itself name))
+    | inl e ↦ absurd (false≢true (sym no_it ∙ ap (λ (x : Name). same_name x name) e ∙ is_itself name))
     | inr rest ↦ rest
   ]))
 ]
@@ -46,7 +33,7 @@ found_seal h (m ∷ ms) name is = elim (cases_Bool (same_name m name)) [
 no_seal : (h : History) (all : List Name) (name : Name) → (Contains all name → ⊥) → find (λ (s : Seal). same_name s.name name) (map (seal h) all) ≡ None
 no_seal h [] name is = refl
 no_seal h (m ∷ ms) name is = elim (cases_Bool (same_name m name)) [
-  | inl yes_it ↦ absurd (is (subst (λ (x : Name). Contains (m ∷ ms) x) (same_name_is m name yes_it) (here m ms)))
+  | inl yes_it ↦ absurd (is (subst (λ (x : Name). Contains (m ∷ ms) x) (same_is m name yes_it) (here m ms)))
   | inr no_it ↦ rw no_it (no_seal h ms name (λ in'. is (there m name ms in')))
 ]
 
@@ -55,7 +42,7 @@ own_or_none : (h : History) (all : List Name) (name : Name)
     → (find (λ (s : Seal). same_name s.name name) (map (seal h) all) ≡ Some (seal h name)) ⊎ (find (λ (s : Seal). same_name s.name name) (map (seal h) all) ≡ None)
 own_or_none h [] name = inr refl
 own_or_none h (m ∷ ms) name = elim (cases_Bool (same_name m name)) [
-  | inl yes_it ↦ inl (rw yes_it (ap (λ (x : Name). Some (seal h x)) (same_name_is m name yes_it)))
+  | inl yes_it ↦ inl (rw yes_it (ap (λ (x : Name). Some (seal h x)) (same_is m name yes_it)))
   | inr no_it ↦ rw no_it (own_or_none h ms name)
 ]
 

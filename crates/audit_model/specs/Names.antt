@@ -15,6 +15,11 @@ use Rattle.digest_model.specs.Inputs.{cum_inputs, tile_inputs, node_inputs}
 unfoldable pub tile_names : Layout → ℕ → List Name
 tile_names l tile = names.Tile tile whole ∷ map (λ bit. names.Tile tile bit) (range_with_len 0 (exponent l tile))
 
+-- a node of an era: those of the first have names of their own
+abbrev pub node_name : ℕ → ℕ → ℕ → Name
+node_name zero level index = names.Node level index
+node_name (suc era) level index = names.EraNode (suc era) level index
+
 -- the node of a level whose last granule is g
 abbrev pub node_ending_at : ℕ → ℕ → Name
 node_ending_at g level = names.Node level ((g + 1) / 2 ^ level - 1)
@@ -43,12 +48,14 @@ planned l n = flat_map (batch_names l) (range_with_len 0 (n + 1))
 
 -- ---- digests
 
--- the digest that a name stands for
+-- the digest that a name stands for: none under the names of later eras, since a history has one
 unfoldable pub digest : History → Name → List ℕ
 digest h names.Header = header_digest h.header
 digest h (names.Cum tile) = cum h tile
 digest h (names.Tile tile part) = tile_digest h tile part
 digest h (names.Node level index) = node_digest h 0 level index
+digest h (names.Era era) = []
+digest h (names.EraNode era level index) = []
 
 abbrev pub seal : History → Name → Seal
 seal h name = record { name = name; digest = digest h name }
@@ -65,6 +72,8 @@ inputs_of h names.Header = header_input h.header ∷ []
 inputs_of h (names.Cum tile) = cum_inputs h tile
 inputs_of h (names.Tile tile part) = tile_inputs h tile part
 inputs_of h (names.Node level index) = node_inputs h 0 level index
+inputs_of h (names.Era era) = []
+inputs_of h (names.EraNode era level index) = []
 
 -- all that is hashed for the planned names
 unfoldable pub inputs : History → ℕ → List (List ℕ)

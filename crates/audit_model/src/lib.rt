@@ -25,6 +25,8 @@
 //! | `Reached`, `IsFound` | a root, or a child of a reached node that differs; a reached leaf that differs |
 //! | `checks granules nodes` | the roots, and two nodes for each reached one of level 1 or more that differs |
 //! | `changed_from`, `first_changed_until` | the span in which a tile was changed, by the moments of its batch and of the marks |
+//! | `IsTold defined told` | what the answers define is told, unless the notary fails or memory runs out |
+//! | `stop_at`, `or_stop`, `first_stop`, `unless_stopped` | what stops a reader of answers, and which of two causes stops it first |
 //! | `IsSound is_image batches id` | nothing is filed, or each image of the disk holds the history that is filed |
 //!
 //! # What the layers above may rely on

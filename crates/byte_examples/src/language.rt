@@ -7,7 +7,7 @@ use std::process::Abort;
 use std::test::Fail;
 use stmt_text::plain::plain_tokens;
 use stmt_text::{ParseFail, parse_line, print_line};
-use table::{Case, DRILLS, LINES, OTHERS, SESSIONS, TABLES, VALUES};
+use table::{Case, DRILLS, LINES, OTHERS, SESSIONS, SPANS, TABLES, VALUES};
 use tuple_bytes::Blob;
 
 fn name_of(fail: ParseFail) -> &'static [u8] {
@@ -70,7 +70,9 @@ fn check(rt: &impl Abort, alloc: Global, cases: &[Case]) -> Result<(), Fail> {
     Ok(())
 }
 
-const ALL: [&[Case]; 6] = [&LINES, &SESSIONS, &TABLES, &VALUES, &OTHERS, &DRILLS];
+const ALL: [&[Case]; 7] = [
+    &LINES, &SESSIONS, &TABLES, &SPANS, &VALUES, &OTHERS, &DRILLS,
+];
 
 #[test]
 fn lines_are_read_as_the_grammar_says(rt: HostRuntime) -> Result<(), Fail> {

@@ -23,7 +23,8 @@
 //! spelling are tied by `Reads r s F`: what is read is spelled so and meets `F`, and what meets `F` is read from its
 //! spelling, whatever follows. From that alone follows that no spelling begins another (`apart`).
 //!
-//! `specs/Gated` says what the body of a file of gated records holds, for any payloads and limits.
+//! `specs/Gated` says what the body of a file of gated records holds, for any payloads and limits. `put_numbered` writes
+//! words with a number behind them, as all texts for people have them; it alone takes memory.
 //!
 //! ```text
 //! let (id, rest) = u64_of(bytes)?;
@@ -32,6 +33,8 @@
 //! ```
 #![tactic(auto)]
 
+mod numbered;
 mod readers;
 
+pub use numbered::put_numbered;
 pub use readers::{byte_of, constant_of, is_count, part_of, u16_of, u32_of, u64_of};

@@ -40,9 +40,11 @@ finds_by f g n (Err (SealMissing (names.Cum tile))) alike is = (is.0, sym (alike
 finds_by f g n (Err (SealMissing names.Header)) alike is = is
 finds_by f g n (Err (SealMissing (names.Tile tile part))) alike is = is
 finds_by f g n (Err (SealMissing (names.Node level index))) alike is = is
+finds_by f g n (Err (SealMissing (names.Era era))) alike is = is
+finds_by f g n (Err (SealMissing (names.EraNode era level index))) alike is = is
 finds_by f g n (Err NotaryFault) alike is = tt
 finds_by f g n (Err NotSealedSo) alike is = tt
-finds_by f g n (Err (NotaryInconsistent level index)) alike is = tt
+finds_by f g n (Err (NotaryInconsistent era level index)) alike is = tt
 finds_by f g n (Err NoMemory) alike is = tt
 
 digest_is : (h : History) (tile : ℕ) → digest h (names.Cum tile) ≡ cum h tile

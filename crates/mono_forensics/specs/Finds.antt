@@ -38,4 +38,4 @@ IsFindFail n (Err NoMemory) = Unit {0}
 IsFindFail n (Err (SealMissing (Cum tile))) = tile < n
 IsFindFail n (Err (SealMissing name)) = ⊥
 IsFindFail n (Err NotSealedSo) = ⊥
-IsFindFail n (Err (NotaryInconsistent level index)) = ⊥
+IsFindFail n (Err (NotaryInconsistent era level index)) = ⊥

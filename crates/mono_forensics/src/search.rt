@@ -2,11 +2,10 @@
 
 ghost use Rattle.std.specs.Prelude.{◌≡◌, ◌≤◌, ◌<◌, ◌+◌, true, IfOk, IfSome, IsErrOf, IsOk, length};
 ghost use Rattle.outside_words.specs.Faults.{HasCause};
-ghost use Rattle.outside_words.specs.Shown.{ShowsFaults};
 ghost use Rattle.outside_words.specs.Told.{WhereTold};
 ghost use Rattle.notary_link.specs.declared.fail.AskFail.TheVariants.{NotaryFault, NoMemory};
 ghost use Rattle.notary_link.specs.Fails.{ask_in_doubt};
-ghost use Rattle.notary_link.specs.Notary.{Unchanged, GoesOn};
+ghost use Rattle.notary_link.specs.Notary.{Unchanged, GoesOn, IsCounted};
 ghost use Rattle.digest_model.specs.Layout.{max_granules};
 ghost use Rattle.audit_model.specs.Tree.{digit_count};
 ghost use Rattle.mono_forensics.specs.Finds.{link_answers, Finds, Compares, IsFindFail};
@@ -34,7 +33,7 @@ pub fn first_bad<N: Notary>(
         ≤ (N.state notary.old).asked + digit_count (length links.now) + 2 }
     ensures frame { GoesOn (N.state notary.old) (N.state notary.new) }
     ensures cause { HasCause NotaryFault (N.state notary.old).faults (N.state notary.new).faults result }
-    ensures counted { ShowsFaults ask_in_doubt (N.state notary.old).faults (N.state notary.new).faults result }
+    ensures counted { IsCounted ask_in_doubt (N.state notary.old) (N.state notary.new) result }
     ensures memory { IsErrOf result NoMemory → N.asking_takes_memory ≡ true }
     ensures always { FailsNoQuestion N.asking_takes_memory (N.state notary.old)
         → HoldsTiles (N.state notary.old).lists id (length links.now) → IsOk result }
@@ -71,7 +70,7 @@ fn differs<N: Notary>(
     ensures asked { (N.state notary.new).asked ≤ (N.state notary.old).asked + 1 }
     ensures frame { GoesOn (N.state notary.old) (N.state notary.new) }
     ensures cause { HasCause NotaryFault (N.state notary.old).faults (N.state notary.new).faults result }
-    ensures counted { ShowsFaults ask_in_doubt (N.state notary.old).faults (N.state notary.new).faults result }
+    ensures counted { IsCounted ask_in_doubt (N.state notary.old) (N.state notary.new) result }
     ensures memory { IsErrOf result NoMemory → N.asking_takes_memory ≡ true }
     ensures always { FailsNoQuestion N.asking_takes_memory (N.state notary.old)
         → HoldsTiles (N.state notary.old).lists id (length links.now) → IsOk result }

@@ -7,7 +7,7 @@ use Rattle.std.proofs.lemmas.List.{take_at, drop_at, take-append-drop, length-ap
 use Rattle.notary_link.specs.declared.mark.Outcome.{Outcome}
 use Rattle.notary_link.specs.declared.mark.Outcome.TheVariants.{Clean, Altered, HeaderAltered}
 use Rattle.notary_link.specs.declared.name.Name.{Name}
-use Rattle.notary_link.specs.declared.name.Name.TheVariants.{Header, Cum, Tile, Node}
+use Rattle.notary_link.specs.declared.name.Name.TheVariants.{Header, Cum, Tile, Node, Era, EraNode}
 use Rattle.notary_link.specs.declared.seal.Seal.{Seal}
 use Rattle.notary_link.specs.Notary.{Call, file, note}
 use Rattle.byte_grammar.specs.Reading.{IsBytes, IsUpTo, ◌>>=◌, rest_of, up_to, byte, part, number, constant, seq, checked, tagged}
@@ -16,7 +16,7 @@ use Rattle.byte_grammar.proofs.Tags.{Goes, after_tag, bare, tagged_takes}
 use Rattle.byte_grammar.proofs.Wholes.{whole_takes as any_takes, whole_again as any_again, is_some-whole}
 use Rattle.byte_grammar.proofs.Fields.{cell, IsByte, byte_reads, wide16, wide32, wide64, number_reads, constant_reads, spell_constant, Nothing, up_to_reads, few_reads}
 use Rattle.notary_book.specs.Spelling.{spell_name, spell_seal, spell_seals, no_tile, spell_outcome, spell_call, max_level, digest_length, max_seals_of_batch, is_part, FitsName, FitsSeal, FitsSeals, FitsOutcome, FitsCall, Spells}
-use Rattle.notary_book.specs.Calls.{tile_of, node_of, name_by, name_at, seal_of, seal_at, seals_at, clean_of, header_altered_of, outcome_by, outcome_at, file_of, note_of, call_by, call_at, call_of}
+use Rattle.notary_book.specs.Calls.{tile_of, node_of, era_node_of, name_by, name_at, seal_of, seal_at, seals_at, clean_of, header_altered_of, outcome_by, outcome_at, file_of, note_of, call_by, call_at, call_of}
 
 word16 : Reads (number w16) (to_be_bytes w16) (λ n. n < 2 ^ 16)
 word16 = number_reads w16 (2 ^ 16) wide16
@@ -44,6 +44,9 @@ level_law = up_to_reads byte cell 256 max_level (omega arith) byte_reads
 node_law : Reads (seq (checked (up_to max_level) byte) (number w32)) (λ (p : ℕ × ℕ). cell p.0 ++ to_be_bytes w32 p.1) (λ (p : ℕ × ℕ). IsUpTo max_level p.0 × (p.1 < 2 ^ 32))
 node_law = seq_reads (checked (up_to max_level) byte) cell (IsUpTo max_level) (number w32) (to_be_bytes w32) (λ n. n < 2 ^ 32) level_law word32
 
+era_node_law : Reads (seq (number w32) (seq (checked (up_to max_level) byte) (number w32))) (λ (p : ℕ × (ℕ × ℕ)). to_be_bytes w32 p.0 ++ (cell p.1.0 ++ to_be_bytes w32 p.1.1)) (λ (p : ℕ × (ℕ × ℕ)). (p.0 < 2 ^ 32) × (IsUpTo max_level p.1.0 × (p.1.1 < 2 ^ 32)))
+era_node_law = seq_reads (number w32) (to_be_bytes w32) (λ n. n < 2 ^ 32) (seq (checked (up_to max_level) byte) (number w32)) _ _ word32 node_law
+
 name_goes : (tag : ℕ) (bytes : List ℕ) (n : Name) (rest : List ℕ) → IsBytes bytes → name_by tag bytes ≡ Some (n, rest) → Goes tag bytes spell_name FitsName n rest
 unfolding name_by
 name_goes zero bytes n rest fits e = bare 0 bytes _ _ Header n rest e refl tt
@@ -56,7 +59,13 @@ name_goes (suc (suc zero)) bytes n rest fits e =
 name_goes (suc (suc (suc zero))) bytes n rest fits e =
     let t = mapped_takes node_of (seq (checked (up_to max_level) byte) (number w32)) _ _ node_law bytes n rest fits e in
     after_tag 3 bytes spell_name FitsName (node_of t.0) n rest t.1 (ap (λ (x : List ℕ). 3 ∷ x) t.2) t.3
-name_goes (suc (suc (suc (suc k)))) bytes n rest fits e = absurd cc
+name_goes (suc (suc (suc (suc zero)))) bytes n rest fits e =
+    let t = mapped_takes Era (number w32) (to_be_bytes w32) (λ n. n < 2 ^ 32) word32 bytes n rest fits e in
+    after_tag 4 bytes spell_name FitsName (Era t.0) n rest t.1 (ap (λ (x : List ℕ). 4 ∷ x) t.2) t.3
+name_goes (suc (suc (suc (suc (suc zero))))) bytes n rest fits e =
+    let t = mapped_takes era_node_of (seq (number w32) (seq (checked (up_to max_level) byte) (number w32))) _ _ era_node_law bytes n rest fits e in
+    after_tag 5 bytes spell_name FitsName (era_node_of t.0) n rest t.1 (ap (λ (x : List ℕ). 5 ∷ x) t.2) t.3
+name_goes (suc (suc (suc (suc (suc (suc k)))))) bytes n rest fits e = absurd cc
 
 name_again : (n : Name) (rest : List ℕ) → FitsName n → name_at (spell_name n ++ rest) ≡ Some (n, rest)
 unfolding name_at name_by tagged
@@ -64,6 +73,8 @@ name_again Header rest fits = refl
 name_again (Cum tile) rest fits = mapped_again Cum (number w32) (to_be_bytes w32) (λ n. n < 2 ^ 32) word32 tile rest fits
 name_again (Tile tile part) rest fits = mapped_again tile_of (seq (number w32) (checked is_part byte)) _ _ tile_law (tile, part) rest fits
 name_again (Node level index) rest fits = mapped_again node_of (seq (checked (up_to max_level) byte) (number w32)) _ _ node_law (level, index) rest fits
+name_again (Era era) rest fits = mapped_again Era (number w32) (to_be_bytes w32) (λ n. n < 2 ^ 32) word32 era rest fits
+name_again (EraNode era level index) rest fits = mapped_again era_node_of (seq (number w32) (seq (checked (up_to max_level) byte) (number w32))) _ _ era_node_law (era, (level, index)) rest fits
 
 pub name_reads : Reads name_at spell_name FitsName
 unfolding name_at

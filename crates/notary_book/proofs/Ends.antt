@@ -58,7 +58,7 @@ held_ends (Some head) found held by e = subst (λ (h : Held). h.end ≤ 64 + siz
 -- ---- seals and marks
 
 abbrev weight_of : List Call → ℕ
-weight_of calls = 66 * seals_in_all (lists_of calls) + 31 * marks_in_all (lists_of calls)
+weight_of calls = 70 * seals_in_all (lists_of calls) + 31 * marks_in_all (lists_of calls)
 
 -- a call more
 weight_more : (calls : List Call) (call : Call) → FitsCall call → weight_of (calls ++ call ∷ []) ≡ weight_of calls + weight call
@@ -81,7 +81,7 @@ sizes_weigh before (payload ∷ payloads) spelled fit = by (call_of payload) ref
         let together : before ++ calls_in (payload ∷ payloads) ≡ (before ++ call ∷ []) ++ calls_in payloads = ap (λ (cs : List Call). before ++ cs) first ∙ sym (append_assoc before (call ∷ []) (calls_in payloads)) in
         omega (arith, ap weight_of together, weighs call payload s, weight_more before call s.0, ih (before ++ call ∷ []))
 
-stands_weigh : (calls : List Call) (pages : Pages) → StandsFor calls pages → 66 * pages.seals + 31 * pages.marks ≡ weight_of calls
+stands_weigh : (calls : List Call) (pages : Pages) → StandsFor calls pages → 70 * pages.seals + 31 * pages.marks ≡ weight_of calls
 stands_weigh calls pages stands = omega (arith, stands.seals_are, stands.marks_are)
 
 -- what was read is short

@@ -8,23 +8,25 @@ use Rattle.byte_grammar.specs.Gated.{FitsRecord}
 use Rattle.notary_link.specs.declared.mark.Outcome.{Outcome}
 use Rattle.notary_link.specs.declared.mark.Outcome.TheVariants.{Clean, Altered, HeaderAltered}
 use Rattle.notary_link.specs.declared.name.Name.{Name}
-use Rattle.notary_link.specs.declared.name.Name.TheVariants.{Header, Cum, Tile, Node}
+use Rattle.notary_link.specs.declared.name.Name.TheVariants.{Header, Cum, Tile, Node, Era, EraNode}
 use Rattle.notary_link.specs.declared.seal.Seal.{Seal}
 use Rattle.notary_link.specs.Notary.{Call, file, note}
 use Rattle.notary_book.specs.Books.{book_shape, calls_in}
 use Rattle.notary_book.specs.Spelling.{spell_name, spell_seal, spell_seals, spell_outcome, spell_batch, spell_mark, FitsSeal, Spells}
 use Rattle.notary_book.proofs.CallLaws.{whole_again, spelled_some}
 
-name_length : (n : Name) → length (spell_name n) ≤ 6
+name_length : (n : Name) → length (spell_name n) ≤ 10
 name_length Header = omega arith
 name_length (Cum tile) = omega (arith, wide32.len tile)
 name_length (Tile tile part) = omega (arith, wide32.len tile, length-append (to_be_bytes w32 tile) (part ∷ []))
 name_length (Node level index) = omega (arith, wide32.len index)
+name_length (Era era) = omega (arith, wide32.len era)
+name_length (EraNode era level index) = omega (arith, wide32.len era, wide32.len index, length-append (to_be_bytes w32 era) (level ∷ to_be_bytes w32 index))
 
-seal_length : (s : Seal) → FitsSeal s → length (spell_seal s) ≤ 38
+seal_length : (s : Seal) → FitsSeal s → length (spell_seal s) ≤ 42
 seal_length s fits = omega (arith, name_length s.name, length-append (spell_name s.name) s.digest, fits.1)
 
-seals_length : (seals : List Seal) → AllByRecursion FitsSeal seals → length (flat_map spell_seal seals) ≤ 38 * length seals
+seals_length : (seals : List Seal) → AllByRecursion FitsSeal seals → length (flat_map spell_seal seals) ≤ 42 * length seals
 seals_length [] fits = omega arith
 seals_length (s ∷ seals) fits = omega (arith, seal_length s fits.0, seals_length seals fits.1, length-append (spell_seal s) (flat_map spell_seal seals))
 
@@ -35,7 +37,7 @@ outcome_length HeaderAltered = omega arith
 
 -- the most bytes of a call's payload
 abbrev most : Call → ℕ
-most (file id index batch) = 23 + 38 * length batch.seals
+most (file id index batch) = 23 + 42 * length batch.seals
 most (note id mark) = 26
 
 at_most : (call : Call) (bytes : List ℕ) → Spells call bytes → length bytes ≤ most call
@@ -78,7 +80,7 @@ short (note id mark) bytes s = omega (arith, at_most (note id mark) bytes s)
 
 -- what a call's record takes of the file at most
 abbrev pub weight : Call → ℕ
-weight (file id index batch) = 66 * length batch.seals
+weight (file id index batch) = 70 * length batch.seals
 weight (note id mark) = 31
 
 pub weighs : (call : Call) (bytes : List ℕ) → Spells call bytes → 5 + length bytes ≤ weight call

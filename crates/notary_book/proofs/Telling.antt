@@ -64,6 +64,7 @@ module _ (s s' : DiskState) (a a' u u' : ℕ) (same : s'.reads ≡ s.reads) wher
     limits = refl;
     plan = refl;
     sure = refl;
+    shows = refl;
     asked = asked;
     faults = omega (arith, faults, unreadable);
     quiet = λ sure. tt;
@@ -146,6 +147,7 @@ module _ (calls : List Call) (call : Call) where
       limits = refl;
       plan = refl;
       sure = refl;
+      shows = refl;
       asked = omega arith;
       faults = omega (arith, on.faults, later);
       quiet = λ sure. tt;

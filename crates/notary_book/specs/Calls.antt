@@ -4,7 +4,7 @@ use Rattle.std.specs.Int.{w16, w32, w64}
 use Rattle.notary_link.specs.declared.mark.Outcome.{Outcome}
 use Rattle.notary_link.specs.declared.mark.Outcome.TheVariants.{Clean, Altered, HeaderAltered}
 use Rattle.notary_link.specs.declared.name.Name.{Name}
-use Rattle.notary_link.specs.declared.name.Name.TheVariants.{Header, Cum, Tile, Node}
+use Rattle.notary_link.specs.declared.name.Name.TheVariants.{Header, Cum, Tile, Node, Era, EraNode}
 use Rattle.notary_link.specs.declared.seal.Seal.{Seal}
 use Rattle.notary_link.specs.Notary.{Call, file, note, batch_of}
 use Rattle.byte_grammar.specs.Reading.{Reader, is_from_1_to, up_to, byte, part, number, constant, seq, mapped, checked, counted, tagged, whole}
@@ -18,12 +18,17 @@ tile_of p = Tile p.0 p.1
 abbrev pub node_of : ℕ × ℕ → Name
 node_of p = Node p.0 p.1
 
+abbrev pub era_node_of : ℕ × (ℕ × ℕ) → Name
+era_node_of p = EraNode p.0 p.1.0 p.1.1
+
 unfoldable pub name_by : ℕ → Reader Name
 name_by zero bytes = Some (Header, bytes)
 name_by (suc zero) bytes = mapped Cum (number w32) bytes
 name_by (suc (suc zero)) bytes = mapped tile_of (seq (number w32) (checked is_part byte)) bytes
 name_by (suc (suc (suc zero))) bytes = mapped node_of (seq (checked (up_to max_level) byte) (number w32)) bytes
-name_by (suc (suc (suc (suc n)))) bytes = None
+name_by (suc (suc (suc (suc zero)))) bytes = mapped Era (number w32) bytes
+name_by (suc (suc (suc (suc (suc zero))))) bytes = mapped era_node_of (seq (number w32) (seq (checked (up_to max_level) byte) (number w32))) bytes
+name_by (suc (suc (suc (suc (suc (suc n)))))) bytes = None
 
 unfoldable pub name_at : Reader Name
 name_at bytes = tagged name_by bytes

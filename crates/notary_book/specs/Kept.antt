@@ -57,9 +57,9 @@ abbrev pub next_gate : Option Standing → ℕ
 next_gate None = 64
 next_gate (Some at) = at.end
 
--- the records up to it take at most 66 bytes for each seal and 31 for each mark
+-- the records up to it take at most 70 bytes for each seal and 31 for each mark
 abbrev pub IsShort : Option Standing → Pages → Type 0
-IsShort at pages = next_gate at ≤ 64 + (66 * pages.seals + 31 * pages.marks)
+IsShort at pages = next_gate at ≤ 64 + (70 * pages.seals + 31 * pages.marks)
 
 -- behind a payload more, the next gate is below the limit of the file
 abbrev pub HasPlace : Option Standing → List ℕ → Type 0

@@ -6,7 +6,7 @@ use Rattle.notary_link.specs.declared.mark.Mark.{Mark}
 use Rattle.notary_link.specs.declared.mark.Outcome.{Outcome}
 use Rattle.notary_link.specs.declared.mark.Outcome.TheVariants.{Clean, Altered, HeaderAltered}
 use Rattle.notary_link.specs.declared.name.Name.{Name}
-use Rattle.notary_link.specs.declared.name.Name.TheVariants.{Header, Cum, Tile, Node}
+use Rattle.notary_link.specs.declared.name.Name.TheVariants.{Header, Cum, Tile, Node, Era, EraNode}
 use Rattle.notary_link.specs.declared.seal.Seal.{Seal}
 use Rattle.notary_link.specs.Batches.{Batch}
 use Rattle.notary_link.specs.Notary.{Call, file, note}
@@ -19,6 +19,8 @@ spell_name Header = 0 ∷ []
 spell_name (Cum tile) = 1 ∷ to_be_bytes w32 tile
 spell_name (Tile tile part) = 2 ∷ (to_be_bytes w32 tile ++ part ∷ [])
 spell_name (Node level index) = 3 ∷ (level ∷ [] ++ to_be_bytes w32 index)
+spell_name (Era era) = 4 ∷ to_be_bytes w32 era
+spell_name (EraNode era level index) = 5 ∷ (to_be_bytes w32 era ++ (level ∷ [] ++ to_be_bytes w32 index))
 
 abbrev pub spell_seal : Seal → List ℕ
 spell_seal seal = spell_name seal.name ++ seal.digest
@@ -67,6 +69,8 @@ FitsName Header = Unit {0}
 FitsName (Cum tile) = tile < 2 ^ 32
 FitsName (Tile tile part) = (tile < 2 ^ 32) × ((part < 256) × (is_part part ≡ true))
 FitsName (Node level index) = IsUpTo max_level level × (index < 2 ^ 32)
+FitsName (Era era) = era < 2 ^ 32
+FitsName (EraNode era level index) = (era < 2 ^ 32) × (IsUpTo max_level level × (index < 2 ^ 32))
 
 abbrev pub FitsSeal : Seal → Type 0
 FitsSeal seal = FitsName seal.name × (length seal.digest ≡ digest_length)

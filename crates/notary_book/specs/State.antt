@@ -1,5 +1,5 @@
 -- A book as a notary.
-use Rattle.std.specs.Prelude.{ℕ, ◌+◌, false, None}
+use Rattle.std.specs.Prelude.{ℕ, ◌+◌, true, false, None}
 use Rattle.disk_words.specs.Disk.{State as DiskState}
 use Rattle.notary_link.specs.Notary.{State}
 use Rattle.notary_book.specs.Books.{book_limits, lists_told}
@@ -12,6 +12,7 @@ book_state s asked unreadable = record {
   trace = None;
   plan = None;
   sure = false;
+  shows = true;
   asked = asked;
   faults = s.faults + unreadable;
 }

@@ -9,7 +9,7 @@
 //! | batch | 01, id u64, index u32, moment u64, count of seals u16 (1 to 4,096), the seals |
 //! | mark | 02, id u64, moment u64, tiles u32, outcome u8, first bad tile u32 |
 //! | seal | name, digest (32) |
-//! | name | 00 Header; 01 and tile u32; 02, tile u32 and part u8; 03, level u8 and index u32 |
+//! | name | 00 Header; 01 and tile u32; 02, tile u32 and part u8; 03, level u8 and index u32; 04 and era u32; 05, era u32, level u8 and index u32 |
 //!
 //! Numbers stand with the highest byte first. The outcome is 00 clean, 01 altered, 02 header altered;
 //! the first bad tile is 0 unless the outcome is 01. A part is 0 to 9 or 255, a level 0 to 20.

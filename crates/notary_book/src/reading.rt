@@ -68,6 +68,24 @@ fn node_of(bytes: &[u8]) -> Option<(Name, &[u8])>
     Some((Name::Node { level, index }, rest))
 }
 
+#[tactic(auto, unfolding(crate::specs::Calls::name_by, byte_grammar::specs::Reading::mapped))]
+fn era_of(bytes: &[u8]) -> Option<(Name, &[u8])>
+    ensures { Gives (λ x. (x.0, x.1.now)) result (name_by 4 bytes.now) }
+{
+    let (era, rest) = u32_of(bytes)?;
+    Some((Name::Era { era }, rest))
+}
+
+#[tactic(auto, unfolding(crate::specs::Calls::name_by, byte_grammar::specs::Reading::mapped, byte_grammar::specs::Reading::seq))]
+fn era_node_of(bytes: &[u8]) -> Option<(Name, &[u8])>
+    ensures { Gives (λ x. (x.0, x.1.now)) result (name_by 5 bytes.now) }
+{
+    let (era, rest) = u32_of(bytes)?;
+    let (level, rest) = level_of(rest)?;
+    let (index, rest) = u32_of(rest)?;
+    Some((Name::EraNode { era, level, index }, rest))
+}
+
 #[tactic(auto, unfolding(crate::specs::Calls::name_at, crate::specs::Calls::name_by, byte_grammar::specs::Reading::tagged, byte_grammar::specs::Reading::mapped, byte_grammar::specs::Reading::seq), using(crate::proofs::Skips::name_by_other))]
 fn name_of(bytes: &[u8]) -> Option<(Name, &[u8])>
     ensures { Gives (λ x. (x.0, x.1.now)) result (name_at bytes.now) }
@@ -78,6 +96,8 @@ fn name_of(bytes: &[u8]) -> Option<(Name, &[u8])>
         1 => cum_of(rest),
         2 => tile_of(rest),
         3 => node_of(rest),
+        4 => era_of(rest),
+        5 => era_node_of(rest),
         _ => None,
     }
 }

@@ -31,6 +31,16 @@ fn put_name(out: &mut Vec<u8>, name: Name) -> Result<(), AllocError>
             out.push(level)?;
             out.extend_from_slice(&index.to_be_bytes())?;
         }
+        Name::Era { era } => {
+            out.push(4)?;
+            out.extend_from_slice(&era.to_be_bytes())?;
+        }
+        Name::EraNode { era, level, index } => {
+            out.push(5)?;
+            out.extend_from_slice(&era.to_be_bytes())?;
+            out.push(level)?;
+            out.extend_from_slice(&index.to_be_bytes())?;
+        }
     }
     Ok(())
 }

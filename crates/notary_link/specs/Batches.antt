@@ -4,7 +4,7 @@ use Rattle.std.specs.Cmp.Lexicographic.{pointwise}
 use Rattle.std.specs.List.{find, flat_map, slice_get}
 use Rattle.std.specs.Option.{option_map}
 use Rattle.notary_link.specs.declared.name.Name.{Name}
-use Rattle.notary_link.specs.declared.name.Name.TheVariants.{Header, Cum, Tile, Node}
+use Rattle.notary_link.specs.declared.name.Name.TheVariants.{Header, Cum, Tile, Node, Era, EraNode}
 use Rattle.notary_link.specs.declared.seal.Seal.{Seal}
 use Rattle.notary_link.specs.declared.answer.Answer.{Answer}
 use Rattle.notary_link.specs.declared.answer.Answer.TheVariants.{Same, Differs, Absent}
@@ -16,14 +16,22 @@ same_name Header Header = true
 same_name (Cum j) (Cum l) = j == l
 same_name (Tile j a) (Tile l b) = (j == l) && (a == b)
 same_name (Node l i) (Node m j) = (l == m) && (i == j)
+same_name (Era e) (Era f) = e == f
+same_name (EraNode e l i) (EraNode f m j) = ((e == f) && (l == m)) && (i == j)
 same_name _ _ = false
+
+-- the part that is the whole of a tile
+abbrev pub whole_tile : ℕ
+whole_tile = 255
 
 -- a part of a tile is the whole or one of ten chains, and there are 21 levels
 abbrev pub IsName : Name → Type 0
 IsName Header = Unit {0}
 IsName (Cum j) = Unit {0}
-IsName (Tile j part) = (part ≤ 9) ⊎ (part ≡ 255)
+IsName (Tile j part) = (part ≤ 9) ⊎ (part ≡ whole_tile)
 IsName (Node level i) = level ≤ 20
+IsName (Era e) = Unit {0}
+IsName (EraNode e level i) = level ≤ 20
 
 -- ---- Batches
 

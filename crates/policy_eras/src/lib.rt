@@ -21,9 +21,10 @@ ghost use Rattle.history_model.specs.History.{history};
 ghost use Rattle.digest_model.specs.Layout.{exponent, first_granule, tile_of, has_tile_chains, has_tree};
 ghost use Rattle.policy_eras.specs.Policy.{policy_of, layout_by, first_past};
 
+use history_model::Spelled;
 use std::marker::Model;
+use tuple_bytes::Header;
 pub use tuple_bytes::MAX_GRANULES;
-use tuple_bytes::{Header, Items};
 
 /// The eras of a store.
 #[derive(Drop)]
@@ -45,7 +46,7 @@ impl Model for Eras {
 
 impl Eras {
     /// The eras of a header and the items behind it.
-    pub fn of(header: &Header, items: &Items) -> Eras
+    pub fn of(header: &Header, items: &Spelled) -> Eras
         requires fits { FitsHeader header.now }
         ensures value { result ≡ policy_of (history header.now items.now) }
     {

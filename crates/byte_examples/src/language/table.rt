@@ -353,6 +353,73 @@ pub const OTHERS: [Case; 19] = [
     ("now 1 2", "Syntax", "one"),
 ];
 
+pub const SPANS: [Case; 16] = [
+    (
+        "over 0 to 100 select t",
+        "over 0 to 100 select t",
+        "the rows of a span",
+    ),
+    (
+        "over 00 to 0100 select t v >= 03",
+        "over 0 to 100 select t v >= 3",
+        "that pass a filter",
+    ),
+    (
+        "over 0 to 40 join t u on v v",
+        "over 0 to 40 join t u on v v",
+        "pairs of rows",
+    ),
+    (
+        "s3 over 0 to 9 select t",
+        "s3 over 0 to 9 select t",
+        "in a session too",
+    ),
+    (
+        "over 9 to 0 select t",
+        "over 9 to 0 select t",
+        "a span may have no moment",
+    ),
+    (
+        "over 1 to 2 select to",
+        "over 1 to 2 select to",
+        "a table may be called as a word",
+    ),
+    (
+        "over 1 to 2 join on join on to on",
+        "over 1 to 2 join on join on to on",
+        "and so may columns",
+    ),
+    (
+        "over 0 to 1099511627776 select t",
+        "NumberTooWide",
+        "a moment past the last",
+    ),
+    (
+        "over 0 to 9 select t v = 9223372036854775808",
+        "NumberTooWide",
+        "a value past the last",
+    ),
+    ("over 0 to 9 select t v =", "Syntax", "half a filter"),
+    (
+        "over 0 to 9 select t v = 1 as of 2",
+        "Syntax",
+        "a span has no moment of its own",
+    ),
+    (
+        "over 0 to 9 join t u on v",
+        "Syntax",
+        "a column of each table",
+    ),
+    ("over 0 to 9 join t u v v", "Syntax", "behind a word"),
+    (
+        "over 0 9 select t",
+        "Syntax",
+        "and a word between the moments",
+    ),
+    ("over 0 to -1 select t", "Syntax", "which have no sign"),
+    ("over 0 to 9 scan t", "Syntax", "no such query"),
+];
+
 pub const DRILLS: [Case; 27] = [
     ("init 0 1 0 m", "init 0 1 0 m", "the least numbers"),
     (

@@ -32,7 +32,7 @@ pub fn seed(header: &Header) -> [u8; 32]
     tagged_digest(0, &header_fields(header), &[])
 }
 
-/// The value after one more item: a transaction is linked, a frontier is not.
+/// The value after one more item: a transaction is linked, another item is not.
 fn after(alloc: Global, last: &[u8; 32], item: &Item) -> Result<[u8; 32], EncodeFail>
     requires { IsStorable item.now }
     ensures value { IfOk result (λ d. d ≡ after_item last.now item.now) }
@@ -43,7 +43,7 @@ fn after(alloc: Global, last: &[u8; 32], item: &Item) -> Result<[u8; 32], Encode
             let spelled = encode_item(alloc, item)?;
             Ok(tagged_digest(1, last, spelled.as_slice()))
         }
-        Item::Frontier { .. } => Ok(*last),
+        Item::Frontier { .. } | Item::Policy { .. } => Ok(*last),
     }
 }
 

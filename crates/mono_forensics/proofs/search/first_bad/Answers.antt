@@ -41,7 +41,7 @@ loop-low-preserved-then-branch g c =
       same = unchanged_then _ _ _ on.frame asked.frame on.same asked.same;
       few = one_less (high - low) _ (S c.loop-low.notary).asked _ _ (omega (arith, c.loop-low-test.true)) (omega (arith, c.loop-low-test.true)) asked.asked on.few;
       frame = goes_on_then _ _ _ on.frame asked.frame;
-      counted = asked.counted ∙ on.counted;
+      counted = λ shows. asked.counted (on.frame.shows ∙ shows) ∙ on.counted shows;
     }
 
 -- the middle one is the same
@@ -64,7 +64,7 @@ loop-low-preserved g c =
       same = unchanged_then _ _ _ on.frame asked.frame on.same asked.same;
       few = one_less (high - low) _ (S c.loop-low.notary).asked _ _ (omega (arith, c.loop-low-test.true)) (omega (arith, c.loop-low-test.true)) asked.asked on.few;
       frame = goes_on_then _ _ _ on.frame asked.frame;
-      counted = asked.counted ∙ on.counted;
+      counted = λ shows. asked.counted (on.frame.shows ∙ shows) ∙ on.counted shows;
     }
 
 pub returns-in_err-differs-2-clause-same : goal.returns-in_err-differs-2-clause-same
@@ -76,4 +76,4 @@ returns-in_err-differs-2-clause-frame g c = goes_on_then _ _ _ c.loop-low.invari
 pub returns-in_err-differs-2-clause-counted : goal.returns-in_err-differs-2-clause-counted
 returns-in_err-differs-2-clause-counted g c =
     let same : c.from_residual-in_err-differs-2.result ≡ Err c.in_err-differs-2.field-0.0 = search rules in
-    rw same (λ none. c.in_err-differs-2.ensures.counted none ∙ c.loop-low.invariant.counted)
+    rw same (λ shows none. c.in_err-differs-2.ensures.counted (c.loop-low.invariant.frame.shows ∙ shows) none ∙ c.loop-low.invariant.counted shows)

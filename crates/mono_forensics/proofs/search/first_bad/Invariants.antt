@@ -1,4 +1,4 @@
-use Rattle.std.proofs.Common.{◌≡◌, ◌+◌, ◌-◌, ◌<◌, ◌≤◌, length}
+use Rattle.std.proofs.Common.{◌≡◌, ◌+◌, ◌-◌, ◌<◌, ◌≤◌, true, length}
 use Rattle.outside_words.specs.Told.{WhereTold}
 use Rattle.notary_link.specs.Notary.{Unchanged, GoesOn}
 use Rattle.audit_model.specs.Tree.{digit_count}
@@ -15,7 +15,7 @@ invariant-loop-low g l = let S = g.N.Notary.state in record {
   same : Unchanged (S l.fn.notary) (S l.notary);
   few : HasQuestions (l.high - l.low) (S l.notary).asked ((S l.fn.notary).asked + digit_count (length l.links) + 1);
   frame : GoesOn (S l.fn.notary) (S l.notary);
-  counted : (S l.notary).faults ≡ (S l.fn.notary).faults;
+  counted : (S l.fn.notary).shows ≡ true → (S l.notary).faults ≡ (S l.fn.notary).faults;
 }
 
 abbrev pub decreases-loop-low : goal.decreases-loop-low

@@ -5,7 +5,7 @@ use Rattle.digest_model.proofs.Lists.{one_of, none_of}
 use Rattle.digest_model.proofs.Members.{here, there}
 use Rattle.notary_link.specs.declared.fail.AskFail.{AskFail}
 use Rattle.notary_link.specs.declared.fail.AskFail.TheVariants.{NotaryFault, SealMissing, NotSealedSo, NotaryInconsistent, NoMemory}
-use Rattle.ask_words.specs.Asked.{IsTold, or_stop, first_stop, unless_stopped}
+use Rattle.audit_model.specs.Asked.{IsTold, or_stop, first_stop, unless_stopped}
 
 -- ---- what is told
 
@@ -25,7 +25,7 @@ stops_whole stop found whole NotaryFault e f = tt
 stops_whole stop found whole NoMemory e f = tt
 stops_whole stop found whole (SealMissing name) e f = sym (f (failed stop found (SealMissing name) e))
 stops_whole stop found whole NotSealedSo e f = sym (f (failed stop found NotSealedSo e))
-stops_whole stop found whole (NotaryInconsistent level index) e f = sym (f (failed stop found (NotaryInconsistent level index) e))
+stops_whole stop found whole (NotaryInconsistent era level index) e f = sym (f (failed stop found (NotaryInconsistent era level index) e))
 
 -- ---- the first of two
 

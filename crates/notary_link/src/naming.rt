@@ -1,12 +1,14 @@
-//! The texts of names.
+//! The texts of names, as refusals have them.
 
 ghost use Rattle.std.specs.Prelude.{◌≡◌, ◌++◌, OnOk};
-ghost use Rattle.ask_words.specs.Names.{part_text, name_text};
+ghost use Rattle.notary_link.specs.NameTexts.{part_text, name_text};
 
-use notary_link::Name;
-use number_text::put_numbered;
+use crate::name::Name;
+use byte_grammar::put_numbered;
 use std::alloc::{AllocError, Global};
-use tile_chains::WHOLE;
+
+/// The part that is the whole of a tile.
+const WHOLE: u8 = 255;
 
 /// A part of a tile.
 fn put_part(alloc: Global, out: &mut Vec<u8>, part: u8) -> Result<(), AllocError>
@@ -21,7 +23,7 @@ fn put_part(alloc: Global, out: &mut Vec<u8>, part: u8) -> Result<(), AllocError
 }
 
 /// Adds the text of a name.
-#[tactic(auto, unfolding(crate::specs::Names::name_text))]
+#[tactic(auto, unfolding(crate::specs::NameTexts::name_text))]
 pub fn put_name(alloc: Global, out: &mut Vec<u8>, name: Name) -> Result<(), AllocError>
     ensures ok { OnOk result (out.new.items ≡ out.old.items ++ name_text name) }
 {
@@ -34,6 +36,12 @@ pub fn put_name(alloc: Global, out: &mut Vec<u8>, name: Name) -> Result<(), Allo
         }
         Name::Node { level, index } => {
             put_numbered(alloc, out, b"node ", u64::from(level))?;
+            put_numbered(alloc, out, b" ", u64::from(index))?;
+        }
+        Name::Era { era } => put_numbered(alloc, out, b"era ", u64::from(era))?,
+        Name::EraNode { era, level, index } => {
+            put_numbered(alloc, out, b"node ", u64::from(era))?;
+            put_numbered(alloc, out, b" ", u64::from(level))?;
             put_numbered(alloc, out, b" ", u64::from(index))?;
         }
     }

@@ -1,0 +1,8 @@
+use Rattle.std.proofs.Common.{◌≤◌}
+use Rattle.tuple_bytes.specs.Limits.{max_payload}
+use Rattle.tuple_bytes.specs.Spelling.{spell_value}
+use Rattle.tuple_bytes.proofs.Counting.{IsSized}
+use Rattle.tuple_bytes.proofs.sizes.row_size.Given as goal
+
+abbrev pub invariant-loop-value : goal.invariant-loop-value
+invariant-loop-value l = IsSized spell_value l.size l.row l.value-index × (l.size ≤ max_payload)
