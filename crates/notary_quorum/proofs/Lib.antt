@@ -1,0 +1,13 @@
+pub mod Answering
+pub mod Calling
+pub mod Counting
+pub mod Deciding
+pub mod Determined
+pub mod Meeting
+pub mod Most
+pub mod Named
+pub mod Parts
+pub mod Sames
+pub mod Stepping
+pub mod Votes
+pub mod Wanting
