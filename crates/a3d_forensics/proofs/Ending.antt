@@ -9,8 +9,8 @@ use Rattle.notary_link.specs.declared.fail.AskFail.{AskFail}
 use Rattle.digest_model.specs.Roots.{roots_of}
 use Rattle.digest_model.proofs.Roots.{root_in, is_root}
 use Rattle.audit_model.specs.Tree.{Reached, as_root, as_child, IsConsistent, is_different}
-use Rattle.ask_words.specs.Asked.{stop_at}
-use Rattle.ask_words.proofs.Stops.{neither, both_end, none_stops, no_stop}
+use Rattle.audit_model.specs.Asked.{stop_at}
+use Rattle.audit_model.proofs.Stops.{neither, both_end, none_stops, no_stop}
 use Rattle.a3d_forensics.specs.Descent.{stop_at_children, stop_below, stop_from, stop_of}
 
 half_even : (i : ℕ) → (2 * i) / 2 ≡ i

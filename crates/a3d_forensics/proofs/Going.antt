@@ -4,12 +4,12 @@ use Rattle.std.proofs.lemmas.List.{append_assoc, append-nil}
 use Rattle.notary_link.specs.declared.answer.Answer.{Answer}
 use Rattle.notary_link.specs.declared.fail.AskFail.{AskFail}
 use Rattle.audit_model.specs.Tree.{is_different, found_from, forks_from}
-use Rattle.ask_words.specs.Asked.{IsTold, or_stop, unless_stopped}
+use Rattle.audit_model.specs.Asked.{IsTold, or_stop, unless_stopped}
 use Rattle.a3d_forensics.specs.declared.found.A3dFound.{A3dFound}
 use Rattle.a3d_forensics.specs.Asking.{ComparesChildren}
 use Rattle.a3d_forensics.specs.Descent.{stop_at_children, stop_below}
 use Rattle.a3d_forensics.specs.Going.{stop_under, more_from, gone_from, left_by, GoesFrom}
-use Rattle.ask_words.proofs.Stops.{ended, stops_whole}
+use Rattle.audit_model.proofs.Stops.{ended, stops_whole}
 
 pub same_found : (xs ys : List ℕ) (m n : ℕ) → xs ≡ ys → m ≡ n → ◌≡◌ {A = A3dFound} (record { granules = xs; checks = m }) (record { granules = ys; checks = n })
 same_found xs ys m n e f = rw (e, f) refl

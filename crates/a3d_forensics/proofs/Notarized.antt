@@ -19,7 +19,7 @@ use Rattle.audit_model.specs.Tree.{IsFound, as_root, found_from, found}
 use Rattle.audit_model.proofs.Compare.{own_same}
 use Rattle.audit_model.proofs.Descent.{found_exact}
 use Rattle.audit_model.proofs.TreeAudit.{node_planned, reached_within}
-use Rattle.ask_words.proofs.Stops.{no_stop}
+use Rattle.audit_model.proofs.Stops.{no_stop}
 use Rattle.a3d_forensics.specs.Descent.{nodes_of, stop_from, stop_of, tree_found, tree_stop}
 use Rattle.a3d_forensics.proofs.Consistent.{all_fine}
 use Rattle.a3d_forensics.proofs.Ending.{ends}
@@ -58,11 +58,11 @@ module _ (batches : List Batch) (id : ℕ) (h s : History) (n : ℕ) (audit : Is
   pub only_listed : DescentIsAltered → HasTree h n → (g : ℕ) → Contains (tree_found batches s n) g → IsAltered h (Some s) n g
   only_listed descent has g among = descent batches id h s n g audit has ((listed_as g).1 among)
 
-pub never_inconsistent : NodesAreConsistent → (batches : List Batch) (id : ℕ) (h s : History) (n tiles level index : ℕ) → NotaryOf batches id h n
-    → tree_stop batches s tiles ≢ Some (NotaryInconsistent level index)
+pub never_inconsistent : NodesAreConsistent → (batches : List Batch) (id : ℕ) (h s : History) (n tiles era level index : ℕ) → NotaryOf batches id h n
+    → tree_stop batches s tiles ≢ Some (NotaryInconsistent era level index)
 unfolding tree_stop
-never_inconsistent consistent batches id h s n tiles level index filed =
-    all_fine (nodes_of batches s) (λ l i differs. consistent batches id h s n l i filed differs) (roots_of (first_granule (layout s) tiles)) level index
+never_inconsistent consistent batches id h s n tiles era level index filed =
+    all_fine (nodes_of batches s) (λ l i differs. consistent batches id h s n l i filed differs) (roots_of (first_granule (layout s) tiles)) era level index
 
 -- ---- the notarized history
 

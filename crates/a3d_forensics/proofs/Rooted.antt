@@ -14,13 +14,13 @@ use Rattle.history_model.specs.History.{History}
 use Rattle.digest_model.specs.Layout.{layout, first_granule}
 use Rattle.digest_model.specs.Roots.{has_root_at, down_from, roots_of}
 use Rattle.audit_model.specs.Tree.{is_different, found_from, forks_from, found, checks}
-use Rattle.ask_words.specs.Asked.{IsTold, stop_at, or_stop, first_stop, unless_stopped}
+use Rattle.audit_model.specs.Asked.{IsTold, stop_at, or_stop, first_stop, unless_stopped}
 use Rattle.a3d_forensics.specs.declared.found.A3dFound.{A3dFound}
 use Rattle.a3d_forensics.specs.Asking.{node_told, Compares}
 use Rattle.a3d_forensics.specs.Descent.{nodes_of, stop_from, stop_of, descent, tree_found, tree_checks, tree_stop, tiles_have_tree, tree_told}
 use Rattle.a3d_forensics.specs.Going.{stop_under, more_from, gone_from, left_by, GoesFrom}
 use Rattle.a3d_forensics.specs.Rooted.{root_at_level, roots_below, more_over, gone_over, GoesOver}
-use Rattle.ask_words.proofs.Stops.{ended, stops_whole, or_none, first_stop-append}
+use Rattle.audit_model.proofs.Stops.{ended, stops_whole, or_none, first_stop-append}
 use Rattle.a3d_forensics.proofs.Going.{same_found}
 
 -- ---- roots after roots

@@ -26,8 +26,8 @@ AuditEnds = (batches : List Batch) (id : ℕ) (h s : History) (n : ℕ) → IsAu
 
 -- A notary that holds the batches of a history is not inconsistent about any other, without exception.
 abbrev pub NotaryIsConsistent : Type 0
-NotaryIsConsistent = (batches : List Batch) (id : ℕ) (h s : History) (n tiles level index : ℕ) → NotaryOf batches id h n
-    → tree_stop batches s tiles ≢ Some (NotaryInconsistent level index)
+NotaryIsConsistent = (batches : List Batch) (id : ℕ) (h s : History) (n tiles era level index : ℕ) → NotaryOf batches id h n
+    → tree_stop batches s tiles ≢ Some (NotaryInconsistent era level index)
 
 -- Under the notarized header each altered granule is among the leaves, unless two inputs clash; and each leaf is one, without exception.
 pub record LeavesAreAltered : Type 0 where

@@ -2,21 +2,20 @@
 
 ghost use Rattle.std.specs.Prelude.{◌≡◌, ◌≤◌, ◌+◌, IfErr};
 ghost use Rattle.outside_words.specs.Faults.{HasCause};
-ghost use Rattle.outside_words.specs.Shown.{ShowsFaults};
 ghost use Rattle.outside_words.specs.Told.{WhereTold};
 ghost use Rattle.notary_link.specs.declared.fail.AskFail.TheVariants.{NotaryFault};
 ghost use Rattle.notary_link.specs.Fails.{ask_in_doubt};
-ghost use Rattle.notary_link.specs.Notary.{Unchanged, GoesOn};
+ghost use Rattle.notary_link.specs.Notary.{Unchanged, GoesOn, IsCounted};
 ghost use Rattle.digest_model.specs.Layout.{layout, first_granule, max_granules};
 ghost use Rattle.audit_model.specs.Laws.{HasTree};
 ghost use Rattle.a3d_forensics.specs.Asking.{Compares, IsNodeFail};
 ghost use Rattle.a3d_forensics.specs.Descent.{nodes_of, tiles_have_tree, IsOver};
 
 use notary_link::{Answer, AskFail, Name, Notary};
-use seal_plan::Plan;
+use seal_plan::TreePlan;
 
 /// Whether the granules are leaves of the tree.
-pub(crate) fn has_tree(plan: &Plan) -> bool
+pub(crate) fn has_tree(plan: &TreePlan) -> bool
     ensures { result ≡ tiles_have_tree (layout plan.now.history) plan.now.tiles }
 {
     plan.eras().has_tree(0)
@@ -24,7 +23,7 @@ pub(crate) fn has_tree(plan: &Plan) -> bool
 
 /// Whether a node differs from what was filed.
 pub(crate) fn differs<N: Notary>(
-    plan: &Plan,
+    plan: &TreePlan,
     notary: &mut N,
     id: u64,
     level: u8,
@@ -40,10 +39,10 @@ pub(crate) fn differs<N: Notary>(
     ensures asked { (N.state notary.new).asked ≤ (N.state notary.old).asked + 1 }
     ensures frame { GoesOn (N.state notary.old) (N.state notary.new) }
     ensures cause { HasCause NotaryFault (N.state notary.old).faults (N.state notary.new).faults result }
-    ensures counted { ShowsFaults ask_in_doubt (N.state notary.old).faults (N.state notary.new).faults result }
+    ensures counted { IsCounted ask_in_doubt (N.state notary.old) (N.state notary.new) result }
 {
     let name = Name::Node { level, index };
-    match plan.digest(name) {
+    match plan.digest(level, index) {
         Some(digest) => match notary.ask(id, name, &digest)? {
             Answer::Same => Ok(false),
             Answer::Differs => Ok(true),

@@ -3,16 +3,15 @@
 ghost use Rattle.std.specs.Prelude.{◌≡◌, ◌≤◌, ◌<◌, ◌+◌, ◌*◌, ◌↔◌, false, All, length, IsErrOf, IfErr, IfOk, OnOk};
 ghost use Rattle.std.specs.List.Sorted.{IsStrictlyIncreasing};
 ghost use Rattle.outside_words.specs.Faults.{HasCause};
-ghost use Rattle.outside_words.specs.Shown.{ShowsFaults};
 ghost use Rattle.outside_words.specs.Told.{WhereTold};
 ghost use Rattle.notary_link.specs.declared.fail.AskFail.TheVariants.{NotaryFault, NotSealedSo};
 ghost use Rattle.notary_link.specs.Fails.{ask_in_doubt};
-ghost use Rattle.notary_link.specs.Notary.{Unchanged, GoesOn};
+ghost use Rattle.notary_link.specs.Notary.{Unchanged, GoesOn, IsCounted};
 ghost use Rattle.digest_model.specs.Layout.{layout, first_granule, max_granules};
 ghost use Rattle.digest_model.specs.Roots.{roots_of};
 ghost use Rattle.audit_model.specs.Laws.{HasTree};
 ghost use Rattle.audit_model.specs.Tree.{digit_count};
-ghost use Rattle.ask_words.specs.Asked.{IsTold};
+ghost use Rattle.audit_model.specs.Asked.{IsTold};
 ghost use Rattle.a3d_forensics.specs.Descent.{nodes_of, tiles_have_tree, tree_told, IsDescentFail, IsBelowFail};
 ghost use Rattle.a3d_forensics.specs.Rooted.{root_at_level, GoesOver, IsFoundAbove};
 
@@ -21,13 +20,13 @@ use crate::below::descend;
 use crate::found::A3dFound;
 use crate::granulars::Granulars;
 use notary_link::{AskFail, Notary};
-use seal_plan::Plan;
+use seal_plan::TreePlan;
 use std::alloc::Global;
 
 /// The altered granules among those of all tiles of the plan.
 pub fn altered<N: Notary>(
     alloc: Global,
-    plan: &Plan,
+    plan: &TreePlan,
     notary: &mut N,
     id: u64,
 ) -> Result<A3dFound, AskFail>
@@ -47,7 +46,7 @@ pub fn altered<N: Notary>(
     ensures asked { IfOk result (λ found. (N.state notary.new).asked ≤ (N.state notary.old).asked + found.checks) }
     ensures frame { GoesOn (N.state notary.old) (N.state notary.new) }
     ensures cause { HasCause NotaryFault (N.state notary.old).faults (N.state notary.new).faults result }
-    ensures counted { ShowsFaults ask_in_doubt (N.state notary.old).faults (N.state notary.new).faults result }
+    ensures counted { IsCounted ask_in_doubt (N.state notary.old) (N.state notary.new) result }
 {
     if !has_tree(plan) {
         return Err(AskFail::NotSealedSo);
@@ -64,7 +63,7 @@ pub fn altered<N: Notary>(
 }
 
 /// How many granules the tiles of a plan have.
-fn granules_of(plan: &Plan) -> u32
+fn granules_of(plan: &TreePlan) -> u32
     ensures value { result ≡ first_granule (layout plan.now.history) plan.now.tiles }
     ensures within { result ≤ max_granules }
 {
@@ -73,7 +72,7 @@ fn granules_of(plan: &Plan) -> u32
 
 /// Asks for the root of a level, where there is one, and finds the altered granules below it.
 fn descend_root<N: Notary>(
-    plan: &Plan,
+    plan: &TreePlan,
     notary: &mut N,
     id: u64,
     granules: u32,
@@ -93,7 +92,7 @@ fn descend_root<N: Notary>(
     ensures asked { OnOk result ((N.state notary.new).asked + found.old.checks ≤ (N.state notary.old).asked + found.new.checks) }
     ensures frame { GoesOn (N.state notary.old) (N.state notary.new) }
     ensures cause { HasCause NotaryFault (N.state notary.old).faults (N.state notary.new).faults result }
-    ensures counted { ShowsFaults ask_in_doubt (N.state notary.old).faults (N.state notary.new).faults result }
+    ensures counted { IsCounted ask_in_doubt (N.state notary.old) (N.state notary.new) result }
 {
     let nodes = granules >> level;
     if nodes % 2 == 0 {

@@ -20,7 +20,7 @@
 //! | a seal that is missing is one of a planned node, and so is a node that is inconsistent, whatever is told | `only` |
 //! | the granules ascend and are sealed | `ascending`, `within` |
 //! | where Ok is answered, at most as many questions are asked as `checks` says, which are few: the roots, and twice the binary digits of the number of granules for each granule found | `asked`, `few` |
-//! | nothing changes; a fault comes only where the notary counted one, and behind Ok and a refusal it counted none | `same`, `frame`, `cause`, `counted` |
+//! | nothing changes; a fault comes only where the notary counted one, and behind Ok and a refusal one that shows its faults counted none | `same`, `frame`, `cause`, `counted` |
 //!
 //! | A law | Says |
 //! |---|---|
@@ -35,6 +35,7 @@
 //! answered where there is some.
 //!
 //! ```text
+//! let plan = TreePlan::new(alloc, &header, &items, tiles, &mut steps)?;
 //! let found = altered(alloc, &plan, &mut notary, id)?;
 //! for granule in found.granules.as_slice() {
 //!     // this granule was altered

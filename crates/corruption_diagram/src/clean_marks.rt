@@ -2,12 +2,11 @@
 
 ghost use Rattle.std.specs.Prelude.{◌≡◌, ◌<◌, ◌≤◌, ◌++◌, ◌∷◌, [], All, List, take, drop, length, IfErr, IfOk, OnOk};
 ghost use Rattle.outside_words.specs.Faults.{HasCause};
-ghost use Rattle.outside_words.specs.Shown.{ShowsFaults};
 ghost use Rattle.outside_words.specs.Told.{WhereTold};
 ghost use Rattle.notary_link.specs.declared.fail.AskFail.TheVariants.{NotaryFault};
 ghost use Rattle.notary_link.specs.declared.mark.Mark.{Mark};
 ghost use Rattle.notary_link.specs.Fails.{ask_in_doubt};
-ghost use Rattle.notary_link.specs.Notary.{Unchanged, GoesOn};
+ghost use Rattle.notary_link.specs.Notary.{Unchanged, GoesOn, IsCounted};
 ghost use Rattle.audit_model.specs.Spans.{is_clean};
 ghost use Rattle.corruption_diagram.specs.Spans.{IsReadFail};
 ghost use Rattle.corruption_diagram.specs.CleanMarks.{last_over, StandFor, Narrow};
@@ -52,7 +51,7 @@ impl CleanMarks {
         ensures asked { (N.state notary.new).asked ≡ (N.state notary.old).asked }
         ensures frame { GoesOn (N.state notary.old) (N.state notary.new) }
         ensures cause { HasCause NotaryFault (N.state notary.old).faults (N.state notary.new).faults result }
-        ensures counted { ShowsFaults ask_in_doubt (N.state notary.old).faults (N.state notary.new).faults result }
+        ensures counted { IsCounted ask_in_doubt (N.state notary.old) (N.state notary.new) result }
     {
         let mut marks = Vec::new(alloc);
         for place in 0..u32::MAX {

@@ -3,12 +3,11 @@
 ghost use Rattle.std.specs.Prelude.{◌≡◌, ◌≤◌, ◌++◌, [], IfErr, IfOk, Ok, OnOk, length, codes};
 ghost use Rattle.std.specs.List.{flat_map};
 ghost use Rattle.outside_words.specs.Faults.{HasCause};
-ghost use Rattle.outside_words.specs.Shown.{ShowsFaults};
 ghost use Rattle.outside_words.specs.Told.{WhereTold};
 ghost use Rattle.notary_link.specs.declared.fail.AskFail.TheVariants.{NotaryFault};
 ghost use Rattle.notary_link.specs.Fails.{ask_in_doubt};
-ghost use Rattle.notary_link.specs.Notary.{Unchanged, GoesOn};
-ghost use Rattle.ask_words.specs.Asked.{IsTold};
+ghost use Rattle.notary_link.specs.Notary.{Unchanged, GoesOn, IsCounted};
+ghost use Rattle.audit_model.specs.Asked.{IsTold};
 ghost use Rattle.corruption_diagram.specs.Spans.{IsReadFail};
 ghost use Rattle.corruption_diagram.specs.Diagram.{diagram, row, batch_sign, mark_event, analysis_event, batch_events, placed, event_line, max_events, AreInOrder, AreAll};
 
@@ -39,7 +38,7 @@ pub fn grid<N: Notary>(
     ensures asked { (N.state notary.new).asked ≡ (N.state notary.old).asked }
     ensures frame { GoesOn (N.state notary.old) (N.state notary.new) }
     ensures cause { HasCause NotaryFault (N.state notary.old).faults (N.state notary.new).faults result }
-    ensures counted { ShowsFaults ask_in_doubt (N.state notary.old).faults (N.state notary.new).faults result }
+    ensures counted { IsCounted ask_in_doubt (N.state notary.old) (N.state notary.new) result }
 {
     if tiles > MAX_EVENTS {
         return Ok(None);
@@ -70,7 +69,7 @@ fn add_batches<N: Notary>(
     ensures asked { (N.state notary.new).asked ≡ (N.state notary.old).asked }
     ensures frame { GoesOn (N.state notary.old) (N.state notary.new) }
     ensures cause { HasCause NotaryFault (N.state notary.old).faults (N.state notary.new).faults result }
-    ensures counted { ShowsFaults ask_in_doubt (N.state notary.old).faults (N.state notary.new).faults result }
+    ensures counted { IsCounted ask_in_doubt (N.state notary.old) (N.state notary.new) result }
 {
     for tile in 0..tiles {
         let moment = notary.moment_of(id, tile + 1)?.unwrap_or(0);
@@ -96,7 +95,7 @@ fn add_marks<N: Notary>(
     ensures asked { (N.state notary.new).asked ≡ (N.state notary.old).asked }
     ensures frame { GoesOn (N.state notary.old) (N.state notary.new) }
     ensures cause { HasCause NotaryFault (N.state notary.old).faults (N.state notary.new).faults result }
-    ensures counted { ShowsFaults ask_in_doubt (N.state notary.old).faults (N.state notary.new).faults result }
+    ensures counted { IsCounted ask_in_doubt (N.state notary.old) (N.state notary.new) result }
 {
     for place in 0..MAX_EVENTS + 1 - tiles {
         match notary.mark_at(id, place)? {

@@ -14,7 +14,7 @@
 //! | the spans are those of the filed moments and the marks, each by its definition | `when`, `first_when`: `value` |
 //! | over many tiles the clean marks that count are kept, and a tile's last one is found among them | `CleanMarks::read`, `last_over`, `when_by`: `value` |
 //! | the diagram, or none where there are more than 64 events | `grid`: `value` |
-//! | no digest is asked for, and nothing changes; a fault comes only where the notary counted one, and behind Ok it counted none | `asked`, `same`, `frame`, `cause`, `counted` |
+//! | no digest is asked for, and nothing changes; a fault comes only where the notary counted one, and behind Ok one that shows its faults counted none | `asked`, `same`, `frame`, `cause`, `counted` |
 //!
 //! The spans hold for events whose moments don't fall. Where a notary tells nothing no clause says what
 //! a span is: a batch that it has no moment for counts as 0, and its marks end at the first place that it

@@ -2,12 +2,11 @@
 
 ghost use Rattle.std.specs.Prelude.{◌≡◌, ◌+◌, ◌<◌, ◌^◌, max, unwrap_or, IfErr, IfOk, Ok};
 ghost use Rattle.outside_words.specs.Faults.{HasCause};
-ghost use Rattle.outside_words.specs.Shown.{ShowsFaults};
 ghost use Rattle.outside_words.specs.Told.{WhereTold};
 ghost use Rattle.notary_link.specs.declared.fail.AskFail.TheVariants.{NotaryFault};
 ghost use Rattle.notary_link.specs.Fails.{ask_in_doubt};
-ghost use Rattle.notary_link.specs.Notary.{Unchanged, GoesOn};
-ghost use Rattle.ask_words.specs.Asked.{IsTold};
+ghost use Rattle.notary_link.specs.Notary.{Unchanged, GoesOn, IsCounted};
+ghost use Rattle.audit_model.specs.Asked.{IsTold};
 ghost use Rattle.corruption_diagram.specs.Spans.{when_changed, when_first_changed, IsReadFail};
 ghost use Rattle.corruption_diagram.specs.CleanMarks.{StandFor};
 
@@ -34,7 +33,7 @@ pub fn when<N: Notary>(
     ensures asked { (N.state notary.new).asked ≡ (N.state notary.old).asked }
     ensures frame { GoesOn (N.state notary.old) (N.state notary.new) }
     ensures cause { HasCause NotaryFault (N.state notary.old).faults (N.state notary.new).faults result }
-    ensures counted { ShowsFaults ask_in_doubt (N.state notary.old).faults (N.state notary.new).faults result }
+    ensures counted { IsCounted ask_in_doubt (N.state notary.old) (N.state notary.new) result }
 {
     let clean = CleanMarks::read(alloc, notary, id)?;
     when_by(&clean, notary, id, tile, now)
@@ -57,7 +56,7 @@ pub fn when_by<N: Notary>(
     ensures asked { (N.state notary.new).asked ≡ (N.state notary.old).asked }
     ensures frame { GoesOn (N.state notary.old) (N.state notary.new) }
     ensures cause { HasCause NotaryFault (N.state notary.old).faults (N.state notary.new).faults result }
-    ensures counted { ShowsFaults ask_in_doubt (N.state notary.old).faults (N.state notary.new).faults result }
+    ensures counted { IsCounted ask_in_doubt (N.state notary.old) (N.state notary.new) result }
 {
     let sealed = notary.moment_of(id, tile + 1)?.unwrap_or(0);
     let cleared = clean.last_over(tile).unwrap_or(0);
@@ -77,7 +76,7 @@ pub fn first_when<N: Notary>(notary: &mut N, id: u64, tile: u32, now: u64) -> Re
     ensures asked { (N.state notary.new).asked ≡ (N.state notary.old).asked }
     ensures frame { GoesOn (N.state notary.old) (N.state notary.new) }
     ensures cause { HasCause NotaryFault (N.state notary.old).faults (N.state notary.new).faults result }
-    ensures counted { ShowsFaults ask_in_doubt (N.state notary.old).faults (N.state notary.new).faults result }
+    ensures counted { IsCounted ask_in_doubt (N.state notary.old) (N.state notary.new) result }
 {
     let sealed = notary.moment_of(id, tile + 1)?.unwrap_or(0);
     let mut shown = Shown {

@@ -2,17 +2,12 @@
 use Rattle.std.specs.Prelude.{ℕ, zero, suc, ◌-◌, ◌<◌, ◌≤◌, nat_lt, List, [], length, take, map, filter, slice_index, slice_index_or}
 use Rattle.std.specs.List.{flat_map}
 use Rattle.tuple_bytes.specs.declared.header.Header.{Header}
-use Rattle.history_model.specs.History.{history}
-use Rattle.digest_model.specs.Layout.{Layout, layout, end_granule}
+use Rattle.digest_model.specs.Layout.{Layout, end_granule}
 use Rattle.digest_model.specs.Digests.{link_of_spelled}
 
 -- a granule's number, and the spellings of its transactions in file order
 abbrev pub Granule : Type 0
 Granule = ℕ × List (List ℕ)
-
--- where the tiles of a store with this header lie
-abbrev pub layout_of : Header → Layout
-layout_of header = layout (history header [])
 
 abbrev pub numbers_of : List Granule → List ℕ
 numbers_of granules = map (λ g. g.0) granules

@@ -11,14 +11,16 @@ use Rattle.std.proofs.Math.Pow.{pow_mono}
 use Rattle.notary_link.specs.declared.name.Name.{Name}
 use Rattle.notary_link.specs.declared.name.Name.TheVariants as names
 use Rattle.history_model.specs.History.{History}
-use Rattle.digest_model.specs.Layout.{layout, first_granule, has_tile_chains, has_tree, whole}
-use Rattle.digest_model.specs.Digests.{cum, tile_digest, node_digest}
+use Rattle.digest_model.specs.Layout.{Layout, layout, exponent, first_granule, has_tile_chains, has_tree, whole}
+use Rattle.digest_model.specs.Digests.{header_digest, cum, tile_digest, node_digest}
 use Rattle.audit_model.specs.Names.{planned, digest, batch_names}
 use Rattle.audit_model.proofs.Planned.{cum_planned, part_planned}
 use Rattle.audit_model.proofs.TreeAudit.{node_planned}
 use Rattle.digest_model.proofs.Layouts.{one_exponent, one_chains, one_tree}
 use Rattle.digest_model.proofs.Members.{here, Contains-flat_map}
 use Rattle.digest_model.proofs.Lists.{in_range}
+use Rattle.policy_eras.specs.Policy.{Policy, policy_of, layout_by}
+use Rattle.policy_eras.proofs.Histories.{layout_is}
 use Rattle.seal_plan.specs.Plan.{Planned}
 use Rattle.seal_plan.specs.Places.{parts_of, part_at, part_digest_at, planned_parts, planned_levels, level_of, levels_of}
 use Rattle.seal_plan.specs.Found.{part_found, node_found}
@@ -28,8 +30,8 @@ use Rattle.seal_plan.proofs.Naming.{named}
 abbrev pub IsFound : History → ℕ → Name → Option (List ℕ) → Type 0
 IsFound h tiles name r = IfSome r (λ d. d ≡ digest h name) × (IsSome r ↔ Contains (planned (layout h) tiles) name)
 
-pub moved : (p q : Planned) (a b : Name) (r : Option (List ℕ)) → p ≡ q → b ≡ a → IsFound p.history p.tiles a r → IsFound q.history q.tiles b r
-moved p q a b r same name f = subst (λ (x : Planned). IsFound x.history x.tiles b r) same (subst (λ (x : Name). IsFound p.history p.tiles x r) (sym name) f)
+pub renamed : (p : Planned) (a b : Name) (r : Option (List ℕ)) → b ≡ a → IsFound p.history p.tiles a r → IsFound p.history p.tiles b r
+renamed p a b r same = subst (λ (x : Name). IsFound p.history p.tiles x r) (sym same)
 
 -- a value, and exactly where a fact holds
 abbrev Exactly : Option (List ℕ) → List ℕ → Type 0 → Type 0
@@ -199,3 +201,40 @@ node_is_found h tiles level index within = by (has_tree (layout h) 0) refl
     by : (b : Bool) → has_tree (layout h) 0 ≡ b → IsFound h tiles (names.Node level index) (node_found (cond b (levels_of h (first_granule (layout h) tiles)) []) level index)
     by true has = in_levels h tiles level index within has
     by false has = no_node h tiles level index (λ n. false≢true (sym has ∙ n.0))
+
+-- ---- eras: none is planned
+
+pub no_era : (h : History) (tiles era : ℕ) → IsFound h tiles (names.Era era) None
+no_era h tiles era = none_if (digest h (names.Era era)) (Contains (planned (layout h) tiles) (names.Era era)) (named (layout h) tiles (names.Era era))
+
+pub no_era_node : (h : History) (tiles era level index : ℕ) → IsFound h tiles (names.EraNode era level index) None
+no_era_node h tiles era level index =
+    none_if (digest h (names.EraNode era level index)) (Contains (planned (layout h) tiles) (names.EraNode era level index)) (named (layout h) tiles (names.EraNode era level index))
+
+-- ---- what a plan keeps
+
+-- the exponent that was asked for
+pub exponent_is : (p : Planned) (eras : Policy) (k tile : ℕ) → eras ≡ policy_of p.history → k ≡ exponent (layout_by eras) tile → k ≡ p.history.header.k
+exponent_is p eras k tile policy is = is ∙ ap (λ (l : Layout). exponent l tile) (layout_is p.history policy) ∙ one_exponent p.history tile
+
+pub header_kept : (p : Planned) (first : List ℕ) → first ≡ header_digest p.history.header → IsFound p.history p.tiles names.Header (Some first)
+unfolding digest
+header_kept p first kept = subst (λ (d : List ℕ). IsFound p.history p.tiles names.Header (Some d)) (sym kept) (header_found p.history p.tiles)
+
+pub cum_kept : (p : Planned) (links : List (List ℕ)) (tile : ℕ) (r : Option (List ℕ))
+    → links ≡ map (cum p.history) (range_with_len 0 p.tiles) → r ≡ slice_get links tile → IsFound p.history p.tiles (names.Cum tile) r
+cum_kept p links tile r kept is =
+    subst (λ (x : Option (List ℕ)). IsFound p.history p.tiles (names.Cum tile) x) (sym (is ∙ ap (λ (x : List (List ℕ)). slice_get x tile) kept)) (cum_found p.history p.tiles tile)
+
+pub part_kept : (p : Planned) (parts : List (List ℕ)) (k tile part : ℕ) (r : Option (List ℕ))
+    → parts ≡ planned_parts p.history p.tiles → k ≡ p.history.header.k → k ≤ 10 → r ≡ part_found parts k tile part → IsFound p.history p.tiles (names.Tile tile part) r
+part_kept p parts k tile part r kept same small is =
+    subst (λ (x : Option (List ℕ)). IsFound p.history p.tiles (names.Tile tile part) x)
+    (sym (is ∙ ap (λ (x : List (List ℕ)). part_found x k tile part) kept ∙ ap (λ (n : ℕ). part_found (planned_parts p.history p.tiles) n tile part) same))
+    (part_is_found p.history p.tiles tile part (omega (arith, same, small)))
+
+pub node_kept : (p : Planned) (levels : List (List (List ℕ))) (level index : ℕ) (r : Option (List ℕ))
+    → levels ≡ planned_levels p.history p.tiles → first_granule (layout p.history) p.tiles ≤ 1048576 → r ≡ node_found levels level index → IsFound p.history p.tiles (names.Node level index) r
+node_kept p levels level index r kept within is =
+    subst (λ (x : Option (List ℕ)). IsFound p.history p.tiles (names.Node level index) x) (sym (is ∙ ap (λ (x : List (List (List ℕ))). node_found x level index) kept))
+    (node_is_found p.history p.tiles level index within)

@@ -8,5 +8,3 @@ pub mod Levels
 pub mod Parts
 pub mod Chosen
 pub mod Sealing
-pub mod Moments
-pub mod Spellings

@@ -3,4 +3,3 @@ pub mod Places
 pub mod Found
 pub mod Plan
 pub mod Nodes
-pub mod Spelled

@@ -16,12 +16,15 @@ pub record Planned : Type 0 where
 abbrev pub planned_of : History → ℕ → Planned
 planned_of h tiles = record { history = h; tiles = tiles }
 
+-- the tiles lie within a store, and these are its eras
+pub record IsScope (p : Planned) (eras : Policy) : Type 0 where
+  pub fits : FitsHeader p.history.header
+  pub within : first_granule (layout p.history) p.tiles ≤ max_granules
+  pub policy : eras ≡ policy_of p.history
+
 -- the digests of the header, of the chain, of the parts and of the nodes
-pub record Keeps (h : History) (tiles : ℕ) (eras : Policy) (first : List ℕ) (links parts : List (List ℕ)) (levels : List (List (List ℕ))) : Type 0 where
-  pub fits : FitsHeader h.header
-  pub within : first_granule (layout h) tiles ≤ max_granules
-  pub policy : eras ≡ policy_of h
-  pub header : first ≡ header_digest h.header
-  pub cums : links ≡ map (cum h) (range_with_len 0 tiles)
-  pub chains : parts ≡ planned_parts h tiles
-  pub nodes : levels ≡ planned_levels h tiles
+pub record Keeps (p : Planned) (first : List ℕ) (links parts : List (List ℕ)) (levels : List (List (List ℕ))) : Type 0 where
+  pub header : first ≡ header_digest p.history.header
+  pub cums : links ≡ map (cum p.history) (range_with_len 0 p.tiles)
+  pub chains : parts ≡ planned_parts p.history p.tiles
+  pub nodes : levels ≡ planned_levels p.history p.tiles

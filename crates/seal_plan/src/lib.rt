@@ -5,6 +5,13 @@
 //! chains each tile's whole and bit chains, and where it has the tree each node. The moments of the
 //! items may fall: a granule has its transactions in file order, and the granules go one after another.
 //!
+//! | Asked for | Made | Hashed |
+//! |---|---|---|
+//! | all digests | `Plan` | each transaction for its link, and where a chain takes it once more for its granule |
+//! | tiles and their bit chains | `TilePlan` | each transaction for its granule |
+//! | nodes | `TreePlan` | each transaction for its granule |
+//! | the chain | `links_of` | each transaction for its link |
+//!
 //! | Batch | Seals, in order |
 //! |---|---|
 //! | 0 | the header |
@@ -15,11 +22,10 @@
 //! | Sentence | Clause |
 //! |---|---|
 //! | in contracts a plan is a history and a number of tiles, those that it was made of | `new`: `value` |
-//! | it answers exactly the digest of a planned name, and none for another | `digest`: `value`, `planned` |
+//! | it answers exactly the digest of a planned name, and none for another; one of tiles or nodes alone does so for these | `digest`: `value`, `planned` |
 //! | the batches are the planned seals in their order, and each may be filed | `batch`: `value`, `fileable` |
-//! | each transaction is hashed at most twice, once for its link and once for its granule | `new`: `steps` |
-//! | the chain alone is had for one hash a transaction | `links_of`: `value`, `steps` |
-//! | items that are kept as their spellings are, in contracts, the items that these spell | `Spelled`: `ok` of `push`, `value` of `of` |
+//! | each transaction is hashed at most twice for all digests, once for its link and once for its granule | `new` of `Plan`: `steps` |
+//! | tiles, nodes or the chain alone are had for one hash a transaction | `new` of `TilePlan` and `TreePlan`, `links_of`: `value`, `steps` |
 //! | `digest` and the readers take no memory | they answer no want of it |
 //!
 //! Each digest is computed once; an empty granule costs one hash, since its number is hashed. Only
@@ -38,9 +44,12 @@ mod grouping;
 mod links;
 mod lookup;
 mod plan;
-mod spelled;
+mod scope;
+mod tile_plan;
+mod tree_plan;
 mod trees;
 
 pub use links::links_of;
 pub use plan::Plan;
-pub use spelled::Spelled;
+pub use tile_plan::TilePlan;
+pub use tree_plan::TreePlan;

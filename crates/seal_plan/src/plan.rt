@@ -1,41 +1,38 @@
 //! The plan: made once, then only read.
 
-ghost use Rattle.std.specs.Prelude.{◌≡◌, ◌≤◌, ◌+◌, ◌*◌, ◌↔◌, ◌≢◌, ℕ, IfOk, IfSome, IsSome, length, map};
+ghost use Rattle.std.specs.Prelude.{◌≡◌, ◌≤◌, ◌+◌, ◌*◌, ◌↔◌, ◌≢◌, IfOk, IfSome, IsSome, length, map};
 ghost use Rattle.std.specs.List.{Contains, range_with_len};
-ghost use Rattle.history_model.specs.History.{History, history, txns};
+ghost use Rattle.history_model.specs.History.{history, txns};
 ghost use Rattle.history_model.specs.StoredHistory.{IsHistory};
 ghost use Rattle.digest_model.specs.Layout.{layout, first_granule, max_granules};
 ghost use Rattle.digest_model.specs.Digests.{cum};
 ghost use Rattle.audit_model.specs.Names.{planned, digest};
 ghost use Rattle.tuple_bytes.specs.Spelling.{FitsHeader};
-ghost use Rattle.policy_eras.specs.Policy.{policy_of, layout_by};
+ghost use Rattle.policy_eras.specs.Policy.{policy_of};
 ghost use Rattle.seal_plan.specs.Plan.{planned_of};
-ghost use Rattle.seal_plan.specs.Places.{leaves_of, planned_parts, planned_levels};
+ghost use Rattle.seal_plan.specs.Places.{leaves_of};
 
 mod batch;
 
-use crate::chains::{leaves, part_digests};
+use crate::chains::{leaves, planned_parts};
 use crate::digests::Digests;
 use crate::grouping::group_tiles;
 use crate::lookup::{digest_at, node_in, part_in};
-use crate::spelled::Spelled;
-use crate::trees::levels_over;
+use crate::scope::Scope;
+use crate::trees::planned_levels;
 use cumulative_chain::{header_digest, links_at_tiles};
+use history_model::Spelled;
 use notary_link::Name;
 use policy_eras::Eras;
 use std::alloc::{AllocError, Global};
 use std::marker::Model;
-use std::snapshot::Snapshot;
 use step_count::{Ledger, Steps};
 use tuple_bytes::Header;
 
 /// The digests of all planned names.
 #[derive(Drop)]
 pub struct Plan {
-    header: Header,
-    eras: Eras,
-    tiles: u32,
-    items: Snapshot<Spelled>,
+    scope: Scope,
     header_digest: [u8; 32],
     links: Vec<[u8; 32]>,
     parts: Digests,
@@ -43,14 +40,13 @@ pub struct Plan {
 }
 
 impl Model for Plan {
-    ghost use Rattle.history_model.specs.History.{history};
-    ghost use Rattle.seal_plan.specs.Plan.{Planned, planned_of, Keeps};
+    ghost use Rattle.seal_plan.specs.Plan.{Planned, Keeps};
 
     ghost Value = { Planned };
 
-    ghost view = { λ p. planned_of (history p.header p.items.value) p.tiles };
+    ghost view = { λ p. p.scope };
 
-    ghost invariant = { λ p. Keeps (history p.header p.items.value) p.tiles p.eras p.header_digest p.links.items p.parts p.levels.items };
+    ghost invariant = { λ p. Keeps p.scope p.header_digest p.links.items p.parts p.levels.items };
 }
 
 /// The chain's values and the granules' digests, over the spelling of each transaction.
@@ -76,36 +72,6 @@ fn hash_txns<L: Ledger>(
     Ok((links, digests))
 }
 
-/// The parts of all tiles, where they have tile chains.
-fn planned_parts(
-    alloc: Global,
-    eras: &Eras,
-    tiles: u32,
-    granules: &Digests,
-) -> Result<Digests, AllocError>
-    requires within { first_granule (layout_by eras.now) tiles ≤ max_granules }
-    requires granules { eras.now.algs ≢ 0 → length granules.now ≡ first_granule (layout_by eras.now) tiles }
-    ensures value { (h : History) → eras.now ≡ policy_of h → (eras.now.algs ≢ 0 → granules.now ≡ leaves_of h (first_granule (layout h) tiles)) → IfOk result (λ digests. digests ≡ planned_parts h tiles) }
-{
-    if eras.has_tile_chains(0) {
-        part_digests(alloc, eras.exponent(0), tiles, granules.as_slice())
-    } else {
-        Ok(Digests::new(alloc))
-    }
-}
-
-/// The nodes of all levels, where the tiles have the tree.
-fn planned_levels(alloc: Global, eras: &Eras, granules: Digests) -> Result<Vec<Digests>, AllocError>
-    requires short { length granules ≤ max_granules }
-    ensures value { (h : History) (tiles : ℕ) → eras.now ≡ policy_of h → (eras.now.algs ≢ 0 → granules ≡ leaves_of h (first_granule (layout h) tiles)) → IfOk result (λ levels. levels.items ≡ planned_levels h tiles) }
-{
-    if eras.has_tree(0) {
-        levels_over(alloc, granules)
-    } else {
-        Ok(Vec::new(alloc))
-    }
-}
-
 impl Plan {
     /// All digests of the first tiles, which lie below granule 1,048,576.
     pub fn new<L: Ledger>(
@@ -120,15 +86,12 @@ impl Plan {
         ensures value { IfOk result (λ plan. plan ≡ planned_of (history header.now items.now) tiles) }
         ensures steps { steps.new ≤ steps.old + 2 * length (txns items.now) }
     {
-        let eras = items.eras(alloc, header);
+        let eras = Eras::of(header, items);
         let (links, digests) = hash_txns(alloc, header, &eras, items, tiles, steps)?;
         let parts = planned_parts(alloc, &eras, tiles, &digests)?;
         let levels = planned_levels(alloc, &eras, digests)?;
         Ok(Plan {
-            header: *header,
-            eras,
-            tiles,
-            items: Snapshot::of(items),
+            scope: Scope::new(header, eras, items, tiles),
             header_digest: header_digest(header),
             links,
             parts,
@@ -141,14 +104,14 @@ impl Plan {
         ensures value { result.now ≡ self.now.history.header }
         ensures fits { FitsHeader result.now }
     {
-        &self.header
+        self.scope.header()
     }
 
     /// Where the tiles lie.
     pub fn eras(&self) -> &Eras
         ensures value { result.now ≡ policy_of self.now.history }
     {
-        &self.eras
+        self.scope.eras()
     }
 
     /// How many tiles are planned.
@@ -156,7 +119,7 @@ impl Plan {
         ensures value { result ≡ self.now.tiles }
         ensures within { first_granule (layout self.now.history) self.now.tiles ≤ max_granules }
     {
-        self.tiles
+        self.scope.tiles()
     }
 
     /// The value of the chain at the end of each tile.
@@ -176,11 +139,15 @@ impl Plan {
             Name::Cum { tile } => digest_at(&self.links, tile as usize),
             Name::Tile { tile, part } => part_in(
                 self.parts.as_slice(),
-                self.eras.exponent(tile),
+                self.eras().exponent(tile),
                 tile,
                 part,
             ),
-            Name::Node { level, index } => node_in(&self.levels, level, index),
+            Name::Node { level, index } => {
+                let _tiles = self.tiles();
+                node_in(&self.levels, level, index)
+            }
+            Name::Era { .. } | Name::EraNode { .. } => None,
         }
     }
 }

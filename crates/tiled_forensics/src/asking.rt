@@ -2,25 +2,24 @@
 
 ghost use Rattle.std.specs.Prelude.{◌≡◌, ◌≤◌, ◌<◌, ◌+◌, ◌^◌, ◌↔◌, true, false, IsErrOf, IfErr, IfOk, IfSome};
 ghost use Rattle.outside_words.specs.Faults.{HasCause};
-ghost use Rattle.outside_words.specs.Shown.{ShowsFaults};
 ghost use Rattle.outside_words.specs.Told.{WhereTold};
 ghost use Rattle.notary_link.specs.declared.fail.AskFail.TheVariants.{NotaryFault, NotSealedSo};
 ghost use Rattle.notary_link.specs.Fails.{ask_in_doubt};
-ghost use Rattle.notary_link.specs.Notary.{Unchanged, GoesOn};
+ghost use Rattle.notary_link.specs.Notary.{Unchanged, GoesOn, IsCounted};
 ghost use Rattle.digest_model.specs.Layout.{layout, exponent, has_tile_chains};
-ghost use Rattle.ask_words.specs.Asked.{IsTold};
+ghost use Rattle.audit_model.specs.Asked.{IsTold};
 ghost use Rattle.tiled_forensics.specs.Asking.{part_told, IsPartFail};
 ghost use Rattle.tiled_forensics.specs.Target.{parts, tile_told, target_questions, IsPart, IsTargetFail};
 
 use notary_link::{Answer, AskFail, Name, Notary};
-use seal_plan::Plan;
+use seal_plan::TilePlan;
 use tile_chains::WHOLE;
 
 /// The target of a tile that differs as a whole; none of one that is the same.
 ///
 /// The whole is asked first, and only where it differs the bit chains, from 0 up.
 pub fn target<N: Notary>(
-    plan: &Plan,
+    plan: &TilePlan,
     notary: &mut N,
     id: u64,
     tile: u32,
@@ -37,7 +36,7 @@ pub fn target<N: Notary>(
         ≤ (N.state notary.old).asked + target_questions (exponent (layout plan.now.history) tile) told) }
     ensures frame { GoesOn (N.state notary.old) (N.state notary.new) }
     ensures cause { HasCause NotaryFault (N.state notary.old).faults (N.state notary.new).faults result }
-    ensures counted { ShowsFaults ask_in_doubt (N.state notary.old).faults (N.state notary.new).faults result }
+    ensures counted { IsCounted ask_in_doubt (N.state notary.old) (N.state notary.new) result }
 {
     if !has_tile_chains(plan, tile) {
         return Err(AskFail::NotSealedSo);
@@ -54,14 +53,14 @@ pub fn target<N: Notary>(
 }
 
 /// Whether a tile has the chains of its parts.
-fn has_tile_chains(plan: &Plan, tile: u32) -> bool
+fn has_tile_chains(plan: &TilePlan, tile: u32) -> bool
     ensures { result ≡ has_tile_chains (layout plan.now.history) tile }
 {
     plan.eras().has_tile_chains(tile)
 }
 
 /// How many bit chains a tile has, where it has any.
-fn chain_count(plan: &Plan, tile: u32) -> u8
+fn chain_count(plan: &TilePlan, tile: u32) -> u8
     ensures value { result ≡ exponent (layout plan.now.history) tile }
     ensures few { result ≤ 10 }
 {
@@ -70,7 +69,7 @@ fn chain_count(plan: &Plan, tile: u32) -> u8
 
 /// Whether a part of a tile is what was filed.
 fn part_is_same<N: Notary>(
-    plan: &Plan,
+    plan: &TilePlan,
     notary: &mut N,
     id: u64,
     tile: u32,
@@ -86,10 +85,10 @@ fn part_is_same<N: Notary>(
     ensures asked { (N.state notary.new).asked ≤ (N.state notary.old).asked + 1 }
     ensures frame { GoesOn (N.state notary.old) (N.state notary.new) }
     ensures cause { HasCause NotaryFault (N.state notary.old).faults (N.state notary.new).faults result }
-    ensures counted { ShowsFaults ask_in_doubt (N.state notary.old).faults (N.state notary.new).faults result }
+    ensures counted { IsCounted ask_in_doubt (N.state notary.old) (N.state notary.new) result }
 {
     let name = Name::Tile { tile, part };
-    match plan.digest(name) {
+    match plan.digest(tile, part) {
         Some(digest) => match notary.ask(id, name, &digest)? {
             Answer::Same => Ok(true),
             Answer::Differs => Ok(false),

@@ -15,7 +15,7 @@
 //! | no target exactly where the whole tile is the same, else the number that the answers make; the first missing seal is told | `target`: `value`; the law `targets_are_answers` |
 //! | `NotSealedSo` exactly where the tile has no chains, and then nothing is asked | `target`: `sealed_so`, `unasked` |
 //! | where Ok is answered, at most one question for a tile that is the same, and at most k + 1 for one that differs | `target`: `asked` |
-//! | nothing changes; a fault comes only where the notary counted one, and behind Ok and a refusal it counted none | `target`: `same`, `frame`, `cause`, `counted` |
+//! | nothing changes; a fault comes only where the notary counted one, and behind Ok and a refusal one that shows its faults counted none | `target`: `same`, `frame`, `cause`, `counted` |
 //! | exactly the granules of sets that explain the answers, ascending | `candidates`: `value`, with `candidates_are_exact` of `audit_model` |
 //! | exactly those of such sets with kappa members, none for kappa 0 | `exactly`: `value`, with `candidates_among_are_exact` there |
 //! | a target has as many bits as the tile, and a seal that is missing is one of this tile's, whatever is told | `target`: `within`, `only` |
@@ -24,6 +24,7 @@
 //! `forensic_examples`: that want of memory isn't answered where there is some.
 //!
 //! ```text
+//! let plan = TilePlan::new(alloc, &header, &items, tiles, &mut steps)?;
 //! if let Some(target) = target(&plan, &mut notary, id, tile)? {
 //!     for number in candidates(target, k) {
 //!         // the granule of this number within the tile may have been altered

@@ -140,7 +140,8 @@ impl Plan {
         ensures value { IfOk result (λ seals. seals ≡ batch self.now.history index) }
         ensures fileable { IfOk result IsBatch }
     {
-        let _ = &self.header;
+        let _header = self.header();
+        let _tiles = self.tiles();
         if index == 0 {
             self.header_batch(alloc)
         } else {

@@ -10,7 +10,7 @@ use Rattle.a3d_forensics.specs.declared.found.A3dFound.{A3dFound}
 use Rattle.a3d_forensics.specs.Asking.{ComparesChildren}
 use Rattle.a3d_forensics.specs.Descent.{nodes_of}
 use Rattle.a3d_forensics.specs.Going.{GoesFrom}
-use Rattle.ask_words.proofs.Reading.{Reads, reads_then}
+use Rattle.notary_link.proofs.Reading.{Reads, reads_then}
 use Rattle.notary_link.proofs.Unchanged.{unchanged_then}
 use Rattle.a3d_forensics.proofs.Going.{nothing_from, leaf_from, children_stop, left_stops, right_goes}
 use Rattle.a3d_forensics.proofs.Finding.{room_left, room_right, finds_nothing, finds_both}

@@ -6,11 +6,11 @@ use Rattle.notary_link.specs.Batches.{Batch}
 use Rattle.notary_link.specs.Notary.{Lists}
 use Rattle.notary_link.specs.declared.fail.AskFail.TheVariants.{NotSealedSo}
 use Rattle.notary_link.proofs.Unchanged.{unchanged_same}
-use Rattle.ask_words.specs.Asked.{IsTold}
+use Rattle.audit_model.specs.Asked.{IsTold}
 use Rattle.a3d_forensics.specs.declared.found.A3dFound.{A3dFound}
 use Rattle.a3d_forensics.specs.Descent.{nodes_of, tree_told}
 use Rattle.a3d_forensics.specs.Rooted.{root_at_level, GoesOver}
-use Rattle.ask_words.proofs.Reading.{reads_then}
+use Rattle.notary_link.proofs.Reading.{reads_then}
 use Rattle.a3d_forensics.proofs.Rooted.{GoesDown, begins, goes_down, stops_all, ends, of_tree}
 use Rattle.a3d_forensics.proofs.Above.{above_all}
 use Rattle.a3d_forensics.proofs.Trees.{each_has_tree}
@@ -44,7 +44,7 @@ loop-level-init g c =
       same = unchanged_same _;
       few = omega arith;
       frame = goes_on_same _;
-      counted = refl;
+      counted = λ shows. refl;
     }
 
 pub descend_root-requires-clause-tree : goal.descend_root-requires-clause-tree
@@ -75,7 +75,7 @@ loop-level-preserved g c =
       same = both.same;
       few = omega (arith, on.few, root.asked);
       frame = both.frame;
-      counted = root.counted ∙ on.counted;
+      counted = λ shows. root.counted (on.frame.shows ∙ shows) ∙ on.counted shows;
     }
 
 pub returns-in_err-descend_root-clause-value : goal.returns-in_err-descend_root-clause-value
@@ -111,4 +111,4 @@ returns-clause-value g c =
 pub returns-in_err-descend_root-clause-counted : goal.returns-in_err-descend_root-clause-counted
 returns-in_err-descend_root-clause-counted g c =
     let p = err_from_is_err_and c.from_residual.result c.from_residual.ensures.1 in
-    rw (p.1, p.2) (λ none. c.in_err-descend_root.ensures.counted none ∙ c.loop-level.invariant.counted)
+    rw (p.1, p.2) (λ shows none. c.in_err-descend_root.ensures.counted (c.loop-level.invariant.frame.shows ∙ shows) none ∙ c.loop-level.invariant.counted shows)

@@ -9,7 +9,7 @@ use Rattle.a3d_forensics.specs.Asking.{Compares}
 use Rattle.a3d_forensics.specs.Descent.{nodes_of}
 use Rattle.a3d_forensics.specs.Going.{GoesFrom}
 use Rattle.a3d_forensics.specs.Rooted.{root_at_level, GoesOver}
-use Rattle.ask_words.proofs.Reading.{reads_then}
+use Rattle.notary_link.proofs.Reading.{reads_then}
 use Rattle.notary_link.proofs.Unchanged.{unchanged_then}
 use Rattle.a3d_forensics.proofs.Rooted.{over_none, root_stops, root_goes}
 use Rattle.a3d_forensics.proofs.Above.{no_root, one_root, root_place, above_none, above_root}

@@ -16,7 +16,7 @@ loop-tile-init g c =
       same = unchanged_same s;
       asked = refl;
       frame = goes_on_same s;
-      counted = refl;
+      counted = λ shows. refl;
     }
 
 pub loop-tile-preserved : goal.loop-tile-preserved
@@ -32,7 +32,7 @@ loop-tile-preserved g c =
       same = unchanged_then _ _ _ on.frame got.frame on.same got.same;
       asked = got.asked ∙ on.asked;
       frame = goes_on_then _ _ _ on.frame got.frame;
-      counted = got.counted ∙ on.counted;
+      counted = λ shows. got.counted (on.frame.shows ∙ shows) ∙ on.counted shows;
     }
 
 pub returns-in_err-moment_of-clause-same : goal.returns-in_err-moment_of-clause-same

@@ -19,7 +19,7 @@ loop-place-preserved g c =
       same = unchanged_then _ _ _ on.frame got.frame on.same got.same;
       asked = got.asked ∙ on.asked;
       frame = goes_on_then _ _ _ on.frame got.frame;
-      counted = got.counted ∙ on.counted;
+      counted = λ shows. got.counted (on.frame.shows ∙ shows) ∙ on.counted shows;
     }
 
 answered : Span → Result Span AskFail
@@ -46,4 +46,4 @@ pub returns-in-None-clause-frame : goal.returns-in-None-clause-frame
 returns-in-None-clause-frame g c = goes_on_then _ _ _ c.loop-place.invariant.frame c.in_ok-mark.ensures.frame
 
 pub returns-in-None-clause-counted : goal.returns-in-None-clause-counted
-returns-in-None-clause-counted g c = c.in_ok-mark.ensures.counted ∙ c.loop-place.invariant.counted
+returns-in-None-clause-counted g c = λ shows. c.in_ok-mark.ensures.counted (c.loop-place.invariant.frame.shows ∙ shows) ∙ c.loop-place.invariant.counted shows

@@ -8,10 +8,10 @@ use Rattle.notary_link.specs.Batches.{Batch}
 use Rattle.notary_link.specs.Notary.{Lists}
 use Rattle.notary_link.specs.declared.fail.AskFail.TheVariants.{NotSealedSo}
 use Rattle.digest_model.specs.Layout.{layout, exponent, whole}
-use Rattle.ask_words.specs.Asked.{IsTold}
+use Rattle.audit_model.specs.Asked.{IsTold}
 use Rattle.tiled_forensics.specs.Asking.{part_told}
 use Rattle.tiled_forensics.specs.Target.{parts, tile_told}
-use Rattle.ask_words.proofs.Reading.{reads_then}
+use Rattle.notary_link.proofs.Reading.{reads_then}
 use Rattle.notary_link.proofs.Unchanged.{unchanged_then}
 use Rattle.tiled_forensics.proofs.Bits.{IsSoFar, whole_same, whole_stops, begins, chain_stops, goes_on, ends, shifted, small_more, bit_at_most, of_tile}
 use Rattle.tiled_forensics.proofs.Fails.{not_unsealed}
@@ -132,7 +132,7 @@ loop-bit-preserved g c =
       same = both.same;
       few = omega (arith, on.few, asked.asked);
       frame = both.frame;
-      counted = asked.counted ∙ on.counted;
+      counted = λ shows. asked.counted (on.frame.shows ∙ shows) ∙ on.counted shows;
     }
 
 pub returns-clause-value : goal.returns-clause-value
@@ -155,4 +155,4 @@ returns-in_err-same-clause-frame g c = goes_on_then _ _ _ c.loop-bit.invariant.f
 pub returns-in_err-same-clause-counted : goal.returns-in_err-same-clause-counted
 returns-in_err-same-clause-counted g c =
     let p = err_from_is_err_and c.from_residual-in_err-same.result c.from_residual-in_err-same.ensures.1 in
-    rw (p.1, p.2) (λ none. c.in_err-same.ensures.counted none ∙ c.loop-bit.invariant.counted)
+    rw (p.1, p.2) (λ shows none. c.in_err-same.ensures.counted (c.loop-bit.invariant.frame.shows ∙ shows) none ∙ c.loop-bit.invariant.counted shows)

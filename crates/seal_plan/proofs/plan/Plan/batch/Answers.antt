@@ -7,7 +7,6 @@ use Rattle.notary_link.specs.Batches.{IsBatch}
 use Rattle.history_model.specs.History.{History}
 use Rattle.audit_model.specs.Names.{batch}
 use Rattle.audit_model.proofs.Fileable.{fileable}
-use Rattle.seal_plan.specs.Plan.{Planned}
 use Rattle.seal_plan.proofs.plan.Plan.batch.Goals as goal
 
 may_be_filed : {E : Type 0} (h : History) (i : ℕ) (result : Result (List Seal) E) → FitsHeader h.header → IfOk result (λ seals. seals ≡ batch h i) → IfOk result IsBatch
@@ -16,9 +15,9 @@ may_be_filed h i result fits is = IfOk-weaker result (λ seals. seals ≡ batch 
 pub returns-then-index-eq0-clause-fileable : goal.returns-then-index-eq0-clause-fileable
 returns-then-index-eq0-clause-fileable c =
     may_be_filed c.args.self.now.history 0 c.header_batch.result
-    (subst (λ (p : Planned). FitsHeader p.history.header) c.self.view_is c.self.invariant.fits) c.header_batch.ensures
+    (subst FitsHeader c.header-header.ensures.value c.header-header.ensures.fits) c.header_batch.ensures
 
 pub returns-else-index-eq0-clause-fileable : goal.returns-else-index-eq0-clause-fileable
 returns-else-index-eq0-clause-fileable c =
     may_be_filed c.args.self.now.history (c.args.index - 1 + 1) c.tile_batch.result
-    (subst (λ (p : Planned). FitsHeader p.history.header) c.self.view_is c.self.invariant.fits) c.tile_batch.ensures
+    (subst FitsHeader c.header-header.ensures.value c.header-header.ensures.fits) c.tile_batch.ensures

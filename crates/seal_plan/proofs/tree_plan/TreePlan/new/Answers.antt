@@ -1,0 +1,7 @@
+use Rattle.std.proofs.Common.{◌≡◌, sym, subst}
+use Rattle.seal_plan.specs.Places.{planned_levels}
+use Rattle.seal_plan.specs.Plan.{Planned}
+use Rattle.seal_plan.proofs.tree_plan.TreePlan.new.Goals as goal
+
+pub invariant_of-result : goal.invariant_of-result
+invariant_of-result g c = subst (λ (p : Planned). c.in_ok-levels.levels.items ≡ planned_levels p.history p.tiles) (sym c.new.ensures.value) c.in_ok-levels.ensures.value

@@ -1,0 +1,113 @@
+//! The digests of tiles and of their parts, where nothing else is asked for.
+
+ghost use Rattle.std.specs.Prelude.{◌≡◌, ◌≤◌, ◌+◌, ◌↔◌, IfOk, IfSome, IsSome, length};
+ghost use Rattle.std.specs.List.{Contains};
+ghost use Rattle.history_model.specs.History.{history, txns};
+ghost use Rattle.history_model.specs.StoredHistory.{IsHistory};
+ghost use Rattle.digest_model.specs.Layout.{layout, first_granule, max_granules};
+ghost use Rattle.audit_model.specs.Names.{planned, digest};
+ghost use Rattle.notary_link.specs.declared.name.Name.TheVariants.{Tile};
+ghost use Rattle.policy_eras.specs.Policy.{policy_of};
+ghost use Rattle.seal_plan.specs.Plan.{planned_of};
+ghost use Rattle.seal_plan.specs.Places.{planned_parts};
+
+use crate::chains::{leaves_below, planned_parts};
+use crate::digests::Digests;
+use crate::lookup::part_in;
+use crate::scope::Scope;
+use history_model::Spelled;
+use policy_eras::Eras;
+use std::alloc::{AllocError, Global};
+use std::marker::Model;
+use step_count::{Ledger, Steps};
+use tuple_bytes::Header;
+
+/// The digests of the whole tiles and of their bit chains.
+#[derive(Drop)]
+pub struct TilePlan {
+    scope: Scope,
+    parts: Digests,
+}
+
+impl Model for TilePlan {
+    ghost use Rattle.std.specs.Prelude.{◌≡◌};
+    ghost use Rattle.seal_plan.specs.Plan.{Planned};
+    ghost use Rattle.seal_plan.specs.Places.{planned_parts};
+
+    ghost Value = { Planned };
+
+    ghost view = { λ p. p.scope };
+
+    ghost invariant = { λ p. p.parts ≡ planned_parts p.scope.history p.scope.tiles };
+}
+
+/// Hashes the parts of the first tiles, where they have tile chains.
+fn hash_parts<L: Ledger>(
+    alloc: Global,
+    header: &Header,
+    eras: &Eras,
+    items: &Spelled,
+    tiles: u32,
+    steps: &mut Steps<L>,
+) -> Result<Digests, AllocError>
+    requires history { IsHistory (history header.now items.now) }
+    requires eras { eras.now ≡ policy_of (history header.now items.now) }
+    requires within { first_granule (layout (history header.now items.now)) tiles ≤ max_granules }
+    ensures value { IfOk result (λ digests. digests ≡ planned_parts (history header.now items.now) tiles) }
+    ensures steps { steps.new ≤ steps.old + length (txns items.now) }
+{
+    if !eras.has_tile_chains(0) {
+        return Ok(Digests::new(alloc));
+    }
+    let granules = leaves_below(alloc, header, eras, items, tiles, steps)?;
+    planned_parts(alloc, eras, tiles, &granules)
+}
+
+impl TilePlan {
+    /// The digests of the first tiles, which lie below granule 1,048,576, and of their parts.
+    ///
+    /// Each transaction is hashed once, for its granule, and no link or node is.
+    pub fn new<L: Ledger>(
+        alloc: Global,
+        header: &Header,
+        items: &Spelled,
+        tiles: u32,
+        steps: &mut Steps<L>,
+    ) -> Result<TilePlan, AllocError>
+        requires history { IsHistory (history header.now items.now) }
+        requires within { first_granule (layout (history header.now items.now)) tiles ≤ max_granules }
+        ensures value { IfOk result (λ plan. plan ≡ planned_of (history header.now items.now) tiles) }
+        ensures steps { steps.new ≤ steps.old + length (txns items.now) }
+    {
+        let eras = Eras::of(header, items);
+        let parts = hash_parts(alloc, header, &eras, items, tiles, steps)?;
+        Ok(TilePlan {
+            scope: Scope::new(header, eras, items, tiles),
+            parts,
+        })
+    }
+
+    /// Where the tiles lie.
+    pub fn eras(&self) -> &Eras
+        ensures value { result.now ≡ policy_of self.now.history }
+    {
+        self.scope.eras()
+    }
+
+    /// How many tiles are planned.
+    pub fn tiles(&self) -> u32
+        ensures value { result ≡ self.now.tiles }
+        ensures within { first_granule (layout self.now.history) self.now.tiles ≤ max_granules }
+    {
+        self.scope.tiles()
+    }
+
+    /// The digest of a tile's part; none exactly where that isn't planned.
+    pub fn digest(&self, tile: u32, part: u8) -> Option<[u8; 32]>
+        ensures value { IfSome result (λ d. d ≡ digest self.now.history (Tile tile part)) }
+        ensures planned { IsSome result ↔ Contains (planned (layout self.now.history) self.now.tiles) (Tile tile part) }
+    {
+        let k = self.eras().exponent(tile);
+        part_in(self.parts.as_slice(), k, tile, part)
+    }
+}
