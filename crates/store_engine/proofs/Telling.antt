@@ -26,8 +26,12 @@ last_more items item = fold-append after_last 0 items (item ∷ [])
 pub txns_more : (items : List Item) (t : Txn) → txns (items ++ kinds.Txn t ∷ []) ≡ txns items ++ t ∷ []
 txns_more items t = filter_map-append txn_in items (kinds.Txn t ∷ [])
 
+-- an item that is no transaction
+pub txns_stay : (items : List Item) (item : Item) → txn_in item ≡ None → txns (items ++ item ∷ []) ≡ txns items
+txns_stay items item none = filter_map-append txn_in items (item ∷ []) ∙ ap (λ (o : Option Txn). txns items ++ cons_option o []) none ∙ append-nil (txns items)
+
 pub txns_no_more : (items : List Item) (moment : ℕ) → txns (items ++ kinds.Frontier moment ∷ []) ≡ txns items
-txns_no_more items moment = filter_map-append txn_in items (kinds.Frontier moment ∷ []) ∙ append-nil (txns items)
+txns_no_more items moment = txns_stay items (kinds.Frontier moment) refl
 
 cons_short : {B : Type 0} (o : Option B) (ys : List B) (n : ℕ) → length ys ≤ n → length (cons_option o ys) ≤ suc n
 cons_short (Some y) ys n h = omega (arith, h)
@@ -53,6 +57,17 @@ tells_frontier c moment last is items tells = record {
   count = tells.count ∙ ap (λ (ts : List Txn). length ts) (sym (txns_no_more items moment));
   last = is ∙ ap (λ (l : ℕ). max l moment) tells.last ∙ sym (last_more items (kinds.Frontier moment));
   tables = subst (StandsFor c.tables) (sym (txns_no_more items moment)) tells.tables;
+}
+
+-- a policy more
+last_stays : (items : List Item) (tile granule k algs : ℕ) → last_moment (items ++ kinds.Policy tile granule k algs ∷ []) ≡ last_moment items
+last_stays items tile granule k algs = omega (arith, last_more items (kinds.Policy tile granule k algs))
+
+tells_policy : (c : Contents) (tile granule k algs : ℕ) (items : List Item) → Tells c items → Tells c (items ++ kinds.Policy tile granule k algs ∷ [])
+tells_policy c tile granule k algs items tells = record {
+  count = tells.count ∙ ap (λ (ts : List Txn). length ts) (sym (txns_stay items (kinds.Policy tile granule k algs) refl));
+  last = tells.last ∙ sym (last_stays items tile granule k algs);
+  tables = subst (StandsFor c.tables) (sym (txns_stay items (kinds.Policy tile granule k algs) refl)) tells.tables;
 }
 
 -- ---- going over a list
@@ -88,6 +103,7 @@ pub none_above : (items : List Item) (a : ℕ) → AllByRecursion (λ (t : Txn).
 none_above [] a = tt
 none_above (kinds.Txn t ∷ items) a = (omega (arith, no_less items (max a t.moment)), none_above items (max a t.moment))
 none_above (kinds.Frontier m ∷ items) a = none_above items (max a m)
+none_above (kinds.Policy tile granule k algs ∷ items) a = none_above items (max a 0)
 
 -- ---- payload by payload
 
@@ -112,6 +128,10 @@ read_no_more payloads payload c spelled read = record {
   in_time = read.in_time;
 }
 
+pub read_policy : (payloads : List (List ℕ)) (payload : List ℕ) (tile granule k algs : ℕ) (c : Contents) → item_of payload ≡ Some (kinds.Policy tile granule k algs) → IsRead payloads c → IsRead (payloads ++ payload ∷ []) c
+read_policy payloads payload tile granule k algs c spelled read =
+    read_more payloads payload (kinds.Policy tile granule k algs) c c spelled (tells_policy c tile granule k algs) (λ in_time. in_time) read
+
 -- the same of what is gathered
 pub gathered_txn : (payloads : List (List ℕ)) (payload : List ℕ) (t : Txn) (g d : Gathered) → item_of payload ≡ Some (kinds.Txn t) → d.txns.items ≡ g.txns.items ++ t ∷ [] → d.last ≡ max g.last t.moment
     → IsGathered g (items_of payloads) → IsGathered d (items_of (payloads ++ payload ∷ []))
@@ -129,6 +149,14 @@ gathered_frontier payloads payload moment g d spelled pushed last so_far =
     subst (IsGathered d) (sym (item_more payloads payload (kinds.Frontier moment) spelled)) (record {
       txns_are = pushed ∙ so_far.txns_are ∙ sym (txns_no_more items moment);
       last_is = last ∙ ap (λ (l : ℕ). max l moment) so_far.last_is ∙ sym (last_more items (kinds.Frontier moment));
+    })
+
+pub gathered_policy : (payloads : List (List ℕ)) (payload : List ℕ) (tile granule k algs : ℕ) (g : Gathered) → item_of payload ≡ Some (kinds.Policy tile granule k algs) → IsGathered g (items_of payloads) → IsGathered g (items_of (payloads ++ payload ∷ []))
+gathered_policy payloads payload tile granule k algs g spelled so_far =
+    let items = items_of payloads in
+    subst (IsGathered g) (sym (item_more payloads payload (kinds.Policy tile granule k algs) spelled)) (record {
+      txns_are = so_far.txns_are ∙ sym (txns_stay items (kinds.Policy tile granule k algs) refl);
+      last_is = so_far.last_is ∙ sym (last_stays items tile granule k algs);
     })
 
 pub gathered_none : (payloads : List (List ℕ)) (payload : List ℕ) (g : Gathered) → item_of payload ≡ None → IsGathered g (items_of payloads) → IsGathered g (items_of (payloads ++ payload ∷ []))

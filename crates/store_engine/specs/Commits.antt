@@ -6,7 +6,7 @@ use Rattle.disk_model.specs.Moments.{EveryImage, MakesCalls}
 use Rattle.tuple_bytes.specs.declared.item.Item.{Item}
 use Rattle.tuple_bytes.specs.declared.item.Item.TheVariants as items
 use Rattle.tuple_bytes.specs.declared.item.Txn.{Txn}
-use Rattle.tuple_bytes.specs.Spelling.{spell_txn, spell_item}
+use Rattle.tuple_bytes.specs.Spelling.{spell_txn, spell_policy, spell_item}
 use Rattle.tt_table.specs.Versions.{applied}
 use Rattle.tt_table.specs.Tables.{TablesVersions}
 use Rattle.txn_journal.specs.Held.{behind, closed}
@@ -27,10 +27,11 @@ with_txn s t = record s {
   at = behind s.at (spell_txn t);
 }
 
--- with the one or the other
+-- with any item; a policy changes nothing but where the next one goes
 abbrev pub with_item : Opened → Item → Opened
 with_item s (items.Txn t) = with_txn s t
 with_item s (items.Frontier moment) = with_frontier s moment
+with_item s (items.Policy tile granule k algs) = record s { at = behind s.at (spell_policy tile granule k algs) }
 
 -- it has one where its last moment is before that
 abbrev pub frontier_at : Opened → ℕ → Opened

@@ -6,7 +6,10 @@ use Rattle.history_model.specs.History.{txns, last_moment}
 use Rattle.tt_table.specs.Stands.{StandsFor}
 use Rattle.tt_table.specs.Versions.{applied}
 use Rattle.tt_table.specs.Tables.{TablesVersions}
+use Rattle.tuple_bytes.specs.Writing.{txn_by}
 use Rattle.store_engine.specs.declared.contents.Contents.{Contents}
+use Rattle.store_engine.specs.declared.next_item.NextItem.{NextItem}
+use Rattle.store_engine.specs.declared.next_item.NextItem.TheVariants as nexts
 
 -- the count, the last moment and the tables are those of these items
 pub record Tells (c : Contents) (items : List Item) : Type 0 where
@@ -18,15 +21,22 @@ pub record Tells (c : Contents) (items : List Item) : Type 0 where
 abbrev pub IsInTime : Contents → Type 0
 IsInTime c = c.tables.last ≤ c.last
 
+-- the item that is lent by its parts
+abbrev pub lent_item : NextItem → Item
+lent_item (nexts.Txn number moment ops) = items.Txn (txn_by number moment ops.now)
+lent_item (nexts.Frontier moment) = items.Frontier moment
+
 -- the tables take the item next: a transaction is not before the last one
 abbrev pub FollowsTables : Contents → Item → Type 0
 FollowsTables c (items.Txn t) = c.tables.last ≤ t.moment
 FollowsTables c (items.Frontier moment) = Unit {0}
+FollowsTables c (items.Policy tile granule k algs) = Unit {0}
 
--- with one item more
+-- with one item more; a policy has no effect
 abbrev pub after_item : Contents → Item → Contents
 after_item c (items.Txn t) = record { count = c.count + 1; last = max c.last t.moment; tables = applied t.moment t.ops c.tables }
 after_item c (items.Frontier moment) = record c { last = max c.last moment }
+after_item c (items.Policy tile granule k algs) = c
 
 -- with other tables
 abbrev pub with_tables : TablesVersions → Contents → Contents

@@ -1,6 +1,6 @@
 -- The texts of refusals.
 use Rattle.std.specs.Prelude.{ℕ, List, codes}
-use Rattle.number_text.specs.Numbered.{numbered}
+use Rattle.byte_grammar.specs.Numbered.{numbered}
 use Rattle.store_engine.specs.declared.fail.StoreFail.{StoreFail}
 use Rattle.store_engine.specs.declared.fail.StoreFail.TheVariants as fails
 

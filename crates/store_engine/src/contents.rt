@@ -3,11 +3,11 @@
 ghost use Rattle.std.specs.Prelude.{◌≡◌, ◌+◌, ◌<◌, ◌^◌, ◌++◌, ◌∷◌, [], List, IsTrue, ◌↔◌, OnOk, OnErr};
 ghost use Rattle.tuple_bytes.specs.declared.item.Item.{Item as AnItem};
 ghost use Rattle.tt_table.specs.Versions.{TablesVersions};
-ghost use Rattle.store_engine.specs.Contents.{Tells, FollowsTables, IsInTime, after_item, with_tables};
+ghost use Rattle.store_engine.specs.Contents.{Tells, FollowsTables, IsInTime, after_item, lent_item, with_tables};
 
+use crate::next_item::NextItem;
 use std::alloc::{AllocError, Global};
 use tt_table::Tables;
-use tuple_bytes::Item;
 
 /// How many transactions there are, the greatest moment, and the tables.
 #[derive(Drop)]
@@ -31,33 +31,33 @@ impl Contents {
     }
 
     /// Whether the item may come next: a transaction that isn't before the last one, or a Frontier.
-    pub fn may_follow(&self, item: &Item) -> bool
-        ensures value { IsTrue result ↔ FollowsTables self.now item.now }
+    pub fn may_follow(&self, item: &NextItem<'_>) -> bool
+        ensures value { IsTrue result ↔ FollowsTables self.now (lent_item item.now) }
     {
         match item {
-            Item::Txn(txn) => self.tables.last() <= txn.moment,
-            Item::Frontier { .. } => true,
+            NextItem::Txn { moment, .. } => self.tables.last() <= *moment,
+            NextItem::Frontier { .. } => true,
         }
     }
 
     /// Adds an item. After want of memory some of its operations may be missing in the tables.
-    pub fn add(&mut self, alloc: Global, item: &Item) -> Result<(), AllocError>
-        requires follows { FollowsTables self.old item.now }
+    pub fn add(&mut self, alloc: Global, item: &NextItem<'_>) -> Result<(), AllocError>
+        requires follows { FollowsTables self.old (lent_item item.now) }
         requires room { self.old.count + 1 < 2 ^ 32 }
-        ensures ok { OnOk result (self.new ≡ after_item self.old item.now) }
+        ensures ok { OnOk result (self.new ≡ after_item self.old (lent_item item.now)) }
         ensures err { OnErr result ((tables : TablesVersions)
-            × (self.new ≡ with_tables tables (after_item self.old item.now))) }
+            × (self.new ≡ with_tables tables (after_item self.old (lent_item item.now)))) }
         ensures in_time { IsInTime self.old → IsInTime self.new }
         ensures tells { OnOk result ((items : List AnItem)
-            → Tells self.old items → Tells self.new (items ++ item.now ∷ [])) }
+            → Tells self.old items → Tells self.new (items ++ lent_item item.now ∷ [])) }
     {
         match item {
-            Item::Txn(txn) => {
+            NextItem::Txn { moment, ops, .. } => {
                 self.count += 1;
-                self.last = self.last.max(txn.moment);
-                self.tables.apply(alloc, txn)
+                self.last = self.last.max(*moment);
+                self.tables.apply(alloc, *moment, ops)
             }
-            Item::Frontier { moment } => {
+            NextItem::Frontier { moment } => {
                 self.last = self.last.max(*moment);
                 Ok(())
             }

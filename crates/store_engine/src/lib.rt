@@ -55,6 +55,7 @@
 mod contents;
 mod fail;
 mod laws;
+mod next_item;
 mod opening;
 mod printing;
 mod replay;

@@ -4,7 +4,7 @@ ghost use Rattle.std.specs.Prelude.{◌≡◌, ◌++◌, OnOk};
 ghost use Rattle.store_engine.specs.Texts.{refusal_text};
 
 use crate::fail::StoreFail;
-use number_text::put_numbered;
+use byte_grammar::put_numbered;
 use std::alloc::{AllocError, Global};
 
 /// Adds the name of a refusal, and its detail. Statements and audits refuse by the same texts.

@@ -4,18 +4,35 @@
 //! that order, so each is applied as it is read. In any other file their moments may fall: then all are
 //! gathered, and sorted by moment, those of one moment in file order.
 
-ghost use Rattle.std.specs.Prelude.{◌≡◌, ◌+◌, ◌<◌, ◌≤◌, ◌^◌, ◌++◌, ◌∷◌, [], ℕ, true, List, length, IfOk, OnOk};
+ghost use Rattle.std.specs.Prelude.{◌≡◌, ◌+◌, ◌<◌, ◌≤◌, ◌^◌, ◌++◌, ◌∷◌, [], ℕ, true, List, length, Some, IfOk, OnOk};
 ghost use Rattle.std.specs.List.{AllByRecursion};
 ghost use Rattle.std.specs.List.Sorted.{IsNonDecreasingBy};
 ghost use Rattle.tuple_bytes.specs.declared.item.Txn.{Txn as ATxn};
+ghost use Rattle.tuple_bytes.specs.Items.{item_of};
 ghost use Rattle.history_model.specs.Stored.{items_of};
 ghost use Rattle.tt_table.specs.Stands.{StandsFor};
+ghost use Rattle.store_engine.specs.Contents.{lent_item};
 ghost use Rattle.store_engine.specs.Replay.{IsGathered, IsReordered, IsRead};
 
 use crate::contents::Contents;
+use crate::next_item::NextItem;
 use std::alloc::{AllocError, Global};
 use tt_table::Tables;
 use tuple_bytes::{Blob, Item, Txn, decode_item};
+
+/// Adds an item, and answers whether it may come next.
+fn add_next(alloc: Global, contents: &mut Contents, item: &NextItem<'_>) -> Result<bool, AllocError>
+    requires room { contents.old.count + 1 < 2 ^ 32 }
+    ensures value { IfOk result (λ follows. follows ≡ true → (payloads : List (List ℕ)) (payload : List ℕ)
+        → item_of payload ≡ Some (lent_item item.now)
+        → IsRead payloads contents.old → IsRead (payloads ++ payload ∷ []) contents.new) }
+{
+    if !contents.may_follow(item) {
+        return Ok(false);
+    }
+    contents.add(alloc, item)?;
+    Ok(true)
+}
 
 /// Adds the item that a payload spells, and answers whether it may come next.
 pub(crate) fn read_next(
@@ -28,13 +45,22 @@ pub(crate) fn read_next(
         → IsRead payloads contents.old → IsRead (payloads ++ payload.now ∷ []) contents.new) }
 {
     match decode_item(alloc, payload)? {
-        Some(item) => {
-            if !contents.may_follow(&item) {
-                return Ok(false);
-            }
-            contents.add(alloc, &item)?;
-            Ok(true)
-        }
+        Some(Item::Txn(txn)) => add_next(
+            alloc,
+            contents,
+            &NextItem::Txn {
+                number: txn.number,
+                moment: txn.moment,
+                ops: &txn.ops,
+            },
+        ),
+        Some(Item::Frontier { moment }) => add_next(
+            alloc,
+            contents,
+            &NextItem::Frontier { moment },
+        ),
+        // A policy has no effect.
+        Some(Item::Policy { .. }) => Ok(true),
         None => Ok(true),
     }
 }
@@ -91,6 +117,7 @@ impl Gathered {
                 self.last = self.last.max(moment);
                 Ok(())
             }
+            Some(Item::Policy { .. }) => Ok(()),
             None => Ok(()),
         }
     }
@@ -114,7 +141,7 @@ fn apply_all(alloc: Global, txns: &[Txn]) -> Result<Tables, AllocError>
 {
     let mut tables = Tables::new(alloc);
     for txn in txns {
-        tables.apply(alloc, txn)?;
+        tables.apply(alloc, txn.moment, &txn.ops)?;
     }
     Ok(tables)
 }

@@ -17,18 +17,18 @@ ghost use Rattle.store_engine.specs.declared.fail.StoreFail.TheVariants.{Closed,
 ghost use Rattle.store_engine.specs.Opened.{IsOpenOn};
 ghost use Rattle.store_engine.specs.Fail.{closes};
 ghost use Rattle.store_engine.specs.Refusals.{tail_of, next_txn, commit_fault, frontier_fault, item_fault, is_back, is_full, where_true, IsNextMoment, IsRefusedBy, IsOfOpening, IsNoStore};
+ghost use Rattle.store_engine.specs.Contents.{lent_item};
 ghost use Rattle.store_engine.specs.Commits.{with_txn, with_item, frontier_at, StandsAfter, Adds};
 
 use crate::StoreFail;
 use crate::contents::Contents;
+use crate::next_item::NextItem;
 use crate::opening::open_file;
 use disk_model::Disk;
 use std::alloc::{AllocError, Global};
 use std::marker::Model;
 use tt_table::Tables;
-use tuple_bytes::{
-    EncodeFail, Header, Item, MAX_FILE, MAX_GRANULES, MAX_OPS, Ops, Txn, encode_item, granule,
-};
+use tuple_bytes::{EncodeFail, Header, MAX_FILE, MAX_GRANULES, MAX_OPS, Ops, granule};
 use txn_journal::{Journal, StoreShape};
 
 /// A store that is open: what its file holds, as tables, and where the next record goes. Each call on
@@ -122,16 +122,12 @@ impl Store {
             return Err(StoreFail::TooManyOps);
         }
         let number = self.contents.count + 1;
-        let Ok(ops) = ops.copy(alloc) else {
-            self.is_closed = true;
-            return Err(StoreFail::NoMemory);
-        };
-        let txn = Txn {
+        let txn = NextItem::Txn {
             number,
             moment,
             ops,
         };
-        match self.store_item(alloc, disk, &Item::Txn(txn)) {
+        match self.store_item(alloc, disk, &txn) {
             Ok(()) => Ok(number),
             Err(fail) => Err(fail),
         }
@@ -161,23 +157,26 @@ impl Store {
             return Ok(Some(StoreFail::TooManyOps));
         }
         let number = self.contents.count + 1;
-        let ops = ops.copy(alloc)?;
-        let txn = Txn {
+        let txn = NextItem::Txn {
             number,
             moment,
             ops,
         };
-        self.item_refusal(alloc, &Item::Txn(txn))
+        self.item_refusal(alloc, &txn)
     }
 
     /// Why an item would not be stored.
-    fn item_refusal(&self, alloc: Global, item: &Item) -> Result<Option<StoreFail>, AllocError>
-        requires counted { IsCounted item.now }
-        requires few_ops { op_count_of item.now ≤ max_ops }
+    fn item_refusal(
+        &self,
+        alloc: Global,
+        item: &NextItem<'_>,
+    ) -> Result<Option<StoreFail>, AllocError>
+        requires counted { IsCounted (lent_item item.now) }
+        requires few_ops { op_count_of (lent_item item.now) ≤ max_ops }
         ensures value { IfOk result (λ fault. fault
-            ≡ item_fault (tail_of self.now) self.now.at.is_closed item.now) }
+            ≡ item_fault (tail_of self.now) self.now.at.is_closed (lent_item item.now)) }
     {
-        match encode_item(alloc, item) {
+        match item.encode(alloc) {
             Ok(payload) => Ok(self.room_refusal(payload.as_slice().len())),
             Err(EncodeFail::NoMemory) => Err(AllocError),
             Err(fail) => Ok(Some(StoreFail::from(fail))),
@@ -224,7 +223,7 @@ impl Store {
         if moment <= self.contents.last {
             return Ok(());
         }
-        self.store_item(alloc, disk, &Item::Frontier { moment })
+        self.store_item(alloc, disk, &NextItem::Frontier { moment })
     }
 
     /// The moment of these clock seconds, where that isn't before the last one.
@@ -244,23 +243,23 @@ impl Store {
         &mut self,
         alloc: Global,
         disk: &mut D,
-        item: &Item,
+        item: &NextItem<'_>,
     ) -> Result<(), StoreFail>
-        requires counted { IsCounted item.now }
-        requires few_ops { op_count_of item.now ≤ max_ops }
-        requires follows { MayFollow self.old.last item.now }
+        requires counted { IsCounted (lent_item item.now) }
+        requires few_ops { op_count_of (lent_item item.now) ≤ max_ops }
+        requires follows { MayFollow self.old.last (lent_item item.now) }
         ensures refused { IsRefusedBy
-            (item_fault (tail_of self.old) self.old.at.is_closed item.now) result }
-        ensures stands { StandsAfter result self.old (with_item self.old item.now) self.new }
-        ensures same { IsSome (item_fault (tail_of self.old) self.old.at.is_closed item.now)
+            (item_fault (tail_of self.old) self.old.at.is_closed (lent_item item.now)) result }
+        ensures stands { StandsAfter result self.old (with_item self.old (lent_item item.now)) self.new }
+        ensures same { IsSome (item_fault (tail_of self.old) self.old.at.is_closed (lent_item item.now))
             → Unchanged (D.state disk.old) (D.state disk.new) }
         ensures told { WhereTold (D.state disk.old).reads (D.state disk.new).reads
-            (Adds item.now result self.old self.new (D.state disk.old) (D.state disk.new)) }
+            (Adds (lent_item item.now) result self.old self.new (D.state disk.old) (D.state disk.new)) }
         ensures frame { GoesOn (D.state disk.old) (D.state disk.new) }
         ensures cause { HasCause DiskFault (D.state disk.old).faults (D.state disk.new).faults result }
         ensures counted { ShowsFaults closes (D.state disk.old).faults (D.state disk.new).faults result }
     {
-        match encode_item(alloc, item) {
+        match item.encode(alloc) {
             Ok(payload) => self.store_payload(alloc, disk, item, payload.as_slice()),
             Err(fail) => {
                 let fail = StoreFail::from(fail);
@@ -275,19 +274,19 @@ impl Store {
         &mut self,
         alloc: Global,
         disk: &mut D,
-        item: &Item,
+        item: &NextItem<'_>,
         payload: &[u8],
     ) -> Result<(), StoreFail>
-        requires spelled { Spells item.now payload.now }
+        requires spelled { Spells (lent_item item.now) payload.now }
         requires short { length payload.now ≤ max_payload }
-        requires follows { MayFollow self.old.last item.now }
+        requires follows { MayFollow self.old.last (lent_item item.now) }
         ensures refused { IsRefusedBy
-            (item_fault (tail_of self.old) self.old.at.is_closed item.now) result }
-        ensures stands { StandsAfter result self.old (with_item self.old item.now) self.new }
-        ensures same { IsSome (item_fault (tail_of self.old) self.old.at.is_closed item.now)
+            (item_fault (tail_of self.old) self.old.at.is_closed (lent_item item.now)) result }
+        ensures stands { StandsAfter result self.old (with_item self.old (lent_item item.now)) self.new }
+        ensures same { IsSome (item_fault (tail_of self.old) self.old.at.is_closed (lent_item item.now))
             → Unchanged (D.state disk.old) (D.state disk.new) }
         ensures told { WhereTold (D.state disk.old).reads (D.state disk.new).reads
-            (Adds item.now result self.old self.new (D.state disk.old) (D.state disk.new)) }
+            (Adds (lent_item item.now) result self.old self.new (D.state disk.old) (D.state disk.new)) }
         ensures frame { GoesOn (D.state disk.old) (D.state disk.new) }
         ensures cause { HasCause DiskFault (D.state disk.old).faults (D.state disk.new).faults result }
         ensures counted { ShowsFaults closes (D.state disk.old).faults (D.state disk.new).faults result }

@@ -11,9 +11,6 @@ returns-then-granule-from-clause-frame g c = goes_on_same _
 pub returns-then-as_slice-from-clause-frame : goal.returns-then-as_slice-from-clause-frame
 returns-then-as_slice-from-clause-frame g c = goes_on_same _
 
-pub returns-in_default-copy-clause-frame : goal.returns-in_default-copy-clause-frame
-returns-in_default-copy-clause-frame g c = goes_on_same _
-
 pub returns-in_default-clause-same : goal.returns-in_default-clause-same
 returns-in_default-clause-same g c = λ _. unchanged_same _
 
@@ -22,6 +19,3 @@ returns-then-granule-from-clause-same g c = λ _. unchanged_same _
 
 pub returns-then-as_slice-from-clause-same : goal.returns-then-as_slice-from-clause-same
 returns-then-as_slice-from-clause-same g c = λ _. unchanged_same _
-
-pub returns-in_default-copy-clause-same : goal.returns-in_default-copy-clause-same
-returns-in_default-copy-clause-same g c = λ _. unchanged_same _

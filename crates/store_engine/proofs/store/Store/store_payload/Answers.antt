@@ -13,6 +13,7 @@ use Rattle.store_engine.specs.declared.fail.StoreFail.TheVariants as fails
 use Rattle.store_engine.specs.declared.contents.Contents.{Contents}
 use Rattle.store_engine.specs.Fail.{fail_of_journal}
 use Rattle.store_engine.specs.Opened.{Opened}
+use Rattle.store_engine.specs.Contents.{lent_item}
 use Rattle.store_engine.specs.Commits.{Adds}
 use Rattle.store_engine.proofs.StoredFiles.{is_header}
 use Rattle.store_engine.proofs.Adding.{IsBehind, makes_failed, unchanged_same, adds_done, adds_failed}
@@ -26,14 +27,14 @@ pub returns-then-self-clause-frame : goal.returns-then-self-clause-frame
 returns-then-self-clause-frame g c = goes_on_same _
 
 pub append-requires : goal.append-requires
-append-requires g c = record { fits = record { accepted = spelled_some c.args.payload.now c.args.item.now c.requires.spelled; short = c.requires.short } }
+append-requires g c = record { fits = record { accepted = spelled_some c.args.payload.now (lent_item c.args.item.now) c.requires.spelled; short = c.requires.short } }
 
 pub returns-in-Err-clause-told : goal.returns-in-Err-clause-told
 returns-in-Err-clause-told g c =
     let S = g.D.Disk.state in
     let old = S c.args.disk.now in
     let new = S c.append.new.disk in
-    let item = c.args.item.now in
+    let item = lent_item c.args.item.now in
     let payload = c.args.payload.now in
     let is : payload ≡ spell_item item = c.requires.spelled.1 in
     let spelled = whole_again payload item c.requires.spelled in
@@ -54,7 +55,7 @@ returns-in-Ok-clause-told g c =
     let S = g.D.Disk.state in
     let old = S c.args.disk.now in
     let new = S c.append.new.disk in
-    let item = c.args.item.now in
+    let item = lent_item c.args.item.now in
     let payload = c.args.payload.now in
     let is : payload ≡ spell_item item = c.requires.spelled.1 in
     let spelled = whole_again payload item c.requires.spelled in
@@ -79,7 +80,7 @@ returns-in-Err-add-clause-told g c =
     let S = g.D.Disk.state in
     let old = S c.args.disk.now in
     let new = S c.append.new.disk in
-    let item = c.args.item.now in
+    let item = lent_item c.args.item.now in
     let payload = c.args.payload.now in
     let is : payload ≡ spell_item item = c.requires.spelled.1 in
     let spelled = whole_again payload item c.requires.spelled in
