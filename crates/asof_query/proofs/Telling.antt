@@ -15,7 +15,7 @@ use Rattle.asof_query.specs.Filters.{history_in, scan_of}
 use Rattle.asof_query.specs.Told.{AnswersStand, told, history_told}
 
 module _ (all : TablesVersions) (txns : List Txn) (are : AreTables all) (stands : StandsFor all txns) where
-  all_there : (o : Option TableVersions) → IfSome o (IsTable all.last) → option_and_then (live_table all.last) o ≡ option_map (table_cut all.last) o
+  pub all_there : (o : Option TableVersions) → IfSome o (IsTable all.last) → option_and_then (live_table all.last) o ≡ option_map (table_cut all.last) o
   all_there None is = refl
   all_there (Some t) is = let there : nat_le t.created all.last ≡ true = grind (arith, nat_tests, is.created) in rw there refl
 

@@ -6,8 +6,9 @@ ghost use Rattle.step_count.specs.Blank.{IsBlankOf};
 ghost use Rattle.history_model.specs.Stored.{IsStorable};
 ghost use Rattle.tuple_bytes.specs.Limits.{max_granules};
 
+use history_model::Spelled;
 use notary_link::Seals;
-use seal_plan::{Plan, Spelled};
+use seal_plan::Plan;
 use std::alloc::{AllocError, Global};
 use std::marker::Brand;
 use std::test::Fail;

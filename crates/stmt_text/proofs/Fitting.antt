@@ -1,5 +1,5 @@
 -- What is said fits: each part is in its range, and it is printed no longer than it was written.
-use Rattle.std.proofs.Common.{◌≡◌, ℕ, zero, suc, ◌*◌, ◌<◌, ◌≤◌, ◌^◌, Bool, true, false, cond, eqb, List, [], ◌∷◌, ◌++◌, length, map, Option, Some, None, option_map, refl, subst, arith, ℤ, pos, decimal, length-append}
+use Rattle.std.proofs.Common.{◌≡◌, ℕ, zero, suc, ◌*◌, ◌<◌, ◌≤◌, ◌^◌, Bool, true, false, cond, eqb, List, [], ◌∷◌, ◌++◌, length, map, Option, Some, None, option_map, refl, subst, arith, ℤ, pos, decimal, length-append, append-nil}
 use Rattle.std.specs.Prelude.{codes}
 use Rattle.std.specs.Fmt.{signed_decimal}
 use Rattle.std.specs.List.{flat_map, filter, AllByRecursion}
@@ -70,6 +70,8 @@ stmt_fits ts (stmts.Delete t k) h = (h.2, value_fits h.0 k h.3)
 stmt_fits ts (stmts.Get t k m) h = (h.3, value_fits h.0 k h.4, as_of_fits h.1 m h.5)
 stmt_fits ts (stmts.Scan t f m) h = (h.3, filter_fits h.0 h.1 f h.4, as_of_fits h.1 m h.5)
 stmt_fits ts (stmts.History t k) h = (h.2, value_fits h.0 k h.3)
+stmt_fits ts (stmts.OverSelect from to t f) h = (h.4.2, h.5.2, h.6, filter_fits h.2 [] f h.7)
+stmt_fits ts (stmts.OverJoin from to l r a b) h = (h.3.2, h.4.2, h.5, h.6, h.7, h.8)
 stmt_fits ts stmts.Begin h = tt
 stmt_fits ts stmts.Commit h = tt
 stmt_fits ts stmts.Abort h = tt
@@ -164,10 +166,10 @@ as_of_shortest ts None h = omega arith
 as_of_shortest ts (Some m) h =
     rw h.1 (same (codes "as") (codes "of" ∷ decimal m ∷ []) (codes "of" ∷ h.0 ∷ []) (same (codes "of") (decimal m ∷ []) (h.0 ∷ []) (more (decimal m) h.0 [] [] (decimal_shortest 0 max_moment m h.0 (omega arith) h.2) (omega arith))))
 
-filter_shortest : (ts more_ts : List Token) (f : Option Filter) (m : Option ℕ) → SayFilter in_range ts f more_ts → SayAsOf in_range more_ts m → length (spaced (filter_tokens f ++ as_of_tokens m)) ≤ length (spaced ts)
-filter_shortest ts more_ts None m h a = rw h (as_of_shortest more_ts m a)
-filter_shortest ts more_ts (Some f) m h a =
-    rw h.1 (same f.column (compare_token f.compare ∷ value_token f.value ∷ as_of_tokens m) (compare_token f.compare ∷ h.0 ∷ more_ts) (same (compare_token f.compare) (value_token f.value ∷ as_of_tokens m) (h.0 ∷ more_ts) (more (value_token f.value) h.0 (as_of_tokens m) more_ts (value_shortest h.0 f.value h.3) (as_of_shortest more_ts m a))))
+filter_shortest : (ts others shorter : List Token) (f : Option Filter) → SayFilter in_range ts f others → length (spaced shorter) ≤ length (spaced others) → length (spaced (filter_tokens f ++ shorter)) ≤ length (spaced ts)
+filter_shortest ts others shorter None h a = rw h a
+filter_shortest ts others shorter (Some f) h a =
+    rw h.1 (same f.column (compare_token f.compare ∷ value_token f.value ∷ shorter) (compare_token f.compare ∷ h.0 ∷ others) (same (compare_token f.compare) (value_token f.value ∷ shorter) (h.0 ∷ others) (more (value_token f.value) h.0 shorter others (value_shortest h.0 f.value h.3) a)))
 
 algorithm_shortest : (ts : List Token) (a : LineAlgorithm) → SayAlgorithm in_range ts a → length (spaced (algorithm_tokens a)) ≤ length (spaced ts)
 algorithm_shortest ts algorithms.Mono h = rw h (omega arith)
@@ -175,6 +177,17 @@ algorithm_shortest ts algorithms.Tiled h = rw h (omega arith)
 algorithm_shortest ts (algorithms.TiledExactly n) h =
     rw h.1 (same (codes "tiled") (decimal n ∷ []) (h.0 ∷ []) (more (decimal n) h.0 [] [] (decimal_shortest 1 1024 n h.0 (omega arith) h.2) (omega arith)))
 algorithm_shortest ts algorithms.A3d h = rw h (omega arith)
+
+only_filter_shortest : (ts : List Token) (f : Option Filter) → SayFilter in_range ts f [] → length (spaced (filter_tokens f)) ≤ length (spaced ts)
+only_filter_shortest ts f h =
+    subst (λ (us : List Token). length (spaced us) ≤ length (spaced ts)) (append-nil (filter_tokens f)) (filter_shortest ts [] [] f h (omega arith))
+
+-- the two moments of a span
+span_shortest : (a b : Token) (from to : ℕ) (shorter others : List Token) → SaysNumber in_range 0 max_moment a from → SaysNumber in_range 0 max_moment b to → length (spaced shorter) ≤ length (spaced others)
+    → length (spaced (decimal from ∷ codes "to" ∷ decimal to ∷ shorter)) ≤ length (spaced (a ∷ codes "to" ∷ b ∷ others))
+span_shortest a b from to shorter others h k there =
+    more (decimal from) a (codes "to" ∷ decimal to ∷ shorter) (codes "to" ∷ b ∷ others) (decimal_shortest 0 max_moment from a (omega arith) h)
+    (same (codes "to") (decimal to ∷ shorter) (b ∷ others) (more (decimal to) b shorter others (decimal_shortest 0 max_moment to b (omega arith) k) there))
 
 key_shortest : (ts : List Token) (table : Token) (key : Value) (token : Token) → ts ≡ table ∷ token ∷ [] → Says in_range token key → length (spaced (table ∷ value_token key ∷ [])) ≤ length (spaced ts)
 key_shortest ts table key token parts h = rw parts (same table (value_token key ∷ []) (token ∷ []) (more (value_token key) token [] [] (value_shortest token key h) (omega arith)))
@@ -186,8 +199,13 @@ stmt_shortest ts (stmts.Update t r) h = rw h.1 (same t (map value_token r) h.0 (
 stmt_shortest ts (stmts.Delete t k) h = key_shortest ts t k h.0 h.1 h.3
 stmt_shortest ts (stmts.Get t k m) h =
     rw h.2 (same t (value_token k ∷ as_of_tokens m) (h.0 ∷ h.1) (more (value_token k) h.0 (as_of_tokens m) h.1 (value_shortest h.0 k h.4) (as_of_shortest h.1 m h.5)))
-stmt_shortest ts (stmts.Scan t f m) h = rw h.2 (same t (filter_tokens f ++ as_of_tokens m) h.0 (filter_shortest h.0 h.1 f m h.4 h.5))
+stmt_shortest ts (stmts.Scan t f m) h = rw h.2 (same t (filter_tokens f ++ as_of_tokens m) h.0 (filter_shortest h.0 h.1 (as_of_tokens m) f h.4 (as_of_shortest h.1 m h.5)))
 stmt_shortest ts (stmts.History t k) h = key_shortest ts t k h.0 h.1 h.3
+stmt_shortest ts (stmts.OverSelect from to t f) h =
+    rw h.3 (span_shortest h.0 h.1 from to (codes "select" ∷ t ∷ filter_tokens f) (codes "select" ∷ t ∷ h.2) h.4 h.5 (same (codes "select") (t ∷ filter_tokens f) (t ∷ h.2) (same t (filter_tokens f) h.2 (only_filter_shortest h.2 f h.7))))
+stmt_shortest ts (stmts.OverJoin from to l r a b) h =
+    let columns : List Token = codes "join" ∷ l ∷ r ∷ codes "on" ∷ a ∷ b ∷ [] in
+    rw h.2 (span_shortest h.0 h.1 from to columns columns h.3 h.4 (omega arith))
 stmt_shortest ts stmts.Begin h = omega arith
 stmt_shortest ts stmts.Commit h = omega arith
 stmt_shortest ts stmts.Abort h = omega arith

@@ -1,5 +1,5 @@
 -- What is printed of a value says that value.
-use Rattle.std.proofs.Common.{◌≡◌, ℕ, ◌<◌, ◌≤◌, ◌^◌, true, false, List, [], ◌∷◌, ◌++◌, map, Option, Some, None, refl, arith, decimal}
+use Rattle.std.proofs.Common.{◌≡◌, ℕ, ◌<◌, ◌≤◌, ◌^◌, true, false, List, [], ◌∷◌, ◌++◌, map, Option, Some, None, refl, subst, arith, decimal, append-nil}
 use Rattle.std.specs.List.{flat_map, AllByRecursion}
 use Rattle.hex.specs.Hex.{encode_lower}
 use Rattle.hex.proofs.HexLemmas.{decode_of-encode_lower}
@@ -14,6 +14,7 @@ use Rattle.stmt_text.specs.declared.stmt.Stmt.{Stmt}
 use Rattle.stmt_text.specs.declared.stmt.Stmt.TheVariants as stmts
 use Rattle.stmt_text.specs.declared.event.Event.{Event}
 use Rattle.stmt_text.specs.declared.event.Event.TheVariants as events
+use Rattle.stmt_text.specs.Tokens.{Token}
 use Rattle.stmt_text.specs.Numbers.{in_range}
 use Rattle.stmt_text.specs.Values.{SaysValue, value_in_range}
 use Rattle.stmt_text.specs.Printing.{value_token, column_tokens, as_of_tokens, filter_tokens, algorithm_tokens, stmt_tokens, event_tokens}
@@ -59,15 +60,18 @@ as_of_says : (m : Option ℕ) → FitsMoment m → SayAsOf in_range (as_of_token
 as_of_says None h = refl
 as_of_says (Some m) h = (decimal m, refl, moment_says m h)
 
-filter_says : (f : Option Filter) (m : Option ℕ) → FitsFilter f → SayFilter in_range (filter_tokens f ++ as_of_tokens m) f (as_of_tokens m)
-filter_says None m h = refl
-filter_says (Some f) m h = (value_token f.value, refl, h.0, value_says f.value h.1)
+filter_says : (f : Option Filter) (ts : List Token) → FitsFilter f → SayFilter in_range (filter_tokens f ++ ts) f ts
+filter_says None ts h = refl
+filter_says (Some f) ts h = (value_token f.value, refl, h.0, value_says f.value h.1)
 
 algorithm_says : (a : LineAlgorithm) → FitsAlgorithm a → SayAlgorithm in_range (algorithm_tokens a) a
 algorithm_says algorithms.Mono h = refl
 algorithm_says algorithms.Tiled h = refl
 algorithm_says (algorithms.TiledExactly n) h = (decimal n, refl, number_says 1 1024 n (omega arith) h.0 h.1)
 algorithm_says algorithms.A3d h = refl
+
+only_filter_says : (f : Option Filter) → FitsFilter f → SayFilter in_range (filter_tokens f) f []
+only_filter_says f h = subst (λ (ts : List Token). SayFilter in_range ts f []) (append-nil (filter_tokens f)) (filter_says f [] h)
 
 -- ---- statements and drill lines
 
@@ -77,8 +81,10 @@ stmt_says (stmts.Insert t r) h = (map value_token r, refl, h.0, values_say r h.1
 stmt_says (stmts.Update t r) h = (map value_token r, refl, h.0, values_say r h.1.1, h.1.0)
 stmt_says (stmts.Delete t k) h = (value_token k, refl, h.0, value_says k h.1)
 stmt_says (stmts.Get t k m) h = (value_token k, as_of_tokens m, refl, h.0, value_says k h.1, as_of_says m h.2)
-stmt_says (stmts.Scan t f m) h = (filter_tokens f ++ as_of_tokens m, as_of_tokens m, refl, h.0, filter_says f m h.1, as_of_says m h.2)
+stmt_says (stmts.Scan t f m) h = (filter_tokens f ++ as_of_tokens m, as_of_tokens m, refl, h.0, filter_says f (as_of_tokens m) h.1, as_of_says m h.2)
 stmt_says (stmts.History t k) h = (value_token k, refl, h.0, value_says k h.1)
+stmt_says (stmts.OverSelect from to t f) h = (decimal from, decimal to, filter_tokens f, refl, moment_says from h.0, moment_says to h.1, h.2, only_filter_says f h.3)
+stmt_says (stmts.OverJoin from to l r a b) h = (decimal from, decimal to, refl, moment_says from h.0, moment_says to h.1, h.2, h.3, h.4, h.5)
 stmt_says stmts.Begin h = refl
 stmt_says stmts.Commit h = refl
 stmt_says stmts.Abort h = refl

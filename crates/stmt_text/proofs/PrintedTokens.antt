@@ -1,5 +1,5 @@
 -- The tokens of a printed line are those that it was printed from.
-use Rattle.std.proofs.Common.{◌≡◌, ℕ, zero, suc, ◌/◌, ◌%◌, ◌<◌, ◌≤◌, ◌^◌, Bool, true, false, cond, eqb, not, ◌&&◌, List, [], ◌∷◌, ◌++◌, map, Option, Some, None, refl, sym, ap, ◌∙◌, arith, ℤ, pos, negsuc, decimal, get_or}
+use Rattle.std.proofs.Common.{◌≡◌, ℕ, zero, suc, ◌/◌, ◌%◌, ◌<◌, ◌≤◌, ◌^◌, Bool, true, false, cond, eqb, not, ◌&&◌, List, [], ◌∷◌, ◌++◌, map, Option, Some, None, refl, sym, ap, subst, ◌∙◌, arith, ℤ, pos, negsuc, decimal, get_or, append-nil}
 use Rattle.std.specs.Prelude.{codes}
 use Rattle.std.specs.Fmt.{signed_decimal}
 use Rattle.std.specs.List.{list_all, flat_map, filter, AllByRecursion}
@@ -242,6 +242,9 @@ algorithm_printed algorithms.Tiled h = (printed (codes "tiled") refl refl, tt)
 algorithm_printed (algorithms.TiledExactly k) h = (printed (codes "tiled") refl refl, (decimal_printed k (omega arith), tt))
 algorithm_printed algorithms.A3d h = (printed (codes "a3d") refl refl, tt)
 
+only_filter_printed : (f : Option Filter) → FitsFilter f → AllPrinted (filter_tokens f)
+only_filter_printed f h = subst AllPrinted (append-nil (filter_tokens f)) (filter_printed f [] h tt)
+
 -- a first word
 pub word_printed : (k : Keyword) → IsPrinted (keyword_token k)
 word_printed words.Create = printed (codes "create") refl refl
@@ -251,6 +254,7 @@ word_printed words.Delete = printed (codes "delete") refl refl
 word_printed words.Get = printed (codes "get") refl refl
 word_printed words.Scan = printed (codes "scan") refl refl
 word_printed words.History = printed (codes "history") refl refl
+word_printed words.Over = printed (codes "over") refl refl
 word_printed words.Begin = printed (codes "begin") refl refl
 word_printed words.Commit = printed (codes "commit") refl refl
 word_printed words.Abort = printed (codes "abort") refl refl
@@ -271,6 +275,10 @@ stmt_printed (stmts.Delete t k) h = (name_printed t h.0, (value_printed k h.1, t
 stmt_printed (stmts.Get t k m) h = (name_printed t h.0, (value_printed k h.1, as_of_printed m h.2))
 stmt_printed (stmts.Scan t f m) h = (name_printed t h.0, filter_printed f (as_of_tokens m) h.1 (as_of_printed m h.2))
 stmt_printed (stmts.History t k) h = (name_printed t h.0, (value_printed k h.1, tt))
+stmt_printed (stmts.OverSelect from to t f) h =
+    (decimal_printed from (omega arith), (printed (codes "to") refl refl, (decimal_printed to (omega arith), (printed (codes "select") refl refl, (name_printed t h.2, only_filter_printed f h.3)))))
+stmt_printed (stmts.OverJoin from to l r a b) h =
+    (decimal_printed from (omega arith), (printed (codes "to") refl refl, (decimal_printed to (omega arith), (printed (codes "join") refl refl, (name_printed l h.2, (name_printed r h.3, (printed (codes "on") refl refl, (name_printed a h.4, (name_printed b h.5, tt)))))))))
 stmt_printed stmts.Begin h = tt
 stmt_printed stmts.Commit h = tt
 stmt_printed stmts.Abort h = tt

@@ -25,9 +25,9 @@ use Rattle.stmt_text.specs.Numbers.{number, any_width, in_range, kept}
 use Rattle.stmt_text.specs.Values.{value, nearest_value, value_in_range}
 use Rattle.stmt_text.specs.Words.{keyword, compare, algorithm_word}
 use Rattle.stmt_text.specs.Keywords.{is_table_word, is_session_word, is_drill_word}
-use Rattle.stmt_text.specs.Parts.{kept_value, moment, kappa, value_in, name, front, ended, only, each, after_word, as_of}
+use Rattle.stmt_text.specs.Parts.{kept_value, moment, kappa, value_in, name, front, ended, only, each, after_word, behind_word, as_of}
 use Rattle.stmt_text.specs.Rows.{is_row, row}
-use Rattle.stmt_text.specs.Statements.{insert, update, delete, get, history, filter_of, filter_at, unfiltered, filtered, scan, exactly, algorithm, stmt_by}
+use Rattle.stmt_text.specs.Statements.{insert, update, delete, get, history, filter_of, filter_at, unfiltered, filtered, scan, span, only_filter, over_select, over_join, over_by, over, exactly, algorithm, stmt_by}
 use Rattle.stmt_text.specs.Events.{event_by}
 use Rattle.stmt_text.specs.Lines.{plain_by, plain, session, session_by, in_session, said_by, said, is_blank, max_line, content_line, line_by, without_return}
 use Rattle.stmt_text.proofs.Choices.{both, bind_some, if_some}
@@ -247,6 +247,43 @@ algorithm_keeps ts a e = by (only algorithm_word ts) e
     by (Some x) f = f
     by None f = map_keeps exactly _ _ a (after_keeps (codes "tiled") (only (kappa in_range)) (only (kappa any_width)) (only_keeps (kappa in_range) (kappa any_width) kappa_keeps) ts) f
 
+only_filter_keeps : (ts : List Token) (f : Option Filter) → only_filter in_range ts ≡ Some f → only_filter any_width ts ≡ Some f
+unfolding only_filter
+only_filter_keeps [] f e = e
+only_filter_keeps (token ∷ ts) f e =
+    let t = bind_some (filter_at in_range (token ∷ ts)) (λ filter. ended filter.1 >>= λ none. Some (Some filter.0)) f e in
+    rw (filter_keeps (token ∷ ts) t.0 t.1) t.2
+
+span_keeps : (ts : List Token) (x : (ℕ × ℕ) × List Token) → span in_range ts ≡ Some x → span any_width ts ≡ Some x
+unfolding span
+span_keeps ts x e =
+    let t = bind_some (front (moment in_range) ts) (λ from. behind_word (codes "to") from.1 >>= λ rest. front (moment in_range) rest >>= λ to. Some ((from.0, to.0), to.1)) x e in
+    let u = bind_some (behind_word (codes "to") t.0.1) (λ rest. front (moment in_range) rest >>= λ to. Some ((t.0.0, to.0), to.1)) x t.2 in
+    let w = bind_some (front (moment in_range) u.0) (λ to. Some ((t.0.0, to.0), to.1)) x u.2 in
+    rw (front_keeps (moment in_range) (moment any_width) moment_keeps ts t.0 t.1, u.1, front_keeps (moment in_range) (moment any_width) moment_keeps u.0 w.0 w.1) w.2
+
+over_select_keeps : (moments : ℕ × ℕ) (ts : List Token) (s : Stmt) → over_select in_range moments ts ≡ Some s → over_select any_width moments ts ≡ Some s
+unfolding over_select
+over_select_keeps moments ts s e =
+    let t = bind_some (front name ts) (λ table. only_filter in_range table.1 >>= λ filter. Some (stmts.OverSelect moments.0 moments.1 table.0 filter)) s e in
+    let u = bind_some (only_filter in_range t.0.1) (λ filter. Some (stmts.OverSelect moments.0 moments.1 t.0.0 filter)) s t.2 in
+    rw (t.1, only_filter_keeps t.0.1 u.0 u.1) u.2
+
+over_by_keeps : (moments : ℕ × ℕ) (ts : List Token) (s : Stmt) → over_by in_range moments ts ≡ Some s → over_by any_width moments ts ≡ Some s
+unfolding over_by
+over_by_keeps moments [] s e = e
+over_by_keeps moments (token ∷ ts) s e = by (bytes_eq token (codes "select")) (cond (bytes_eq token (codes "join")) (over_join moments ts) None) e
+  where
+    by : (b : Bool) (other : Option Stmt) → cond b (over_select in_range moments ts) other ≡ Some s → cond b (over_select any_width moments ts) other ≡ Some s
+    by true other f = over_select_keeps moments ts s f
+    by false other f = f
+
+over_keeps : (ts : List Token) (s : Stmt) → over in_range ts ≡ Some s → over any_width ts ≡ Some s
+unfolding over
+over_keeps ts s e =
+    let t = bind_some (span in_range ts) (λ moments. over_by in_range moments.0 moments.1) s e in
+    rw (span_keeps ts t.0 t.1) (over_by_keeps t.0.0 t.0.1 s t.2)
+
 stmt_keeps : (k : Keyword) (ts : List Token) (s : Stmt) → stmt_by in_range k ts ≡ Some s → stmt_by any_width k ts ≡ Some s
 unfolding stmt_by
 stmt_keeps words.Create ts s e = e
@@ -256,6 +293,7 @@ stmt_keeps words.Delete ts s e = delete_keeps ts s e
 stmt_keeps words.Get ts s e = get_keeps ts s e
 stmt_keeps words.Scan ts s e = scan_keeps ts s e
 stmt_keeps words.History ts s e = history_keeps ts s e
+stmt_keeps words.Over ts s e = over_keeps ts s e
 stmt_keeps words.Begin ts s e = e
 stmt_keeps words.Commit ts s e = e
 stmt_keeps words.Abort ts s e = e

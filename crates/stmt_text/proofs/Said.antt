@@ -26,9 +26,9 @@ use Rattle.stmt_text.specs.Numbers.{max_u64}
 use Rattle.stmt_text.specs.Values.{blob_of_digits}
 use Rattle.stmt_text.specs.Words.{algorithm_word}
 use Rattle.stmt_text.specs.Keywords.{stmt_keyword, event_keyword}
-use Rattle.stmt_text.specs.Parts.{moment, kappa, value_in, name, front, only, each, after_word, as_of}
+use Rattle.stmt_text.specs.Parts.{moment, kappa, value_in, name, front, only, each, after_word, behind_word, two_names, as_of}
 use Rattle.stmt_text.specs.Rows.{is_row, are_columns, row, column, each_column, columns}
-use Rattle.stmt_text.specs.Statements.{create, insert, update, delete, get, history, filter_at, unfiltered, filtered, scan, algorithm, alone, stmt_by}
+use Rattle.stmt_text.specs.Statements.{create, insert, update, delete, get, history, filter_at, unfiltered, filtered, scan, span, only_filter, over_select, over_join, over_by, over, algorithm, alone, stmt_by}
 use Rattle.stmt_text.specs.Events.{altering, init, crash, alter, cut, event_by}
 use Rattle.stmt_text.specs.Lines.{max_line, session, plain_by, plain, session_by, in_session, said, content_line, line_by, without_return}
 use Rattle.stmt_text.specs.Printing.{compare_token}
@@ -127,8 +127,13 @@ scan_said : (numbers : Numbers) (table : List ℕ) (ts more : List Token) (f : O
 scan_said numbers table ts more None m h a = rw (h, unfiltered_said numbers table more m a) refl
 scan_said numbers table ts more (Some f) m h a = rw (h.1, not_as_of numbers table f.column f.compare (h.0 ∷ more)) (filtered_said numbers table f h.0 more m h.2 h.3 a)
 
+only_filter_said : (numbers : Numbers) (ts : List Token) (f : Option Filter) → SayFilter numbers ts f [] → only_filter numbers ts ≡ Some f
+unfolding only_filter filter_at front
+only_filter_said numbers ts None h = rw h refl
+only_filter_said numbers ts (Some f) h = rw (h.1, name_said f.column h.2, compare_back f.compare, value_said numbers h.0 f.value h.3) refl
+
 pub stmt_said : (numbers : Numbers) (ts : List Token) (s : Stmt) → SayStmt numbers ts s → stmt_by numbers (stmt_keyword s) ts ≡ Some s
-unfolding stmt_by create insert update delete get history scan alone only front
+unfolding stmt_by create insert update delete get history scan over span over_by over_select over_join behind_word two_names alone only front
 stmt_said numbers ts (stmts.Create t c) h = rw (h.1, name_said t h.2, create_said h.0 c h.3 h.4) refl
 stmt_said numbers ts (stmts.Insert t r) h = rw (h.1, name_said t h.2, row_said numbers h.0 r h.3 h.4) refl
 stmt_said numbers ts (stmts.Update t r) h = rw (h.1, name_said t h.2, row_said numbers h.0 r h.3 h.4) refl
@@ -136,6 +141,10 @@ stmt_said numbers ts (stmts.Delete t k) h = rw (h.1, name_said t h.2, value_said
 stmt_said numbers ts (stmts.Get t k m) h = rw (h.2, name_said t h.3, value_said numbers h.0 k h.4, as_of_said numbers h.1 m h.5) refl
 stmt_said numbers ts (stmts.Scan t f m) h = rw (h.2, name_said t h.3) (scan_said numbers t h.0 h.1 f m h.4 h.5)
 stmt_said numbers ts (stmts.History t k) h = rw (h.1, name_said t h.2, value_said numbers h.0 k h.3) refl
+stmt_said numbers ts (stmts.OverSelect from to t f) h =
+    rw (h.3, moment_said numbers h.0 from h.4, moment_said numbers h.1 to h.5, name_said t h.6, only_filter_said numbers h.2 f h.7) refl
+stmt_said numbers ts (stmts.OverJoin from to l r a b) h =
+    rw (h.2, moment_said numbers h.0 from h.3, moment_said numbers h.1 to h.4, name_said l h.5, name_said r h.6, name_said a h.7, name_said b h.8) refl
 stmt_said numbers ts stmts.Begin h = rw h refl
 stmt_said numbers ts stmts.Commit h = rw h refl
 stmt_said numbers ts stmts.Abort h = rw h refl

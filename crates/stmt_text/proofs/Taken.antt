@@ -1,5 +1,5 @@
 -- What is read is said.
-use Rattle.std.proofs.Common.{◌≡◌, ℕ, ◌≤◌, true, ◌&&◌, List, [], ◌∷◌, Option, Some, None, option_map, refl, sym, ap, subst, ◌∙◌}
+use Rattle.std.proofs.Common.{◌≡◌, ℕ, ◌≤◌, Bool, true, false, cond, ◌&&◌, List, [], ◌∷◌, Option, Some, None, option_map, refl, sym, ap, subst, ◌∙◌}
 use Rattle.std.specs.Prelude.{codes, min, nat_le}
 use Rattle.std.specs.Str.{bytes_eq}
 use Rattle.std.proofs.lemmas.Bool.{leb-true}
@@ -24,9 +24,9 @@ use Rattle.stmt_text.specs.Numbers.{number, any_width, in_range, kept}
 use Rattle.stmt_text.specs.Values.{SaysValue, value, nearest_value, value_in_range}
 use Rattle.stmt_text.specs.Words.{compare, kind, algorithm_word}
 use Rattle.stmt_text.specs.Keywords.{stmt_keyword}
-use Rattle.stmt_text.specs.Parts.{kept_value, moment, kappa, value_in, name, front, ended, only, each, after_word, as_of}
+use Rattle.stmt_text.specs.Parts.{kept_value, moment, kappa, value_in, name, front, ended, only, each, after_word, behind_word, two_names, as_of}
 use Rattle.stmt_text.specs.Rows.{is_row, are_columns, column_of, row, column, each_column, columns}
-use Rattle.stmt_text.specs.Statements.{create, insert, update, delete, get, history, filter_of, filter_at, unfiltered, filtered, scan, exactly, algorithm, alone, stmt_by}
+use Rattle.stmt_text.specs.Statements.{create, insert, update, delete, get, history, filter_of, filter_at, unfiltered, filtered, scan, span, only_filter, over_select, over_join, over_by, over, exactly, algorithm, alone, stmt_by}
 use Rattle.stmt_text.specs.Printing.{kind_token, compare_token}
 use Rattle.stmt_text.specs.Fits.{FitsName}
 use Rattle.stmt_text.specs.Grammar.{Says, SaysNumber, SayValues, SayColumns, SayAsOf, SayAlgorithm, SayFilter, SayStmt}
@@ -119,6 +119,26 @@ as_of_takes numbers (token ∷ ts) m e =
     let b = word_takes (codes "of") (only (moment numbers)) a.0 k a.2 in
     let c = only_takes (moment numbers) b.0 k b.2 in
     (c.0, a.1 ∙ ap (λ (y : List Token). codes "as" ∷ y) (b.1 ∙ ap (λ (y : List Token). codes "of" ∷ y) c.1), moment_read numbers c.0 k c.2)) e
+
+behind_word_takes : (text : List ℕ) (ts rest : List Token) → behind_word text ts ≡ Some rest → ts ≡ text ∷ rest
+unfolding behind_word
+behind_word_takes text [] rest e = absurd cc
+behind_word_takes text (token ∷ ts) rest e =
+    let t = if_some (bytes_eq token text) (Some ts) rest e in
+    ap (λ (y : Token). y ∷ ts) (same_text token text t.0) ∙ ap (λ (y : List Token). text ∷ y) (same_Some ts rest t.1)
+
+abbrev AreNamed : List Token → (List ℕ × List ℕ) × List Token → Type 0
+AreNamed ts x = (ts ≡ x.0.0 ∷ x.0.1 ∷ x.1) × FitsName x.0.0 × FitsName x.0.1
+
+two_take : (ts : List Token) (x : (List ℕ × List ℕ) × List Token) → two_names ts ≡ Some x → AreNamed ts x
+unfolding two_names
+two_take ts x e =
+    let t = bind_some (front name ts) (λ one. front name one.1 >>= λ two. Some ((one.0, two.0), two.1)) x e in
+    let u = bind_some (front name t.0.1) (λ two. Some ((t.0.0, two.0), two.1)) x t.2 in
+    let m = named ts t.0 t.1 in
+    let n = named t.0.1 u.0 u.1 in
+    let found : (List ℕ × List ℕ) × List Token = ((t.0.0, u.0.0), u.0.1) in
+    subst (AreNamed ts) (same_Some found x u.2) (m.0 ∙ ap (λ (y : List Token). t.0.0 ∷ y) n.0, m.1, n.1)
 
 each_takes : (numbers : Numbers) (ts : List Token) (vs : List Value) → each (value_in numbers) ts ≡ Some vs → SayValues numbers ts vs
 unfolding each
@@ -275,6 +295,82 @@ scan_takes numbers ts s e =
     subst (IsSaid numbers words.Scan ts) (same_Some (stmts.Scan t.0.0 (Some u.0.0) w.0) s w.2) (refl, (t.0.1, u.0.1, n.0, n.1, filter_takes numbers t.0.1 u.0 u.1, as_of_takes numbers u.0.1 w.0 w.1)))
     t.2
 
+only_filter_takes : (numbers : Numbers) (ts : List Token) (f : Option Filter) → only_filter numbers ts ≡ Some f → SayFilter numbers ts f []
+unfolding only_filter
+only_filter_takes numbers [] f e =
+    let none : Option Filter = None in
+    subst (λ (y : Option Filter). SayFilter numbers [] y []) (same_Some none f e) refl
+only_filter_takes numbers (token ∷ ts) f e =
+    let t = bind_some (filter_at numbers (token ∷ ts)) (λ filter. ended filter.1 >>= λ none. Some (Some filter.0)) f e in
+    let u = bind_some (ended t.0.1) (λ none. Some (Some t.0.0)) f t.2 in
+    let some : Option Filter = Some t.0.0 in
+    let says = filter_takes numbers (token ∷ ts) t.0 t.1 in
+    subst (λ (y : Option Filter). SayFilter numbers (token ∷ ts) y []) (same_Some some f u.2)
+    (subst (λ (ys : List Token). SayFilter numbers (token ∷ ts) some ys) (ended_takes t.0.1 u.0 u.1) says)
+
+-- two moments with `to` between them, and what is behind them
+abbrev IsSpan : Numbers → List Token → ℕ × ℕ → List Token → Type 0
+IsSpan numbers ts moments rest =
+    (a : Token) × (b : Token) × (ts ≡ a ∷ codes "to" ∷ b ∷ rest)
+    × SaysNumber numbers 0 max_moment a moments.0 × SaysNumber numbers 0 max_moment b moments.1
+
+span_takes : (numbers : Numbers) (ts : List Token) (x : (ℕ × ℕ) × List Token) → span numbers ts ≡ Some x → IsSpan numbers ts x.0 x.1
+unfolding span
+span_takes numbers ts x e =
+    let t = bind_some (front (moment numbers) ts) (λ from. behind_word (codes "to") from.1 >>= λ rest. front (moment numbers) rest >>= λ to. Some ((from.0, to.0), to.1)) x e in
+    let u = bind_some (behind_word (codes "to") t.0.1) (λ rest. front (moment numbers) rest >>= λ to. Some ((t.0.0, to.0), to.1)) x t.2 in
+    let w = bind_some (front (moment numbers) u.0) (λ to. Some ((t.0.0, to.0), to.1)) x u.2 in
+    let f = front_takes (moment numbers) ts t.0 t.1 in
+    let g = front_takes (moment numbers) u.0 w.0 w.1 in
+    let word = behind_word_takes (codes "to") t.0.1 u.0 u.1 in
+    let parts : ts ≡ f.0 ∷ codes "to" ∷ g.0 ∷ w.0.1 = f.1 ∙ ap (λ (y : List Token). f.0 ∷ y) (word ∙ ap (λ (y : List Token). codes "to" ∷ y) g.1) in
+    let found : (ℕ × ℕ) × List Token = ((t.0.0, w.0.0), w.0.1) in
+    subst (λ (y : (ℕ × ℕ) × List Token). IsSpan numbers ts y.0 y.1) (same_Some found x w.2) (f.0, g.0, parts, moment_read numbers f.0 t.0.0 f.2, moment_read numbers g.0 w.0.0 g.2)
+
+over_select_takes : (numbers : Numbers) (ts : List Token) (moments : ℕ × ℕ) (token : Token) (rest : List Token) (s : Stmt) → IsSpan numbers ts moments (token ∷ rest) → token ≡ codes "select" → over_select numbers moments rest ≡ Some s → IsSaid numbers words.Over ts s
+unfolding over_select
+over_select_takes numbers ts moments token rest s h word e =
+    let t = bind_some (front name rest) (λ table. only_filter numbers table.1 >>= λ filter. Some (stmts.OverSelect moments.0 moments.1 table.0 filter)) s e in
+    let u = bind_some (only_filter numbers t.0.1) (λ filter. Some (stmts.OverSelect moments.0 moments.1 t.0.0 filter)) s t.2 in
+    let n = named rest t.0 t.1 in
+    let parts : ts ≡ h.0 ∷ codes "to" ∷ h.1 ∷ codes "select" ∷ t.0.0 ∷ t.0.1 =
+    h.2 ∙ ap (λ (y : Token). h.0 ∷ codes "to" ∷ h.1 ∷ y ∷ rest) word ∙ ap (λ (y : List Token). h.0 ∷ codes "to" ∷ h.1 ∷ codes "select" ∷ y) n.0
+    in
+    subst (IsSaid numbers words.Over ts) (same_Some (stmts.OverSelect moments.0 moments.1 t.0.0 u.0) s u.2) (refl, (h.0, h.1, t.0.1, parts, h.3, h.4, n.1, only_filter_takes numbers t.0.1 u.0 u.1))
+
+over_join_takes : (numbers : Numbers) (ts : List Token) (moments : ℕ × ℕ) (token : Token) (rest : List Token) (s : Stmt) → IsSpan numbers ts moments (token ∷ rest) → token ≡ codes "join" → over_join moments rest ≡ Some s → IsSaid numbers words.Over ts s
+unfolding over_join
+over_join_takes numbers ts moments token rest s h word e =
+    let t = bind_some (two_names rest) (λ tables. behind_word (codes "on") tables.1 >>= λ more. two_names more >>= λ columns. ended columns.1 >>= λ none. Some (stmts.OverJoin moments.0 moments.1 tables.0.0 tables.0.1 columns.0.0 columns.0.1)) s e in
+    let u = bind_some (behind_word (codes "on") t.0.1) (λ more. two_names more >>= λ columns. ended columns.1 >>= λ none. Some (stmts.OverJoin moments.0 moments.1 t.0.0.0 t.0.0.1 columns.0.0 columns.0.1)) s t.2 in
+    let v = bind_some (two_names u.0) (λ columns. ended columns.1 >>= λ none. Some (stmts.OverJoin moments.0 moments.1 t.0.0.0 t.0.0.1 columns.0.0 columns.0.1)) s u.2 in
+    let w = bind_some (ended v.0.1) (λ none. Some (stmts.OverJoin moments.0 moments.1 t.0.0.0 t.0.0.1 v.0.0.0 v.0.0.1)) s v.2 in
+    let m = two_take rest t.0 t.1 in
+    let n = two_take u.0 v.0 v.1 in
+    let columns : u.0 ≡ v.0.0.0 ∷ v.0.0.1 ∷ [] = n.0 ∙ ap (λ (y : List Token). v.0.0.0 ∷ v.0.0.1 ∷ y) (ended_takes v.0.1 w.0 w.1) in
+    let behind_on : t.0.1 ≡ codes "on" ∷ v.0.0.0 ∷ v.0.0.1 ∷ [] = behind_word_takes (codes "on") t.0.1 u.0 u.1 ∙ ap (λ (y : List Token). codes "on" ∷ y) columns in
+    let tables : rest ≡ t.0.0.0 ∷ t.0.0.1 ∷ codes "on" ∷ v.0.0.0 ∷ v.0.0.1 ∷ [] = m.0 ∙ ap (λ (y : List Token). t.0.0.0 ∷ t.0.0.1 ∷ y) behind_on in
+    let parts : ts ≡ h.0 ∷ codes "to" ∷ h.1 ∷ codes "join" ∷ t.0.0.0 ∷ t.0.0.1 ∷ codes "on" ∷ v.0.0.0 ∷ v.0.0.1 ∷ [] =
+    h.2 ∙ ap (λ (y : Token). h.0 ∷ codes "to" ∷ h.1 ∷ y ∷ rest) word ∙ ap (λ (y : List Token). h.0 ∷ codes "to" ∷ h.1 ∷ codes "join" ∷ y) tables
+    in
+    subst (IsSaid numbers words.Over ts) (same_Some (stmts.OverJoin moments.0 moments.1 t.0.0.0 t.0.0.1 v.0.0.0 v.0.0.1) s w.2) (refl, (h.0, h.1, parts, h.3, h.4, m.1, m.2, n.1, n.2))
+
+over_by_takes : (numbers : Numbers) (ts : List Token) (moments : ℕ × ℕ) (rest : List Token) (s : Stmt) → IsSpan numbers ts moments rest → over_by numbers moments rest ≡ Some s → IsSaid numbers words.Over ts s
+unfolding over_by
+over_by_takes numbers ts moments [] s h e = absurd cc
+over_by_takes numbers ts moments (token ∷ rest) s h e = by (bytes_eq token (codes "select")) (bytes_eq token (codes "join")) refl refl e
+  where
+    by : (a b : Bool) → bytes_eq token (codes "select") ≡ a → bytes_eq token (codes "join") ≡ b → cond a (over_select numbers moments rest) (cond b (over_join moments rest) None) ≡ Some s → IsSaid numbers words.Over ts s
+    by true b is other f = over_select_takes numbers ts moments token rest s h (same_text token (codes "select") is) f
+    by false true other is f = over_join_takes numbers ts moments token rest s h (same_text token (codes "join") is) f
+    by false false other none f = absurd cc
+
+over_takes : (numbers : Numbers) (ts : List Token) (s : Stmt) → over numbers ts ≡ Some s → IsSaid numbers words.Over ts s
+unfolding over
+over_takes numbers ts s e =
+    let t = bind_some (span numbers ts) (λ moments. over_by numbers moments.0 moments.1) s e in
+    over_by_takes numbers ts t.0.0 t.0.1 s (span_takes numbers ts t.0 t.1) t.2
+
 alone_takes : (numbers : Numbers) (k : Keyword) (stmt : Stmt) (ts : List Token) (s : Stmt) → k ≡ stmt_keyword stmt → (ts ≡ [] → SayStmt numbers ts stmt) → alone stmt ts ≡ Some s → IsSaid numbers k ts s
 unfolding alone
 alone_takes numbers k stmt ts s same says e =
@@ -296,6 +392,7 @@ stmt_takes numbers words.Delete ts s e = delete_takes numbers ts s e
 stmt_takes numbers words.Get ts s e = get_takes numbers ts s e
 stmt_takes numbers words.Scan ts s e = scan_takes numbers ts s e
 stmt_takes numbers words.History ts s e = history_takes numbers ts s e
+stmt_takes numbers words.Over ts s e = over_takes numbers ts s e
 stmt_takes numbers words.Begin ts s e = alone_takes numbers words.Begin stmts.Begin ts s refl (λ h. h) e
 stmt_takes numbers words.Commit ts s e = alone_takes numbers words.Commit stmts.Commit ts s refl (λ h. h) e
 stmt_takes numbers words.Abort ts s e = alone_takes numbers words.Abort stmts.Abort ts s refl (λ h. h) e

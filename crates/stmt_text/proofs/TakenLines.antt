@@ -126,6 +126,7 @@ event_takes words.Delete ts e h = absurd cc
 event_takes words.Get ts e h = absurd cc
 event_takes words.Scan ts e h = absurd cc
 event_takes words.History ts e h = absurd cc
+event_takes words.Over ts e h = absurd cc
 event_takes words.Begin ts e h = absurd cc
 event_takes words.Commit ts e h = absurd cc
 event_takes words.Abort ts e h = absurd cc

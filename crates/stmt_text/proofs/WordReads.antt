@@ -32,6 +32,7 @@ keyword_back words.Delete = refl
 keyword_back words.Get = refl
 keyword_back words.Scan = refl
 keyword_back words.History = refl
+keyword_back words.Over = refl
 keyword_back words.Begin = refl
 keyword_back words.Commit = refl
 keyword_back words.Abort = refl
@@ -80,7 +81,8 @@ table_takes token k e =
     (says_if (bytes_eq token (codes "delete")) words.Delete k _ P (same_text token (codes "delete"))
     (says_if (bytes_eq token (codes "get")) words.Get k _ P (same_text token (codes "get"))
     (says_if (bytes_eq token (codes "scan")) words.Scan k _ P (same_text token (codes "scan"))
-    (says_if (bytes_eq token (codes "history")) words.History k _ P (same_text token (codes "history")) (λ f. absurd cc)))))))
+    (says_if (bytes_eq token (codes "history")) words.History k _ P (same_text token (codes "history"))
+    (says_if (bytes_eq token (codes "over")) words.Over k _ P (same_text token (codes "over")) (λ f. absurd cc))))))))
     e
 
 other_takes : (token : Token) (k : Keyword) → other_keyword token ≡ Some k → token ≡ keyword_token k
@@ -156,6 +158,7 @@ word_not_blank words.Delete rest = refl
 word_not_blank words.Get rest = refl
 word_not_blank words.Scan rest = refl
 word_not_blank words.History rest = refl
+word_not_blank words.Over rest = refl
 word_not_blank words.Begin rest = refl
 word_not_blank words.Commit rest = refl
 word_not_blank words.Abort rest = refl
@@ -177,6 +180,7 @@ no_session words.Delete = refl
 no_session words.Get = refl
 no_session words.Scan = refl
 no_session words.History = refl
+no_session words.Over = refl
 no_session words.Begin = refl
 no_session words.Commit = refl
 no_session words.Abort = refl
@@ -197,6 +201,8 @@ no_drill (stmts.Delete t k) = refl
 no_drill (stmts.Get t k m) = refl
 no_drill (stmts.Scan t f m) = refl
 no_drill (stmts.History t k) = refl
+no_drill (stmts.OverSelect from to t f) = refl
+no_drill (stmts.OverJoin from to l r a b) = refl
 no_drill stmts.Begin = refl
 no_drill stmts.Commit = refl
 no_drill stmts.Abort = refl

@@ -66,6 +66,9 @@ FitsStmt (stmts.Delete t k) = FitsName t × FitsValue k
 FitsStmt (stmts.Get t k m) = FitsName t × FitsValue k × FitsMoment m
 FitsStmt (stmts.Scan t f m) = FitsName t × FitsFilter f × FitsMoment m
 FitsStmt (stmts.History t k) = FitsName t × FitsValue k
+FitsStmt (stmts.OverSelect from to t f) = (from ≤ max_moment) × (to ≤ max_moment) × FitsName t × FitsFilter f
+FitsStmt (stmts.OverJoin from to l r a b) =
+    (from ≤ max_moment) × (to ≤ max_moment) × FitsName l × FitsName r × FitsName a × FitsName b
 FitsStmt stmts.Begin = Unit {0}
 FitsStmt stmts.Commit = Unit {0}
 FitsStmt stmts.Abort = Unit {0}

@@ -95,6 +95,15 @@ SayStmt numbers ts (stmts.Scan table filter m) =
     × SayFilter numbers others filter more × SayAsOf numbers more m
 SayStmt numbers ts (stmts.History table key) =
     (token : Token) × (ts ≡ table ∷ token ∷ []) × FitsName table × Says numbers token key
+SayStmt numbers ts (stmts.OverSelect from to table filter) =
+    (a : Token) × (b : Token) × (others : List Token) × (ts ≡ a ∷ codes "to" ∷ b ∷ codes "select" ∷ table ∷ others)
+    × SaysNumber numbers 0 max_moment a from × SaysNumber numbers 0 max_moment b to
+    × FitsName table × SayFilter numbers others filter []
+SayStmt numbers ts (stmts.OverJoin from to left right left_column right_column) =
+    (a : Token) × (b : Token)
+    × (ts ≡ a ∷ codes "to" ∷ b ∷ codes "join" ∷ left ∷ right ∷ codes "on" ∷ left_column ∷ right_column ∷ [])
+    × SaysNumber numbers 0 max_moment a from × SaysNumber numbers 0 max_moment b to
+    × FitsName left × FitsName right × FitsName left_column × FitsName right_column
 SayStmt numbers ts stmts.Begin = ts ≡ []
 SayStmt numbers ts stmts.Commit = ts ≡ []
 SayStmt numbers ts stmts.Abort = ts ≡ []

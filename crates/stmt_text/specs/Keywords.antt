@@ -17,6 +17,7 @@ keyword_token words.Delete = codes "delete"
 keyword_token words.Get = codes "get"
 keyword_token words.Scan = codes "scan"
 keyword_token words.History = codes "history"
+keyword_token words.Over = codes "over"
 keyword_token words.Begin = codes "begin"
 keyword_token words.Commit = codes "commit"
 keyword_token words.Abort = codes "abort"
@@ -38,6 +39,8 @@ stmt_keyword (stmts.Delete t k) = words.Delete
 stmt_keyword (stmts.Get t k m) = words.Get
 stmt_keyword (stmts.Scan t f m) = words.Scan
 stmt_keyword (stmts.History t k) = words.History
+stmt_keyword (stmts.OverSelect from to t f) = words.Over
+stmt_keyword (stmts.OverJoin from to l r a b) = words.Over
 stmt_keyword stmts.Begin = words.Begin
 stmt_keyword stmts.Commit = words.Commit
 stmt_keyword stmts.Abort = words.Abort
@@ -62,6 +65,7 @@ is_table_word words.Delete = true
 is_table_word words.Get = true
 is_table_word words.Scan = true
 is_table_word words.History = true
+is_table_word words.Over = true
 is_table_word k = false
 
 -- what only a session may say

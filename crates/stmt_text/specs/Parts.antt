@@ -70,6 +70,18 @@ unfoldable pub after_word : {A : Type 0} → List ℕ → (List Token → Option
 after_word text read [] = None
 after_word text read (token ∷ tokens) = if bytes_eq token text then read tokens else None
 
+-- what stands behind this word
+unfoldable pub behind_word : List ℕ → List Token → Option (List Token)
+behind_word text [] = None
+behind_word text (token ∷ tokens) = if bytes_eq token text then Some tokens else None
+
+-- two names, and the tokens after them
+unfoldable pub two_names : List Token → Option ((List ℕ × List ℕ) × List Token)
+two_names tokens = do
+  one ← front name tokens
+  two ← front name one.1
+  Some ((one.0, two.0), two.1)
+
 -- nothing, or `as of` and a moment
 unfoldable pub as_of : Numbers → List Token → Option (Option ℕ)
 as_of numbers [] = Some None

@@ -77,6 +77,10 @@ stmt_tokens (stmts.Delete table key) = table ∷ value_token key ∷ []
 stmt_tokens (stmts.Get table key m) = table ∷ value_token key ∷ as_of_tokens m
 stmt_tokens (stmts.Scan table filter m) = table ∷ (filter_tokens filter ++ as_of_tokens m)
 stmt_tokens (stmts.History table key) = table ∷ value_token key ∷ []
+stmt_tokens (stmts.OverSelect from to table filter) =
+    decimal from ∷ codes "to" ∷ decimal to ∷ codes "select" ∷ table ∷ filter_tokens filter
+stmt_tokens (stmts.OverJoin from to left right left_column right_column) =
+    decimal from ∷ codes "to" ∷ decimal to ∷ codes "join" ∷ left ∷ right ∷ codes "on" ∷ left_column ∷ right_column ∷ []
 stmt_tokens stmts.Begin = []
 stmt_tokens stmts.Commit = []
 stmt_tokens stmts.Abort = []

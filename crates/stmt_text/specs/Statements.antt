@@ -1,5 +1,6 @@
 -- What statements say, each read from what stands behind its first word.
-use Rattle.std.specs.Prelude.{ℕ, List, Option, Some, None, option_map, codes}
+use Rattle.std.specs.Prelude.{ℕ, if◌then◌else◌, List, [], ◌∷◌, Option, Some, None, option_map, codes}
+use Rattle.std.specs.Str.{bytes_eq}
 use Rattle.byte_grammar.specs.Reading.{◌>>=◌}
 use Rattle.tuple_bytes.specs.declared.value.Value.{Value}
 use Rattle.stmt_text.specs.declared.word.Keyword.{Keyword}
@@ -14,7 +15,7 @@ use Rattle.stmt_text.specs.declared.number.Numbers.{Numbers}
 use Rattle.stmt_text.specs.Options.{or_else}
 use Rattle.stmt_text.specs.Tokens.{Token}
 use Rattle.stmt_text.specs.Words.{compare, algorithm_word}
-use Rattle.stmt_text.specs.Parts.{moment, kappa, value_in, name, front, ended, only, after_word, as_of}
+use Rattle.stmt_text.specs.Parts.{moment, kappa, value_in, name, front, ended, only, after_word, behind_word, two_names, as_of}
 use Rattle.stmt_text.specs.Rows.{row, columns}
 
 -- ---- statements on tables
@@ -85,6 +86,52 @@ scan numbers tokens = do
   table ← front name tokens
   or_else (unfiltered numbers table.0 table.1) (filtered numbers table.0 table.1)
 
+-- ---- queries over a span
+
+-- two moments, with `to` between them
+unfoldable pub span : Numbers → List Token → Option ((ℕ × ℕ) × List Token)
+span numbers tokens = do
+  from ← front (moment numbers) tokens
+  rest ← behind_word (codes "to") from.1
+  to ← front (moment numbers) rest
+  Some ((from.0, to.0), to.1)
+
+-- nothing, or a filter and no more
+unfoldable pub only_filter : Numbers → List Token → Option (Option Filter)
+only_filter numbers [] = Some None
+only_filter numbers (token ∷ tokens) = do
+  filter ← filter_at numbers (token ∷ tokens)
+  none ← ended filter.1
+  Some (Some filter.0)
+
+unfoldable pub over_select : Numbers → ℕ × ℕ → List Token → Option Stmt
+over_select numbers moments tokens = do
+  table ← front name tokens
+  filter ← only_filter numbers table.1
+  Some (stmts.OverSelect moments.0 moments.1 table.0 filter)
+
+-- two tables, and a column of each
+unfoldable pub over_join : ℕ × ℕ → List Token → Option Stmt
+over_join moments tokens = do
+  tables ← two_names tokens
+  rest ← behind_word (codes "on") tables.1
+  columns ← two_names rest
+  none ← ended columns.1
+  Some (stmts.OverJoin moments.0 moments.1 tables.0.0 tables.0.1 columns.0.0 columns.0.1)
+
+-- what is asked over a span
+unfoldable pub over_by : Numbers → ℕ × ℕ → List Token → Option Stmt
+over_by numbers moments [] = None
+over_by numbers moments (token ∷ tokens) =
+    if bytes_eq token (codes "select") then over_select numbers moments tokens
+    else if bytes_eq token (codes "join") then over_join moments tokens
+    else None
+
+unfoldable pub over : Numbers → List Token → Option Stmt
+over numbers tokens = do
+  moments ← span numbers tokens
+  over_by numbers moments.0 moments.1
+
 -- ---- the other statements
 
 abbrev pub exactly : ℕ → LineAlgorithm
@@ -109,6 +156,7 @@ stmt_by numbers words.Delete tokens = delete numbers tokens
 stmt_by numbers words.Get tokens = get numbers tokens
 stmt_by numbers words.Scan tokens = scan numbers tokens
 stmt_by numbers words.History tokens = history numbers tokens
+stmt_by numbers words.Over tokens = over numbers tokens
 stmt_by numbers words.Begin tokens = alone stmts.Begin tokens
 stmt_by numbers words.Commit tokens = alone stmts.Commit tokens
 stmt_by numbers words.Abort tokens = alone stmts.Abort tokens

@@ -22,6 +22,7 @@ table_keyword token =
     else if bytes_eq token (codes "get") then Some words.Get
     else if bytes_eq token (codes "scan") then Some words.Scan
     else if bytes_eq token (codes "history") then Some words.History
+    else if bytes_eq token (codes "over") then Some words.Over
     else None
 
 -- those of the other statements

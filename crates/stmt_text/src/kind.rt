@@ -19,7 +19,7 @@ pub enum NotaryLine {
 /// The part of a store's world that answers a line.
 #[derive(Clone, Copy, Debug, PartialEq, Eq)]
 pub enum WorldPart {
-    /// Its tables: `create`, `insert`, `update`, `delete`, `get`, `scan` and `history`.
+    /// Its tables: `create`, `insert`, `update`, `delete`, `get`, `scan`, `history` and `over`.
     Tables,
     /// One of its sixteen sessions.
     Sessions,
@@ -59,7 +59,9 @@ impl Stmt {
             | Stmt::Delete { .. }
             | Stmt::Get { .. }
             | Stmt::Scan { .. }
-            | Stmt::History { .. } => LineKind::InWorld {
+            | Stmt::History { .. }
+            | Stmt::OverSelect { .. }
+            | Stmt::OverJoin { .. } => LineKind::InWorld {
                 part: WorldPart::Tables,
             },
             Stmt::Notarize => notary_line(NotaryLine::Notarize),

@@ -17,6 +17,8 @@
 //!           | "get" NAME VALUE ["as" "of" M]
 //!           | "scan" NAME [NAME COMPARE VALUE] ["as" "of" M]
 //!           | "history" NAME VALUE
+//!           | "over" M "to" M "select" NAME [NAME COMPARE VALUE]
+//!           | "over" M "to" M "join" NAME NAME "on" NAME NAME
 //! algorithm = "mono" | "tiled" | "tiled" KAPPA | "a3d"
 //! drill     = "init" ID WIDTH K ALGS | "crash" AFTER CHOICE | "alter" PLACE HEX | "cut" LENGTH
 //! KIND      = "int" | "text" | "bytes" | "bool"

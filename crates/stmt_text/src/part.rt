@@ -3,7 +3,7 @@
 
 ghost use Rattle.byte_grammar.specs.Reading.{Gives};
 ghost use Rattle.stmt_text.specs.Tokens.{tokens};
-ghost use Rattle.stmt_text.specs.Parts.{Read, moment, kappa, value_in, name, front, ended, only, as_of};
+ghost use Rattle.stmt_text.specs.Parts.{Read, moment, kappa, value_in, name, front, ended, only, behind_word, two_names, as_of};
 
 use crate::error::ReadFail;
 use crate::number::{Numbers, number_of};
@@ -116,6 +116,41 @@ pub fn only_kappa(numbers: Numbers, bytes: &[u8]) -> Option<u32>
         None => Some(kappa),
         Some(_) => None,
     }
+}
+
+/// The moment at the front.
+#[tactic(auto, unfolding(crate::specs::Parts::front))]
+pub fn moment_at(numbers: Numbers, bytes: &[u8]) -> Result<(u64, &[u8]), ReadFail>
+    ensures value { Read (λ x. (x.0, tokens x.1.now)) result (front (moment numbers) (tokens bytes.now)) }
+{
+    match next_token(bytes) {
+        Some((token, rest)) => match moment_of(numbers, token) {
+            Some(moment) => Ok((moment, rest)),
+            None => Err(ReadFail::Missing),
+        },
+        None => Err(ReadFail::Missing),
+    }
+}
+
+/// What stands behind this word.
+#[tactic(auto, unfolding(crate::specs::Parts::behind_word))]
+pub fn behind_word_at<'a>(bytes: &'a [u8], word: &[u8]) -> Result<&'a [u8], ReadFail>
+    ensures value { Read (λ x. tokens x.now) result (behind_word word.now (tokens bytes.now)) }
+{
+    match next_token(bytes) {
+        Some((token, rest)) if spells(token, word) => Ok(rest),
+        _ => Err(ReadFail::Missing),
+    }
+}
+
+/// The two names at the front.
+#[tactic(auto, unfolding(crate::specs::Parts::two_names))]
+pub fn two_names_at(alloc: Global, bytes: &[u8]) -> Result<((Word, Word), &[u8]), ReadFail>
+    ensures value { Read (λ x. (x.0, tokens x.1.now)) result (two_names (tokens bytes.now)) }
+{
+    let (one, rest) = name_at(alloc, bytes)?;
+    let (two, rest) = name_at(alloc, rest)?;
+    Ok(((one, two), rest))
 }
 
 /// Nothing, or `as of` and a moment.

@@ -44,6 +44,22 @@ pub enum Stmt {
         table: Word,
         key: Value,
     },
+    /// The rows at each moment from `from` up to and not with `to`.
+    OverSelect {
+        from: u64,
+        to: u64,
+        table: Word,
+        filter: Option<Filter>,
+    },
+    /// The pairs of rows at each such moment in which the two columns are equal.
+    OverJoin {
+        from: u64,
+        to: u64,
+        left: Word,
+        right: Word,
+        left_column: Word,
+        right_column: Word,
+    },
     Begin,
     Commit,
     Abort,

@@ -1,13 +1,13 @@
 //! Printing statements.
 
-ghost use Rattle.std.specs.Prelude.{◌≡◌, ◌++◌, ◌∷◌, [], OnOk};
+ghost use Rattle.std.specs.Prelude.{◌≡◌, ◌++◌, ◌∷◌, [], OnOk, codes, decimal};
 ghost use Rattle.std.specs.List.{flat_map};
 ghost use Rattle.stmt_text.specs.Printing.{kind_token, compare_token, column_tokens, as_of_tokens, filter_tokens, algorithm_tokens, stmt_word, stmt_tokens, spaced, stmt_text};
 
 use crate::stmt::{LineAlgorithm, Stmt};
 use crate::value_printing::{put_number, put_token, put_value, put_values};
 use std::alloc::{AllocError, Global};
-use tuple_bytes::{Column, Compare, Filter, Kind};
+use tuple_bytes::{Column, Compare, Filter, Kind, Word};
 
 fn put_kind(out: &mut Vec<u8>, kind: Kind) -> Result<(), AllocError>
     ensures ok { OnOk result (out.new.items ≡ out.old.items ++ spaced (kind_token kind ∷ [])) }
@@ -94,6 +94,42 @@ fn put_algorithm(
     Ok(())
 }
 
+/// The two moments of a span.
+fn put_span(alloc: Global, out: &mut Vec<u8>, from: u64, to: u64) -> Result<(), AllocError>
+    ensures ok { OnOk result (out.new.items ≡ out.old.items ++ spaced (decimal from ∷ codes "to" ∷ decimal to ∷ [])) }
+{
+    put_number(alloc, out, from)?;
+    put_token(out, b"to")?;
+    put_number(alloc, out, to)?;
+    Ok(())
+}
+
+fn put_two_names(out: &mut Vec<u8>, one: &Word, two: &Word) -> Result<(), AllocError>
+    ensures ok { OnOk result (out.new.items ≡ out.old.items ++ spaced (one.now ∷ two.now ∷ [])) }
+{
+    put_token(out, one.as_slice())?;
+    put_token(out, two.as_slice())?;
+    Ok(())
+}
+
+/// The two tables of a join, and a column of each.
+fn put_join(
+    out: &mut Vec<u8>,
+    left: &Word,
+    right: &Word,
+    left_column: &Word,
+    right_column: &Word,
+) -> Result<(), AllocError>
+    ensures ok { OnOk result (out.new.items ≡ out.old.items
+        ++ spaced (codes "join" ∷ left.now ∷ right.now ∷ codes "on" ∷ left_column.now ∷ right_column.now ∷ [])) }
+{
+    put_token(out, b"join")?;
+    put_two_names(out, left, right)?;
+    put_token(out, b"on")?;
+    put_two_names(out, left_column, right_column)?;
+    Ok(())
+}
+
 /// A statement's first word.
 fn word_of(stmt: &Stmt) -> &'static [u8]
     ensures value { result.now ≡ stmt_word stmt.now }
@@ -106,6 +142,7 @@ fn word_of(stmt: &Stmt) -> &'static [u8]
         Stmt::Get { .. } => b"get",
         Stmt::Scan { .. } => b"scan",
         Stmt::History { .. } => b"history",
+        Stmt::OverSelect { .. } | Stmt::OverJoin { .. } => b"over",
         Stmt::Begin => b"begin",
         Stmt::Commit => b"commit",
         Stmt::Abort => b"abort",
@@ -147,6 +184,30 @@ fn put_rest(alloc: Global, out: &mut Vec<u8>, stmt: &Stmt) -> Result<(), AllocEr
             put_token(out, table.as_slice())?;
             put_filter(alloc, out, filter)?;
             put_as_of(alloc, out, *moment)?;
+        }
+        Stmt::OverSelect {
+            from,
+            to,
+            table,
+            filter,
+        } => {
+            let (from, to) = (*from, *to);
+            put_span(alloc, out, from, to)?;
+            put_token(out, b"select")?;
+            put_token(out, table.as_slice())?;
+            put_filter(alloc, out, filter)?;
+        }
+        Stmt::OverJoin {
+            from,
+            to,
+            left,
+            right,
+            left_column,
+            right_column,
+        } => {
+            let (from, to) = (*from, *to);
+            put_span(alloc, out, from, to)?;
+            put_join(out, left, right, left_column, right_column)?;
         }
         Stmt::Analyse { algorithm } => put_algorithm(alloc, out, *algorithm)?,
         Stmt::Now { moment } => {

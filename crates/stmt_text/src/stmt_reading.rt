@@ -5,11 +5,14 @@ ghost use Rattle.byte_grammar.specs.Reading.{Gives};
 ghost use Rattle.stmt_text.specs.Tokens.{tokens};
 ghost use Rattle.stmt_text.specs.Words.{compare, algorithm_word};
 ghost use Rattle.stmt_text.specs.Parts.{Read, front, only, moment, kappa, after_word};
-ghost use Rattle.stmt_text.specs.Statements.{create, insert, update, delete, get, history, filter_at, filtered, scan, algorithm, alone, stmt_by};
+ghost use Rattle.stmt_text.specs.Statements.{create, insert, update, delete, get, history, filter_at, filtered, scan, span, only_filter, over_select, over_join, over_by, over, algorithm, alone, stmt_by};
 
 use crate::error::ReadFail;
 use crate::number::Numbers;
-use crate::part::{as_of_at, end_of, name_at, only_kappa, only_moment, value_at};
+use crate::part::{
+    as_of_at, behind_word_at, end_of, moment_at, name_at, only_kappa, only_moment, two_names_at,
+    value_at,
+};
 use crate::row_reading::{columns_at, row_at};
 use crate::stmt::{LineAlgorithm, Stmt};
 use crate::token::next_token;
@@ -136,6 +139,98 @@ fn scan_of(alloc: Global, numbers: Numbers, bytes: &[u8]) -> Result<Stmt, ReadFa
     }
 }
 
+/// The span at the front.
+#[tactic(auto, unfolding(crate::specs::Statements::span))]
+fn span_at(numbers: Numbers, bytes: &[u8]) -> Result<((u64, u64), &[u8]), ReadFail>
+    ensures value { Read (λ x. (x.0, tokens x.1.now)) result (span numbers (tokens bytes.now)) }
+{
+    let (from, rest) = moment_at(numbers, bytes)?;
+    let rest = behind_word_at(rest, b"to")?;
+    let (to, rest) = moment_at(numbers, rest)?;
+    Ok(((from, to), rest))
+}
+
+/// Nothing, or a filter and no more.
+#[tactic(auto, unfolding(crate::specs::Statements::only_filter))]
+fn only_filter_of(alloc: Global, numbers: Numbers, bytes: &[u8]) -> Result<Option<Filter>, ReadFail>
+    ensures value { Read (λ f. f) result (only_filter numbers (tokens bytes.now)) }
+{
+    match next_token(bytes) {
+        None => Ok(None),
+        Some(_) => {
+            let (filter, rest) = filter_of(alloc, numbers, bytes)?;
+            end_of(rest)?;
+            Ok(Some(filter))
+        }
+    }
+}
+
+#[tactic(auto, unfolding(crate::specs::Statements::over_select))]
+fn over_select_of(
+    alloc: Global,
+    numbers: Numbers,
+    moments: (u64, u64),
+    bytes: &[u8],
+) -> Result<Stmt, ReadFail>
+    ensures value { Read (λ s. s) result (over_select numbers moments (tokens bytes.now)) }
+{
+    let (table, rest) = name_at(alloc, bytes)?;
+    let filter = only_filter_of(alloc, numbers, rest)?;
+    Ok(Stmt::OverSelect {
+        from: moments.0,
+        to: moments.1,
+        table,
+        filter,
+    })
+}
+
+#[tactic(auto, unfolding(crate::specs::Statements::over_join))]
+fn over_join_of(alloc: Global, moments: (u64, u64), bytes: &[u8]) -> Result<Stmt, ReadFail>
+    ensures value { Read (λ s. s) result (over_join moments (tokens bytes.now)) }
+{
+    let ((left, right), rest) = two_names_at(alloc, bytes)?;
+    let rest = behind_word_at(rest, b"on")?;
+    let ((left_column, right_column), rest) = two_names_at(alloc, rest)?;
+    end_of(rest)?;
+    Ok(Stmt::OverJoin {
+        from: moments.0,
+        to: moments.1,
+        left,
+        right,
+        left_column,
+        right_column,
+    })
+}
+
+#[tactic(auto, unfolding(crate::specs::Statements::over_by))]
+fn over_by_of(
+    alloc: Global,
+    numbers: Numbers,
+    moments: (u64, u64),
+    bytes: &[u8],
+) -> Result<Stmt, ReadFail>
+    ensures value { Read (λ s. s) result (over_by numbers moments (tokens bytes.now)) }
+{
+    let Some((token, rest)) = next_token(bytes) else {
+        return Err(ReadFail::Missing);
+    };
+    if spells(token, b"select") {
+        over_select_of(alloc, numbers, moments, rest)
+    } else if spells(token, b"join") {
+        over_join_of(alloc, moments, rest)
+    } else {
+        Err(ReadFail::Missing)
+    }
+}
+
+#[tactic(auto, unfolding(crate::specs::Statements::over))]
+fn over_of(alloc: Global, numbers: Numbers, bytes: &[u8]) -> Result<Stmt, ReadFail>
+    ensures value { Read (λ s. s) result (over numbers (tokens bytes.now)) }
+{
+    let (moments, rest) = span_at(numbers, bytes)?;
+    over_by_of(alloc, numbers, moments, rest)
+}
+
 #[tactic(auto, unfolding(crate::specs::Parts::only, crate::specs::Parts::front))]
 fn only_algorithm_word(bytes: &[u8]) -> Option<LineAlgorithm>
     ensures value { Gives (λ a. a) result (only algorithm_word (tokens bytes.now)) }
@@ -216,6 +311,7 @@ pub fn stmt_of(
         Keyword::Get => get_of(alloc, numbers, bytes),
         Keyword::Scan => scan_of(alloc, numbers, bytes),
         Keyword::History => history_of(alloc, numbers, bytes),
+        Keyword::Over => over_of(alloc, numbers, bytes),
         Keyword::Begin => alone_of(Stmt::Begin, bytes),
         Keyword::Commit => alone_of(Stmt::Commit, bytes),
         Keyword::Abort => alone_of(Stmt::Abort, bytes),

@@ -19,6 +19,7 @@ pub enum Keyword {
     Get,
     Scan,
     History,
+    Over,
     Begin,
     Commit,
     Abort,
@@ -57,6 +58,8 @@ fn table_keyword_of(token: &[u8]) -> Option<Keyword>
         Some(Keyword::Scan)
     } else if spells(token, b"history") {
         Some(Keyword::History)
+    } else if spells(token, b"over") {
+        Some(Keyword::Over)
     } else {
         None
     }
@@ -200,6 +203,7 @@ pub fn begins_table_statement(keyword: Keyword) -> bool
             | Keyword::Get
             | Keyword::Scan
             | Keyword::History
+            | Keyword::Over
     )
 }
 

@@ -1,0 +1,11 @@
+pub mod Plain
+pub mod Columns
+pub mod Cut
+pub mod Refusals
+pub mod Tables
+pub mod Merging
+pub mod Cells
+pub mod Listing
+pub mod Plainly
+pub mod Spans
+pub mod Laws

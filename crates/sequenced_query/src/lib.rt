@@ -1,0 +1,75 @@
+//! Queries over a span of moments: what a table, or two tables joined, answer at all of its moments at once.
+//!
+//! A query at one moment answers rows. A query over the moments from `from` up to, and not including, `to`
+//! answers pieces: a row, and the moments from `start` up to `stop` at which it is in the answer. This is the
+//! one list of pieces for which
+//!
+//! - at each moment of the span the rows of the pieces that count are exactly the answer of this moment, each once;
+//! - each piece lies within the span and is not empty;
+//! - two pieces with the same row neither overlap nor meet;
+//! - pieces come in the order of the left key, then of the right key, then of their starts.
+//!
+//! | Call | Answer at one moment | Refusals, in order |
+//! |---|---|---|
+//! | `over_select` | the rows of the table that pass the filter, as in `scan_at` | NoSpan, NoTable, NoColumn, BadType of the filter's column |
+//! | `over_join` | each left row with each right row behind it where the two columns are equal and not Null | NoSpan, NoTable, NoColumn, BadType of the right column where the two have different kinds |
+//!
+//! NoSpan comes exactly where `from` is not below `to`. NoTable goes by the tables of now. A table has no rows
+//! at moments before its Create.
+//!
+//! What the layers above may rely on:
+//!
+//! | Sentence | Clause |
+//! |---|---|
+//! | the pieces are the answer, by the state of each moment alone | `value` of `over_select` and `over_join`, by `IsSelect`, `IsJoin` and `IsCut` |
+//! | there is one such list | `cuts_are_one` |
+//! | so they are the pieces that a plain definition makes moment by moment | `answer` of both, by `cut_of`; `plain_pieces_are_the_answer` |
+//! | for tables that stand for transactions they are what the transactions say at each moment | `answers_over_spans_stand_for_transactions` |
+//! | each refusal comes exactly for its cause, and the first cause is told | `answer` of both, by `select_over` and `join_over` |
+//!
+//! Each answer yields to want of memory alone. The definitions speak of single moments (`Plain`, `Cut`,
+//! `Plainly`). The code cuts the versions of keys to the span, and makes one piece of those that meet with the
+//! same row.
+//!
+//! # What a query costs
+//!
+//! A select takes one step for each version of its table, and looks at no moment between them.
+//!
+//! A join goes once over the versions of the right table, and lists its keys in an ordered map under each value
+//! by which they ever join. A left key then goes with the right keys that are listed under its own values, and
+//! with no others. For such a pair of keys each left version takes the logarithm of the right key's versions,
+//! and one step for each of these that it overlaps. So a join does not take the square of the tables unless
+//! most keys share a value; where they share it at one moment its answer is as long.
+//!
+//! Two keys that have one value at different moments are such a pair too, and answer nothing. Memory holds the
+//! listing, the places of one left key's pairs, and the answer.
+//!
+//! Not proved: these costs. Tests hold both calls against a program that goes moment by moment.
+//!
+//! ```rust
+//! let pieces = over_select(alloc, &tables, &table, Some(&filter), 0, 100)?;
+//! let pieces = over_join(alloc, &tables, &left, &left_column, &right, &right_column, 0, 100)?;
+//! for piece in pieces.as_slice() { .. piece.start .. piece.stop .. &piece.row .. }
+//! ```
+#![tactic(auto)]
+
+mod columns;
+mod error;
+mod join;
+mod laws;
+mod listing;
+mod merging;
+mod piece;
+mod reaching;
+mod select;
+mod span;
+mod table;
+mod wanted;
+
+pub use error::OverFail;
+pub use join::over_join;
+pub use laws::{
+    answers_over_spans_stand_for_transactions, cuts_are_one, plain_pieces_are_the_answer,
+};
+pub use piece::{Piece, Pieces};
+pub use select::over_select;
