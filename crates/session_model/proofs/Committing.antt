@@ -17,14 +17,14 @@ use Rattle.store_engine.specs.Opened.{Opened}
 use Rattle.store_engine.specs.Refusals.{next_txn, commit_fault}
 use Rattle.statement_core.specs.declared.reply.Reply.{Reply}
 use Rattle.statement_core.specs.declared.statements.StepFail.{StepFail}
-use Rattle.statement_core.specs.World as stores
+use Rattle.statement_core.specs.Database as stores
 use Rattle.statement_core.specs.Refusing.{refused_by_store}
 use Rattle.statement_core.specs.Steps as statements
 use Rattle.statement_core.specs.Stepping as stepping
 use Rattle.session_model.specs.declared.place.Place.{Place}
-use Rattle.session_model.specs.World.{Session, World, put_at}
+use Rattle.session_model.specs.Service.{Session, Service, put_at}
 use Rattle.session_model.specs.Statements.{say}
-use Rattle.session_model.specs.Steps.{Step, stored, unless_conflict, conflict, in_session, step, heard, speak}
+use Rattle.session_model.specs.Steps.{Served, stored, unless_conflict, conflict, in_session, serve, heard, speak}
 use Rattle.session_model.specs.Index.{noted_ops, IsIndex, AreNumbered}
 use Rattle.session_model.specs.Pending.{HasRoom}
 use Rattle.session_model.specs.Standing.{Kept, Machine, kept_at, numbers_at, IsSession, IsIn, NoneKept, StepsIn}
@@ -41,9 +41,9 @@ left_of : (n : ℕ) (ops : List Op) (m new : Machine) (fail : StoreFail) → Goe
 left_of n ops m new (fails.ClockBack last) h = h
 left_of n ops m new fail h = h
 
-module _ (w : World) (n now : ℕ) (op : Op) (ops : List Op) (m new_m : Machine) (stand new_stand : Opened) (old new : State) (before after : List ℕ) (is : IsIn w m stand before) where
+module _ (w : Service) (n now : ℕ) (op : Op) (ops : List Op) (m new_m : Machine) (stand new_stand : Opened) (old new : State) (before after : List ℕ) (is : IsIn w m stand before) where
   abbrev t : Txn
-  t = next_txn (stores.tail_of_world w.store) (op ∷ ops) now
+  t = next_txn (stores.tail_of_database w.store) (op ∷ ops) now
 
   numbered_by : (o : Option Session) → IfSome o (λ s. AreNumbered s.begun (txns w.store.items)) → IfSome o (λ s. AreNumbered s.begun (txns (stores.with_txn w.store t).items))
   numbered_by None h = tt
@@ -139,24 +139,24 @@ module _ (w : World) (n now : ℕ) (op : Op) (ops : List Op) (m new_m : Machine)
   by_fault (Some f) = by_some f
 
   step_of : (s : Session) → w.sessions n ≡ Some s → conflict w s ≡ None → s.pending ≡ op ∷ ops
-      → step w (lines.InSession n stmts.Commit) now ≡ stored w n (op ∷ ops) now (commit_fault (stores.tail_of_world w.store) false (op ∷ ops) now)
-  unfolding step
+      → serve w (lines.InSession n stmts.Commit) now ≡ stored w n (op ∷ ops) now (commit_fault (stores.tail_of_database w.store) false (op ∷ ops) now)
+  unfolding serve
   step_of s has free pends = ap (λ o. in_session w n o stmts.Commit now) has ∙ ap (unless_conflict w n s.pending now) free ∙ ap (λ l. unless_conflict w n l now None) pends
 
 -- The store's step and what is kept make the step of the session.
-pub commits_are_steps : (w : World) (n now : ℕ) (s : Session) (op : Op) (ops : List Op) (result : Result Reply StepFail) (m new_m : Machine) (stand new_stand : Opened) (old new : State) (before after : List ℕ)
+pub commits_are_steps : (w : Service) (n now : ℕ) (s : Session) (op : Op) (ops : List Op) (result : Result Reply StepFail) (m new_m : Machine) (stand new_stand : Opened) (old new : State) (before after : List ℕ)
     → IsIn w m stand before → w.sessions n ≡ Some s → conflict w s ≡ None → s.pending ≡ op ∷ ops
     → stepping.StepsIn w.store (statements.commit w.store (op ∷ ops) now) result stand new_stand old new before after
     → IfOk result (λ reply. GoesAlong n (op ∷ ops) reply m new_m) → OnErr result (NoneKept new_m)
-    → StepsIn w (step w (lines.InSession n stmts.Commit) now) result m new_m stand new_stand old new before after
+    → StepsIn w (serve w (lines.InSession n stmts.Commit) now) result m new_m stand new_stand old new before after
 commits_are_steps w n now s op ops result m new_m stand new_stand old new before after is has free pends st goes gone =
-    subst (λ (next : Step). StepsIn w next result m new_m stand new_stand old new before after) (sym (step_of w n now op ops m new_m stand new_stand old new before after is s has free pends))
-    (by_fault w n now op ops m new_m stand new_stand old new before after is (commit_fault (stores.tail_of_world w.store) false (op ∷ ops) now) result st goes gone)
+    subst (λ (next : Served). StepsIn w next result m new_m stand new_stand old new before after) (sym (step_of w n now op ops m new_m stand new_stand old new before after is s has free pends))
+    (by_fault w n now op ops m new_m stand new_stand old new before after is (commit_fault (stores.tail_of_database w.store) false (op ∷ ops) now) result st goes gone)
 
 -- ---- a statement of a session
 
-module _ (w : World) (n now : ℕ) (s : Session) (stmt : Stmt) (kept : Kept) (m new_m : Machine) (stand new_stand : Opened) (before after : List ℕ) (is : IsIn w m stand before) (has : w.sessions n ≡ Some s) where
-  abbrev next : Step
+module _ (w : Service) (n now : ℕ) (s : Session) (stmt : Stmt) (kept : Kept) (m new_m : Machine) (stand new_stand : Opened) (before after : List ℕ) (is : IsIn w m stand before) (has : w.sessions n ≡ Some s) where
+  abbrev next : Served
   next = speak w n s stmt (say w.store s.pending stmt)
 
   heard_room : (k : ℕ) → HasRoom (next.world.sessions k)

@@ -7,7 +7,7 @@ use Rattle.history_model.specs.Answers.{prepared}
 use Rattle.history_model.specs.State.{State, after_op, after_ops}
 use Rattle.store_engine.specs.declared.fail.StoreFail.{StoreFail}
 use Rattle.stmt_text.specs.declared.stmt.Stmt.{Stmt}
-use Rattle.statement_core.specs.World as stores
+use Rattle.statement_core.specs.Database as stores
 use Rattle.statement_core.specs.Steps.{write_in}
 use Rattle.session_model.specs.Statements.{size_fault, pended, pend, change_or_read, say}
 use Rattle.session_model.specs.Alone.{alone_from}
@@ -17,7 +17,7 @@ one_more : (s : State) (ops : List Op) (op : Op) → ArePrepared s ops → IsPre
 one_more s [] op h is = (is, tt)
 one_more s (first ∷ ops) op h is = (h.0, one_more (after_op first s) ops op h.1 is)
 
-module _ (w : stores.World) where
+module _ (w : stores.Database) where
   pended_fits : (pending : List Op) (op : Op) (f : Option StoreFail) → ArePrepared (stores.tables_now w) pending → IsPrepared (after_ops pending (stores.tables_now w)) op → ArePrepared (stores.tables_now w) (pended pending op f).pending
   pended_fits pending op None h is = one_more (stores.tables_now w) pending op h is
   pended_fits pending op (Some fail) h is = h

@@ -13,7 +13,8 @@ use Rattle.history_model.specs.Glance.{IsOrdered}
 use Rattle.history_model.specs.History.{txn_in, txns, moment_in, after_last, last_moment, MayFollow}
 use Rattle.history_model.specs.State.{State, after_op, after_txns, state}
 use Rattle.history_model.proofs.Histories.{NoneAfter, none_at, state_before, state_after}
-use Rattle.statement_core.specs.World as stores
+use Rattle.statement_core.specs.Database as stores
+pub use Rattle.statement_core.proofs.Promising.{txns_more}
 use Rattle.session_model.specs.declared.place.Place.{Place}
 use Rattle.session_model.specs.Places.{touches, touches_one, NoneTouches}
 use Rattle.session_model.specs.Later.{Rise, IsLater}
@@ -27,11 +28,13 @@ last_more items item = fold-append after_last 0 items (item ∷ [])
 pub last_is : (items : List Item) (item : Item) → last_moment items ≤ moment_in item → last_moment (items ++ item ∷ []) ≡ moment_in item
 last_is items item le = let e = last_more items item in omega (arith, e)
 
-pub txns_more : (items : List Item) (t : Txn) → txns (items ++ kinds.Txn t ∷ []) ≡ txns items ++ t ∷ []
-txns_more items t = filter_map-append txn_in items (kinds.Txn t ∷ [])
+-- an item that is no transaction
+pub txns_no_more : (items : List Item) (item : Item) → txns (item ∷ []) ≡ [] → txns (items ++ item ∷ []) ≡ txns items
+txns_no_more items item none = filter_map-append txn_in items (item ∷ []) ∙ ap (λ ts. txns items ++ ts) none ∙ append-nil (txns items)
 
-pub txns_no_more : (items : List Item) (moment : ℕ) → txns (items ++ kinds.Frontier moment ∷ []) ≡ txns items
-txns_no_more items moment = filter_map-append txn_in items (kinds.Frontier moment ∷ []) ∙ append-nil (txns items)
+-- an item without a moment
+pub last_kept : (items : List Item) (item : Item) → moment_in item ≡ 0 → last_moment (items ++ item ∷ []) ≡ last_moment items
+last_kept items item none = let e = last_more items item in omega (arith, e, none)
 
 above : (m : ℕ) (items : List Item) → m ≤ fold (λ n i. max n (moment_in i)) m items
 above m [] = omega arith
@@ -41,6 +44,7 @@ none_above : (m : ℕ) (items : List Item) → AllByRecursion (λ t. t.moment �
 none_above m [] = tt
 none_above m (kinds.Txn t ∷ items) = (omega (arith, above (max m t.moment) items), none_above (max m t.moment) items)
 none_above m (kinds.Frontier moment ∷ items) = none_above (max m moment) items
+none_above m (kinds.Policy tile granule k algs ∷ items) = none_above (max m 0) items
 
 -- no transaction is after the last moment
 pub none_after : (items : List Item) → NoneAfter (last_moment items) (txns items)
@@ -67,6 +71,7 @@ now_of items = state (txns items) (last_moment items)
 abbrev pub IsQuiet : List Place → Item → Type 0
 IsQuiet places (kinds.Txn t) = touches_one places t ≡ false
 IsQuiet places (kinds.Frontier moment) = Unit {0}
+IsQuiet places (kinds.Policy tile granule k algs) = Unit {0}
 
 module _ {A : Type 0} (places : List Place) (F : State → A) (kept : (op : Op) (s : State) → IsOrdered s → list_any (touches op) places ≡ false → F (after_op op s) ≡ F s) where
   module _ (items : List Item) (t : Txn) (le : last_moment items ≤ t.moment) (quiet : touches_one places t ≡ false) where
@@ -87,14 +92,18 @@ module _ {A : Type 0} (places : List Place) (F : State → A) (kept : (op : Op) 
   -- at a moment, and now
   pub quiet_at : (m : ℕ) (items : List Item) (item : Item) → MayFollow (last_moment items) item → IsQuiet places item → F (state (txns (items ++ item ∷ [])) m) ≡ F (state (txns items) m)
   quiet_at m items (kinds.Txn t) le quiet = txn_at items t le quiet m
-  quiet_at m items (kinds.Frontier moment) le quiet = ap (λ h. F (state h m)) (txns_no_more items moment)
+  quiet_at m items (kinds.Frontier moment) le quiet = ap (λ h. F (state h m)) (txns_no_more items (kinds.Frontier moment) refl)
+  quiet_at m items (kinds.Policy tile granule k algs) le quiet = ap (λ h. F (state h m)) (txns_no_more items (kinds.Policy tile granule k algs) refl)
 
   pub quiet_now : (items : List Item) (item : Item) → MayFollow (last_moment items) item → IsQuiet places item → F (now_of (items ++ item ∷ [])) ≡ F (now_of items)
   quiet_now items (kinds.Txn t) le quiet = txn_now items t le quiet
   quiet_now items (kinds.Frontier moment) le quiet =
       ap (λ m. F (state (txns (items ++ kinds.Frontier moment ∷ [])) m)) (last_is items (kinds.Frontier moment) le)
-      ∙ ap (λ h. F (state h moment)) (txns_no_more items moment)
+      ∙ ap (λ h. F (state h moment)) (txns_no_more items (kinds.Frontier moment) refl)
       ∙ ap F (state_stays (txns items) (last_moment items) (none_after items) moment le)
+  quiet_now items (kinds.Policy tile granule k algs) le quiet =
+      ap (λ m. F (state (txns (items ++ kinds.Policy tile granule k algs ∷ [])) m)) (last_kept items (kinds.Policy tile granule k algs) refl)
+      ∙ quiet_at (last_moment items) items (kinds.Policy tile granule k algs) le quiet
 
 -- ---- items more
 
@@ -108,6 +117,7 @@ module _ {A : Type 0} (places : List Place) (G : List Item → A) (one : (items 
   all_quiet [] items rise quiet = ap G (append-nil items)
   all_quiet (kinds.Txn t ∷ more) items rise quiet = next items (kinds.Txn t) more rise quiet.0 (λ r. all_quiet more (items ++ kinds.Txn t ∷ []) r quiet.1)
   all_quiet (kinds.Frontier moment ∷ more) items rise quiet = next items (kinds.Frontier moment) more rise tt (λ r. all_quiet more (items ++ kinds.Frontier moment ∷ []) r quiet)
+  all_quiet (kinds.Policy tile granule k algs ∷ more) items rise quiet = next items (kinds.Policy tile granule k algs) more rise tt (λ r. all_quiet more (items ++ kinds.Policy tile granule k algs ∷ []) r quiet)
 
 -- ---- later histories
 
@@ -117,18 +127,18 @@ rise_on (x ∷ xs) items ys rise more =
     let e : last_moment (items ++ x ∷ []) ≡ after_last (last_moment items) x = last_more items x in
     (rise.0, subst (λ m. Rise m (xs ++ ys)) e (rise_on xs (items ++ x ∷ []) ys (subst (λ m. Rise m xs) (sym e) rise.1) (subst (λ l. Rise (last_moment l) ys) (sym (append_assoc items (x ∷ []) xs)) more)))
 
-pub later_same : (w : stores.World) → IsLater w w
+pub later_same : (w : stores.Database) → IsLater w w
 later_same w = record { items = []; behind = sym (append-nil w.items); rise = tt }
 
-pub later_still : (a b c : stores.World) → IsLater a b → IsLater b c → IsLater a c
+pub later_still : (a b c : stores.Database) → IsLater a b → IsLater b c → IsLater a c
 later_still a b c ab bc = record {
   items = ab.items ++ bc.items;
   behind = bc.behind ∙ ap (λ l. l ++ bc.items) ab.behind ∙ append_assoc a.items ab.items bc.items;
   rise = rise_on ab.items a.items bc.items ab.rise (subst (λ l. Rise (last_moment l) bc.items) ab.behind bc.rise);
 }
 
-pub later_txn : (w : stores.World) (t : Txn) → last_moment w.items ≤ t.moment → IsLater w (stores.with_txn w t)
+pub later_txn : (w : stores.Database) (t : Txn) → last_moment w.items ≤ t.moment → IsLater w (stores.with_txn w t)
 later_txn w t le = record { items = kinds.Txn t ∷ []; behind = refl; rise = (le, tt) }
 
-pub later_frontier : (w : stores.World) (moment : ℕ) → last_moment w.items ≤ moment → IsLater w (stores.with_frontier w moment)
+pub later_frontier : (w : stores.Database) (moment : ℕ) → last_moment w.items ≤ moment → IsLater w (stores.with_frontier w moment)
 later_frontier w moment le = record { items = kinds.Frontier moment ∷ []; behind = refl; rise = (le, tt) }

@@ -8,7 +8,7 @@ use Rattle.tuple_bytes.specs.declared.op.Op.{Op}
 use Rattle.history_model.specs.History.{txns}
 use Rattle.session_model.specs.declared.place.Place.{Place}
 use Rattle.session_model.specs.Places.{touches, touches_one, since}
-use Rattle.session_model.specs.World.{Session}
+use Rattle.session_model.specs.Service.{Session}
 use Rattle.session_model.specs.Index.{noted_op, noted_ops, IsIndex, IndexBegins, NotesKeepIndex, NumberedFrom, AreNumbered, lesser, least_above, touch_numbers}
 use Rattle.session_model.specs.Standing.{numbers_at, IsSession, MachinesFindConflicts}
 use Rattle.session_model.proofs.Conflicts.{any_alike, same_reads_conflict_alike}

@@ -7,12 +7,12 @@ use Rattle.tuple_bytes.specs.declared.item.Txn.{Txn}
 use Rattle.history_model.specs.History.{txns}
 use Rattle.statement_core.specs.declared.reply.Reply.{Reply}
 use Rattle.statement_core.specs.declared.reply.Reply.TheVariants as replies
-use Rattle.statement_core.specs.World as stores
+use Rattle.statement_core.specs.Database as stores
 use Rattle.statement_core.specs.Promises as promises
 use Rattle.session_model.specs.declared.place.Place.{Place}
 use Rattle.session_model.specs.Places.{touches_one, first_touching, since}
-use Rattle.session_model.specs.World.{Session}
-use Rattle.session_model.specs.Steps.{Answer, Replied, step}
+use Rattle.session_model.specs.Service.{Session}
+use Rattle.session_model.specs.Steps.{Answer, Replied, serve}
 use Rattle.session_model.specs.Index.{NumberedFrom, AreNumbered, NumbersArePlaces, ConflictsAreSince}
 use Rattle.session_model.specs.Promises.{IsPromised}
 use Rattle.session_model.proofs.Each.{each_session}
@@ -32,14 +32,14 @@ pushed begun ts t e is =
       numbered = subst (NumberedFrom begun) (sym split) (one_more begun (since begun ts) t is.numbered (omega (arith, e, n)));
     }
 
-kept_by : (begun : ℕ) (w new : stores.World) → new ≡ w → AreNumbered begun (txns w.items) → AreNumbered begun (txns new.items)
-kept_by begun w new e is = subst (λ (x : stores.World). AreNumbered begun (txns x.items)) (sym e) is
+kept_by : (begun : ℕ) (w new : stores.Database) → new ≡ w → AreNumbered begun (txns w.items) → AreNumbered begun (txns new.items)
+kept_by begun w new e is = subst (λ (x : stores.Database). AreNumbered begun (txns x.items)) (sym e) is
 
-by_reply : (begun : ℕ) (w new : stores.World) (reply : Reply) → promises.IsPromised w reply new → AreNumbered begun (txns w.items) → AreNumbered begun (txns new.items)
+by_reply : (begun : ℕ) (w new : stores.Database) (reply : Reply) → promises.IsPromised w reply new → AreNumbered begun (txns w.items) → AreNumbered begun (txns new.items)
 by_reply begun w new (replies.Committed number) h is = subst (AreNumbered begun) (sym h.behind) (pushed begun (txns w.items) h.txn (h.numbered ∙ h.next) is)
 by_reply begun w new reply h is = kept_by begun w new h is
 
-by_answer : (begun : ℕ) (w new : stores.World) (answer : Answer) → IsPromised w answer new → AreNumbered begun (txns w.items) → AreNumbered begun (txns new.items)
+by_answer : (begun : ℕ) (w new : stores.Database) (answer : Answer) → IsPromised w answer new → AreNumbered begun (txns w.items) → AreNumbered begun (txns new.items)
 by_answer begun w new (Replied reply) h is = by_reply begun w new reply h is
 by_answer begun w new answer h is = kept_by begun w new h is
 
@@ -49,11 +49,11 @@ all_since ts = record { within = omega arith; numbered = subst (NumberedFrom (le
 pub numbers_are_places : NumbersArePlaces
 numbers_are_places w line now all k =
     let old = each_session (λ s. AreNumbered s.begun (txns w.store.items)) w (all_since (txns w.store.items)) (λ s stmt is. is) line now all k in
-    by ((step w line now).world.sessions k) old
+    by ((serve w line now).world.sessions k) old
   where
-    by : (o : Option Session) → IfSome o (λ s. AreNumbered s.begun (txns w.store.items)) → IfSome o (λ s. AreNumbered s.begun (txns (step w line now).world.store.items))
+    by : (o : Option Session) → IfSome o (λ s. AreNumbered s.begun (txns w.store.items)) → IfSome o (λ s. AreNumbered s.begun (txns (serve w line now).world.store.items))
     by None is = tt
-    by (Some s) is = by_answer s.begun w.store (step w line now).world.store (step w line now).answer (steps_keep_promises w line now).store is
+    by (Some s) is = by_answer s.begun w.store (serve w line now).world.store (serve w line now).answer (steps_keep_promises w line now).store is
 
 -- ---- the number of a conflict
 

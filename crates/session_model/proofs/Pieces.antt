@@ -15,12 +15,12 @@ use Rattle.store_engine.specs.declared.fail.StoreFail.{StoreFail}
 use Rattle.store_engine.specs.Refusals.{commit_fault}
 use Rattle.statement_core.specs.declared.reply.Reply.{Reply}
 use Rattle.statement_core.specs.declared.reply.Reply.TheVariants as replies
-use Rattle.statement_core.specs.World as stores
+use Rattle.statement_core.specs.Database as stores
 use Rattle.session_model.specs.declared.place.Place.{Place}
 use Rattle.session_model.specs.Places.{first_touching, since}
 use Rattle.session_model.specs.Statements.{say}
-use Rattle.session_model.specs.World.{Session, World, put_at, with_session, new_session, NoneBegun}
-use Rattle.session_model.specs.Steps.{Answer, Replied, Step, answers, stored, store_pending, unless_conflict, conflict, heard, speak, in_session, step}
+use Rattle.session_model.specs.Service.{Session, Service, put_at, with_session, new_session, NoneBegun}
+use Rattle.session_model.specs.Steps.{Answer, Replied, Served, answers, stored, store_pending, unless_conflict, conflict, heard, speak, in_session, serve}
 use Rattle.session_model.specs.Alone.{alone_from, Exchange, IsAlone}
 use Rattle.session_model.specs.Runs.{Turn, Logs, no_logs, logged, noted, told_in, world_after, reached, opened}
 use Rattle.session_model.specs.Serial.{WasAlone}
@@ -31,55 +31,55 @@ use Rattle.session_model.proofs.Serials.{AreHeld, was_alone, line_goes, reach_he
 put_here : {A : Type 0} (n : ℕ) (a : A) (f : ℕ → A) → put_at n a f n ≡ a
 put_here n a f = let e : eqb n n ≡ true = grind (arith, nat_tests) in ap (λ b. if b then a else f n) e
 
-abbrev pub told_of_line : World → List Turn → Step → List Answer
+abbrev pub told_of_line : Service → List Turn → Served → List Answer
 told_of_line w rest next = next.answer ∷ told_in next.world rest
 
 -- ---- statements of one session
 
-pub spoken_step : (w : World) (n now : ℕ) (s : Session) (stmt : Stmt) → IsSpoken stmt → in_session w n (Some s) stmt now ≡ speak w n s stmt (say w.store s.pending stmt)
+pub spoken_step : (w : Service) (n now : ℕ) (s : Session) (stmt : Stmt) → IsSpoken stmt → in_session w n (Some s) stmt now ≡ speak w n s stmt (say w.store s.pending stmt)
 spoken_step w n now s stmts.Begin spoken = absurd spoken
 spoken_step w n now s stmts.Commit spoken = absurd spoken
 spoken_step w n now s stmts.Abort spoken = absurd spoken
 spoken_step w n now s stmt spoken = refl
 
-pub step_is : (w : World) (n now : ℕ) (o : Option Session) (stmt : Stmt) → w.sessions n ≡ o → step w (lines.InSession n stmt) now ≡ in_session w n o stmt now
-unfolding step
+pub step_is : (w : Service) (n now : ℕ) (o : Option Session) (stmt : Stmt) → w.sessions n ≡ o → serve w (lines.InSession n stmt) now ≡ in_session w n o stmt now
+unfolding serve
 step_is w n now o stmt is = ap (λ p. in_session w n p stmt now) is
 
 -- the session behind its statements, and the world
-abbrev pub heard_all : stores.World → Session → List Stmt → Session
+abbrev pub heard_all : stores.Database → Session → List Stmt → Session
 heard_all w s [] = s
 heard_all w s (stmt ∷ ss) = heard_all w (heard s stmt (say w s.pending stmt)) ss
 
-abbrev pub spoken_all : World → ℕ → Session → List Stmt → World
+abbrev pub spoken_all : Service → ℕ → Session → List Stmt → Service
 spoken_all w n s [] = w
 spoken_all w n s (stmt ∷ ss) = spoken_all (with_session w n (Some (heard s stmt (say w.store s.pending stmt)))) n (heard s stmt (say w.store s.pending stmt)) ss
 
-same_store : (ss : List Stmt) (w : World) (n : ℕ) (s : Session) → (spoken_all w n s ss).store ≡ w.store
+same_store : (ss : List Stmt) (w : Service) (n : ℕ) (s : Session) → (spoken_all w n s ss).store ≡ w.store
 same_store [] w n s = refl
 same_store (stmt ∷ ss) w n s = same_store ss (with_session w n (Some (heard s stmt (say w.store s.pending stmt)))) n (heard s stmt (say w.store s.pending stmt))
 
-session_is : (ss : List Stmt) (w : World) (n : ℕ) (s : Session) → w.sessions n ≡ Some s → (spoken_all w n s ss).sessions n ≡ Some (heard_all w.store s ss)
+session_is : (ss : List Stmt) (w : Service) (n : ℕ) (s : Session) → w.sessions n ≡ Some s → (spoken_all w n s ss).sessions n ≡ Some (heard_all w.store s ss)
 session_is [] w n s is = is
 session_is (stmt ∷ ss) w n s is =
     session_is ss (with_session w n (Some (heard s stmt (say w.store s.pending stmt)))) n (heard s stmt (say w.store s.pending stmt)) (put_here n (Some (heard s stmt (say w.store s.pending stmt))) w.sessions)
 
-others_kept : (ss : List Stmt) (w : World) (n : ℕ) (s : Session) (k : ℕ) → eqb k n ≡ false → (spoken_all w n s ss).sessions k ≡ w.sessions k
+others_kept : (ss : List Stmt) (w : Service) (n : ℕ) (s : Session) (k : ℕ) → eqb k n ≡ false → (spoken_all w n s ss).sessions k ≡ w.sessions k
 others_kept [] w n s k e = refl
 others_kept (stmt ∷ ss) w n s k e =
     others_kept ss (with_session w n (Some (heard s stmt (say w.store s.pending stmt)))) n (heard s stmt (say w.store s.pending stmt)) k e
     ∙ ap (λ b. if b then Some (heard s stmt (say w.store s.pending stmt)) else w.sessions k) e
 
-begun_is : (ss : List Stmt) (w : stores.World) (s : Session) → (heard_all w s ss).begun ≡ s.begun
+begun_is : (ss : List Stmt) (w : stores.Database) (s : Session) → (heard_all w s ss).begun ≡ s.begun
 begun_is [] w s = refl
 begun_is (stmt ∷ ss) w s = begun_is ss w (heard s stmt (say w s.pending stmt))
 
-pending_is : (ss : List Stmt) (w : stores.World) (s : Session) → (heard_all w s ss).pending ≡ (alone_from w s.pending ss).pending
+pending_is : (ss : List Stmt) (w : stores.Database) (s : Session) → (heard_all w s ss).pending ≡ (alone_from w s.pending ss).pending
 pending_is [] w s = refl
 pending_is (stmt ∷ ss) w s = pending_is ss w (heard s stmt (say w s.pending stmt))
 
 module _ (n now : ℕ) (rest : List Turn) where
-  all_told : (ss : List Stmt) (w : World) (s : Session) → AllByRecursion IsSpoken ss → w.sessions n ≡ Some s
+  all_told : (ss : List Stmt) (w : Service) (s : Session) → AllByRecursion IsSpoken ss → w.sessions n ≡ Some s
       → told_in w (in_turn n now ss ++ rest) ≡ map Replied (alone_from w.store s.pending ss).replies ++ told_in (spoken_all w n s ss) rest
   all_told [] w s spoken is = refl
   all_told (stmt ∷ ss) w s spoken is =
@@ -87,12 +87,12 @@ module _ (n now : ℕ) (rest : List Turn) where
       ap (told_of_line w (in_turn n now ss ++ rest)) (step_is w n now (Some s) stmt is ∙ spoken_step w n now s stmt spoken.0)
       ∙ ap (λ l. Replied (say w.store s.pending stmt).reply ∷ l) (all_told ss (with_session w n (Some next)) next spoken.1 (put_here n (Some next) w.sessions))
 
-  all_after : (ss : List Stmt) (w : World) (s : Session) → AllByRecursion IsSpoken ss → w.sessions n ≡ Some s
+  all_after : (ss : List Stmt) (w : Service) (s : Session) → AllByRecursion IsSpoken ss → w.sessions n ≡ Some s
       → world_after w (in_turn n now ss ++ rest) ≡ world_after (spoken_all w n s ss) rest
   all_after [] w s spoken is = refl
   all_after (stmt ∷ ss) w s spoken is =
       let next = heard s stmt (say w.store s.pending stmt) in
-      ap (λ (st : Step). world_after st.world (in_turn n now ss ++ rest)) (step_is w n now (Some s) stmt is ∙ spoken_step w n now s stmt spoken.0)
+      ap (λ (st : Served). world_after st.world (in_turn n now ss ++ rest)) (step_is w n now (Some s) stmt is ∙ spoken_step w n now s stmt spoken.0)
       ∙ all_after ss (with_session w n (Some next)) next spoken.1 (put_here n (Some next) w.sessions)
 
 pub alone_is_one_session : AloneIsOneSession
@@ -103,29 +103,29 @@ alone_is_one_session w n now s ss spoken is = record {
       ∙ append-nil (map Replied (alone_from w.store s.pending ss).replies);
   pending_is =
       ap (λ l. option_map (λ (t : Session). t.pending) ((world_after w l).sessions n)) (sym (append-nil (in_turn n now ss)))
-      ∙ ap (λ (x : World). option_map (λ (t : Session). t.pending) (x.sessions n)) (all_after n now [] ss w s spoken is)
+      ∙ ap (λ (x : Service). option_map (λ (t : Session). t.pending) (x.sessions n)) (all_after n now [] ss w s spoken is)
       ∙ ap (option_map (λ (t : Session). t.pending)) (session_is ss w n s is)
       ∙ ap Some (pending_is ss w.store s);
 }
 
 -- ---- a commit depends on the store and on what is pending
 
-abbrev pub world_of : stores.World → (ℕ → Option Session) → World
+abbrev pub world_of : stores.Database → (ℕ → Option Session) → Service
 world_of store sessions = record { store = store; sessions = sessions }
 
 module _ (n now : ℕ) (a b : ℕ → Option Session) where
-  stored_same : (store : stores.World) (ops : List Op) (f : Option StoreFail) → ((stored (world_of store a) n ops now f).answer ≡ (stored (world_of store b) n ops now f).answer) × ((stored (world_of store a) n ops now f).world.store ≡ (stored (world_of store b) n ops now f).world.store)
+  stored_same : (store : stores.Database) (ops : List Op) (f : Option StoreFail) → ((stored (world_of store a) n ops now f).answer ≡ (stored (world_of store b) n ops now f).answer) × ((stored (world_of store a) n ops now f).world.store ≡ (stored (world_of store b) n ops now f).world.store)
   stored_same store ops None = (refl, refl)
   stored_same store ops (Some fail) = (refl, refl)
 
-  commit_same : (store : stores.World) (ops : List Op) → ((store_pending (world_of store a) n ops now).answer ≡ (store_pending (world_of store b) n ops now).answer) × ((store_pending (world_of store a) n ops now).world.store ≡ (store_pending (world_of store b) n ops now).world.store)
+  commit_same : (store : stores.Database) (ops : List Op) → ((store_pending (world_of store a) n ops now).answer ≡ (store_pending (world_of store b) n ops now).answer) × ((store_pending (world_of store a) n ops now).world.store ≡ (store_pending (world_of store b) n ops now).world.store)
   commit_same store [] = (refl, refl)
-  commit_same store (op ∷ ops) = stored_same store (op ∷ ops) (commit_fault (stores.tail_of_world store) false (op ∷ ops) now)
+  commit_same store (op ∷ ops) = stored_same store (op ∷ ops) (commit_fault (stores.tail_of_database store) false (op ∷ ops) now)
 
 -- nothing speaks against storing these operations
-abbrev pub IsFree : stores.World → List Op → ℕ → Type 0
+abbrev pub IsFree : stores.Database → List Op → ℕ → Type 0
 IsFree w [] now = Unit {0}
-IsFree w (op ∷ ops) now = commit_fault (stores.tail_of_world w) false (op ∷ ops) now ≡ None
+IsFree w (op ∷ ops) now = commit_fault (stores.tail_of_database w) false (op ∷ ops) now ≡ None
 
 -- ---- one piece
 
@@ -139,20 +139,20 @@ none_since places ts = ap (first_touching places) (drop_all (length ts) ts (omeg
 abbrev pub stmts_of : List Exchange → List Stmt
 stmts_of log = map (λ t. t.stmt) log
 
-module _ (w : World) (n now : ℕ) (log : List Exchange) (spoken : AllByRecursion IsSpoken (stmts_of log)) (pending : List Op) (alike : IsAlone w.store log pending) (sessions : ℕ → Option Session) (none : sessions n ≡ None) where
-  abbrev pub free : World
+module _ (w : Service) (n now : ℕ) (log : List Exchange) (spoken : AllByRecursion IsSpoken (stmts_of log)) (pending : List Op) (alike : IsAlone w.store log pending) (sessions : ℕ → Option Session) (none : sessions n ≡ None) where
+  abbrev pub free : Service
   free = world_of w.store sessions
 
-  abbrev pub fresh : World
+  abbrev pub fresh : Service
   fresh = with_session free n (Some (new_session free))
 
-  abbrev pub behind : World
+  abbrev pub behind : Service
   behind = spoken_all fresh n (new_session free) (stmts_of log)
 
   abbrev pub last : Session
   last = heard_all w.store (new_session free) (stmts_of log)
 
-  begin_is : step free (lines.InSession n stmts.Begin) now ≡ answers fresh (Replied replies.Done)
+  begin_is : serve free (lines.InSession n stmts.Begin) now ≡ answers fresh (Replied replies.Done)
   begin_is = step_is free n now None stmts.Begin none
 
   last_is : behind.sessions n ≡ Some last
@@ -163,24 +163,24 @@ module _ (w : World) (n now : ℕ) (log : List Exchange) (spoken : AllByRecursio
 
   no_conflict : conflict behind last ≡ None
   no_conflict =
-      ap (λ (st : stores.World). first_touching last.reads (since last.begun (txns st.items))) store_is
+      ap (λ (st : stores.Database). first_touching last.reads (since last.begun (txns st.items))) store_is
       ∙ ap (λ m. first_touching last.reads (since m (txns w.store.items))) (begun_is (stmts_of log) w.store (new_session free))
       ∙ none_since last.reads (txns w.store.items)
 
   last_pending : last.pending ≡ pending
   last_pending = pending_is (stmts_of log) w.store (new_session free) ∙ sym alike.pending_is
 
-  commit_is : step behind (lines.InSession n stmts.Commit) now ≡ store_pending behind n pending now
+  commit_is : serve behind (lines.InSession n stmts.Commit) now ≡ store_pending behind n pending now
   commit_is =
       step_is behind n now (Some last) stmts.Commit last_is
       ∙ ap (unless_conflict behind n last.pending now) no_conflict
       ∙ ap (λ ops. store_pending behind n ops now) last_pending
 
   answer_is : (store_pending behind n pending now).answer ≡ (store_pending w n pending now).answer
-  answer_is = (commit_same n now behind.sessions w.sessions behind.store pending).0 ∙ ap (λ (st : stores.World). (store_pending (world_of st w.sessions) n pending now).answer) store_is
+  answer_is = (commit_same n now behind.sessions w.sessions behind.store pending).0 ∙ ap (λ (st : stores.Database). (store_pending (world_of st w.sessions) n pending now).answer) store_is
 
   stored_is : (store_pending behind n pending now).world.store ≡ (store_pending w n pending now).world.store
-  stored_is = (commit_same n now behind.sessions w.sessions behind.store pending).1 ∙ ap (λ (st : stores.World). (store_pending (world_of st w.sessions) n pending now).world.store) store_is
+  stored_is = (commit_same n now behind.sessions w.sessions behind.store pending).1 ∙ ap (λ (st : stores.Database). (store_pending (world_of st w.sessions) n pending now).world.store) store_is
 
   abbrev pub commit_turn : List Turn
   commit_turn = turns.Take (lines.InSession n stmts.Commit) now ∷ []
@@ -192,16 +192,16 @@ module _ (w : World) (n now : ℕ) (log : List Exchange) (spoken : AllByRecursio
       (all_told n now commit_turn (stmts_of log) fresh (new_session free) spoken (put_here n (Some (new_session free)) free.sessions)
       ∙ ap (λ l. map Replied l ++ told_in behind commit_turn) (sym alike.replies_are)
       ∙ ap (λ l. l ++ told_in behind commit_turn) (map-map (λ (t : Exchange). t.reply) Replied log)
-      ∙ ap (λ (a : Answer). map (λ (t : Exchange). Replied t.reply) log ++ a ∷ []) (ap (λ (st : Step). st.answer) commit_is ∙ answer_is))
+      ∙ ap (λ (a : Answer). map (λ (t : Exchange). Replied t.reply) log ++ a ∷ []) (ap (λ (st : Served). st.answer) commit_is ∙ answer_is))
 
   piece_world : world_after free (piece n now (stmts_of log)) ≡ (store_pending behind n pending now).world
   piece_world =
-      ap (λ (st : Step). world_after st.world (in_turn n now (stmts_of log) ++ commit_turn)) begin_is
+      ap (λ (st : Served). world_after st.world (in_turn n now (stmts_of log) ++ commit_turn)) begin_is
       ∙ all_after n now commit_turn (stmts_of log) fresh (new_session free) spoken (put_here n (Some (new_session free)) free.sessions)
-      ∙ ap (λ (st : Step). st.world) commit_is
+      ∙ ap (λ (st : Served). st.world) commit_is
 
   pub piece_stored : (world_after free (piece n now (stmts_of log))).store ≡ (store_pending w n pending now).world.store
-  piece_stored = ap (λ (x : World). x.store) piece_world ∙ stored_is
+  piece_stored = ap (λ (x : Service). x.store) piece_world ∙ stored_is
 
   -- where no session was begun, none is then
   none_in : NoneBegun free → (k : ℕ) → put_at n None behind.sessions k ≡ None
@@ -221,10 +221,10 @@ module _ (w : World) (n now : ℕ) (log : List Exchange) (spoken : AllByRecursio
 
   pub piece_none : NoneBegun free → IsFree w.store pending now → NoneBegun (world_after free (piece n now (stmts_of log)))
   piece_none all e =
-      subst (λ (x : World). NoneBegun x) (sym piece_world)
-      (none_stored all pending (subst (λ (st : stores.World). IsFree st pending now) (sym store_is) e))
+      subst (λ (x : Service). NoneBegun x) (sym piece_world)
+      (none_stored all pending (subst (λ (st : stores.Database). IsFree st pending now) (sym store_is) e))
 
-pub one_piece : (w : World) (n now : ℕ) (log : List Exchange) → AllByRecursion IsSpoken (stmts_of log) → (pending : List Op) → IsAlone w.store log pending → IsOnePiece w n now log (store_pending w n pending now)
+pub one_piece : (w : Service) (n now : ℕ) (log : List Exchange) → AllByRecursion IsSpoken (stmts_of log) → (pending : List Op) → IsAlone w.store log pending → IsOnePiece w n now log (store_pending w n pending now)
 one_piece w n now log spoken pending alike = record {
   answers_are = piece_told w n now log spoken pending alike (put_at n None w.sessions) (put_here n None w.sessions);
   store_is = piece_stored w n now log spoken pending alike (put_at n None w.sessions) (put_here n None w.sessions);
@@ -252,9 +252,9 @@ noted_spoken logs (lines.InSession n stmt) (Replied reply) h k =
 noted_spoken logs (lines.InSession n stmt) answer h k = h k
 noted_spoken logs line answer h k = h k
 
-module _ (w : World) (logs : Logs) (held : AreHeld w logs) (spoken : AreSpoken logs) where
+module _ (w : Service) (logs : Logs) (held : AreHeld w logs) (spoken : AreSpoken logs) where
   module _ (n now : ℕ) where
-    any_answer : (next : Step) (a : Answer) → IsOnePiece w n now (logs n) next → IsPieceOf w logs (lines.InSession n stmts.Commit) now next a
+    any_answer : (next : Served) (a : Answer) → IsOnePiece w n now (logs n) next → IsPieceOf w logs (lines.InSession n stmts.Commit) now next a
     any_answer next (Replied reply) is = λ _. is
     any_answer next a is = tt
 
@@ -273,18 +273,18 @@ module _ (w : World) (logs : Logs) (held : AreHeld w logs) (spoken : AreSpoken l
     session_piece (Some s) is stmts.Abort = tt
     session_piece (Some s) is stmt = tt
 
-  line_piece : (line : Line) (now : ℕ) → IsPieceOf w logs line now (step w line now) (step w line now).answer
-  unfolding step
+  line_piece : (line : Line) (now : ℕ) → IsPieceOf w logs line now (serve w line now) (serve w line now).answer
+  unfolding serve
   line_piece (lines.Plain stmt) now = tt
   line_piece (lines.InSession n stmt) now = session_piece n now (w.sessions n) refl stmt
   line_piece lines.Blank now = tt
   line_piece (lines.Drill event) now = tt
 
-pieces : (ts : List Turn) (w : World) (logs : Logs) → AreHeld w logs → AreSpoken logs → InPieces w logs ts
+pieces : (ts : List Turn) (w : Service) (logs : Logs) → AreHeld w logs → AreSpoken logs → InPieces w logs ts
 pieces [] w logs held spoken = tt
 pieces (turns.Take line now ∷ rest) w logs held spoken = (
   line_piece w logs held spoken line now,
-  pieces rest (step w line now).world (noted logs line (step w line now).answer) (line_goes w logs held line now).1 (noted_spoken logs line (step w line now).answer spoken),
+  pieces rest (serve w line now).world (noted logs line (serve w line now).answer) (line_goes w logs held line now).1 (noted_spoken logs line (serve w line now).answer spoken),
 )
 pieces (turns.Reach moment ∷ rest) w logs held spoken = pieces rest (reached w moment) logs (reach_held w logs held moment) spoken
 pieces (turns.Open store ∷ rest) w logs held spoken = pieces rest (opened store) logs (λ k. tt) spoken

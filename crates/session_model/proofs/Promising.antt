@@ -1,70 +1,49 @@
 -- What each answer promises of the world behind it.
 use Rattle.std.proofs.Common.{◌≡◌, ◌≢◌, ℕ, true, false, eqb, if◌then◌else◌, Option, Some, None, Result, Ok, Err, List, [], ◌∷◌, ◌++◌, refl, ap, arith}
 use Rattle.std.proofs.lemmas.Bool.Decides.{nat_tests}
-use Rattle.tuple_bytes.specs.declared.value.Value.{Value}
 use Rattle.tuple_bytes.specs.declared.op.Op.{Op}
 use Rattle.history_model.specs.declared.change.TableFail.{TableFail}
-use Rattle.history_model.specs.declared.change.TableFail.TheVariants as tables
 use Rattle.history_model.specs.declared.change.Write.{Write}
 use Rattle.history_model.specs.Answers.{prepared, row_at}
 use Rattle.history_model.specs.History.{txns, last_moment}
-use Rattle.history_model.specs.State.{after_ops}
-use Rattle.tt_table.specs.declared.version.Version.{Version}
+use Rattle.history_model.specs.State.{after_ops, state}
 use Rattle.asof_query.specs.Filters.{scan_of}
 use Rattle.asof_query.specs.Told.{history_told}
+use Rattle.sequenced_query.specs.Columns.{columns_of}
+use Rattle.sequenced_query.specs.Spans.{select_over, join_over}
 use Rattle.store_engine.specs.declared.fail.StoreFail.{StoreFail}
-use Rattle.store_engine.specs.declared.fail.StoreFail.TheVariants as fails
 use Rattle.store_engine.specs.Refusals.{next_txn, commit_fault}
 use Rattle.stmt_text.specs.declared.stmt.Stmt.{Stmt}
 use Rattle.stmt_text.specs.declared.stmt.Stmt.TheVariants as stmts
 use Rattle.stmt_text.specs.declared.line.Line.TheVariants as lines
-use Rattle.statement_core.specs.World as stores
-use Rattle.statement_core.specs.Refusing.{refused_by_tables, refused_by_store}
-use Rattle.statement_core.specs.Steps.{found, scanned, told, write_in, committed}
+use Rattle.statement_core.specs.Database as stores
+use Rattle.statement_core.specs.Steps.{write_in, committed}
 use Rattle.statement_core.specs.Promises as promises
 use Rattle.statement_core.specs.Replies.{is_refusal}
-use Rattle.statement_core.proofs.Promising.{steps_keep}
+use Rattle.statement_core.proofs.Promising.{by_tables, by_store, of_found, of_scanned, of_told, of_pieced, steps_keep}
 use Rattle.session_model.specs.Statements.{tables_over, read_over, size_fault, pended, pend, change_or_read, say}
-use Rattle.session_model.specs.World.{Session, World, put_at, new_session}
-use Rattle.session_model.specs.Steps.{stored, store_pending, unless_conflict, conflict, heard, in_session, step}
+use Rattle.session_model.specs.Service.{Session, Service, put_at, new_session}
+use Rattle.session_model.specs.Steps.{stored, store_pending, unless_conflict, conflict, heard, in_session, serve}
 use Rattle.session_model.specs.Promises.{KeepsPromise, StepsKeepPromises, RefusedLeavePending, ReadsAreAlike, IsAsOutside, CommitsAreAlike}
 use Rattle.session_model.proofs.Later.{txns_more}
 
-module _ (w : stores.World) where
-  by_tables : (fail : TableFail) → promises.IsPromised w (refused_by_tables fail) w
-  by_tables tables.NoMemory = refl
-  by_tables fail = refl
-
-  by_store : (fail : StoreFail) → promises.IsPromised w (refused_by_store fail) w
-  by_store (fails.ClockBack last) = refl
-  by_store fail = refl
-
-  of_found : (r : Result (Option (List Value)) TableFail) → promises.IsPromised w (found r) w
-  of_found (Ok (Some row)) = refl
-  of_found (Ok None) = refl
-  of_found (Err fail) = by_tables fail
-
-  of_scanned : (r : Result (List (List Value)) TableFail) → promises.IsPromised w (scanned r) w
-  of_scanned (Ok rows) = refl
-  of_scanned (Err fail) = by_tables fail
-
-  of_told : (r : Result (List Version) TableFail) → promises.IsPromised w (told r) w
-  of_told (Ok versions) = refl
-  of_told (Err fail) = by_tables fail
-
+module _ (w : stores.Database) where
   of_read : (pending : List Op) (stmt : Stmt) → promises.IsPromised w (read_over w pending stmt) w
-  of_read pending (stmts.Get table key moment) = of_found (row_at (tables_over w pending moment) table key)
-  of_read pending (stmts.Scan table filter moment) = of_scanned (scan_of (tables_over w pending moment) table filter)
-  of_read pending (stmts.History table key) = of_told (history_told table key (txns w.items) (last_moment w.items))
+  of_read pending (stmts.Get table key moment) = of_found w (row_at (tables_over w pending moment) table key)
+  of_read pending (stmts.Scan table filter moment) = of_scanned w (scan_of (tables_over w pending moment) table filter)
+  of_read pending (stmts.History table key) = of_told w (history_told table key (txns w.items) (last_moment w.items))
+  of_read pending (stmts.OverSelect from to table filter) = of_pieced w (select_over (columns_of (stores.tables_now w)) (state (txns w.items)) table filter from to)
+  of_read pending (stmts.OverJoin from to left right left_column right_column) =
+      of_pieced w (join_over (columns_of (stores.tables_now w)) (state (txns w.items)) left left_column right right_column from to)
   of_read pending stmt = refl
 
   of_pended : (pending : List Op) (op : Op) (f : Option StoreFail) → promises.IsPromised w (pended pending op f).reply w
   of_pended pending op None = refl
-  of_pended pending op (Some fail) = by_store fail
+  of_pended pending op (Some fail) = by_store w fail
 
   of_pend : (pending : List Op) (r : Result Op TableFail) → promises.IsPromised w (pend pending r).reply w
   of_pend pending (Ok op) = of_pended pending op (size_fault (pending ++ op ∷ []))
-  of_pend pending (Err fail) = by_tables fail
+  of_pend pending (Err fail) = by_tables w fail
 
   of_change : (pending : List Op) (change : Option Write) (stmt : Stmt) → promises.IsPromised w (change_or_read w pending change stmt).reply w
   of_change pending (Some change) stmt = of_pend pending (prepared (after_ops pending (stores.tables_now w)) change)
@@ -74,7 +53,7 @@ module _ (w : stores.World) where
   unfolding say
   of_say pending stmt = of_change pending (write_in stmt) stmt
 
-module _ (w : World) (n : ℕ) (now : ℕ) where
+module _ (w : Service) (n : ℕ) (now : ℕ) where
   others : (o : Option Session) (k : ℕ) → k ≢ n → put_at n o w.sessions k ≡ w.sessions k
   others o k apart = let e : eqb k n ≡ false = grind (arith, nat_tests) in ap (λ b. if b then o else w.sessions k) e
 
@@ -82,8 +61,8 @@ module _ (w : World) (n : ℕ) (now : ℕ) where
     stored_keeps : (ops : List Op) (f : Option StoreFail) → KeepsPromise w (lines.InSession n line) (stored w n ops now f)
     stored_keeps ops None = record {
       store = record {
-        txn = next_txn (stores.tail_of_world w.store) ops now;
-        behind = txns_more w.store.items (next_txn (stores.tail_of_world w.store) ops now);
+        txn = next_txn (stores.tail_of_database w.store) ops now;
+        behind = txns_more w.store.items (next_txn (stores.tail_of_database w.store) ops now);
         numbered = refl;
         next = refl;
         header = refl;
@@ -94,7 +73,7 @@ module _ (w : World) (n : ℕ) (now : ℕ) where
 
     pending_keeps : (ops : List Op) → KeepsPromise w (lines.InSession n line) (store_pending w n ops now)
     pending_keeps [] = record { store = refl; sessions = others None }
-    pending_keeps (op ∷ ops) = stored_keeps (op ∷ ops) (commit_fault (stores.tail_of_world w.store) false (op ∷ ops) now)
+    pending_keeps (op ∷ ops) = stored_keeps (op ∷ ops) (commit_fault (stores.tail_of_database w.store) false (op ∷ ops) now)
 
     commit_keeps : (ops : List Op) (c : Option ℕ) → KeepsPromise w (lines.InSession n line) (unless_conflict w n ops now c)
     commit_keeps ops (Some number) = record { store = refl; sessions = others None }
@@ -109,7 +88,7 @@ module _ (w : World) (n : ℕ) (now : ℕ) where
   session_keeps (Some s) stmt = record { store = of_say w.store s.pending stmt; sessions = others (Some (heard s stmt (say w.store s.pending stmt))) }
 
 pub steps_keep_promises : StepsKeepPromises
-unfolding step
+unfolding serve
 steps_keep_promises w (lines.Plain stmt) now = record { store = steps_keep w.store (lines.Plain stmt) now; sessions = refl }
 steps_keep_promises w (lines.InSession n stmt) now = session_keeps w n now (w.sessions n) stmt
 steps_keep_promises w lines.Blank now = record { store = refl; sessions = refl }
@@ -125,7 +104,7 @@ pend_leaves : (pending : List Op) (r : Result Op TableFail) → is_refusal (pend
 pend_leaves pending (Ok op) e = pended_leaves pending op (size_fault (pending ++ op ∷ [])) e
 pend_leaves pending (Err fail) e = refl
 
-change_leaves : (w : stores.World) (pending : List Op) (change : Option Write) (stmt : Stmt) → is_refusal (change_or_read w pending change stmt).reply ≡ true → (change_or_read w pending change stmt).pending ≡ pending
+change_leaves : (w : stores.Database) (pending : List Op) (change : Option Write) (stmt : Stmt) → is_refusal (change_or_read w pending change stmt).reply ≡ true → (change_or_read w pending change stmt).pending ≡ pending
 change_leaves w pending (Some change) stmt e = pend_leaves pending (prepared (after_ops pending (stores.tables_now w)) change) e
 change_leaves w pending None stmt e = refl
 
@@ -150,8 +129,8 @@ reads_are_alike w stmt e = refl
 -- ---- commits
 
 pub commits_are_alike : CommitsAreAlike
-commits_are_alike w n now op ops = by (commit_fault (stores.tail_of_world w.store) false (op ∷ ops) now)
+commits_are_alike w n now op ops = by (commit_fault (stores.tail_of_database w.store) false (op ∷ ops) now)
   where
-    by : (f : Option StoreFail) → IsAsOutside w (stored w n (op ∷ ops) now f) (committed f w.store (next_txn (stores.tail_of_world w.store) (op ∷ ops) now))
+    by : (f : Option StoreFail) → IsAsOutside w (stored w n (op ∷ ops) now f) (committed f w.store (next_txn (stores.tail_of_database w.store) (op ∷ ops) now))
     by None = record { store = refl; answer = refl }
     by (Some fail) = record { store = refl; answer = refl }

@@ -7,12 +7,12 @@ use Rattle.store_engine.specs.declared.fail.StoreFail.{StoreFail}
 use Rattle.store_engine.specs.Refusals.{commit_fault}
 use Rattle.statement_core.specs.declared.reply.Refusal.TheVariants as refusals
 use Rattle.statement_core.specs.declared.reply.Reply.{Reply}
-use Rattle.statement_core.specs.World as stores
-use Rattle.session_model.specs.World.{Session, World}
-use Rattle.session_model.specs.Steps.{Replied, Stopped, stored, store_pending, unless_conflict, conflict, in_session, step}
+use Rattle.statement_core.specs.Database as stores
+use Rattle.session_model.specs.Service.{Session, Service}
+use Rattle.session_model.specs.Steps.{Replied, Stopped, stored, store_pending, unless_conflict, conflict, in_session, serve}
 use Rattle.session_model.specs.Promises.{IsExact, RefusalsAreExact}
 
-module _ (w : World) (n : ℕ) (now : ℕ) where
+module _ (w : Service) (n : ℕ) (now : ℕ) where
   -- a reply is none of the three
   replied : (stmt : Stmt) (s : Session) (reply : Reply) → w.sessions n ≡ Some s → stmt ≢ stmts.Begin → ((number : ℕ) → stmt ≡ stmts.Commit → conflict w s ≡ Some number → ⊥) → IsExact w n stmt (Replied reply)
   replied stmt s reply is other free = record {
@@ -27,7 +27,7 @@ module _ (w : World) (n : ℕ) (now : ℕ) where
 
   of_pending : (s : Session) → w.sessions n ≡ Some s → conflict w s ≡ None → (ops : List Op) → IsExact w n stmts.Commit (store_pending w n ops now).answer
   of_pending s is free [] = replied stmts.Commit s _ is (λ e. cc) (λ number e h. cc (free, h))
-  of_pending s is free (op ∷ ops) = of_stored s is free (op ∷ ops) (commit_fault (stores.tail_of_world w.store) false (op ∷ ops) now)
+  of_pending s is free (op ∷ ops) = of_stored s is free (op ∷ ops) (commit_fault (stores.tail_of_database w.store) false (op ∷ ops) now)
 
   of_commit : (s : Session) → w.sessions n ≡ Some s → (c : Option ℕ) → conflict w s ≡ c → IsExact w n stmts.Commit (unless_conflict w n s.pending now c).answer
   of_commit s is None free = of_pending s is free s.pending
@@ -67,5 +67,5 @@ module _ (w : World) (n : ℕ) (now : ℕ) where
   of_session (Some s) is stmt = replied stmt s _ is (λ e. cc) (λ number e h. cc)
 
 pub refusals_are_exact : RefusalsAreExact
-unfolding step
+unfolding serve
 refusals_are_exact w n stmt now = of_session w n now (w.sessions n) refl stmt

@@ -11,7 +11,7 @@ use Rattle.stmt_text.specs.declared.stmt.Stmt.{Stmt}
 use Rattle.store_engine.specs.declared.fail.StoreFail.{StoreFail}
 use Rattle.store_engine.specs.declared.fail.StoreFail.TheVariants as fails
 use Rattle.store_engine.specs.Refusals.{where_true, is_back, is_late, is_full, next_txn, item_fault}
-use Rattle.statement_core.specs.World as stores
+use Rattle.statement_core.specs.Database as stores
 use Rattle.statement_core.specs.Steps.{write_in}
 use Rattle.session_model.specs.Statements.{size_of, size_fault, pended, pend, change_or_read, say}
 use Rattle.session_model.specs.Pending.{PendingHasRoom, RoomIsEnough}
@@ -25,11 +25,11 @@ pend_room : (pending : List Op) (r : Result Op TableFail) → size_fault pending
 pend_room pending (Ok op) room = pended_room pending op room (size_fault (pending ++ op ∷ [])) refl
 pend_room pending (Err fail) room = room
 
-said_room : (w : stores.World) (pending : List Op) (change : Option Write) (stmt : Stmt) → size_fault pending ≡ None → size_fault (change_or_read w pending change stmt).pending ≡ None
+said_room : (w : stores.Database) (pending : List Op) (change : Option Write) (stmt : Stmt) → size_fault pending ≡ None → size_fault (change_or_read w pending change stmt).pending ≡ None
 said_room w pending (Some change) stmt room = pend_room pending (prepared (after_ops pending (stores.tables_now w)) change) room
 said_room w pending None stmt room = room
 
-pub say_room : (w : stores.World) (pending : List Op) (stmt : Stmt) → size_fault pending ≡ None → size_fault (say w pending stmt).pending ≡ None
+pub say_room : (w : stores.Database) (pending : List Op) (stmt : Stmt) → size_fault pending ≡ None → size_fault (say w pending stmt).pending ≡ None
 unfolding say
 say_room w pending stmt room = said_room w pending (write_in stmt) stmt room
 

@@ -14,10 +14,10 @@ use Rattle.store_engine.specs.declared.fail.StoreFail.TheVariants as fails
 use Rattle.store_engine.specs.Refusals.{Tail, where_true, is_back, is_late, is_full, next_txn, commit_fault}
 use Rattle.statement_core.specs.declared.reply.Reply.{Reply}
 use Rattle.statement_core.specs.declared.reply.Reply.TheVariants as replies
-use Rattle.statement_core.specs.World as stores
+use Rattle.statement_core.specs.Database as stores
 use Rattle.statement_core.specs.Refusing.{refused_by_store}
-use Rattle.session_model.specs.World.{Session, World, with_store, NoneBegun}
-use Rattle.session_model.specs.Steps.{Replied, Step, stored, store_pending, unless_conflict, conflict, in_session, step}
+use Rattle.session_model.specs.Service.{Session, Service, with_store, NoneBegun}
+use Rattle.session_model.specs.Steps.{Replied, Served, stored, store_pending, unless_conflict, conflict, in_session, serve}
 use Rattle.session_model.specs.Alone.{Exchange, IsAlone}
 use Rattle.session_model.specs.Runs.{Turn, Logs, no_logs, noted, told_in, world_after, reached, opened}
 use Rattle.session_model.specs.Serial.{IsStored, WasAlone}
@@ -26,15 +26,15 @@ use Rattle.session_model.specs.Runs as turns
 use Rattle.session_model.proofs.Serials.{AreHeld, was_alone, line_goes, reach_held, none_held}
 use Rattle.session_model.proofs.Pieces.{world_of, stmts_of, piece_told, piece_stored, piece_none, IsFree, AreSpoken, noted_spoken}
 
-told_append : (a b : List Turn) (w : World) → told_in w (a ++ b) ≡ told_in w a ++ told_in (world_after w a) b
+told_append : (a b : List Turn) (w : Service) → told_in w (a ++ b) ≡ told_in w a ++ told_in (world_after w a) b
 told_append [] b w = refl
-told_append (turns.Take line now ∷ a) b w = ap (λ l. (step w line now).answer ∷ l) (told_append a b (step w line now).world)
+told_append (turns.Take line now ∷ a) b w = ap (λ l. (serve w line now).answer ∷ l) (told_append a b (serve w line now).world)
 told_append (turns.Reach moment ∷ a) b w = told_append a b (reached w moment)
 told_append (turns.Open store ∷ a) b w = told_append a b (opened store)
 
-after_append : (a b : List Turn) (w : World) → world_after w (a ++ b) ≡ world_after (world_after w a) b
+after_append : (a b : List Turn) (w : Service) → world_after w (a ++ b) ≡ world_after (world_after w a) b
 after_append [] b w = refl
-after_append (turns.Take line now ∷ a) b w = after_append a b (step w line now).world
+after_append (turns.Take line now ∷ a) b w = after_append a b (serve w line now).world
 after_append (turns.Reach moment ∷ a) b w = after_append a b (reached w moment)
 after_append (turns.Open store ∷ a) b w = after_append a b (opened store)
 
@@ -57,13 +57,13 @@ no_ok t ops now fail e = by (is_back t now) (is_late t now) (nat_lt max_ops (len
     by false false false false false e = cc
 
 -- what one line is in the serial run, from a world x with the same store and no session
-record IsLineSerial (w x : World) (logs : Logs) (line : Line) (now : ℕ) (next : Step) : Type 0 where
+record IsLineSerial (w x : Service) (logs : Logs) (line : Line) (now : ℕ) (next : Served) : Type 0 where
   answers_are : told_in x (turns_for logs line now next.answer) ≡ answers_for logs line next.answer
   store_is : (world_after x (turns_for logs line now next.answer)).store ≡ next.world.store
   none : NoneBegun (world_after x (turns_for logs line now next.answer))
 
-module _ (w : World) (logs : Logs) (held : AreHeld w logs) (spoken : AreSpoken logs) (sessions : ℕ → Option Session) (none : (k : ℕ) → sessions k ≡ None) where
-  abbrev x : World
+module _ (w : Service) (logs : Logs) (held : AreHeld w logs) (spoken : AreSpoken logs) (sessions : ℕ → Option Session) (none : (k : ℕ) → sessions k ≡ None) where
+  abbrev x : Service
   x = world_of w.store sessions
 
   module _ (n now : ℕ) where
@@ -87,15 +87,15 @@ module _ (w : World) (logs : Logs) (held : AreHeld w logs) (spoken : AreSpoken l
     refused reply bad = record { answers_are = refl; store_is = refl; none = none }
 
     stored_line : (s : Session) → w.sessions n ≡ Some s → conflict w s ≡ None → (op : Op) (ops : List Op) → s.pending ≡ op ∷ ops
-        → (f : Option StoreFail) → commit_fault (stores.tail_of_world w.store) false (op ∷ ops) now ≡ f → IsLineSerial w x logs (lines.InSession n stmts.Commit) now (stored w n (op ∷ ops) now f)
+        → (f : Option StoreFail) → commit_fault (stores.tail_of_database w.store) false (op ∷ ops) now ≡ f → IsLineSerial w x logs (lines.InSession n stmts.Commit) now (stored w n (op ∷ ops) now f)
     stored_line s is free op ops pends None e =
         let line : store_pending w n s.pending now ≡ stored w n (op ∷ ops) now None = ap (λ l. store_pending w n l now) pends ∙ ap (stored w n (op ∷ ops) now) e in
         record {
-          answers_are = told s is free ∙ ap (λ (st : Step). Replied replies.Done ∷ (map (λ (t : Exchange). Replied t.reply) (logs n) ++ st.answer ∷ [])) line;
-          store_is = same s is free ∙ ap (λ (st : Step). st.world.store) line;
+          answers_are = told s is free ∙ ap (λ (st : Served). Replied replies.Done ∷ (map (λ (t : Exchange). Replied t.reply) (logs n) ++ st.answer ∷ [])) line;
+          store_is = same s is free ∙ ap (λ (st : Served). st.world.store) line;
           none = gone s is free (subst (λ l. IsFree w.store l now) (sym pends) e);
         }
-    stored_line s is free op ops pends (Some fail) e = refused (refused_by_store fail) (no_ok (stores.tail_of_world w.store) (op ∷ ops) now fail e)
+    stored_line s is free op ops pends (Some fail) e = refused (refused_by_store fail) (no_ok (stores.tail_of_database w.store) (op ∷ ops) now fail e)
 
     pending_line : (s : Session) → w.sessions n ≡ Some s → conflict w s ≡ None → (ops : List Op) → s.pending ≡ ops → IsLineSerial w x logs (lines.InSession n stmts.Commit) now (store_pending w n ops now)
     pending_line s is free [] pends = record {
@@ -103,7 +103,7 @@ module _ (w : World) (logs : Logs) (held : AreHeld w logs) (spoken : AreSpoken l
       store_is = same s is free ∙ ap (λ l. (store_pending w n l now).world.store) pends;
       none = gone s is free (subst (λ l. IsFree w.store l now) (sym pends) tt);
     }
-    pending_line s is free (op ∷ ops) pends = stored_line s is free op ops pends (commit_fault (stores.tail_of_world w.store) false (op ∷ ops) now) refl
+    pending_line s is free (op ∷ ops) pends = stored_line s is free op ops pends (commit_fault (stores.tail_of_database w.store) false (op ∷ ops) now) refl
 
     commit_line : (s : Session) → w.sessions n ≡ Some s → (c : Option ℕ) → conflict w s ≡ c → IsLineSerial w x logs (lines.InSession n stmts.Commit) now (unless_conflict w n s.pending now c)
     commit_line s is (Some number) e = record { answers_are = refl; store_is = refl; none = none }
@@ -117,8 +117,8 @@ module _ (w : World) (logs : Logs) (held : AreHeld w logs) (spoken : AreSpoken l
     session_line (Some s) is stmts.Abort = record { answers_are = refl; store_is = refl; none = none }
     session_line (Some s) is stmt = record { answers_are = refl; store_is = refl; none = none }
 
-  line_serial : (line : Line) (now : ℕ) → IsLineSerial w x logs line now (step w line now)
-  unfolding step
+  line_serial : (line : Line) (now : ℕ) → IsLineSerial w x logs line now (serve w line now)
+  unfolding serve
   line_serial (lines.Plain stmt) now = record { answers_are = refl; store_is = refl; none = none }
   line_serial (lines.InSession n stmt) now = session_line n now (w.sessions n) refl stmt
   line_serial lines.Blank now = record { answers_are = refl; store_is = refl; none = none }
@@ -127,43 +127,43 @@ module _ (w : World) (logs : Logs) (held : AreHeld w logs) (spoken : AreSpoken l
 -- ---- a run
 
 -- from a world with the same store and no session
-record IsRunSerial (w x : World) (logs : Logs) (ts : List Turn) : Type 0 where
+record IsRunSerial (w x : Service) (logs : Logs) (ts : List Turn) : Type 0 where
   answers_are : told_in x (serial_run w logs ts) ≡ serial_answers w logs ts
   store_is : (world_after x (serial_run w logs ts)).store ≡ (world_after w ts).store
 
-reach_same : (w : World) (sessions : ℕ → Option Session) (moment : ℕ) → (reached (world_of w.store sessions) moment ≡ world_of (reached w moment).store sessions)
+reach_same : (w : Service) (sessions : ℕ → Option Session) (moment : ℕ) → (reached (world_of w.store sessions) moment ≡ world_of (reached w moment).store sessions)
 reach_same w sessions moment = by (nat_lt (last_moment w.store.items) moment)
   where
     by : (b : Bool) → (if b then with_store (world_of w.store sessions) (stores.with_frontier w.store moment) else world_of w.store sessions) ≡ world_of (if b then with_store w (stores.with_frontier w.store moment) else w).store sessions
     by true = refl
     by false = refl
 
-runs : (ts : List Turn) (w : World) (logs : Logs) → AreHeld w logs → AreSpoken logs → (sessions : ℕ → Option Session) → ((k : ℕ) → sessions k ≡ None) → IsRunSerial w (world_of w.store sessions) logs ts
+runs : (ts : List Turn) (w : Service) (logs : Logs) → AreHeld w logs → AreSpoken logs → (sessions : ℕ → Option Session) → ((k : ℕ) → sessions k ≡ None) → IsRunSerial w (world_of w.store sessions) logs ts
 runs [] w logs held spoken sessions none = record { answers_are = refl; store_is = refl }
 runs (turns.Take line now ∷ rest) w logs held spoken sessions none =
-    let next = step w line now in
+    let next = serve w line now in
     let one = line_serial w logs held spoken sessions none line now in
     let here = turns_for logs line now next.answer in
     let met = world_after (world_of w.store sessions) here in
     let more = runs rest next.world (noted logs line next.answer) (line_goes w logs held line now).1 (noted_spoken logs line next.answer spoken) met.sessions one.none in
-    let is : met ≡ world_of next.world.store met.sessions = ap (λ (st : stores.World). world_of st met.sessions) one.store_is in
+    let is : met ≡ world_of next.world.store met.sessions = ap (λ (st : stores.Database). world_of st met.sessions) one.store_is in
     record {
       answers_are =
           told_append here (serial_run next.world (noted logs line next.answer) rest) (world_of w.store sessions)
           ∙ ap (λ l. l ++ told_in met (serial_run next.world (noted logs line next.answer) rest)) one.answers_are
-          ∙ ap (λ (y : World). answers_for logs line next.answer ++ told_in y (serial_run next.world (noted logs line next.answer) rest)) is
+          ∙ ap (λ (y : Service). answers_for logs line next.answer ++ told_in y (serial_run next.world (noted logs line next.answer) rest)) is
           ∙ ap (λ l. answers_for logs line next.answer ++ l) more.answers_are;
       store_is =
-          ap (λ (y : World). y.store) (after_append here (serial_run next.world (noted logs line next.answer) rest) (world_of w.store sessions))
-          ∙ ap (λ (y : World). (world_after y (serial_run next.world (noted logs line next.answer) rest)).store) is
+          ap (λ (y : Service). y.store) (after_append here (serial_run next.world (noted logs line next.answer) rest) (world_of w.store sessions))
+          ∙ ap (λ (y : Service). (world_after y (serial_run next.world (noted logs line next.answer) rest)).store) is
           ∙ more.store_is;
     }
 runs (turns.Reach moment ∷ rest) w logs held spoken sessions none =
     let more = runs rest (reached w moment) logs (reach_held w logs held moment) spoken sessions none in
     let is = reach_same w sessions moment in
     record {
-      answers_are = ap (λ (y : World). told_in y (serial_run (reached w moment) logs rest)) is ∙ more.answers_are;
-      store_is = ap (λ (y : World). (world_after y (serial_run (reached w moment) logs rest)).store) is ∙ more.store_is;
+      answers_are = ap (λ (y : Service). told_in y (serial_run (reached w moment) logs rest)) is ∙ more.answers_are;
+      store_is = ap (λ (y : Service). (world_after y (serial_run (reached w moment) logs rest)).store) is ∙ more.store_is;
     }
 runs (turns.Open store ∷ rest) w logs held spoken sessions none =
     let more = runs rest (opened store) logs (λ k. tt) spoken (λ n. None) (λ k. refl) in

@@ -18,13 +18,13 @@ use Rattle.stmt_text.specs.declared.line.Line.TheVariants as lines
 use Rattle.store_engine.specs.declared.fail.StoreFail.{StoreFail}
 use Rattle.store_engine.specs.Refusals.{Tail, next_txn, commit_fault, is_back}
 use Rattle.statement_core.specs.declared.reply.Reply.{Reply}
-use Rattle.statement_core.specs.World as stores
+use Rattle.statement_core.specs.Database as stores
 use Rattle.statement_core.specs.Steps as statements
 use Rattle.session_model.specs.declared.place.Place.{Place}
 use Rattle.session_model.specs.Places.{reads_of, touches, touches_one, NoneTouches, first_touching, since}
 use Rattle.session_model.specs.Statements.{Said, say}
-use Rattle.session_model.specs.World.{Session, World, put_at, with_store, new_session, NoneBegun}
-use Rattle.session_model.specs.Steps.{Step, stored, store_pending, unless_conflict, conflict, heard, in_session, step}
+use Rattle.session_model.specs.Service.{Session, Service, put_at, with_store, new_session, NoneBegun}
+use Rattle.session_model.specs.Steps.{Served, stored, store_pending, unless_conflict, conflict, heard, in_session, serve}
 use Rattle.session_model.specs.Alone.{Alone, after_reply, alone_from, alone, Exchange, IsAlone}
 use Rattle.session_model.specs.Runs.{Turn, reached, opened, Logs, no_logs, noted}
 use Rattle.session_model.specs.Serial.{WasAlone, IsSerialAt, Serial, RunsAreSerial}
@@ -35,7 +35,7 @@ use Rattle.session_model.proofs.Staying.{answers_stay}
 
 -- ---- one statement more, alone
 
-module _ (w : stores.World) where
+module _ (w : stores.Database) where
   abbrev one_more : Stmt → Alone → Alone
   one_more stmt a = record { replies = a.replies ++ (say w a.pending stmt).reply ∷ []; pending = (say w a.pending stmt).pending }
 
@@ -51,7 +51,7 @@ abbrev told_of : Stmt → Reply → Exchange
 told_of stmt reply = record { stmt = stmt; reply = reply }
 
 -- a session that was alone stays so with one statement more
-alone_told : (w : stores.World) (log : List Exchange) (pending : List Op) (stmt : Stmt) → IsAlone w log pending
+alone_told : (w : stores.Database) (log : List Exchange) (pending : List Op) (stmt : Stmt) → IsAlone w log pending
     → IsAlone w (log ++ told_of stmt (say w pending stmt).reply ∷ []) (say w pending stmt).pending
 alone_told w log pending stmt is =
     let all = alone_more w (map (λ t. t.stmt) log) stmt [] in
@@ -120,18 +120,18 @@ txns_append : (xs ys : List Item) → txns (xs ++ ys) ≡ txns xs ++ txns ys
 txns_append xs ys = filter_map-append txn_in xs ys
 
 -- in every later history in which nothing touches what it read, the session was told what its statements are told alone
-pub record IsKept (w : stores.World) (s : Session) (log : List Exchange) : Type 0 where
+pub record IsKept (w : stores.Database) (s : Session) (log : List Exchange) : Type 0 where
   pub begun : s.begun ≤ length (txns w.items)
-  pub told : (later : stores.World) → IsLater w later → NoneTouches s.reads (since s.begun (txns later.items)) → IsAlone later log s.pending
+  pub told : (later : stores.Database) → IsLater w later → NoneTouches s.reads (since s.begun (txns later.items)) → IsAlone later log s.pending
 
-abbrev pub IsHeld : stores.World → Option Session → List Exchange → Type 0
+abbrev pub IsHeld : stores.Database → Option Session → List Exchange → Type 0
 IsHeld w None log = Unit {0}
 IsHeld w (Some s) log = IsKept w s log
 
-abbrev pub AreHeld : World → Logs → Type 0
+abbrev pub AreHeld : Service → Logs → Type 0
 AreHeld w logs = (n : ℕ) → IsHeld w.store (w.sessions n) (logs n)
 
-kept_later : (w later : stores.World) (s : Session) (log : List Exchange) → IsLater w later → IsKept w s log → IsKept later s log
+kept_later : (w later : stores.Database) (s : Session) (log : List Exchange) → IsLater w later → IsKept w s log → IsKept later s log
 kept_later w later s log more is = record {
   begun = let e : txns later.items ≡ txns w.items ++ txns more.items = ap txns more.behind ∙ txns_append w.items more.items in
       let n : length (txns later.items) ≡ length (txns w.items) + length (txns more.items) = ap length e ∙ length-append (txns w.items) (txns more.items) in
@@ -139,15 +139,15 @@ kept_later w later s log more is = record {
   told = λ last further. is.told last (later_still w later last more further);
 }
 
-held_later : (w later : stores.World) (o : Option Session) (log : List Exchange) → IsLater w later → IsHeld w o log → IsHeld later o log
+held_later : (w later : stores.Database) (o : Option Session) (log : List Exchange) → IsLater w later → IsHeld w o log → IsHeld later o log
 held_later w later None log more is = tt
 held_later w later (Some s) log more is = kept_later w later s log more is
 
-kept_new : (w : World) → IsKept w.store (new_session w) []
+kept_new : (w : Service) → IsKept w.store (new_session w) []
 kept_new w = record { begun = omega arith; told = λ later more quiet. record { replies_are = refl; pending_is = refl } }
 
 -- one statement more
-kept_heard : (w : stores.World) (s : Session) (log : List Exchange) (stmt : Stmt) → IsKept w s log
+kept_heard : (w : stores.Database) (s : Session) (log : List Exchange) (stmt : Stmt) → IsKept w s log
     → IsKept w (heard s stmt (say w s.pending stmt)) (log ++ told_of stmt (say w s.pending stmt).reply ∷ [])
 kept_heard w s log stmt is = record {
   begun = is.begun;
@@ -163,13 +163,13 @@ kept_heard w s log stmt is = record {
 -- ---- a line
 
 -- at one number something else is held
-held_at : (store : stores.World) (sessions : ℕ → Option Session) (logs : Logs) (n : ℕ) (o : Option Session) (log : List Exchange)
+held_at : (store : stores.Database) (sessions : ℕ → Option Session) (logs : Logs) (n : ℕ) (o : Option Session) (log : List Exchange)
     → ((k : ℕ) → IsHeld store (sessions k) (logs k)) → IsHeld store o log → (k : ℕ) → IsHeld store (put_at n o sessions k) (put_at n log logs k)
 held_at store sessions logs n o log held here k =
     elim (eqb k n) as (λ b. IsHeld store (if b then o else sessions k) (if b then log else logs k)) [ true ↦ here | false ↦ held k ]
 
 -- a session is gone
-held_gone : (store : stores.World) (sessions : ℕ → Option Session) (logs : Logs) (n : ℕ)
+held_gone : (store : stores.Database) (sessions : ℕ → Option Session) (logs : Logs) (n : ℕ)
     → ((k : ℕ) → IsHeld store (sessions k) (logs k)) → (k : ℕ) → IsHeld store (put_at n None sessions k) (logs k)
 held_gone store sessions logs n held k =
     elim (eqb k n) as (λ b. IsHeld store (if b then None else sessions k) (logs k)) [ true ↦ tt | false ↦ held k ]
@@ -181,33 +181,33 @@ not_back t ops now free = by (is_back t now) refl
     by false is = is
     by true is = let fault = rw is at free in absurd cc
 
-committed_later : (w : stores.World) (ops : List Op) (now : ℕ) → commit_fault (stores.tail_of_world w) false ops now ≡ None
-    → IsLater w (stores.with_txn w (next_txn (stores.tail_of_world w) ops now))
+committed_later : (w : stores.Database) (ops : List Op) (now : ℕ) → commit_fault (stores.tail_of_database w) false ops now ≡ None
+    → IsLater w (stores.with_txn w (next_txn (stores.tail_of_database w) ops now))
 committed_later w ops now free =
-    let back = not_back (stores.tail_of_world w) ops now free in
-    later_txn w (next_txn (stores.tail_of_world w) ops now) (grind (arith, nat_tests, back))
+    let back = not_back (stores.tail_of_database w) ops now free in
+    later_txn w (next_txn (stores.tail_of_database w) ops now) (grind (arith, nat_tests, back))
 
 -- a statement outside sessions leaves a later store
-module _ (w : stores.World) (now : ℕ) where
-  of_ops : (ops : List Op) (fault : Option StoreFail) → commit_fault (stores.tail_of_world w) false ops now ≡ fault → IsLater w (statements.committed fault w (next_txn (stores.tail_of_world w) ops now)).world
+module _ (w : stores.Database) (now : ℕ) where
+  of_ops : (ops : List Op) (fault : Option StoreFail) → commit_fault (stores.tail_of_database w) false ops now ≡ fault → IsLater w (statements.committed fault w (next_txn (stores.tail_of_database w) ops now)).world
   of_ops ops (Some fail) is = later_same w
   of_ops ops None is = committed_later w ops now is
 
   of_prepared : (r : Result Op TableFail) → IsLater w (statements.commit_prepared w r now).world
-  of_prepared (Ok op) = of_ops (op ∷ []) (commit_fault (stores.tail_of_world w) false (op ∷ []) now) refl
+  of_prepared (Ok op) = of_ops (op ∷ []) (commit_fault (stores.tail_of_database w) false (op ∷ []) now) refl
   of_prepared (Err fail) = later_same w
 
   of_write : (change : Option Write) (stmt : Stmt) → IsLater w (statements.write_or_read w change stmt now).world
   of_write (Some change) stmt = of_prepared (prepared (stores.tables_now w) change)
   of_write None stmt = later_same w
 
-  outside_later : (stmt : Stmt) → IsLater w (statements.step w (lines.Plain stmt) now).world
-  unfolding statements.step
+  outside_later : (stmt : Stmt) → IsLater w (statements.perform w (lines.Plain stmt) now).world
+  unfolding statements.perform
   outside_later stmt = of_write (statements.write_in stmt) stmt
 
-module _ (w : World) (logs : Logs) (held : AreHeld w logs) where
+module _ (w : Service) (logs : Logs) (held : AreHeld w logs) where
   -- the commit of a line is serial, and what is held is held on
-  abbrev pub Goes : Line → Step → Type 0
+  abbrev pub Goes : Line → Served → Type 0
   Goes line next = IsSerialAt w logs line next.answer × AreHeld next.world (noted logs line next.answer)
 
   module _ (n : ℕ) (now : ℕ) where
@@ -231,14 +231,14 @@ module _ (w : World) (logs : Logs) (held : AreHeld w logs) where
       gone_held : (k : ℕ) → IsHeld w.store (put_at n None w.sessions k) (put_at n (logs n) logs k)
       gone_held = held_at w.store w.sessions logs n None (logs n) held tt
 
-      stored_goes : (alone : WasAlone w.store (logs n) (w.sessions n)) (ops : List Op) (fault : Option StoreFail) → commit_fault (stores.tail_of_world w.store) false ops now ≡ fault
+      stored_goes : (alone : WasAlone w.store (logs n) (w.sessions n)) (ops : List Op) (fault : Option StoreFail) → commit_fault (stores.tail_of_database w.store) false ops now ≡ fault
           → Goes (lines.InSession n stmts.Commit) (stored w n ops now fault)
       stored_goes alone ops (Some fail) free = (λ _. alone, stays_held)
-      stored_goes alone ops None free = (λ _. alone, λ k. held_later w.store (stores.with_txn w.store (next_txn (stores.tail_of_world w.store) ops now)) (put_at n None w.sessions k) (put_at n (logs n) logs k) (committed_later w.store ops now free) (gone_held k))
+      stored_goes alone ops None free = (λ _. alone, λ k. held_later w.store (stores.with_txn w.store (next_txn (stores.tail_of_database w.store) ops now)) (put_at n None w.sessions k) (put_at n (logs n) logs k) (committed_later w.store ops now free) (gone_held k))
 
       pending_goes : (alone : WasAlone w.store (logs n) (w.sessions n)) (ops : List Op) → Goes (lines.InSession n stmts.Commit) (store_pending w n ops now)
       pending_goes alone [] = (λ _. alone, gone_held)
-      pending_goes alone (op ∷ ops) = stored_goes alone (op ∷ ops) (commit_fault (stores.tail_of_world w.store) false (op ∷ ops) now) refl
+      pending_goes alone (op ∷ ops) = stored_goes alone (op ∷ ops) (commit_fault (stores.tail_of_database w.store) false (op ∷ ops) now) refl
 
       commit_goes : (c : Option ℕ) → conflict w s ≡ c → Goes (lines.InSession n stmts.Commit) (unless_conflict w n s.pending now c)
       commit_goes (Some number) e = (tt, held_gone w.store w.sessions logs n held)
@@ -252,12 +252,12 @@ module _ (w : World) (logs : Logs) (held : AreHeld w logs) where
     session_goes (Some s) is stmts.Abort = (tt, gone_held s is)
     session_goes (Some s) is stmt = (tt, spoken s is stmt)
 
-  pub all_later : (later : stores.World) → IsLater w.store later → (k : ℕ) → IsHeld later (w.sessions k) (logs k)
+  pub all_later : (later : stores.Database) → IsLater w.store later → (k : ℕ) → IsHeld later (w.sessions k) (logs k)
   all_later later more k = held_later w.store later (w.sessions k) (logs k) more (held k)
 
-  pub line_goes : (line : Line) (now : ℕ) → Goes line (step w line now)
-  unfolding step
-  line_goes (lines.Plain stmt) now = (tt, all_later (statements.step w.store (lines.Plain stmt) now).world (outside_later w.store now stmt))
+  pub line_goes : (line : Line) (now : ℕ) → Goes line (serve w line now)
+  unfolding serve
+  line_goes (lines.Plain stmt) now = (tt, all_later (statements.perform w.store (lines.Plain stmt) now).world (outside_later w.store now stmt))
   line_goes (lines.InSession n stmt) now = session_goes n now (w.sessions n) refl stmt
   line_goes lines.Blank now = (tt, held)
   line_goes (lines.Drill event) now = (tt, held)
@@ -271,15 +271,15 @@ module _ (w : World) (logs : Logs) (held : AreHeld w logs) where
 
 -- ---- a run
 
-serial : (turns : List Turn) (w : World) (logs : Logs) → AreHeld w logs → Serial w logs turns
+serial : (turns : List Turn) (w : Service) (logs : Logs) → AreHeld w logs → Serial w logs turns
 serial [] w logs held = tt
 serial (turns.Take line now ∷ rest) w logs held =
     let goes = line_goes w logs held line now in
-    (goes.0, serial rest (step w line now).world (noted logs line (step w line now).answer) goes.1)
+    (goes.0, serial rest (serve w line now).world (noted logs line (serve w line now).answer) goes.1)
 serial (turns.Reach moment ∷ rest) w logs held = serial rest (reached w moment) logs (reach_held w logs held moment)
 serial (turns.Open store ∷ rest) w logs held = serial rest (opened store) logs (λ k. tt)
 
-pub none_held : (w : World) → NoneBegun w → AreHeld w no_logs
+pub none_held : (w : Service) → NoneBegun w → AreHeld w no_logs
 none_held w none k = subst (λ o. IsHeld w.store o []) (sym (none k)) tt
 
 pub runs_are_serial : RunsAreSerial

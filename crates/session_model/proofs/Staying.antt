@@ -7,6 +7,7 @@ use Rattle.tuple_bytes.specs.declared.op.Column.{Column}
 use Rattle.tuple_bytes.specs.declared.op.Op.{Op}
 use Rattle.tuple_bytes.specs.declared.filter.Filter.{Filter}
 use Rattle.tuple_bytes.specs.declared.item.Item.{Item}
+use Rattle.tuple_bytes.specs.declared.item.Txn.{Txn}
 use Rattle.history_model.specs.declared.change.TableFail.{TableFail}
 use Rattle.history_model.specs.declared.change.TableFail.TheVariants.{NoTable, TableExists}
 use Rattle.history_model.specs.declared.change.Write.{Write}
@@ -20,16 +21,23 @@ use Rattle.tt_table.specs.declared.version.Version.{Version}
 use Rattle.tt_table.specs.Stands.{versions_from}
 use Rattle.asof_query.specs.Filters.{rows_of, scan_of}
 use Rattle.asof_query.specs.Told.{told as versions_told, history_told}
+use Rattle.sequenced_query.specs.declared.piece.Piece.{Piece}
+use Rattle.sequenced_query.specs.declared.error.OverFail.{OverFail}
+use Rattle.sequenced_query.specs.Plain.{rows_or_none, joined_tables}
+use Rattle.sequenced_query.specs.Columns.{columns_of, width_of}
+use Rattle.sequenced_query.specs.Refusals.{over_fault, select_fault, join_fault}
+use Rattle.sequenced_query.specs.Plainly.{cut_of}
+use Rattle.sequenced_query.specs.Spans.{unless_wrong, select_over, join_over}
 use Rattle.stmt_text.specs.declared.stmt.Stmt.TheVariants as stmts
-use Rattle.statement_core.specs.World as stores
-use Rattle.statement_core.specs.Steps.{found, scanned, told}
+use Rattle.statement_core.specs.Database as stores
+use Rattle.statement_core.specs.Steps.{found, scanned, told, pieced}
 use Rattle.session_model.specs.OneTable.{on_tables, OneTableIsEnough}
 use Rattle.session_model.specs.declared.place.Place.{Place}
 use Rattle.session_model.specs.declared.place.Place.TheVariants.{Key, Keys, Existence}
 use Rattle.session_model.specs.Places.{NoneTouches}
 use Rattle.session_model.specs.Statements.{said, pend, say}
 use Rattle.session_model.specs.Later.{IsLater, AnswersStay}
-use Rattle.session_model.proofs.Untouched.{ordered_state, table_ops, there_after, there_ops, glance_kept, table_kept, there_kept}
+use Rattle.session_model.proofs.Untouched.{ordered_state, table_ops, there_after, there_ops, glance_kept, table_kept, there_kept, none_of_first, none_of_more}
 use Rattle.session_model.proofs.Later.{IsQuiet, now_of, quiet_at, quiet_now, all_quiet}
 use Rattle.session_model.proofs.Histories.{changes_now, quiet_changes}
 
@@ -65,9 +73,26 @@ told_by : (key : Value) (versions : List Version) (o : Option Table) → version
 told_by key versions None = refl
 told_by key versions (Some t) = refl
 
+-- a table at each moment
+abbrev pub table_through : List ℕ → List Txn → ℕ → Option Table
+table_through name ts m = table_of name (state ts m)
+
+-- by the columns of now, and by the tables of each moment
+abbrev pub columns_seen : Option Table → Option (List Column)
+columns_seen t = option_map (λ t. t.columns) t
+
+abbrev pub select_seen : Option Filter → ℕ → ℕ → Option Table → (ℕ → Option Table) → Result (List Piece) OverFail
+select_seen f from to now at =
+    unless_wrong (over_fault from to (select_fault f (columns_seen now))) (cut_of (width_of (columns_seen now)) (λ m. rows_or_none (rows_of f (at m))) from to)
+
+-- of two tables
+abbrev pub join_seen : List ℕ → List ℕ → ℕ → ℕ → Option Table × Option Table → (ℕ → Option Table) → (ℕ → Option Table) → Result (List Piece) OverFail
+join_seen lc rc from to now left right =
+    unless_wrong (over_fault from to (join_fault lc rc (columns_seen now.0) (columns_seen now.1))) (cut_of (width_of (columns_seen now.0)) (λ m. joined_tables lc rc (left m) (right m)) from to)
+
 -- ---- it stays
 
-module _ (w later : stores.World) (more : IsLater w later) where
+module _ (w later : stores.Database) (more : IsLater w later) where
   module _ {A : Type 0} (places : List Place) (G : List Item → A) (one : (items : List Item) (item : Item) → MayFollow (last_moment items) item → IsQuiet places item → G (items ++ item ∷ []) ≡ G items) where
     stays : NoneTouches places (txns more.items) → G later.items ≡ G w.items
     stays quiet = ap G more.behind ∙ all_quiet places G one more.items w.items more.rise quiet
@@ -81,6 +106,15 @@ module _ (w later : stores.World) (more : IsLater w later) where
 
     table_at_stays : (m : ℕ) → NoneTouches (Existence name ∷ Keys name ∷ []) (txns more.items) → table_of name (state (txns later.items) m) ≡ table_of name (state (txns w.items) m)
     table_at_stays m = stays (Existence name ∷ Keys name ∷ []) (λ items. table_of name (state (txns items) m)) (quiet_at (Existence name ∷ Keys name ∷ []) (table_of name) (table_kept name) m)
+
+    tables_stay : NoneTouches (Existence name ∷ Keys name ∷ []) (txns more.items) → table_through name (txns later.items) ≡ table_through name (txns w.items)
+    tables_stay quiet = λ i m. table_at_stays m quiet i
+
+    select_stays : (f : Option Filter) (from to : ℕ) → NoneTouches (Existence name ∷ Keys name ∷ []) (txns more.items)
+        → select_over (columns_of (now_of later.items)) (state (txns later.items)) name f from to ≡ select_over (columns_of (now_of w.items)) (state (txns w.items)) name f from to
+    select_stays f from to quiet =
+        ap (λ now. select_seen f from to now (table_through name (txns later.items))) (table_now_stays quiet)
+        ∙ ap (select_seen f from to (table_of name (now_of w.items))) (tables_stay quiet)
 
     module _ (key : Value) (quiet : NoneTouches (Existence name ∷ Key name key ∷ []) (txns more.items)) where
       glance_now_stays : glance name key (now_of later.items) ≡ glance name key (now_of w.items)
@@ -98,6 +132,16 @@ module _ (w later : stores.World) (more : IsLater w later) where
           ∙ ap (λ cs. told_seen key (versions_from cs) (glance name key (now_of later.items))) changes_stay
           ∙ ap (told_seen key (versions_from (changes_now name key w.items))) glance_now_stays
           ∙ sym (told_by key (versions_from (changes_now name key w.items)) (table_of name (now_of w.items)))
+
+  join_stays : (left right lc rc : List ℕ) (from to : ℕ) → NoneTouches (Existence left ∷ Keys left ∷ Existence right ∷ Keys right ∷ []) (txns more.items)
+      → join_over (columns_of (now_of later.items)) (state (txns later.items)) left lc right rc from to ≡ join_over (columns_of (now_of w.items)) (state (txns w.items)) left lc right rc from to
+  join_stays left right lc rc from to quiet =
+      let lefts = none_of_first (Existence left ∷ Keys left ∷ []) (Existence right ∷ Keys right ∷ []) (txns more.items) quiet in
+      let rights = none_of_more (Existence left ∷ Keys left ∷ []) (Existence right ∷ Keys right ∷ []) (txns more.items) quiet in
+      ap (λ l. join_seen lc rc from to (l, table_of right (now_of later.items)) (table_through left (txns later.items)) (table_through right (txns later.items))) (table_now_stays left lefts)
+      ∙ ap (λ r. join_seen lc rc from to (table_of left (now_of w.items), r) (table_through left (txns later.items)) (table_through right (txns later.items))) (table_now_stays right rights)
+      ∙ ap (λ ls. join_seen lc rc from to (table_of left (now_of w.items), table_of right (now_of w.items)) ls (table_through right (txns later.items))) (tables_stay left lefts)
+      ∙ ap (join_seen lc rc from to (table_of left (now_of w.items), table_of right (now_of w.items)) (table_through left (txns w.items))) (tables_stay right rights)
 
   module _ (pending : List Op) where
     create_stays : (name : List ℕ) (columns : List Column) → NoneTouches (Existence name ∷ []) (txns more.items)
@@ -139,6 +183,8 @@ answers_stay w later pending (stmts.Get name key (Some m)) more quiet = ap (λ g
 answers_stay w later pending (stmts.Scan name f None) more quiet = ap (λ r. said pending (scanned r)) (scan_stays w later more pending name f quiet)
 answers_stay w later pending (stmts.Scan name f (Some m)) more quiet = ap (λ t. said pending (scanned (rows_of f t))) (table_at_stays w later more name m quiet)
 answers_stay w later pending (stmts.History name key) more quiet = ap (λ r. said pending (told r)) (history_stays w later more name key quiet)
+answers_stay w later pending (stmts.OverSelect from to name f) more quiet = ap (λ r. said pending (pieced r)) (select_stays w later more name f from to quiet)
+answers_stay w later pending (stmts.OverJoin from to left right lc rc) more quiet = ap (λ r. said pending (pieced r)) (join_stays w later more left right lc rc from to quiet)
 answers_stay w later pending stmts.Begin more quiet = refl
 answers_stay w later pending stmts.Commit more quiet = refl
 answers_stay w later pending stmts.Abort more quiet = refl

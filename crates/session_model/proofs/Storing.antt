@@ -16,66 +16,66 @@ use Rattle.store_engine.specs.declared.fail.StoreFail.{StoreFail}
 use Rattle.store_engine.specs.declared.fail.StoreFail.TheVariants as fails
 use Rattle.store_engine.specs.Refusals.{Tail, moment_at, is_back, is_late, item_fault, commit_fault, next_txn}
 use Rattle.statement_core.specs.declared.reply.Reply.TheVariants as replies
-use Rattle.statement_core.specs.World as stores
-use Rattle.statement_core.specs.World.{tail_of_world, tables_now}
+use Rattle.statement_core.specs.Database as stores
+use Rattle.statement_core.specs.Database.{tail_of_database, tables_now}
 use Rattle.statement_core.specs.Steps as statements
 use Rattle.statement_core.specs.Steps.{committed, commit_prepared, write_in, write_or_read}
 use Rattle.statement_core.proofs.Preparing.{op_is}
-use Rattle.session_model.specs.World.{Session, World}
-use Rattle.session_model.specs.Steps.{Replied, Step, outside, stored, store_pending, unless_conflict, conflict, in_session, step}
+use Rattle.session_model.specs.Service.{Session, Service}
+use Rattle.session_model.specs.Steps.{Replied, Served, outside, stored, store_pending, unless_conflict, conflict, in_session, serve}
 use Rattle.session_model.proofs.Rooms.{no_cause}
 
 -- ---- what is stored
 
 -- the operations that a line asks to be stored: the change of its statement, or what its session wants to store
-abbrev pub AsksFor : World → Line → List Op → Type 0
+abbrev pub AsksFor : Service → Line → List Op → Type 0
 AsksFor w (lines.Plain stmt) ops = (change : Write) × (write_in stmt ≡ Some change) × (ops ≡ op_of change ∷ [])
 AsksFor w (lines.InSession n stmt) ops = (s : Session) × (w.sessions n ≡ Some s) × (ops ≡ s.pending)
 AsksFor w line ops = ⊥
 
 -- they are stored, and acknowledged by their number
-pub record StoresOne (w : World) (line : Line) (now : ℕ) (next : Step) : Type 0 where
+pub record StoresOne (w : Service) (line : Line) (now : ℕ) (next : Served) : Type 0 where
   pub ops : List Op
   pub asked : AsksFor w line ops
   pub some : 1 ≤ length ops
-  pub store : next.world.store ≡ stores.with_txn w.store (next_txn (tail_of_world w.store) ops now)
-  pub answer : next.answer ≡ Replied (replies.Committed (next_txn (tail_of_world w.store) ops now).number)
-  pub free : commit_fault (tail_of_world w.store) false ops now ≡ None
+  pub store : next.world.store ≡ stores.with_txn w.store (next_txn (tail_of_database w.store) ops now)
+  pub answer : next.answer ≡ Replied (replies.Committed (next_txn (tail_of_database w.store) ops now).number)
+  pub free : commit_fault (tail_of_database w.store) false ops now ≡ None
 
-abbrev pub StoresOrNot : World → Line → ℕ → Step → Type 0
+abbrev pub StoresOrNot : Service → Line → ℕ → Served → Type 0
 StoresOrNot w line now next = (next.world.store ≡ w.store) ⊎ StoresOne w line now next
 
-module _ (w : World) (now : ℕ) where
+module _ (w : Service) (now : ℕ) where
   -- ---- outside sessions
 
   module _ (stmt : Stmt) (change : Write) (asked : write_in stmt ≡ Some change) where
-    of_op : (op : Op) → op ≡ op_of change → (fault : Option StoreFail) → commit_fault (tail_of_world w.store) false (op ∷ []) now ≡ fault
-        → StoresOrNot w (lines.Plain stmt) now (outside w (committed fault w.store (next_txn (tail_of_world w.store) (op ∷ []) now)))
+    of_op : (op : Op) → op ≡ op_of change → (fault : Option StoreFail) → commit_fault (tail_of_database w.store) false (op ∷ []) now ≡ fault
+        → StoresOrNot w (lines.Plain stmt) now (outside w (committed fault w.store (next_txn (tail_of_database w.store) (op ∷ []) now)))
     of_op op is None free = inr (record { ops = op ∷ []; asked = (change, asked, ap (λ o. o ∷ []) is); some = omega arith; store = refl; answer = refl; free = free })
     of_op op is (Some fail) free = inl refl
 
     of_prepared : (r : Result Op TableFail) → prepared (tables_now w.store) change ≡ r → StoresOrNot w (lines.Plain stmt) now (outside w (commit_prepared w.store r now))
-    of_prepared (Ok op) is = of_op op (op_is (tables_now w.store) change op is) (commit_fault (tail_of_world w.store) false (op ∷ []) now) refl
+    of_prepared (Ok op) is = of_op op (op_is (tables_now w.store) change op is) (commit_fault (tail_of_database w.store) false (op ∷ []) now) refl
     of_prepared (Err fail) is = inl refl
 
   of_write : (stmt : Stmt) (change : Option Write) → write_in stmt ≡ change → StoresOrNot w (lines.Plain stmt) now (outside w (write_or_read w.store change stmt now))
   of_write stmt (Some change) asked = of_prepared stmt change asked (prepared (tables_now w.store) change) refl
   of_write stmt None asked = inl refl
 
-  of_plain : (stmt : Stmt) → StoresOrNot w (lines.Plain stmt) now (outside w (statements.step w.store (lines.Plain stmt) now))
-  unfolding statements.step
+  of_plain : (stmt : Stmt) → StoresOrNot w (lines.Plain stmt) now (outside w (statements.perform w.store (lines.Plain stmt) now))
+  unfolding statements.perform
   of_plain stmt = of_write stmt (write_in stmt) refl
 
   -- ---- in a session
 
   module _ (n : ℕ) (stmt : Stmt) (s : Session) (is : w.sessions n ≡ Some s) where
-    of_stored : (op : Op) (ops : List Op) → op ∷ ops ≡ s.pending → (fault : Option StoreFail) → commit_fault (tail_of_world w.store) false (op ∷ ops) now ≡ fault → StoresOrNot w (lines.InSession n stmt) now (stored w n (op ∷ ops) now fault)
+    of_stored : (op : Op) (ops : List Op) → op ∷ ops ≡ s.pending → (fault : Option StoreFail) → commit_fault (tail_of_database w.store) false (op ∷ ops) now ≡ fault → StoresOrNot w (lines.InSession n stmt) now (stored w n (op ∷ ops) now fault)
     of_stored op ops all None free = inr (record { ops = op ∷ ops; asked = (s, is, all); some = omega arith; store = refl; answer = refl; free = free })
     of_stored op ops all (Some fail) free = inl refl
 
     of_pending : (ops : List Op) → ops ≡ s.pending → StoresOrNot w (lines.InSession n stmt) now (store_pending w n ops now)
     of_pending [] all = inl refl
-    of_pending (op ∷ ops) all = of_stored op ops all (commit_fault (tail_of_world w.store) false (op ∷ ops) now) refl
+    of_pending (op ∷ ops) all = of_stored op ops all (commit_fault (tail_of_database w.store) false (op ∷ ops) now) refl
 
     of_commit : (found : Option ℕ) → StoresOrNot w (lines.InSession n stmt) now (unless_conflict w n s.pending now found)
     of_commit (Some number) = inl refl
@@ -89,8 +89,8 @@ module _ (w : World) (now : ℕ) where
   of_session n (Some s) is stmts.Abort = inl refl
   of_session n (Some s) is stmt = inl refl
 
-pub stores_or_not : (w : World) (line : Line) (now : ℕ) → StoresOrNot w line now (step w line now)
-unfolding step
+pub stores_or_not : (w : Service) (line : Line) (now : ℕ) → StoresOrNot w line now (serve w line now)
+unfolding serve
 stores_or_not w (lines.Plain stmt) now = of_plain w now stmt
 stores_or_not w (lines.InSession n stmt) now = of_session w now n (w.sessions n) refl stmt
 stores_or_not w lines.Blank now = inl refl

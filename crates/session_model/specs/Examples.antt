@@ -9,12 +9,12 @@ use Rattle.stmt_text.specs.declared.line.Line.TheVariants as lines
 use Rattle.statement_core.specs.declared.reply.Reply.TheVariants as replies
 use Rattle.statement_core.specs.declared.reply.Refusal.{Refusal}
 use Rattle.statement_core.specs.declared.reply.Refusal.TheVariants as refusals
-use Rattle.session_model.specs.World.{World}
+use Rattle.session_model.specs.Service.{Service}
 use Rattle.session_model.specs.Steps.{Answer, Replied, Stopped}
 use Rattle.session_model.specs.Runs.{Turn, Take, Reach, Open, told_in}
 
 -- a store without an item, of granules of 60 moments
-abbrev pub new_world : World
+abbrev pub new_world : Service
 new_world = record {
   store = record { header = record { id = 7; epoch = 0; width = 60; k = 3; algs = 3 }; items = []; end = 64 };
   sessions = λ n. None;
@@ -124,6 +124,9 @@ pub record WorkedExamples : Type 0 where
   -- a refused statement has read
   pub refused_has_read : told_in new_world (with_one (say_in 1 (stmts.Update t (row 1 2)) ∷ say_plain (insert_t 1 1) ∷ say_in 1 stmts.Commit ∷ [])) ≡
       ok 1 ∷ done ∷ refused refusals.NoRow ∷ ok 2 ∷ conflicts 2 ∷ []
+  -- a query over a span has read every key, whatever its span
+  pub span_conflicts : told_in new_world (with_one (say_in 1 (stmts.OverSelect 5 6 t None) ∷ say_plain (insert_t 1 1) ∷ say_in 1 stmts.Commit ∷ [])) ≡
+      ok 1 ∷ done ∷ Replied (replies.Over []) ∷ ok 2 ∷ conflicts 2 ∷ []
   -- a table that was not there is created by another
   pub existence_conflicts : told_in new_world (say_in 1 stmts.Begin ∷ say_in 1 (get_t 1) ∷ say_plain create_t ∷ say_in 1 (get_t 1) ∷ say_in 1 stmts.Commit ∷ []) ≡
       done ∷ refused refusals.NoTable ∷ ok 1 ∷ missing ∷ conflicts 1 ∷ []

@@ -7,8 +7,8 @@ use Rattle.history_model.specs.History.{txns}
 use Rattle.stmt_text.specs.declared.line.Line.{Line}
 use Rattle.session_model.specs.declared.place.Place.{Place}
 use Rattle.session_model.specs.Places.{touches, touches_one, first_touching, since}
-use Rattle.session_model.specs.World.{World}
-use Rattle.session_model.specs.Steps.{step}
+use Rattle.session_model.specs.Service.{Service}
+use Rattle.session_model.specs.Steps.{serve}
 
 -- the numbers of the transactions that touch a place
 abbrev pub touch_numbers : List Txn → Place → List ℕ
@@ -25,12 +25,12 @@ pub record AreNumbered (begun : ℕ) (ts : List Txn) : Type 0 where
   pub numbered : NumberedFrom begun (since begun ts)
 
 -- those since the begin of each session
-abbrev pub AreAllNumbered : World → Type 0
+abbrev pub AreAllNumbered : Service → Type 0
 AreAllNumbered w = (n : ℕ) → IfSome (w.sessions n) (λ s. AreNumbered s.begun (txns w.store.items))
 
 -- Whatever numbers a file has, those that are stored since a begin are numbered by their places.
 abbrev pub NumbersArePlaces : Type 0
-NumbersArePlaces = (w : World) (line : Line) (now : ℕ) → AreAllNumbered w → AreAllNumbered (step w line now).world
+NumbersArePlaces = (w : Service) (line : Line) (now : ℕ) → AreAllNumbered w → AreAllNumbered (serve w line now).world
 
 -- So a conflict carries the number of a transaction stored since the begin.
 abbrev pub ConflictsAreSince : Type 0

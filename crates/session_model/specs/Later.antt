@@ -4,7 +4,7 @@ use Rattle.tuple_bytes.specs.declared.op.Op.{Op}
 use Rattle.tuple_bytes.specs.declared.item.Item.{Item}
 use Rattle.history_model.specs.History.{txns, after_last, last_moment, MayFollow}
 use Rattle.stmt_text.specs.declared.stmt.Stmt.{Stmt}
-use Rattle.statement_core.specs.World as stores
+use Rattle.statement_core.specs.Database as stores
 use Rattle.session_model.specs.Places.{reads_of, NoneTouches}
 use Rattle.session_model.specs.Statements.{say}
 
@@ -14,7 +14,7 @@ Rise last [] = Unit {0}
 Rise last (item ∷ items) = MayFollow last item × Rise (after_last last item) items
 
 -- the same history, with items more that no clock set back
-pub record IsLater (w later : stores.World) : Type 0 where
+pub record IsLater (w later : stores.Database) : Type 0 where
   pub items : List Item
   pub behind : later.items ≡ w.items ++ items
   pub rise : Rise (last_moment w.items) items
@@ -22,5 +22,5 @@ pub record IsLater (w later : stores.World) : Type 0 where
 -- A statement is replied over the later history as over the earlier one, and leaves the same pending, where no transaction
 -- between touches what it reads.
 abbrev pub AnswersStay : Type 0
-AnswersStay = (w later : stores.World) (pending : List Op) (stmt : Stmt) → (more : IsLater w later) → NoneTouches (reads_of stmt) (txns more.items)
+AnswersStay = (w later : stores.Database) (pending : List Op) (stmt : Stmt) → (more : IsLater w later) → NoneTouches (reads_of stmt) (txns more.items)
     → say later pending stmt ≡ say w pending stmt

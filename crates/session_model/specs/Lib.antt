@@ -4,7 +4,7 @@ pub mod Conflicts
 pub mod OneTable
 pub mod Statements
 pub mod Later
-pub mod World
+pub mod Service
 pub mod Steps
 pub mod Promises
 pub mod Pending

@@ -9,10 +9,10 @@ use Rattle.stmt_text.specs.declared.line.Line.{Line}
 use Rattle.store_engine.specs.declared.fail.StoreFail.TheVariants as fails
 use Rattle.store_engine.specs.declared.fail.StoreFail.{StoreFail}
 use Rattle.store_engine.specs.Refusals.{Tail, where_true, is_back, is_late, is_full, commit_fault}
-use Rattle.statement_core.specs.World as stores
+use Rattle.statement_core.specs.Database as stores
 use Rattle.session_model.specs.Statements.{size_of, size_fault}
-use Rattle.session_model.specs.World.{Session, World}
-use Rattle.session_model.specs.Steps.{step}
+use Rattle.session_model.specs.Service.{Session, Service}
+use Rattle.session_model.specs.Steps.{serve}
 use Rattle.session_model.specs.Alone.{alone}
 
 -- a session, if there is one, wants to store what a transaction can hold
@@ -21,7 +21,7 @@ HasRoom o = IfSome o (λ s. size_fault s.pending ≡ None)
 
 -- What is pending has room in a transaction.
 abbrev pub PendingHasRoom : Type 0
-PendingHasRoom = (w : World) (line : Line) (now : ℕ) → ((n : ℕ) → HasRoom (w.sessions n)) → (n : ℕ) → HasRoom ((step w line now).world.sessions n)
+PendingHasRoom = (w : Service) (line : Line) (now : ℕ) → ((n : ℕ) → HasRoom (w.sessions n)) → (n : ℕ) → HasRoom ((serve w line now).world.sessions n)
 
 -- why operations that have room are not stored
 abbrev pub room_fault : Tail → List Op → ℕ → Option StoreFail
@@ -46,4 +46,4 @@ ArePrepared s (op ∷ ops) = IsPrepared s op × ArePrepared (after_ops (op ∷ [
 
 -- What a session that was alone wants to store fits the tables, in turn.
 abbrev pub PendingFits : Type 0
-PendingFits = (w : stores.World) (ss : List Stmt) → ArePrepared (stores.tables_now w) (alone w ss).pending
+PendingFits = (w : stores.Database) (ss : List Stmt) → ArePrepared (stores.tables_now w) (alone w ss).pending

@@ -8,8 +8,8 @@ use Rattle.stmt_text.specs.declared.stmt.Stmt.{Stmt}
 use Rattle.stmt_text.specs.declared.line.Line.{Line}
 use Rattle.statement_core.specs.declared.reply.Reply.TheVariants as replies
 use Rattle.statement_core.specs.declared.reply.Reply.{Reply}
-use Rattle.session_model.specs.World.{Session, World, NoneBegun}
-use Rattle.session_model.specs.Steps.{Answer, Replied, Step, step, ended}
+use Rattle.session_model.specs.Service.{Session, Service, NoneBegun}
+use Rattle.session_model.specs.Steps.{Answer, Replied, Served, serve, ended}
 use Rattle.session_model.specs.Alone.{alone_from, Exchange}
 use Rattle.session_model.specs.Runs.{Turn, no_logs, told_in, world_after, Take, Reach, Open, reached, opened, Logs, noted, AtEachLine}
 use Rattle.session_model.specs.Serial.{IsStored}
@@ -30,30 +30,30 @@ IsSpoken stmts.Abort = ⊥
 IsSpoken stmt = Unit {0}
 
 -- Statements alone are those of one session of the machine, while no other line comes.
-pub record IsOneSession (w : World) (n now : ℕ) (s : Session) (ss : List Stmt) : Type 0 where
+pub record IsOneSession (w : Service) (n now : ℕ) (s : Session) (ss : List Stmt) : Type 0 where
   pub answers_are : told_in w (in_turn n now ss) ≡ map Replied (alone_from w.store s.pending ss).replies
   pub pending_is : option_map (λ (t : Session). t.pending) ((world_after w (in_turn n now ss)).sessions n) ≡ Some (alone_from w.store s.pending ss).pending
 
 abbrev pub AloneIsOneSession : Type 0
-AloneIsOneSession = (w : World) (n now : ℕ) (s : Session) (ss : List Stmt) → AllByRecursion IsSpoken ss → w.sessions n ≡ Some s → IsOneSession w n now s ss
+AloneIsOneSession = (w : Service) (n now : ℕ) (s : Session) (ss : List Stmt) → AllByRecursion IsSpoken ss → w.sessions n ≡ Some s → IsOneSession w n now s ss
 
 -- a session in one piece, at the place of its commit, is answered the same and stores the same
-pub record IsOnePiece (w : World) (n now : ℕ) (log : List Exchange) (next : Step) : Type 0 where
+pub record IsOnePiece (w : Service) (n now : ℕ) (log : List Exchange) (next : Served) : Type 0 where
   pub answers_are : told_in (ended w n) (piece n now (map (λ t. t.stmt) log)) ≡ Replied replies.Done ∷ (map (λ t. Replied t.reply) log ++ next.answer ∷ [])
   pub store_is : (world_after (ended w n) (piece n now (map (λ t. t.stmt) log))).store ≡ next.world.store
 
 -- a commit that is not refused is one of such a session
-abbrev pub IsPieceOf : World → Logs → Line → ℕ → Step → Answer → Type 0
+abbrev pub IsPieceOf : Service → Logs → Line → ℕ → Served → Answer → Type 0
 IsPieceOf w logs (lines.InSession n stmts.Commit) now next (Replied reply) = IsStored reply → IsOnePiece w n now (logs n) next
 IsPieceOf w logs line now next answer = Unit {0}
 
 -- each commit of a run is one of a session that could have been in one piece
-abbrev pub InPieces : World → Logs → List Turn → Type 0
-InPieces = AtEachLine (λ w logs line now. IsPieceOf w logs line now (step w line now) (step w line now).answer)
+abbrev pub InPieces : Service → Logs → List Turn → Type 0
+InPieces = AtEachLine (λ w logs line now. IsPieceOf w logs line now (serve w line now) (serve w line now).answer)
 
 -- Every session that commits could have been in one piece, at its commit.
 abbrev pub RunsAreInPieces : Type 0
-RunsAreInPieces = (w : World) (turns : List Turn) → NoneBegun w → InPieces w no_logs turns
+RunsAreInPieces = (w : Service) (turns : List Turn) → NoneBegun w → InPieces w no_logs turns
 
 -- a session that commits stands in one piece at the place of its commit
 abbrev pub piece_for : ℕ → ℕ → List Exchange → Reply → List Turn
@@ -68,9 +68,9 @@ turns_for logs (lines.InSession n stmts.Commit) now (Replied reply) = piece_for 
 turns_for logs line now answer = []
 
 -- the whole run so
-abbrev pub serial_run : World → Logs → List Turn → List Turn
+abbrev pub serial_run : Service → Logs → List Turn → List Turn
 serial_run w logs [] = []
-serial_run w logs (Take line now ∷ turns) = turns_for logs line now (step w line now).answer ++ serial_run (step w line now).world (noted logs line (step w line now).answer) turns
+serial_run w logs (Take line now ∷ turns) = turns_for logs line now (serve w line now).answer ++ serial_run (serve w line now).world (noted logs line (serve w line now).answer) turns
 serial_run w logs (Reach moment ∷ turns) = Reach moment ∷ serial_run (reached w moment) logs turns
 serial_run w logs (Open store ∷ turns) = Open store ∷ serial_run (opened store) logs turns
 
@@ -86,16 +86,16 @@ answers_for logs (lines.InSession n stmts.Commit) (Replied reply) = replies_for 
 answers_for logs line answer = []
 
 -- and of the whole run
-abbrev pub serial_answers : World → Logs → List Turn → List Answer
+abbrev pub serial_answers : Service → Logs → List Turn → List Answer
 serial_answers w logs [] = []
-serial_answers w logs (Take line now ∷ turns) = answers_for logs line (step w line now).answer ++ serial_answers (step w line now).world (noted logs line (step w line now).answer) turns
+serial_answers w logs (Take line now ∷ turns) = answers_for logs line (serve w line now).answer ++ serial_answers (serve w line now).world (noted logs line (serve w line now).answer) turns
 serial_answers w logs (Reach moment ∷ turns) = serial_answers (reached w moment) logs turns
 serial_answers w logs (Open store ∷ turns) = serial_answers (opened store) logs turns
 
 -- In the serial run each line is answered as in the run, and the same is stored.
-pub record IsAsSerial (w : World) (turns : List Turn) : Type 0 where
+pub record IsAsSerial (w : Service) (turns : List Turn) : Type 0 where
   pub answers_are : told_in w (serial_run w no_logs turns) ≡ serial_answers w no_logs turns
   pub store_is : (world_after w (serial_run w no_logs turns)).store ≡ (world_after w turns).store
 
 abbrev pub RunsAreAsSerial : Type 0
-RunsAreAsSerial = (w : World) (turns : List Turn) → NoneBegun w → IsAsSerial w turns
+RunsAreAsSerial = (w : Service) (turns : List Turn) → NoneBegun w → IsAsSerial w turns

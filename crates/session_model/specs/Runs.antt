@@ -5,10 +5,10 @@ use Rattle.stmt_text.specs.declared.stmt.Stmt.TheVariants as stmts
 use Rattle.stmt_text.specs.declared.line.Line.TheVariants as lines
 use Rattle.stmt_text.specs.declared.stmt.Stmt.{Stmt}
 use Rattle.stmt_text.specs.declared.line.Line.{Line}
-use Rattle.statement_core.specs.World as stores
+use Rattle.statement_core.specs.Database as stores
 use Rattle.statement_core.specs.declared.reply.Reply.{Reply}
-use Rattle.session_model.specs.World.{World, put_at, with_store}
-use Rattle.session_model.specs.Steps.{Answer, Replied, step}
+use Rattle.session_model.specs.Service.{Service, put_at, with_store}
+use Rattle.session_model.specs.Steps.{Answer, Replied, serve}
 use Rattle.session_model.specs.Alone.{Exchange}
 
 -- a line at its clock seconds; a notarization, which stores a Frontier where the last moment is before it; or a store is opened,
@@ -16,27 +16,27 @@ use Rattle.session_model.specs.Alone.{Exchange}
 pub data Turn : Type 0 where
   Take : (line : Line) (now : ℕ) → Turn
   Reach : (moment : ℕ) → Turn
-  Open : (store : stores.World) → Turn
+  Open : (store : stores.Database) → Turn
 
 -- a notarization reaches a moment
-abbrev pub reached : World → ℕ → World
+abbrev pub reached : Service → ℕ → Service
 reached w moment = if nat_lt (last_moment w.store.items) moment then with_store w (stores.with_frontier w.store moment) else w
 
 -- no session is begun over a store that is opened
-abbrev pub opened : stores.World → World
+abbrev pub opened : stores.Database → Service
 opened store = record { store = store; sessions = λ n. None }
 
 -- the answers to the lines of a run
-abbrev pub told_in : World → List Turn → List Answer
+abbrev pub told_in : Service → List Turn → List Answer
 told_in w [] = []
-told_in w (Take line now ∷ turns) = (step w line now).answer ∷ told_in (step w line now).world turns
+told_in w (Take line now ∷ turns) = (serve w line now).answer ∷ told_in (serve w line now).world turns
 told_in w (Reach moment ∷ turns) = told_in (reached w moment) turns
 told_in w (Open store ∷ turns) = told_in (opened store) turns
 
 -- the world behind a run
-abbrev pub world_after : World → List Turn → World
+abbrev pub world_after : Service → List Turn → Service
 world_after w [] = w
-world_after w (Take line now ∷ turns) = world_after (step w line now).world turns
+world_after w (Take line now ∷ turns) = world_after (serve w line now).world turns
 world_after w (Reach moment ∷ turns) = world_after (reached w moment) turns
 world_after w (Open store ∷ turns) = world_after (opened store) turns
 
@@ -60,8 +60,8 @@ noted logs (lines.InSession n stmt) (Replied reply) = put_at n (logged (logs n) 
 noted logs line answer = logs
 
 -- this holds of each line of a run, in the world and with the logs before it
-abbrev pub AtEachLine : (World → Logs → Line → ℕ → Type 0) → World → Logs → List Turn → Type 0
+abbrev pub AtEachLine : (Service → Logs → Line → ℕ → Type 0) → Service → Logs → List Turn → Type 0
 AtEachLine P w logs [] = Unit {0}
-AtEachLine P w logs (Take line now ∷ turns) = P w logs line now × AtEachLine P (step w line now).world (noted logs line (step w line now).answer) turns
+AtEachLine P w logs (Take line now ∷ turns) = P w logs line now × AtEachLine P (serve w line now).world (noted logs line (serve w line now).answer) turns
 AtEachLine P w logs (Reach moment ∷ turns) = AtEachLine P (reached w moment) logs turns
 AtEachLine P w logs (Open store ∷ turns) = AtEachLine P (opened store) logs turns

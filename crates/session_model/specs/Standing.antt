@@ -17,12 +17,12 @@ use Rattle.stmt_text.specs.declared.kind.WorldPart.TheVariants as parts
 use Rattle.stmt_text.specs.Kinds.{line_kind}
 use Rattle.statement_core.specs.declared.reply.Reply.{Reply}
 use Rattle.statement_core.specs.declared.statements.StepFail.{StepFail}
-use Rattle.statement_core.specs.World as stores
+use Rattle.statement_core.specs.Database as stores
 use Rattle.statement_core.specs.Steps as statements
 use Rattle.statement_core.specs.Stepping as stepping
 use Rattle.session_model.specs.declared.place.Place.{Place}
-use Rattle.session_model.specs.World.{Session, World}
-use Rattle.session_model.specs.Steps.{Step, reply_of, conflict, step}
+use Rattle.session_model.specs.Service.{Session, Service}
+use Rattle.session_model.specs.Steps.{Served, reply_of, conflict, serve}
 use Rattle.session_model.specs.PlaceOrder.{place_cmp}
 use Rattle.session_model.specs.Index.{IsIndex, AreAllNumbered, least_above}
 use Rattle.session_model.specs.Conflicts.{AreSameReads}
@@ -67,7 +67,7 @@ IsSession (Some s) None = ⊥
 IsSession None (Some k) = ⊥
 
 -- a machine and an open store stand for this world
-pub record IsIn (w : World) (m : Machine) (stand : Opened) (bytes : List ℕ) : Type 0 where
+pub record IsIn (w : Service) (m : Machine) (stand : Opened) (bytes : List ℕ) : Type 0 where
   pub store : stores.IsIn w.store stand bytes
   pub sessions : (n : ℕ) → IsSession (w.sessions n) (kept_at m n)
   pub room : (n : ℕ) → HasRoom (w.sessions n)
@@ -81,13 +81,13 @@ found_conflict m k = least_above k.begun (numbers_at m.touched.places) k.reads
 
 -- It is the conflict.
 abbrev pub MachinesFindConflicts : Type 0
-MachinesFindConflicts = (w : World) (m : Machine) (stand : Opened) (bytes : List ℕ) (n : ℕ) (s : Session) (k : Kept) → IsIn w m stand bytes
+MachinesFindConflicts = (w : Service) (m : Machine) (stand : Opened) (bytes : List ℕ) (n : ℕ) (s : Session) (k : Kept) → IsIn w m stand bytes
     → w.sessions n ≡ Some s → kept_at m n ≡ Some k → found_conflict m k ≡ conflict w s
 
 -- ---- a step
 
 -- a step as one of the store
-abbrev pub of_store : Step → statements.Step
+abbrev pub of_store : Served → statements.Performed
 of_store next = record { world = next.world.store; reply = reply_of next.answer }
 
 -- no session is kept
@@ -95,7 +95,7 @@ abbrev pub NoneKept : Machine → Type 0
 NoneKept m = m.sessions ≡ []
 
 -- m and new_m are the machine before and after, stand and new_stand the open store, and next what is to be done
-pub record StepsIn (w : World) (next : Step) (result : Result Reply StepFail) (m new_m : Machine) (stand new_stand : Opened) (old new : State) (before after : List ℕ) : Type 0 where
+pub record StepsIn (w : Service) (next : Served) (result : Result Reply StepFail) (m new_m : Machine) (stand new_stand : Opened) (old new : State) (before after : List ℕ) : Type 0 where
   pub reply : IfOk result (λ reply. reply ≡ reply_of next.answer)
   pub stands : OnOk result (IsIn next.world new_m new_stand after)
   pub dropped : OnErr result (NoneKept new_m)
@@ -107,7 +107,7 @@ pub record StepsIn (w : World) (next : Step) (result : Result Reply StepFail) (m
 -- whatever world they stand for, a line does this to it
 abbrev pub StepsTo : Line → ℕ → Result Reply StepFail → Machine → Machine → Opened → Opened → State → State → List ℕ → List ℕ → Type 0
 StepsTo line now result m new_m stand new_stand old new before after =
-    (w : World) → IsIn w m stand before → StepsIn w (step w line now) result m new_m stand new_stand old new before after
+    (w : Service) → IsIn w m stand before → StepsIn w (serve w line now) result m new_m stand new_stand old new before after
 
 -- ---- the conditions of a step, and what it leaves
 

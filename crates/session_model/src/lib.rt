@@ -14,17 +14,17 @@
 //! | Definition | In words |
 //! |---|---|
 //! | `Place` | what is read: a key of a table, all keys of a table, or the existence of a table |
-//! | `reads_of stmt` | the existence of the table that a statement names, and its key or all keys, refused or not |
+//! | `reads_of stmt` | of each table that a statement names its existence, and its key or all keys, refused or not |
 //! | `touches op place` | an operation touches the key that it puts or removes, and the existence of the table that it creates |
-//! | `say w pending stmt` | what a session is replied, and what is pending then: reads of now see the pending operations, those of a named moment and histories do not; a refusal of the tables comes before one of the size |
-//! | `World`, `Session` | a stored history and its sessions; each with the number of transactions at its begin, what it has read, and what is pending |
-//! | `step w line now` | the next world, and the answer: a reply, or that the session refused the line |
+//! | `say w pending stmt` | what a session is replied, and what is pending then: reads of now see the pending operations, those of a named moment, histories and queries over a span do not; a refusal of the tables comes before one of the size |
+//! | `Service`, `Session` | a stored history and its sessions; each with the number of transactions at its begin, what it has read, and what is pending |
+//! | `serve w line now` | the next service, and the answer: a reply, or that the session refused the line |
 //! | `conflict w s` | the number of the first transaction stored since the begin that touches something read |
 //! | `alone w stmts` | the replies to statements of one session, and what is pending, over a history that does not change |
 //! | `Serial w logs turns` | at each commit of a run that is not refused, the session was told what its statements are told alone, over the history just before |
 //! | `serial_run w logs turns` | the lines of a run without overlap: each session that commits stands in one piece at its commit, and all others are left out |
 //! | `Machine`, `IsIn w m stand bytes` | what code keeps of sessions, and when it stands for a world with an open store |
-//! | `StepsTo line now` | the contract of code that carries out a line, by `step` |
+//! | `StepsTo line now` | the contract of code that carries out a line, by `serve` |
 //!
 //! # Laws
 //!
