@@ -10,7 +10,7 @@ use Rattle.history_model.specs.StoredHistory.{IsHistory}
 use Rattle.notary_link.specs.Batches.{Batch}
 use Rattle.notary_link.specs.Notary.{Lists, Keeps}
 use Rattle.audit_model.specs.Altered.{history_in}
-use Rattle.ask_words.proofs.Reading.{told_behind}
+use Rattle.notary_link.proofs.Reading.{told_behind}
 use Rattle.forensic_report.specs.Held.{HoldsHistory}
 use Rattle.forensic_report.proofs.Counted.{as_read}
 

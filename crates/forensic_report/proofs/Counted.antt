@@ -23,7 +23,7 @@ use Rattle.forensic_report.specs.declared.fail.AnalyseFail.TheVariants as fails
 use Rattle.forensic_report.specs.Analysis.{Analysis}
 use Rattle.forensic_report.specs.Finding.{has_chains, IsFoundBy, IsFoundWith, IsFoundAt, IsFoundOf, IsAnalysis}
 use Rattle.forensic_report.specs.Values.{OrGivesUp}
-use Rattle.ask_words.proofs.Reading.{told_behind}
+use Rattle.notary_link.proofs.Reading.{told_behind}
 
 pub or_gives_up : (P Q : Result Analysis AnalyseFail → Type 0) (r : Result Analysis AnalyseFail) → ((found : Result Analysis AnalyseFail) → P found → Q found) → OrGivesUp P r → OrGivesUp Q r
 or_gives_up P Q (Ok a) f is = f (Ok a) is
@@ -31,7 +31,7 @@ or_gives_up P Q (Err fails.DiskFault) f is = tt
 or_gives_up P Q (Err fails.NotaryFault) f is = tt
 or_gives_up P Q (Err (fails.SealMissing name)) f is = f (Err (fails.SealMissing name)) is
 or_gives_up P Q (Err fails.NotSealedSo) f is = f (Err fails.NotSealedSo) is
-or_gives_up P Q (Err (fails.NotaryInconsistent level index)) f is = f (Err (fails.NotaryInconsistent level index)) is
+or_gives_up P Q (Err (fails.NotaryInconsistent era level index)) f is = f (Err (fails.NotaryInconsistent era level index)) is
 or_gives_up P Q (Err fails.NoMemory) f is = tt
 
 pub as_read : (P Q : List ℕ → Type 0) (reads : Option (List ℕ)) → IfSome reads P → ((bytes : List ℕ) → P bytes → Q bytes) → IfSome reads Q

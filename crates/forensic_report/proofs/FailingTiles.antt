@@ -12,7 +12,7 @@ use Rattle.digest_model.proofs.Lists.{range_more}
 use Rattle.notary_link.specs.declared.fail.AskFail.{AskFail}
 use Rattle.notary_link.specs.declared.fail.AskFail.TheVariants as ask_fails
 use Rattle.notary_link.specs.Batches.{Batch}
-use Rattle.ask_words.specs.Asked.{IsTold, or_stop, first_stop, unless_stopped}
+use Rattle.audit_model.specs.Asked.{IsTold, or_stop, first_stop, unless_stopped}
 use Rattle.tiled_forensics.specs.Target.{tile_told, target_questions}
 use Rattle.a3d_forensics.proofs.Finding.{increasing_append}
 use Rattle.forensic_report.specs.Analysis.{Targets, Found, AreTargets}
@@ -20,7 +20,7 @@ use Rattle.forensic_report.specs.Entries.{entry_of}
 use Rattle.forensic_report.specs.Fails.{of_asking}
 use Rattle.forensic_report.specs.Finding.{stop_told, failing, analysis_by, targets_told}
 use Rattle.forensic_report.specs.Values.{OrGivesUp}
-use Rattle.ask_words.proofs.Stops.{first_stop-append}
+use Rattle.audit_model.proofs.Stops.{first_stop-append}
 use Rattle.forensic_report.proofs.Told.{stop_at_tile, failing_tile, stop_of_tiles, failing_tiles}
 
 -- ---- one element more
@@ -96,7 +96,7 @@ module _ (batches : List Batch) (s : History) where
     stopped ask_fails.NoMemory told = tt
     stopped (ask_fails.SealMissing name) told = stop_is (ask_fails.SealMissing name) told
     stopped ask_fails.NotSealedSo told = stop_is ask_fails.NotSealedSo told
-    stopped (ask_fails.NotaryInconsistent level index) told = stop_is (ask_fails.NotaryInconsistent level index) told
+    stopped (ask_fails.NotaryInconsistent era level index) told = stop_is (ask_fails.NotaryInconsistent era level index) told
 
 -- ---- whatever is told
 

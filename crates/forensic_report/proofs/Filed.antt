@@ -12,7 +12,7 @@ use Rattle.notary_link.specs.Batches.{Batch}
 use Rattle.audit_model.specs.Names.{planned, batch_names, digest}
 use Rattle.audit_model.specs.Notary.{NotaryOf, answers, header_answer}
 use Rattle.audit_model.proofs.Compare.{compare, one_answer}
-use Rattle.ask_words.specs.Asked.{is_absent}
+use Rattle.audit_model.specs.Asked.{is_absent}
 
 pub header_planned : (l : Layout) (n : ℕ) → Contains (planned l n) names.Header
 unfolding planned batch_names

@@ -5,7 +5,7 @@ use Rattle.notary_link.specs.declared.fail.AskFail.{AskFail}
 use Rattle.digest_model.specs.Layout.{Layout}
 use Rattle.digest_model.proofs.Members.{here, there}
 use Rattle.digest_model.proofs.Lists.{one_of, none_of}
-use Rattle.ask_words.specs.Asked.{unless_stopped}
+use Rattle.audit_model.specs.Asked.{unless_stopped}
 use Rattle.forensic_report.specs.declared.fail.AnalyseFail.{AnalyseFail}
 use Rattle.forensic_report.specs.Analysis.{Findings, Analysis, Found, is_some_bad}
 use Rattle.forensic_report.specs.Finding.{analysis_by}

@@ -21,7 +21,7 @@ use Rattle.audit_model.specs.Laws.{IsAudit}
 use Rattle.audit_model.proofs.Compare.{compare}
 use Rattle.audit_model.proofs.Planned.{cum_planned, part_planned}
 use Rattle.audit_model.proofs.Exact.{consistent}
-use Rattle.ask_words.specs.Asked.{is_absent}
+use Rattle.audit_model.specs.Asked.{is_absent}
 use Rattle.tiled_forensics.specs.Target.{parts, missing_chain, target_by}
 use Rattle.a3d_forensics.specs.Descent.{tree_stop, tree_told}
 use Rattle.a3d_forensics.proofs.Notarized.{audited_ends}
@@ -34,7 +34,7 @@ use Rattle.forensic_report.specs.Finding.{IsRegion, stop_told, analysis_by, targ
 use Rattle.forensic_report.proofs.Layouts.{ends_within, chains_of_audit, tree_of_audit, same_has}
 use Rattle.forensic_report.proofs.Told.{leaves, stop_at_tile, stop_of_tiles, failing_tiles, tile_is, found_in_tree, tree_is}
 use Rattle.forensic_report.proofs.Filed.{is_there, not_absent, header_not_absent}
-use Rattle.ask_words.proofs.Stops.{no_stop}
+use Rattle.audit_model.proofs.Stops.{no_stop}
 use Rattle.forensic_report.proofs.Lists.{ended}
 use Rattle.forensic_report.proofs.Headers.{decided}
 use Rattle.forensic_report.proofs.Ways.{Way, unfiled, refused, chainless, past, asked, not_past}
@@ -87,7 +87,7 @@ module _ (batches : List Batch) (id n : ℕ) (h s : History) (audit : IsAudit ba
   region_ends fails.DiskFault is = is
   region_ends fails.NotaryFault is = is
   region_ends fails.NotSealedSo is = is
-  region_ends (fails.NotaryInconsistent level index) is = is
+  region_ends (fails.NotaryInconsistent era level index) is = is
   region_ends fails.NoMemory is = is
 
   none_refused : (algorithm : Algorithm) (fail : AnalyseFail) → has_chains algorithm (layout s) n ≡ true → IsFoundBy algorithm batches n s (Err fail) → ⊥

@@ -32,8 +32,10 @@ module _ (chain : ℕ → Answer) (l : Layout) (n : ℕ) where
   search_shows (Err (ask_fails.SealMissing names.Header)) only is = absurd is
   search_shows (Err (ask_fails.SealMissing (names.Tile tile part))) only is = absurd is
   search_shows (Err (ask_fails.SealMissing (names.Node level index))) only is = absurd is
+  search_shows (Err (ask_fails.SealMissing (names.Era era))) only is = absurd is
+  search_shows (Err (ask_fails.SealMissing (names.EraNode era level index))) only is = absurd is
   search_shows (Err ask_fails.NotSealedSo) only is = absurd only
-  search_shows (Err (ask_fails.NotaryInconsistent level index)) only is = absurd only
+  search_shows (Err (ask_fails.NotaryInconsistent era level index)) only is = absurd only
 
 -- the links of n tiles
 module _ (h : History) (n : ℕ) (links : List (List ℕ)) (are : links ≡ map (cum h) (range_with_len 0 n)) where

@@ -29,7 +29,7 @@ use Rattle.forensic_report.specs.Analysis.{Analysis, Region, Targets, Leaves, Un
 use Rattle.forensic_report.specs.Finding.{IsRegion, stop_told, failing, analysis_by, targets_told, IsFoundBy, IsFoundAt, has_chains, IsAnalysisIn, IsAnalysis, IsSoundAnalysis}
 use Rattle.forensic_report.specs.Laws.{SoundIsUnaltered}
 use Rattle.forensic_report.proofs.Layouts.{tile_has_chains, tile_has_tree}
-use Rattle.ask_words.proofs.Stops.{no_stop}
+use Rattle.audit_model.proofs.Stops.{no_stop}
 use Rattle.forensic_report.proofs.Lists.{none_mapped}
 use Rattle.forensic_report.proofs.Told.{leaves, stop_at_tile, failing_tile, tile_is, tree_is}
 use Rattle.forensic_report.proofs.Filed.{header_planned}
@@ -56,7 +56,7 @@ region_none chain l n same (Err (fails.SealMissing name)) is = let s = same is.0
 region_none chain l n same (Err fails.DiskFault) is = absurd is
 region_none chain l n same (Err fails.NotaryFault) is = absurd is
 region_none chain l n same (Err fails.NotSealedSo) is = inr refl
-region_none chain l n same (Err (fails.NotaryInconsistent level index)) is = absurd is
+region_none chain l n same (Err (fails.NotaryInconsistent era level index)) is = absurd is
 region_none chain l n same (Err fails.NoMemory) is = absurd is
 
 -- ---- by the algorithm

@@ -15,7 +15,7 @@ use Rattle.tiled_forensics.proofs.Targets.{is_same, is_target}
 use Rattle.forensic_report.specs.declared.algorithm.Algorithm.TheVariants.{Tiled}
 use Rattle.forensic_report.specs.Analysis.{Analysis, Targets, Found}
 use Rattle.forensic_report.specs.Finding.{stop_told, failing, analysis_by, targets_told, has_chains}
-use Rattle.ask_words.proofs.Stops.{none_stops}
+use Rattle.audit_model.proofs.Stops.{none_stops}
 use Rattle.forensic_report.proofs.Lists.{unstopped, in_mapped, from_mapped}
 use Rattle.forensic_report.proofs.Told.{stop_at_tile, failing_tile, stop_of_tiles, failing_tiles, tile_is}
 

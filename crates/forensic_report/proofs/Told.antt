@@ -7,7 +7,7 @@ use Rattle.digest_model.specs.Layout.{layout, exponent, first_granule, max_granu
 use Rattle.notary_link.specs.declared.fail.AskFail.{AskFail}
 use Rattle.notary_link.specs.declared.fail.AskFail.TheVariants.{NotSealedSo}
 use Rattle.notary_link.specs.Batches.{Batch}
-use Rattle.ask_words.specs.Asked.{first_stop, unless_stopped}
+use Rattle.audit_model.specs.Asked.{first_stop, unless_stopped}
 use Rattle.tiled_forensics.specs.Target.{parts, target_of, tile_told}
 use Rattle.a3d_forensics.specs.declared.found.A3dFound.{A3dFound}
 use Rattle.a3d_forensics.specs.Descent.{tree_found, tree_checks, tree_stop, tree_told}

@@ -12,7 +12,7 @@ use Rattle.notary_link.specs.Batches.{Batch}
 use Rattle.audit_model.specs.Mono.{BeginsRegion}
 use Rattle.audit_model.specs.Notary.{header_answer, cums}
 use Rattle.audit_model.specs.Altered.{history_with}
-use Rattle.ask_words.specs.Asked.{first_stop, unless_stopped}
+use Rattle.audit_model.specs.Asked.{first_stop, unless_stopped}
 use Rattle.tiled_forensics.specs.Target.{tile_told}
 use Rattle.a3d_forensics.specs.declared.found.A3dFound.{A3dFound}
 use Rattle.a3d_forensics.specs.Descent.{tree_told}
@@ -57,11 +57,6 @@ IsFoundBy Mono batches n s found = IsRegion (cums batches s) (layout s) n found
 IsFoundBy Tiled batches n s found = found ≡ analysis_by Targets (layout s) n (targets_told batches s n)
 IsFoundBy (TiledExactly kappa) batches n s found = found ≡ analysis_by Targets (layout s) n (targets_told batches s n)
 IsFoundBy A3d batches n s found = found ≡ analysis_by (λ (f : A3dFound). Leaves f.granules f.checks) (layout s) n (tree_told batches s n)
-
--- how often each transaction is hashed at most: for its link, and where more than the chain is asked for, for its granule
-abbrev pub hashes_by : Algorithm → ℕ
-hashes_by Mono = 1
-hashes_by algorithm = 2
 
 -- ---- before the algorithm is run
 
@@ -132,7 +127,7 @@ IsOfAnalysis A3d (fails.SealMissing (names.Node level index)) = Unit {0}
 IsOfAnalysis Tiled fails.NotSealedSo = Unit {0}
 IsOfAnalysis (TiledExactly kappa) fails.NotSealedSo = Unit {0}
 IsOfAnalysis A3d fails.NotSealedSo = Unit {0}
-IsOfAnalysis A3d (fails.NotaryInconsistent level index) = Unit {0}
+IsOfAnalysis A3d (fails.NotaryInconsistent era level index) = Unit {0}
 IsOfAnalysis algorithm fail = ⊥
 
 -- an analysis that tells of no alteration, or that there is none by this algorithm

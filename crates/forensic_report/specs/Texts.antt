@@ -13,7 +13,7 @@ use Rattle.audit_model.specs.Tiled.{candidates_of, exactly_of}
 use Rattle.corruption_diagram.specs.declared.span.Span.{Span}
 use Rattle.corruption_diagram.specs.Spans.{when_changed, when_first_changed}
 use Rattle.corruption_diagram.specs.Diagram.{diagram}
-use Rattle.number_text.specs.Numbered.{numbered}
+use Rattle.byte_grammar.specs.Numbered.{numbered}
 use Rattle.forensic_report.specs.declared.algorithm.Algorithm.{Algorithm}
 use Rattle.forensic_report.specs.declared.algorithm.Algorithm.TheVariants.{Mono, Tiled, TiledExactly, A3d}
 use Rattle.forensic_report.specs.Analysis.{Findings, Analysis, Region, Targets, Leaves, Unsealed, HeaderAltered, Found, sealed_tiles, bad_tiles, is_altered}

@@ -2,9 +2,8 @@
 
 ghost use Rattle.std.specs.Prelude.{◌≡◌, ◌<◌, ◌+◌, ◌^◌, ◌++◌, IfErr, IfOk, OnOk};
 ghost use Rattle.outside_words.specs.Faults.{HasCause};
-ghost use Rattle.outside_words.specs.Shown.{ShowsFaults};
 ghost use Rattle.outside_words.specs.Told.{WhereTold};
-ghost use Rattle.notary_link.specs.Notary.{Unchanged, GoesOn};
+ghost use Rattle.notary_link.specs.Notary.{Unchanged, GoesOn, IsCounted};
 ghost use Rattle.policy_eras.specs.Policy.{layout_by};
 ghost use Rattle.corruption_diagram.specs.Diagram.{diagram};
 ghost use Rattle.forensic_report.specs.declared.fail.AnalyseFail.TheVariants.{NotaryFault};
@@ -46,7 +45,7 @@ pub(crate) fn put_first_change<N: Notary>(
     ensures asked { (N.state notary.new).asked ≡ (N.state notary.old).asked }
     ensures frame { GoesOn (N.state notary.old) (N.state notary.new) }
     ensures cause { HasCause NotaryFault (N.state notary.old).faults (N.state notary.new).faults result }
-    ensures counted { ShowsFaults notary_in_doubt (N.state notary.old).faults (N.state notary.new).faults result }
+    ensures counted { IsCounted notary_in_doubt (N.state notary.old) (N.state notary.new) result }
 {
     let span = first_when(notary, id, tile, now)?;
     put_first(alloc, out, tile, span)?;
@@ -68,7 +67,7 @@ fn diagram_of<N: Notary>(
     ensures asked { (N.state notary.new).asked ≡ (N.state notary.old).asked }
     ensures frame { GoesOn (N.state notary.old) (N.state notary.new) }
     ensures cause { HasCause NotaryFault (N.state notary.old).faults (N.state notary.new).faults result }
-    ensures counted { ShowsFaults notary_in_doubt (N.state notary.old).faults (N.state notary.new).faults result }
+    ensures counted { IsCounted notary_in_doubt (N.state notary.old) (N.state notary.new) result }
 {
     let tiles = examined.tiles;
     if tiles >= TOO_MANY {
@@ -95,7 +94,7 @@ pub(crate) fn put_diagram<N: Notary>(
     ensures asked { (N.state notary.new).asked ≡ (N.state notary.old).asked }
     ensures frame { GoesOn (N.state notary.old) (N.state notary.new) }
     ensures cause { HasCause NotaryFault (N.state notary.old).faults (N.state notary.new).faults result }
-    ensures counted { ShowsFaults notary_in_doubt (N.state notary.old).faults (N.state notary.new).faults result }
+    ensures counted { IsCounted notary_in_doubt (N.state notary.old) (N.state notary.new) result }
 {
     match diagram_of(alloc, notary, request, examined)? {
         Some(text) => out.extend_from_slice(text.as_slice())?,

@@ -5,7 +5,7 @@ ghost use Rattle.outside_words.specs.Faults.{HasCause};
 ghost use Rattle.outside_words.specs.Shown.{ShowsFaults};
 ghost use Rattle.outside_words.specs.Told.{WhereTold};
 ghost use Rattle.disk_words.specs.Disk as disks;
-ghost use Rattle.notary_link.specs.Notary.{Unchanged, GoesOn};
+ghost use Rattle.notary_link.specs.Notary.{Unchanged, GoesOn, IsCounted};
 ghost use Rattle.step_count.specs.Blank.{IsBlankOf};
 ghost use Rattle.history_model.specs.History.{history};
 ghost use Rattle.history_model.specs.Stored.{stored};
@@ -29,9 +29,9 @@ use crate::range::has_chains;
 use crate::searching::search;
 use cumulative_chain::header_digest;
 use disk_model::Disk;
+use history_model::Spelled;
 use notary_link::{Answer, Name, Notary};
 use policy_eras::Eras;
-use seal_plan::Spelled;
 use std::alloc::Global;
 use std::marker::Brand;
 use step_count::{Blank, Ledger, Steps};
@@ -60,7 +60,7 @@ pub(crate) fn find<D: Disk, N: Notary>(
     ensures asked { IfOk result (λ a. (N.state notary.new).asked ≤ (N.state notary.old).asked + questions (analysis_of a)) }
     ensures frame { GoesOn (N.state notary.old) (N.state notary.new) }
     ensures cause { HasCause NotaryFault (N.state notary.old).faults (N.state notary.new).faults result }
-    ensures counted { ShowsFaults notary_in_doubt (N.state notary.old).faults (N.state notary.new).faults result }
+    ensures counted { IsCounted notary_in_doubt (N.state notary.old) (N.state notary.new) result }
 {
     match notary.count(id)? {
         0 => Ok(Analysis::Unsealed),
@@ -91,7 +91,7 @@ fn find_stored<D: Disk, N: Notary>(
     ensures asked { IfOk result (λ a. (N.state notary.new).asked ≤ (N.state notary.old).asked + questions (analysis_of a)) }
     ensures frame { GoesOn (N.state notary.old) (N.state notary.new) }
     ensures cause { HasCause NotaryFault (N.state notary.old).faults (N.state notary.new).faults result }
-    ensures counted { ShowsFaults notary_in_doubt (N.state notary.old).faults (N.state notary.new).faults result }
+    ensures counted { IsCounted notary_in_doubt (N.state notary.old) (N.state notary.new) result }
 {
     let stored = read_spelled(alloc, disk)?;
     find_in(alloc, &stored, notary, id, algorithm, tiles)
@@ -116,7 +116,7 @@ fn find_in<N: Notary>(
     ensures asked { IfOk result (λ a. (N.state notary.new).asked ≤ (N.state notary.old).asked + questions (analysis_of a)) }
     ensures frame { GoesOn (N.state notary.old) (N.state notary.new) }
     ensures cause { HasCause NotaryFault (N.state notary.old).faults (N.state notary.new).faults result }
-    ensures counted { ShowsFaults notary_in_doubt (N.state notary.old).faults (N.state notary.new).faults result }
+    ensures counted { IsCounted notary_in_doubt (N.state notary.old) (N.state notary.new) result }
 {
     match &stored.header {
         Some(header) => {
@@ -148,7 +148,7 @@ fn find_under<N: Notary>(
     ensures asked { IfOk result (λ a. (N.state notary.new).asked ≤ (N.state notary.old).asked + questions (analysis_of a)) }
     ensures frame { GoesOn (N.state notary.old) (N.state notary.new) }
     ensures cause { HasCause NotaryFault (N.state notary.old).faults (N.state notary.new).faults result }
-    ensures counted { ShowsFaults notary_in_doubt (N.state notary.old).faults (N.state notary.new).faults result }
+    ensures counted { IsCounted notary_in_doubt (N.state notary.old) (N.state notary.new) result }
 {
     let name = Name::Header;
     match notary.ask(header.id, name, &header_digest(header))? {
@@ -176,9 +176,9 @@ fn find_tiles<N: Notary>(
     ensures asked { IfOk result (λ a. (N.state notary.new).asked + 1 ≤ (N.state notary.old).asked + questions (analysis_of a)) }
     ensures frame { GoesOn (N.state notary.old) (N.state notary.new) }
     ensures cause { HasCause NotaryFault (N.state notary.old).faults (N.state notary.new).faults result }
-    ensures counted { ShowsFaults notary_in_doubt (N.state notary.old).faults (N.state notary.new).faults result }
+    ensures counted { IsCounted notary_in_doubt (N.state notary.old) (N.state notary.new) result }
 {
-    let eras = items.eras(alloc, header);
+    let eras = Eras::of(header, items);
     if !has_chains(algorithm, &eras, tiles) {
         return Err(AnalyseFail::NotSealedSo);
     }
@@ -222,7 +222,7 @@ fn find_examined<N: Notary, L: Ledger>(
     ensures asked { IfOk result (λ a. (N.state notary.new).asked + 1 ≤ (N.state notary.old).asked + questions (analysis_of a)) }
     ensures frame { GoesOn (N.state notary.old) (N.state notary.new) }
     ensures cause { HasCause NotaryFault (N.state notary.old).faults (N.state notary.new).faults result }
-    ensures counted { ShowsFaults notary_in_doubt (N.state notary.old).faults (N.state notary.new).faults result }
+    ensures counted { IsCounted notary_in_doubt (N.state notary.old) (N.state notary.new) result }
 {
     let mut steps = Steps::<L>::new(blank);
     let findings = search(alloc, header, items, notary, algorithm, tiles, &mut steps)?;

@@ -6,8 +6,8 @@ ghost use Rattle.policy_eras.specs.Policy.{layout_by};
 ghost use Rattle.forensic_report.specs.Texts.{algorithm_word, head_words, when_text, region_line_in, bits_text, list_text, candidates_by, target_line_in, granule_line_in, checks_line, first_line_in, every_granule};
 
 use crate::algorithm::Algorithm;
+use byte_grammar::put_numbered;
 use corruption_diagram::Span;
-use number_text::put_numbered;
 use policy_eras::Eras;
 use std::alloc::{AllocError, Global};
 use tiled_forensics::{Candidates, candidates, exactly};

@@ -2,9 +2,8 @@
 
 ghost use Rattle.std.specs.Prelude.{◌≡◌, ◌++◌, Some, slice_get, IfErr, OnOk};
 ghost use Rattle.outside_words.specs.Faults.{HasCause};
-ghost use Rattle.outside_words.specs.Shown.{ShowsFaults};
 ghost use Rattle.outside_words.specs.Told.{WhereTold};
-ghost use Rattle.notary_link.specs.Notary.{Unchanged, GoesOn};
+ghost use Rattle.notary_link.specs.Notary.{Unchanged, GoesOn, IsCounted};
 ghost use Rattle.policy_eras.specs.Policy.{layout_by};
 ghost use Rattle.corruption_diagram.specs.CleanMarks.{StandFor};
 ghost use Rattle.forensic_report.specs.declared.fail.AnalyseFail.TheVariants.{NotaryFault};
@@ -72,7 +71,7 @@ fn put_findings<N: Notary>(
     ensures asked { (N.state notary.new).asked ≡ (N.state notary.old).asked }
     ensures frame { GoesOn (N.state notary.old) (N.state notary.new) }
     ensures cause { HasCause NotaryFault (N.state notary.old).faults (N.state notary.new).faults result }
-    ensures counted { ShowsFaults notary_in_doubt (N.state notary.old).faults (N.state notary.new).faults result }
+    ensures counted { IsCounted notary_in_doubt (N.state notary.old) (N.state notary.new) result }
 {
     let eras = &examined.eras;
     match &examined.findings {
@@ -114,7 +113,7 @@ fn put_altered<N: Notary>(
     ensures asked { (N.state notary.new).asked ≡ (N.state notary.old).asked }
     ensures frame { GoesOn (N.state notary.old) (N.state notary.new) }
     ensures cause { HasCause NotaryFault (N.state notary.old).faults (N.state notary.new).faults result }
-    ensures counted { ShowsFaults notary_in_doubt (N.state notary.old).faults (N.state notary.new).faults result }
+    ensures counted { IsCounted notary_in_doubt (N.state notary.old) (N.state notary.new) result }
 {
     let clean = CleanMarks::read(alloc, notary, request.id)?;
     put_findings(alloc, out, &clean, notary, request, examined)?;
@@ -140,7 +139,7 @@ fn put_found<N: Notary>(
     ensures asked { (N.state notary.new).asked ≡ (N.state notary.old).asked }
     ensures frame { GoesOn (N.state notary.old) (N.state notary.new) }
     ensures cause { HasCause NotaryFault (N.state notary.old).faults (N.state notary.new).faults result }
-    ensures counted { ShowsFaults notary_in_doubt (N.state notary.old).faults (N.state notary.new).faults result }
+    ensures counted { IsCounted notary_in_doubt (N.state notary.old) (N.state notary.new) result }
 {
     let tiles = examined.tiles;
     match first_bad(&examined.findings, &examined.eras, tiles) {
@@ -173,7 +172,7 @@ pub(crate) fn put_report<N: Notary>(
     ensures asked { (N.state notary.new).asked ≡ (N.state notary.old).asked }
     ensures frame { GoesOn (N.state notary.old) (N.state notary.new) }
     ensures cause { HasCause NotaryFault (N.state notary.old).faults (N.state notary.new).faults result }
-    ensures counted { ShowsFaults notary_in_doubt (N.state notary.old).faults (N.state notary.new).faults result }
+    ensures counted { IsCounted notary_in_doubt (N.state notary.old) (N.state notary.new) result }
 {
     match analysis {
         Analysis::Unsealed => {

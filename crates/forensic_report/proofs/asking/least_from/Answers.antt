@@ -17,5 +17,5 @@ loop-tile-preserved g c =
       same = unchanged_then _ _ _ on.frame got.frame on.same got.same;
       asked = got.asked ∙ on.asked;
       frame = goes_on_then _ _ _ on.frame got.frame;
-      counted = got.counted ∙ on.counted;
+      counted = λ shows. got.counted (on.frame.shows ∙ shows) ∙ on.counted shows;
     }

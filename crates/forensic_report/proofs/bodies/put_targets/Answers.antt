@@ -19,7 +19,7 @@ loop-failing-init g c =
       same = unchanged_same s;
       asked = refl;
       frame = goes_on_same s;
-      counted = refl;
+      counted = λ shows. refl;
     }
 
 pub loop-failing-preserved : goal.loop-failing-preserved
@@ -46,7 +46,7 @@ loop-failing-preserved g c =
       same = unchanged_then _ _ _ on.frame got.frame on.same got.same;
       asked = got.asked ∙ on.asked;
       frame = goes_on_then _ _ _ on.frame got.frame;
-      counted = got.counted ∙ on.counted;
+      counted = λ shows. got.counted (on.frame.shows ∙ shows) ∙ on.counted shows;
     }
 
 pub returns-clause-value : goal.returns-clause-value

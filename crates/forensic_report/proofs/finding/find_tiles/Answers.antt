@@ -27,13 +27,13 @@ pub returns-then-not-has_chains-clause-value : goal.returns-then-not-has_chains-
 returns-then-not-has_chains-clause-value g c =
     let s = history c.args.header.now c.args.items.now in
     let lists = (g.N.Notary.state c.args.notary.now).lists in
-    let lacks : has_chains c.args.algorithm (layout s) c.args.tiles ≡ false = chains_are c.eras-eras.result s c.args.algorithm c.args.tiles c.has_chains.result false c.eras-eras.ensures.value c.has_chains.ensures.value c.if-not-has_chains.true in
+    let lacks : has_chains c.args.algorithm (layout s) c.args.tiles ≡ false = chains_are c.of-eras.result s c.args.algorithm c.args.tiles c.has_chains.result false c.of-eras.ensures.value c.has_chains.ensures.value c.if-not-has_chains.true in
     told_same lists lists (λ (before after : Lists). OrGivesUp (IsFoundWith (has_chains c.args.algorithm (layout s) c.args.tiles) c.args.algorithm (before.batches c.args.header.now.id) c.args.tiles s) (Err fails.NotSealedSo)) refl
     (λ before. rw lacks refl)
 
 pub returns-then-not-has_chains-clause-none_other : goal.returns-then-not-has_chains-clause-none_other
 returns-then-not-has_chains-clause-none_other g c =
-    lacking_refuses c.args.algorithm (layout_by c.eras-eras.result) c.args.tiles (sym c.has_chains.ensures.value ∙ c.if-not-has_chains.true)
+    lacking_refuses c.args.algorithm (layout_by c.of-eras.result) c.args.tiles (sym c.has_chains.ensures.value ∙ c.if-not-has_chains.true)
 
 pub returns-then-not-has_chains-clause-frame : goal.returns-then-not-has_chains-clause-frame
 returns-then-not-has_chains-clause-frame g c = goes_on_same (g.N.Notary.state c.args.notary.now)
@@ -44,19 +44,19 @@ returns-then-tiles-past-clause-frame g c = goes_on_same (g.N.Notary.state c.args
 pub returns-clause-value : goal.returns-clause-value
 returns-clause-value g c =
     let s = history c.args.header.now c.args.items.now in
-    let has : has_chains c.args.algorithm (layout s) c.args.tiles ≡ true = chains_are c.eras-eras.result s c.args.algorithm c.args.tiles c.has_chains.result true c.eras-eras.ensures.value c.has_chains.ensures.value c.if-not-has_chains.false in
-    let few : c.args.tiles ≤ first_past (layout s) = omega (arith, past_is c.eras-eras.result s c.first_past-past.result c.eras-eras.ensures.value c.first_past-past.ensures.value) in
+    let has : has_chains c.args.algorithm (layout s) c.args.tiles ≡ true = chains_are c.of-eras.result s c.args.algorithm c.args.tiles c.has_chains.result true c.of-eras.ensures.value c.has_chains.ensures.value c.if-not-has_chains.false in
+    let few : c.args.tiles ≤ first_past (layout s) = omega (arith, past_is c.of-eras.result s c.first_past-past.result c.of-eras.ensures.value c.first_past-past.ensures.value) in
     told_map _ _ _ _ c.find_examined.ensures.value (λ (before after : Lists) is. found_with_chains c.args.algorithm (before.batches c.args.header.now.id) c.args.tiles s has few (found_as c.find_examined.result) is)
 
 pub returns-then-tiles-past-clause-value : goal.returns-then-tiles-past-clause-value
 returns-then-tiles-past-clause-value g c =
     let s = history c.args.header.now c.args.items.now in
     let lists = (g.N.Notary.state c.args.notary.now).lists in
-    let has : has_chains c.args.algorithm (layout s) c.args.tiles ≡ true = chains_are c.eras-eras.result s c.args.algorithm c.args.tiles c.has_chains.result true c.eras-eras.ensures.value c.has_chains.ensures.value c.if-not-has_chains.false in
+    let has : has_chains c.args.algorithm (layout s) c.args.tiles ≡ true = chains_are c.of-eras.result s c.args.algorithm c.args.tiles c.has_chains.result true c.of-eras.ensures.value c.has_chains.ensures.value c.if-not-has_chains.false in
     told_same lists lists (λ (before after : Lists). OrGivesUp (IsFoundWith (has_chains c.args.algorithm (layout s) c.args.tiles) c.args.algorithm (before.batches c.args.header.now.id) c.args.tiles s) (Err (fails.SealMissing (names.Cum c.first_past-past.result)))) refl
-    (λ before. found_past c.args.algorithm (before.batches c.args.header.now.id) c.args.tiles c.first_past-past.result s has (past_is c.eras-eras.result s c.first_past-past.result c.eras-eras.ensures.value c.first_past-past.ensures.value) c.if-tiles-past.true)
+    (λ before. found_past c.args.algorithm (before.batches c.args.header.now.id) c.args.tiles c.first_past-past.result s has (past_is c.of-eras.result s c.first_past-past.result c.of-eras.ensures.value c.first_past-past.ensures.value) c.if-tiles-past.true)
 
 pub find_examined-requires-clause-within : goal.find_examined-requires-clause-within
 find_examined-requires-clause-within g c =
     let s = history c.args.header.now c.args.items.now in
-    few_granules s c.args.tiles (omega (arith, past_is c.eras-eras.result s c.first_past-past.result c.eras-eras.ensures.value c.first_past-past.ensures.value))
+    few_granules s c.args.tiles (omega (arith, past_is c.of-eras.result s c.first_past-past.result c.of-eras.ensures.value c.first_past-past.ensures.value))

@@ -5,7 +5,7 @@ use Rattle.digest_model.specs.Layout.{layout}
 use Rattle.notary_link.specs.Notary.{Lists}
 use Rattle.notary_link.proofs.Frame.{goes_on_same, goes_on_then}
 use Rattle.notary_link.proofs.Unchanged.{unchanged_same, unchanged_then}
-use Rattle.ask_words.specs.Asked.{IsTold}
+use Rattle.audit_model.specs.Asked.{IsTold}
 use Rattle.tiled_forensics.specs.Target.{tile_told}
 use Rattle.forensic_report.specs.declared.algorithm.Algorithm.TheVariants.{Tiled}
 use Rattle.forensic_report.specs.declared.fail.AnalyseFail.{AnalyseFail}
@@ -15,7 +15,7 @@ use Rattle.forensic_report.specs.Fails.{of_asking}
 use Rattle.forensic_report.specs.Finding.{IsFoundBy}
 use Rattle.forensic_report.specs.Values.{found_with, OrGivesUp}
 use Rattle.forensic_report.proofs.FailingTiles.{AreFailing, none_failing, one_more, stopped, none_asked, none_fit, fit_more, all_before, asked_more}
-use Rattle.ask_words.proofs.Reading.{told_behind}
+use Rattle.notary_link.proofs.Reading.{told_behind}
 use Rattle.forensic_report.proofs.searching.failing_tiles.Goals as goal
 
 pub loop-tile-init : goal.loop-tile-init
@@ -28,7 +28,7 @@ loop-tile-init g c =
       same = unchanged_same (S c.args.notary.now);
       few = none_asked (layout c.args.plan.now.history) c.new-targets.result (S c.args.notary.now).asked none;
       frame = goes_on_same (S c.args.notary.now);
-      counted = refl;
+      counted = λ shows. refl;
     }
 
 pub returns-in_err-target-clause-value : goal.returns-in_err-target-clause-value
@@ -64,5 +64,5 @@ loop-tile-preserved g c =
       same = unchanged_then _ _ _ on.frame asked.frame on.same asked.same;
       few = asked_more (layout h) n tile targets c.add.new.self target added _ _ _ on.few asked.asked;
       frame = goes_on_then _ _ _ on.frame asked.frame;
-      counted = asked.counted ∙ on.counted;
+      counted = λ shows. asked.counted (on.frame.shows ∙ shows) ∙ on.counted shows;
     }
