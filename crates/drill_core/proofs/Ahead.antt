@@ -14,7 +14,7 @@ use Rattle.disk_words.specs.Disk as disks
 use Rattle.store_engine.specs.Opened.{Opened}
 use Rattle.store_engine.specs.Refusals.{Tail, tail_of}
 use Rattle.txn_journal.specs.Held.{standing}
-use Rattle.statement_core.specs.World as statements
+use Rattle.statement_core.specs.Database as statements
 use Rattle.stmt_text.specs.declared.line.Line.{Line}
 use Rattle.stmt_text.specs.declared.line.Line.TheVariants as lines
 use Rattle.stmt_text.specs.declared.stmt.Stmt.TheVariants as stmts
@@ -92,7 +92,7 @@ CountsFor now filed count (Some s) = (its : List Item) (heard : Heard) → filed
 abbrev opened_in : Option OpenStore → Option Opened
 opened_in kept = option_map (λ (o : OpenStore). o.store) kept
 
-tail_is : (ws : statements.World) (s : Opened) (bytes : List ℕ) → statements.IsIn ws s bytes → tail_of s ≡ statements.tail_of_world ws
+tail_is : (ws : statements.Database) (s : Opened) (bytes : List ℕ) → statements.IsIn ws s bytes → tail_of s ≡ statements.tail_of_database ws
 tail_is ws s bytes stands =
     let h = stands.header in
     let end = stands.end in
@@ -105,11 +105,11 @@ module _ (t : Scene) (id filed count : ℕ) where
   w = world_of t id
 
   -- it calls the notary only where it has a store, and nothing speaks against it
-  nothing_filed : (found : Found) (o : Option statements.World) → w.store ≡ o → notarize_calls w o t.clock found.heard ≡ [] → notary_calls w notarize t.clock found ≡ []
+  nothing_filed : (found : Found) (o : Option statements.Database) → w.store ≡ o → notarize_calls w o t.clock found.heard ≡ [] → notary_calls w notarize t.clock found ≡ []
   unfolding notary_calls
-  nothing_filed found o is none = ap (λ (store : Option statements.World). notarize_calls w store t.clock found.heard) is ∙ none
+  nothing_filed found o is none = ap (λ (store : Option statements.Database). notarize_calls w store t.clock found.heard) is ∙ none
 
-  module _ (ws : statements.World) (is : w.store ≡ Some ws) (s : Opened) (stands : statements.IsIn ws s t.bytes) (counts : CountsFor t.clock filed count (Some s)) (many : filed ≡ length (batches_of t id)) (found : Found) where
+  module _ (ws : statements.Database) (is : w.store ≡ Some ws) (s : Opened) (stands : statements.IsIn ws s t.bytes) (counts : CountsFor t.clock filed count (Some s)) (many : filed ≡ length (batches_of t id)) (found : Found) where
     abbrev intent : Intent
     intent = intent_in ws t.clock found.heard
 
@@ -120,7 +120,7 @@ module _ (t : Scene) (id filed count : ℕ) where
     heard_many : MayFind w notarize t.clock found → filed ≡ found.heard.count
     unfolding world_of
     heard_many may =
-        let file : MayFile w t.clock found ws = subst (λ (o : Option statements.World). IfSome o (MayFile w t.clock found)) is may in
+        let file : MayFile w t.clock found ws = subst (λ (o : Option statements.Database). IfSome o (MayFile w t.clock found)) is may in
         many ∙ ap (λ (x : Heard). x.count) (sym file.heard)
 
     counted : MayFind w notarize t.clock found → intent.fault ≡ None → count ≡ length (frontier_calls s intent.frontier)
@@ -132,7 +132,7 @@ module _ (t : Scene) (id filed count : ℕ) where
         (λ fail against. absurd (some (nothing_filed found (Some ws) is (ap (λ (fault : Option AuditFail). unless fault (filing_calls w intent.batches)) against))))
         (counted may)
 
-  by_store : (kept : Option OpenStore) (o : Option statements.World) → w.store ≡ o → StoreIsIn w.id o w.sessions kept t.bytes → CountsFor t.clock filed count (opened_in kept) → filed ≡ length (batches_of t id) → ComeBefore count t (Some id) notarize
+  by_store : (kept : Option OpenStore) (o : Option statements.Database) → w.store ≡ o → StoreIsIn w.id o w.sessions kept t.bytes → CountsFor t.clock filed count (opened_in kept) → filed ≡ length (batches_of t id) → ComeBefore count t (Some id) notarize
   by_store None None is stands counts many = λ found may some. absurd (some (nothing_filed found None is refl))
   by_store None (Some ws) is stands counts many = absurd stands
   by_store (Some o) None is stands counts many = absurd stands
@@ -154,23 +154,9 @@ module _ (w : World) (now : ℕ) (found : Found) (bytes : List ℕ) where
 
   of_other : (line : Line) → (line ≡ notarize → ⊥) → notary_calls w line now found ≢ [] → 0 ≡ length (disk_calls w (world_steps.step w line now found) bytes)
   unfolding notary_calls world_steps.step
-  of_other lines.Blank other some = absurd (some refl)
-  of_other (lines.Plain (stmts.Create table columns)) other some = absurd (some refl)
-  of_other (lines.Plain (stmts.Insert table row)) other some = absurd (some refl)
-  of_other (lines.Plain (stmts.Update table row)) other some = absurd (some refl)
-  of_other (lines.Plain (stmts.Delete table key)) other some = absurd (some refl)
-  of_other (lines.Plain (stmts.Get table key moment)) other some = absurd (some refl)
-  of_other (lines.Plain (stmts.Scan table filter moment)) other some = absurd (some refl)
-  of_other (lines.Plain (stmts.History table key)) other some = absurd (some refl)
-  of_other (lines.Plain stmts.Begin) other some = absurd (some refl)
-  of_other (lines.Plain stmts.Commit) other some = absurd (some refl)
-  of_other (lines.Plain stmts.Abort) other some = absurd (some refl)
   of_other (lines.Plain stmts.Notarize) other some = absurd (other refl)
   of_other (lines.Plain stmts.Validate) other some = nothing_stored (validated w now found.verdict found.refusal) (with_validated w now found.verdict found.refusal).store
-  of_other (lines.Plain (stmts.Analyse algorithm)) other some = absurd (some refl)
-  of_other (lines.Plain (stmts.Now moment)) other some = absurd (some refl)
-  of_other (lines.InSession session stmt) other some = absurd (some refl)
-  of_other (lines.Drill event) other some = absurd (some refl)
+  of_other line other some = absurd (some refl)
 
 pub none_before : (t : Scene) (id : Option ℕ) (line : Line) → (line ≡ notarize → ⊥) → ComeBefore 0 t id line
 none_before t None line other = tt

@@ -12,7 +12,7 @@ use Rattle.notary_link.specs.Memory as notary_memory
 use Rattle.disk_model.specs.declared.memory.MemDisk.{MemDisk}
 use Rattle.disk_model.specs.Memory as disk_memory
 use Rattle.std.proofs.lemmas.Option.{same_Some}
-use Rattle.session_model.specs.World.{Session}
+use Rattle.session_model.specs.Service.{Session}
 use Rattle.store_world.specs.Standing.{OpenWorld}
 use Rattle.timeline_model.specs.Scene as scenes
 use Rattle.timeline_model.specs.Scene.{Scene, nothing_yet, without_sessions, world_of}

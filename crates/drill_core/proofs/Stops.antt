@@ -30,7 +30,7 @@ use Rattle.notary_link.specs.Runs as runs
 use Rattle.notary_link.proofs.Quiet as notary_quiet
 use Rattle.stmt_text.specs.declared.line.Line.{Line}
 use Rattle.stmt_text.specs.Fits.{FitsParts}
-use Rattle.session_model.specs.World.{Session}
+use Rattle.session_model.specs.Service.{Session}
 use Rattle.validator.specs.Desk.{Desk, desk}
 use Rattle.store_world.specs.declared.answered.Answered.{Answered}
 use Rattle.store_world.specs.declared.fail.LineFail.{LineFail}

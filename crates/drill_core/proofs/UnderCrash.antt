@@ -10,7 +10,7 @@ use Rattle.notary_link.specs.Memory as notary_memory
 use Rattle.notary_link.specs.Notary as notaries
 use Rattle.stmt_text.specs.declared.line.Line.{Line}
 use Rattle.stmt_text.specs.Fits.{FitsParts}
-use Rattle.session_model.specs.World.{Session}
+use Rattle.session_model.specs.Service.{Session}
 use Rattle.validator.specs.Desk.{desk}
 use Rattle.store_world.specs.declared.answered.Answered.{Answered}
 use Rattle.store_world.specs.declared.fail.LineFail.{LineFail}

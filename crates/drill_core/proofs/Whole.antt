@@ -18,13 +18,13 @@ use Rattle.txn_journal.proofs.InFile.{parts_of, end_inside}
 use Rattle.notary_link.specs.declared.notary.NotaryLimits.{NotaryLimits}
 use Rattle.notary_link.specs.Notary as notaries
 use Rattle.notary_link.specs.declared.memory.MemNotary.{MemNotary}
-use Rattle.notary_link.specs.Calls.{lists_of, trace_of}
+use Rattle.notary_link.specs.Calls.{lists_of}
 use Rattle.notary_link.specs.Memory as notary_memory
 use Rattle.stmt_text.specs.declared.line.Line.{Line}
 use Rattle.stmt_text.specs.Fits.{FitsParts}
 use Rattle.store_engine.proofs.StoredFiles.{is_header, held_of_stored}
-use Rattle.statement_core.specs.World as statements
-use Rattle.session_model.specs.World.{Session}
+use Rattle.statement_core.specs.Database as statements
+use Rattle.session_model.specs.Service.{Session}
 use Rattle.validator.specs.Desk.{Desk, desk}
 use Rattle.store_world.specs.declared.answered.Answered.{Answered}
 use Rattle.store_world.specs.declared.fail.LineFail.{LineFail}
@@ -78,7 +78,7 @@ module _ (first : List ℕ) (trace : List (disks.Call × Bool)) where
     abbrev before : World
     before = world_of t id
 
-    store_room : (store : statements.World) → before.store ≡ Some store → end_of_store before.store < length t.bytes
+    store_room : (store : statements.Database) → before.store ≡ Some store → end_of_store before.store < length t.bytes
     unfolding world_of
     store_room store some =
         let facts = store_is id t.bytes store some in
@@ -87,7 +87,7 @@ module _ (first : List ℕ) (trace : List (disks.Call × Bool)) where
         omega (arith, room, place, facts.end)
 
     -- after all calls of the line
-    line_written : (new : Option statements.World) → Stores before line t.clock new → written_by (items_added before.store new) (end_of_store before.store) t.bytes
+    line_written : (new : Option statements.Database) → Stores before line t.clock new → written_by (items_added before.store new) (end_of_store before.store) t.bytes
     line_written new (inl same) = by_none (items_added before.store new) (end_of_store before.store) t.bytes is (same_added before line t.clock new same)
     line_written new (inr (inl txn)) = by_one (items_added before.store new) (items.Txn (new_txn txn.store txn.ops t.clock)) (end_of_store before.store) t.bytes is (txn_added before line t.clock new txn) (store_room txn.store txn.store_is)
     line_written new (inr (inr frontier)) = by_one (items_added before.store new) (items.Frontier frontier.moment) (end_of_store before.store) t.bytes is (frontier_added before line t.clock new frontier) (store_room frontier.store frontier.store_is)
@@ -188,7 +188,7 @@ module _ (d : Drill) (begun : ℕ → Option Session) (stands : StandsUnder d.id
         let store : store_in id (stored next.scene.bytes) ≡ s.world.store =
         ap (λ (b : List ℕ). store_in id (stored b)) (sym bytes_are)
         ∙ world_is id s.world.store s.world.sessions world.opened disk.bytes.items (subst (λ (n : ℕ). StoreIsIn n s.world.store s.world.sessions world.opened disk.bytes.items) under.id steps.goes.stands.store) in
-        ap (λ (o : Option statements.World). record { id = id; store = o; sessions = sessions_over o s.world.sessions; lists = s.world.lists; limits = t.limits }) store
+        ap (λ (o : Option statements.Database). record { id = id; store = o; sessions = sessions_over o s.world.sessions; lists = s.world.lists; limits = t.limits }) store
         ∙ ap (λ (b : ℕ → Option Session). record { id = id; store = s.world.store; sessions = b; lists = s.world.lists; limits = t.limits }) (under.over (world_over t id))
         ∙ ap (λ (n : ℕ). record { id = n; store = s.world.store; sessions = s.world.sessions; lists = s.world.lists; limits = t.limits }) (sym under.id)
         ∙ ap (λ (l : NotaryLimits). record { id = s.world.id; store = s.world.store; sessions = s.world.sessions; lists = s.world.lists; limits = l }) (sym under.limits)

@@ -13,12 +13,12 @@ ghost use Rattle.drill_core.specs.Drills.{IsAt, faults_of};
 ghost use Rattle.drill_core.specs.Taken.{ComeBefore};
 
 use crate::machine::Drill;
+use history_model::Spelled;
 use notary_link::Notary;
 use policy_eras::Eras;
 use std::alloc::{AllocError, Global};
 use stmt_text::{Line, LineKind, NotaryLine, WorldPart};
 use store_engine::Store;
-use tuple_bytes::Items;
 use validator::frontier_ahead;
 
 /// Whether a line is a notarization.
@@ -90,7 +90,7 @@ fn calls_of_frontier(alloc: Global, store: &Store, filed: u32, now: u64) -> Resu
         return Err(AllocError);
     }
     // The header alone decides on the eras.
-    let eras = Eras::of(store.header(), &Items::new(alloc));
+    let eras = Eras::of(store.header(), &Spelled::new(alloc));
     match frontier_ahead(store, &eras, filed, now) {
         Ok(Some(_)) => Ok(u64::from(store.frontier_calls())),
         Ok(None) | Err(_) => Ok(0),

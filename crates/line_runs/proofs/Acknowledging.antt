@@ -12,7 +12,7 @@ use Rattle.stmt_text.specs.declared.error.ParseFail.{ParseFail}
 use Rattle.stmt_text.specs.declared.error.ParseFail.TheVariants as parses
 use Rattle.stmt_text.specs.declared.line.Line.{Line}
 use Rattle.stmt_text.specs.Lines.{answer}
-use Rattle.statement_core.specs.World as statements
+use Rattle.statement_core.specs.Database as statements
 use Rattle.store_world.specs.Found.{Found}
 use Rattle.store_world.specs.World.{StoresWorld, StoresOf}
 use Rattle.store_world.specs.Steps.{step}
@@ -27,7 +27,7 @@ use Rattle.line_runs.specs.Laws.{AcknowledgedIsStored, RunsOnlyAppend}
 
 -- ---- only items more are stored
 
-pub append_then : (a b c : Option statements.World) → OnlyAppends a b → OnlyAppends b c → OnlyAppends a c
+pub append_then : (a b c : Option statements.Database) → OnlyAppends a b → OnlyAppends b c → OnlyAppends a c
 append_then None None None one two = tt
 append_then None None (Some z) one two = absurd two
 append_then None (Some y) c one two = absurd one
@@ -126,7 +126,7 @@ txn_stays digits is more has = record {
   place = has.place;
 }
 
-pub stays_stored : (digits : List ℕ) (a b : Option statements.World) → IsStored digits a → OnlyAppends a b → IsStored digits b
+pub stays_stored : (digits : List ℕ) (a b : Option statements.Database) → IsStored digits a → OnlyAppends a b → IsStored digits b
 stays_stored digits None b has more = absurd has
 stays_stored digits (Some x) None has more = absurd more
 stays_stored digits (Some x) (Some y) has more = subst (HasTxn digits) (sym more.items) (txn_stays digits x.items more.more has)
@@ -142,11 +142,11 @@ acknowledged_stored scripted begin timed digits r =
 
 -- ---- in bytes
 
-pub stored_in : (id : ℕ) (digits : List ℕ) (o : Option statements.World) (c : List ℕ) → IsStored digits o → StoresOf id o c → HasTxn digits (stored c).items
+pub stored_in : (id : ℕ) (digits : List ℕ) (o : Option statements.Database) (c : List ℕ) → IsStored digits o → StoresOf id o c → HasTxn digits (stored c).items
 stored_in id digits None c has is = absurd has
 stored_in id digits (Some w) c has is = subst (HasTxn digits) (sym is.items_are) has
 
-pub more_in : (id : ℕ) (first : statements.World) (o : Option statements.World) (c : List ℕ) → OnlyAppends (Some first) o → StoresOf id o c → StoresMore first.items c
+pub more_in : (id : ℕ) (first : statements.Database) (o : Option statements.Database) (c : List ℕ) → OnlyAppends (Some first) o → StoresOf id o c → StoresMore first.items c
 more_in id first None c more is = absurd more
 more_in id first (Some w) c more is = record { more = more.more; all = is.items_are ∙ more.items }
 
@@ -165,7 +165,7 @@ replied_more text scripted begin timed more r = record {
 }
 
 -- bytes that store what the world has after some lines
-pub appended_in : (scripted : Bool) (begin : Running) (first : statements.World) (timed : List Timed) (c : List ℕ) → begin.world.store ≡ Some first → StoresWorld (carried scripted begin timed).world c → StoresMore first.items c
+pub appended_in : (scripted : Bool) (begin : Running) (first : statements.Database) (timed : List Timed) (c : List ℕ) → begin.world.store ≡ Some first → StoresWorld (carried scripted begin timed).world c → StoresMore first.items c
 appended_in scripted begin first timed c is stores =
     let w = (carried scripted begin timed).world in
-    more_in w.id first w.store c (subst (λ (o : Option statements.World). OnlyAppends o w.store) is (runs_append scripted begin timed)) stores
+    more_in w.id first w.store c (subst (λ (o : Option statements.Database). OnlyAppends o w.store) is (runs_append scripted begin timed)) stores

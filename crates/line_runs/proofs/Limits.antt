@@ -8,7 +8,7 @@ use Rattle.stmt_text.specs.declared.kind.LineKind.{LineKind}
 use Rattle.stmt_text.specs.declared.kind.LineKind.TheVariants as kinds
 use Rattle.stmt_text.specs.Kinds.{line_kind}
 use Rattle.stmt_text.specs.Lines.{answer}
-use Rattle.statement_core.specs.World as statements
+use Rattle.statement_core.specs.Database as statements
 use Rattle.validator.specs.declared.verdict.Verdict.{Verdict}
 use Rattle.validator.specs.declared.fail.AuditFail.{AuditFail}
 use Rattle.validator.specs.Notarizing.{Heard}
@@ -32,11 +32,11 @@ module _ (w : World) where
   unless_keeps (Some fail) new s one other = one
   unless_keeps None new s one other = other
 
-  of_tables : (o : Option statements.World) (line : Line) (now : ℕ) → Keeps (on_tables w o line now)
+  of_tables : (o : Option statements.Database) (line : Line) (now : ℕ) → Keeps (on_tables w o line now)
   of_tables None line now = refl
   of_tables (Some store) line now = refl
 
-  of_notarize : (o : Option statements.World) (now : ℕ) (heard : Heard) (refusal : Option AuditFail) → Keeps (notarized w o now heard refusal)
+  of_notarize : (o : Option statements.Database) (now : ℕ) (heard : Heard) (refusal : Option AuditFail) → Keeps (notarized w o now heard refusal)
   of_notarize None now heard refusal = refl
   of_notarize (Some store) now heard refusal =
       let i = intent_in store now heard in

@@ -12,8 +12,8 @@ use Rattle.tuple_bytes.specs.declared.header.Header.{Header}
 use Rattle.tuple_bytes.specs.Spelling.{FitsHeader}
 use Rattle.history_model.specs.Stored.{stored}
 use Rattle.history_model.specs.History.{last_moment}
-use Rattle.statement_core.specs.World as statements
-use Rattle.session_model.specs.World.{Session}
+use Rattle.statement_core.specs.Database as statements
+use Rattle.session_model.specs.Service.{Session}
 use Rattle.store_world.specs.declared.open_store.OpenStore.{OpenStore}
 use Rattle.store_world.specs.Standing.{StoreIsIn}
 use Rattle.store_world.specs.World.{no_sessions}
@@ -48,7 +48,7 @@ said_is P d result out written is write memory said = ⊎_elim
 
 -- ---- what is told behind all lines
 
-txns_told : (id : ℕ) (w : Option statements.World) (begun : ℕ → Option Session) (held : Option OpenStore) (bytes : List ℕ) → StoreIsIn id w begun held bytes → txns_in w ≡ stored_in held
+txns_told : (id : ℕ) (w : Option statements.Database) (begun : ℕ → Option Session) (held : Option OpenStore) (bytes : List ℕ) → StoreIsIn id w begun held bytes → txns_in w ≡ stored_in held
 txns_told id None begun None bytes h = refl
 txns_told id (Some w) begun (Some o) bytes h = sym h.0.store.open_on.knows.count
 txns_told id (Some w) begun None bytes h = absurd h

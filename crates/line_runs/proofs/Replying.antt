@@ -23,9 +23,9 @@ use Rattle.store_world.specs.declared.open_store.OpenStore.{OpenStore}
 use Rattle.store_world.specs.World.{World}
 use Rattle.store_world.specs.Standing.{OpenWorld, StandsOver, StoreIsIn, IsIn}
 use Rattle.store_world.specs.Lists.{IsBeside, ListsGo, WhereBeside}
-use Rattle.statement_core.specs.World as statements
-use Rattle.session_model.specs.World as sessions
-use Rattle.session_model.specs.World.{Session}
+use Rattle.statement_core.specs.Database as statements
+use Rattle.session_model.specs.Service as sessions
+use Rattle.session_model.specs.Service.{Session}
 use Rattle.session_model.specs.Standing as standing
 use Rattle.validator.specs.Desk.{KeepsSound}
 use Rattle.store_world.specs.Steps.{step, IsInWorld, IsWorldLine}
@@ -120,10 +120,10 @@ blank_goes text runner s filed still none = from_same runner (desk s filed) (des
 -- ---- a line of the world
 
 -- what stands for a world
-stands_of : (id : ℕ) (store : Option statements.World) (begun : ℕ → Option Session) (held : OpenWorld) (bytes : List ℕ) → StoreIsIn id store begun held.opened bytes → StandsOver held bytes
+stands_of : (id : ℕ) (store : Option statements.Database) (begun : ℕ → Option Session) (held : OpenWorld) (bytes : List ℕ) → StoreIsIn id store begun held.opened bytes → StandsOver held bytes
 stands_of id store begun held bytes is = by store held.opened is
   where
-    by : (store : Option statements.World) (o : Option OpenStore) → StoreIsIn id store begun o bytes → IfSome o (λ o. (w : sessions.World) × standing.IsIn w o.sessions o.store bytes)
+    by : (store : Option statements.Database) (o : Option OpenStore) → StoreIsIn id store begun o bytes → IfSome o (λ o. (w : sessions.Service) × standing.IsIn w o.sessions o.store bytes)
     by (Some w) (Some o) is = (record { store = w; sessions = begun }, is.0)
     by None None is = tt
     by (Some w) None is = absurd is
@@ -198,23 +198,10 @@ takes_for kinds.OutsideScripts false runner now clock ahead ne gives = gives
 
 -- a line that isn't of the world finds nothing
 finds_nothing : (line : Line) → ((part : WorldPart) → line_kind line ≡ kinds.InWorld part → ⊥) → (w : World) (now : ℕ) → MayTell w line no_finding × MayFind w line now no_finding
-finds_nothing lines.Blank ne w now = (tt, tt)
-finds_nothing (lines.Plain (stmts.Create table columns)) ne w now = (tt, tt)
-finds_nothing (lines.Plain (stmts.Insert table row)) ne w now = (tt, tt)
-finds_nothing (lines.Plain (stmts.Update table row)) ne w now = (tt, tt)
-finds_nothing (lines.Plain (stmts.Delete table key)) ne w now = (tt, tt)
-finds_nothing (lines.Plain (stmts.Get table key moment)) ne w now = (tt, tt)
-finds_nothing (lines.Plain (stmts.Scan table filter moment)) ne w now = (tt, tt)
-finds_nothing (lines.Plain (stmts.History table key)) ne w now = (tt, tt)
-finds_nothing (lines.Plain stmts.Begin) ne w now = (tt, tt)
-finds_nothing (lines.Plain stmts.Commit) ne w now = (tt, tt)
-finds_nothing (lines.Plain stmts.Abort) ne w now = (tt, tt)
 finds_nothing (lines.Plain stmts.Notarize) ne w now = absurd (ne (parts.Notary asked.Notarize) refl)
 finds_nothing (lines.Plain stmts.Validate) ne w now = absurd (ne (parts.Notary asked.Validate) refl)
 finds_nothing (lines.Plain (stmts.Analyse algorithm)) ne w now = absurd (ne (parts.Notary (asked.Analyse algorithm)) refl)
-finds_nothing (lines.Plain (stmts.Now moment)) ne w now = (tt, tt)
-finds_nothing (lines.InSession n stmt) ne w now = (tt, tt)
-finds_nothing (lines.Drill event) ne w now = (tt, tt)
+finds_nothing line ne w now = (tt, tt)
 
 pub goes_by : (line : Line) (kind : LineKind) (second : ℕ) (result : Result (List ℕ) LineFail) (runner last : Runner) (old new : Desk) (clock ahead : clocks.State)
     → line_kind line ≡ kind → ((part : WorldPart) → kind ≡ kinds.InWorld part → ⊥) → TakesFor kind runner.is_scripted second clock ahead → IfErr result (λ fail. fail ≡ line_fails.NoMemory)
@@ -256,20 +243,8 @@ world_line line part e = subst IsInWorld (sym e) tt
 -- ---- as bytes
 
 filled_stmt : (stmt : Stmt) → stmt_kind stmt ≡ kinds.Blank → ⊥
-filled_stmt (stmts.Create table columns) e = cc
-filled_stmt (stmts.Insert table row) e = cc
-filled_stmt (stmts.Update table row) e = cc
-filled_stmt (stmts.Delete table key) e = cc
-filled_stmt (stmts.Get table key moment) e = cc
-filled_stmt (stmts.Scan table filter moment) e = cc
-filled_stmt (stmts.History table key) e = cc
-filled_stmt stmts.Begin e = cc
-filled_stmt stmts.Commit e = cc
-filled_stmt stmts.Abort e = cc
-filled_stmt stmts.Notarize e = cc
-filled_stmt stmts.Validate e = cc
-filled_stmt (stmts.Analyse algorithm) e = cc
 filled_stmt (stmts.Now moment) e = cc
+filled_stmt stmt e = cc
 
 pub takes_filled : (kind : LineKind) (scripted : Bool) (t : Timed) (clock ahead : clocks.State) → (kind ≡ kinds.Blank → ⊥) → is_blank (without_return t.line) ≡ false → TakesFor kind scripted t.second clock ahead → Takes scripted (t ∷ []) clock ahead
 takes_filled kinds.Blank scripted t clock ahead ne filled takes = absurd (ne refl)

@@ -17,9 +17,9 @@ use Rattle.stmt_text.specs.declared.line.Line.TheVariants as lines
 use Rattle.stmt_text.specs.Lines.{answer}
 use Rattle.statement_core.specs.declared.reply.Reply.{Reply}
 use Rattle.statement_core.specs.Replies.{reply_text, is_refusal}
-use Rattle.statement_core.specs.World as statements
-use Rattle.session_model.specs.World as sessions
-use Rattle.session_model.specs.World.{Session, put_at}
+use Rattle.statement_core.specs.Database as statements
+use Rattle.session_model.specs.Service as sessions
+use Rattle.session_model.specs.Service.{Session, put_at}
 use Rattle.session_model.specs.Statements.{say}
 use Rattle.session_model.specs.Steps as session_steps
 use Rattle.session_model.specs.Steps.{Answer, Replied, Stopped, reply_of, commit, conflict, store_pending, unless_conflict, in_session}
@@ -62,7 +62,7 @@ stmts_of (e ∷ es) = ap (λ (l : List Stmt). e.stmt ∷ l) (stmts_of es)
 
 -- ---- what a session was told
 
-module _ (w : sessions.World) (exchanges : runs.Logs) (logs : Logs) (texts : (k : ℕ) → logs k ≡ map in_text (exchanges k)) (n now : ℕ) where
+module _ (w : sessions.Service) (exchanges : runs.Logs) (logs : Logs) (texts : (k : ℕ) → logs k ≡ map in_text (exchanges k)) (n now : ℕ) where
   -- something else at this number
   at_one : (log : List Told) (told : List Exchange) → log ≡ map in_text told → (k : ℕ) → put_at n log logs k ≡ map in_text (put_at n told exchanges k)
   at_one log told same k = elim (eqb k n) as (λ b. (if b then log else logs k) ≡ map in_text (if b then told else exchanges k)) [ true ↦ same | false ↦ texts k ]
@@ -97,7 +97,7 @@ module _ (w : sessions.World) (exchanges : runs.Logs) (logs : Logs) (texts : (k 
 
 -- these are the logs of a world over a store, and what its sessions were told holds
 pub record Stays (w : World) (logs : Logs) : Type 0 where
-  pub store : statements.World
+  pub store : statements.Database
   pub is : w.store ≡ Some store
   pub exchanges : runs.Logs
   pub held : AreHeld (record { store = store; sessions = w.sessions }) exchanges
@@ -110,23 +110,23 @@ later_moment last true false end moment is some = absurd cc
 later_moment last false late end moment is some = absurd cc
 
 module _ (w : World) (logs : Logs) (s : Stays w logs) where
-  abbrev own : sessions.World
+  abbrev own : sessions.Service
   own = record { store = s.store; sessions = w.sessions }
 
   -- ---- a statement, or a line of a session
 
-  follow_all : (line : Line) (now : ℕ) (k : ℕ) → logged_in w line (reply_text (reply_of (session_steps.step own line now).answer)) logs k ≡ map in_text (runs.noted s.exchanges line (session_steps.step own line now).answer k)
-  unfolding session_steps.step
+  follow_all : (line : Line) (now : ℕ) (k : ℕ) → logged_in w line (reply_text (reply_of (session_steps.serve own line now).answer)) logs k ≡ map in_text (runs.noted s.exchanges line (session_steps.serve own line now).answer k)
+  unfolding session_steps.serve
   follow_all (lines.Plain stmt) now k = s.texts k
   follow_all (lines.InSession n stmt) now k = follows own s.exchanges logs s.texts n now (w.sessions n) stmt k
   follow_all lines.Blank now k = s.texts k
   follow_all (lines.Drill event) now k = s.texts k
 
   tables_stay : (line : Line) (now : ℕ) → Stays (on_tables w w.store line now).world (logged_in w line (on_tables w w.store line now).text logs)
-  tables_stay line now = subst (λ (o : Option statements.World). Stays (on_tables w o line now).world (logged_in w line (on_tables w o line now).text logs)) (sym s.is) (record {
-    store = (session_steps.step own line now).world.store;
+  tables_stay line now = subst (λ (o : Option statements.Database). Stays (on_tables w o line now).world (logged_in w line (on_tables w o line now).text logs)) (sym s.is) (record {
+    store = (session_steps.serve own line now).world.store;
     is = refl;
-    exchanges = runs.noted s.exchanges line (session_steps.step own line now).answer;
+    exchanges = runs.noted s.exchanges line (session_steps.serve own line now).answer;
     held = (line_goes own s.exchanges s.held line now).1;
     texts = follow_all line now;
   })
@@ -165,7 +165,7 @@ module _ (w : World) (logs : Logs) (s : Stays w logs) where
   sealed_stays : (now : ℕ) (heard : Heard) (refusal : Option AuditFail) → Stays (carried_out w s.store (intent_in s.store now heard) refusal).world logs
   sealed_stays now heard refusal =
       let i = intent_in s.store now heard in
-      let t = statements.tail_of_world s.store in
+      let t = statements.tail_of_database s.store in
       let l = layout (history s.store.header s.store.items) in
       let tiles = tiles_at l s.store.header now in
       let one = λ (x : World) (store : x.store ≡ Some (reached i.frontier s.store)) (begun : x.sessions ≡ w.sessions). reached_stays i.frontier
@@ -173,7 +173,7 @@ module _ (w : World) (logs : Logs) (s : Stays w logs) where
       unless_stays refusal _ _ (one _ refl refl) (one _ refl refl)
 
   notarized_stays : (now : ℕ) (heard : Heard) (refusal : Option AuditFail) → Stays (notarized w w.store now heard refusal).world logs
-  notarized_stays now heard refusal = subst (λ (o : Option statements.World). Stays (notarized w o now heard refusal).world logs) (sym s.is)
+  notarized_stays now heard refusal = subst (λ (o : Option statements.Database). Stays (notarized w o now heard refusal).world logs) (sym s.is)
       (unless_stays (intent_in s.store now heard).fault w (carried_out w s.store (intent_in s.store now heard) refusal) s (sealed_stays now heard refusal))
 
   marked_stays : (mark : Option Mark) (refusal : Option AuditFail) (text : List ℕ) → Stays (marked w mark refusal text).world logs
@@ -224,14 +224,14 @@ module _ (scripted : Bool) where
 fresh_stays : (begin : Running) → IsFresh begin → Stays begin.world no_logs
 fresh_stays begin fresh = by begin.world.store refl fresh.over
   where
-    by : (o : Option statements.World) → begin.world.store ≡ o → IsSome o → Stays begin.world no_logs
+    by : (o : Option statements.Database) → begin.world.store ≡ o → IsSome o → Stays begin.world no_logs
     by (Some store) is some = record { store = store; is = is; exchanges = runs.no_logs; held = none_held (record { store = store; sessions = begin.world.sessions }) fresh.none; texts = λ k. refl }
     by None is some = absurd cc
 
 -- ---- a commit
 
 module _ (w : World) (logs : Logs) (s : Stays w logs) (n now : ℕ) where
-  abbrev mine : sessions.World
+  abbrev mine : sessions.Service
   mine = record { store = s.store; sessions = w.sessions }
 
   abbrev log : List Told
@@ -266,7 +266,7 @@ module _ (w : World) (logs : Logs) (s : Stays w logs) (n now : ℕ) where
           store = s.store;
           before = s.is;
           told = told_is;
-          stored = ap (λ (x : statements.World). Some x) outside.store ∙ ap (λ (l : List Op). Some (stored_alone s.store l now).world) same;
+          stored = ap (λ (x : statements.Database). Some x) outside.store ∙ ap (λ (l : List Op). Some (stored_alone s.store l now).world) same;
           reply = ap (λ (a : Answer). reply_text (reply_of a)) outside.answer ∙ ap (λ (l : List Op). reply_text (stored_alone s.store l now).reply) same;
         }
 
@@ -281,11 +281,11 @@ module _ (w : World) (logs : Logs) (s : Stays w logs) (n now : ℕ) where
           of_ops k told k.pending (pending_is k told)
 
   pub commit_alone : (found : Found) → (step w (lines.InSession n stmts.Commit) now found).is_refused ≡ false → Commits (step w (lines.InSession n stmts.Commit) now found)
-  unfolding step session_steps.step
+  unfolding step session_steps.serve
   commit_alone found free = over w.store s.is free
     where
-      over : (o : Option statements.World) → o ≡ Some s.store → (on_tables w o (lines.InSession n stmts.Commit) now).is_refused ≡ false → Commits (on_tables w o (lines.InSession n stmts.Commit) now)
-      over o is = subst (λ (x : Option statements.World). (on_tables w x (lines.InSession n stmts.Commit) now).is_refused ≡ false → Commits (on_tables w x (lines.InSession n stmts.Commit) now)) (sym is) (of_session (w.sessions n) refl)
+      over : (o : Option statements.Database) → o ≡ Some s.store → (on_tables w o (lines.InSession n stmts.Commit) now).is_refused ≡ false → Commits (on_tables w o (lines.InSession n stmts.Commit) now)
+      over o is = subst (λ (x : Option statements.Database). (on_tables w x (lines.InSession n stmts.Commit) now).is_refused ≡ false → Commits (on_tables w x (lines.InSession n stmts.Commit) now)) (sym is) (of_session (w.sessions n) refl)
 
 pub runs_serial : RunsAreSerial
 runs_serial scripted begin timed n now found fresh free =

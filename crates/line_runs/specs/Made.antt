@@ -8,7 +8,7 @@ use Rattle.line_input.specs.Front.{AreFirst}
 use Rattle.tuple_bytes.specs.declared.header.Header.{Header}
 use Rattle.history_model.specs.Stored.{stored}
 use Rattle.history_model.specs.History.{txns, last_moment}
-use Rattle.statement_core.specs.World as statements
+use Rattle.statement_core.specs.Database as statements
 use Rattle.workload_make.specs.Script.{script}
 use Rattle.line_runs.specs.declared.status.Status.{Status}
 use Rattle.line_runs.specs.declared.status.Status.TheVariants as statuses
@@ -21,7 +21,7 @@ use Rattle.line_runs.specs.Ran.{IsNext, RunsLines, KeepsPromises, ending_of, lin
 -- ---- the summary
 
 -- how many transactions a store has
-abbrev pub txns_in : Option statements.World → ℕ
+abbrev pub txns_in : Option statements.Database → ℕ
 txns_in None = 0
 txns_in (Some w) = length (txns w.items)
 

@@ -11,7 +11,7 @@ use Rattle.stmt_text.specs.declared.line.Line.{Line}
 use Rattle.stmt_text.specs.Lines.{answer, is_blank, without_return}
 use Rattle.notary_link.specs.declared.notary.NotaryLimits.{NotaryLimits}
 use Rattle.notary_link.specs.Notary.{Lists}
-use Rattle.statement_core.specs.World as statements
+use Rattle.statement_core.specs.Database as statements
 use Rattle.store_world.specs.Found.{Found}
 use Rattle.store_world.specs.World.{World, no_sessions}
 use Rattle.store_world.specs.Steps.{Step, step}
@@ -35,11 +35,11 @@ pub record Running : Type 0 where
   pub refused : ℕ
 
 -- the world of a store's bytes behind this header
-abbrev pub world_of : Header → List ℕ → statements.World
+abbrev pub world_of : Header → List ℕ → statements.Database
 world_of header bytes = record { header = header; items = (stored bytes).items; end = (stored bytes).end }
 
 -- before the first line, over a store without sessions and what a notary holds: a scripted run begins at the last moment
-abbrev pub start : statements.World → Lists → NotaryLimits → Running
+abbrev pub start : statements.Database → Lists → NotaryLimits → Running
 start store lists limits = record {
   world = record { id = store.header.id; store = Some store; sessions = no_sessions; lists = lists; limits = limits };
   epoch = store.header.epoch;

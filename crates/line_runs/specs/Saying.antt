@@ -18,7 +18,7 @@ IsPlain statuses.NoMemory = ⊥
 IsPlain (statuses.SealMissing name) = ⊥
 IsPlain (statuses.OutOfTurn count) = ⊥
 IsPlain (statuses.ClockBack last) = ⊥
-IsPlain (statuses.NotaryInconsistent level index) = ⊥
+IsPlain (statuses.NotaryInconsistent era level index) = ⊥
 IsPlain s = Unit {0}
 
 -- some text is out, or none; nothing that was out before is gone

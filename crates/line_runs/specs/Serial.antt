@@ -9,9 +9,9 @@ use Rattle.stmt_text.specs.declared.line.Line.TheVariants as lines
 use Rattle.stmt_text.specs.Lines.{answer}
 use Rattle.statement_core.specs.declared.reply.Reply.TheVariants as replies
 use Rattle.statement_core.specs.Replies.{reply_text}
-use Rattle.statement_core.specs.World as statements
+use Rattle.statement_core.specs.Database as statements
 use Rattle.statement_core.specs.Steps as statement_steps
-use Rattle.session_model.specs.World.{Session, put_at}
+use Rattle.session_model.specs.Service.{Session, put_at}
 use Rattle.session_model.specs.Alone.{Alone, alone}
 use Rattle.store_world.specs.Found.{Found}
 use Rattle.store_world.specs.World.{World}
@@ -59,18 +59,18 @@ logs_after scripted r (t ∷ timed) logs = logs_after scripted (carry scripted r
 -- ---- alone
 
 -- statements of one session, alone over a history that does not change
-abbrev pub alone_as : statements.World → List Told → Alone
+abbrev pub alone_as : statements.Database → List Told → Alone
 alone_as store log = alone store (map (λ t. t.stmt) log)
 
 -- operations are one transaction, and none is stored where there are none
-abbrev pub stored_alone : statements.World → List Op → ℕ → statement_steps.Step
+abbrev pub stored_alone : statements.Database → List Op → ℕ → statement_steps.Performed
 stored_alone store [] now = statement_steps.says store replies.Done
 stored_alone store (op ∷ ops) now = statement_steps.commit store (op ∷ ops) now
 
 -- a commit of a session, to which this was replied since its begin: each text is that of the statement alone over the history
 -- just before the commit, and what is stored is what the statements alone want to store
 pub record CommitsAlone (w : World) (log : List Told) (now : ℕ) (next : Step) : Type 0 where
-  pub store : statements.World
+  pub store : statements.Database
   pub before : w.store ≡ Some store
   pub told : map (λ t. t.text) log ≡ map reply_text (alone_as store log).replies
   pub stored : next.world.store ≡ Some (stored_alone store (alone_as store log).pending now).world

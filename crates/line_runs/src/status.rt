@@ -41,7 +41,7 @@ pub enum Status {
     /// The header has none of the chains that an analysis asks for.
     NotSealedSo,
     /// What the notary holds of this node isn't made of what it holds below.
-    NotaryInconsistent { level: u8, index: u32 },
+    NotaryInconsistent { era: u32, level: u8, index: u32 },
 }
 
 impl Status {

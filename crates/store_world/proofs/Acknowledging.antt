@@ -14,8 +14,8 @@ use Rattle.statement_core.specs.declared.reply.Reply.{Reply}
 use Rattle.statement_core.specs.declared.reply.Reply.TheVariants as replies
 use Rattle.statement_core.specs.Replies.{reply_text}
 use Rattle.statement_core.specs.Promises.{HasOneMore, IsPromised}
-use Rattle.statement_core.specs.World as statements
-use Rattle.session_model.specs.World as sessions
+use Rattle.statement_core.specs.Database as statements
+use Rattle.session_model.specs.Service as sessions
 use Rattle.session_model.specs.Steps as session_steps
 use Rattle.session_model.specs.Steps.{Answer, Replied, Stopped, reply_of}
 use Rattle.session_model.specs.Promises as session_promises
@@ -38,38 +38,25 @@ pub by_line : (P : Line → Step → Type 0) (w : World) (line : Line) (now : �
     → ((line : Line) → P line (on_tables w w.store line now)) → P (lines.Plain stmts.Notarize) (notarized w w.store now found.heard found.refusal) → P (lines.Plain stmts.Validate) (validated w now found.verdict found.refusal)
     → ((algorithm : LineAlgorithm) → P (lines.Plain (stmts.Analyse algorithm)) (analysed w (algorithm_of algorithm) found.analysis found.body)) → P line (step w line now found)
 unfolding step
-by_line P w lines.Blank now found tables notarizes validates analyses = tables lines.Blank
-by_line P w (lines.Plain (stmts.Create table columns)) now found tables notarizes validates analyses = tables (lines.Plain (stmts.Create table columns))
-by_line P w (lines.Plain (stmts.Insert table row)) now found tables notarizes validates analyses = tables (lines.Plain (stmts.Insert table row))
-by_line P w (lines.Plain (stmts.Update table row)) now found tables notarizes validates analyses = tables (lines.Plain (stmts.Update table row))
-by_line P w (lines.Plain (stmts.Delete table key)) now found tables notarizes validates analyses = tables (lines.Plain (stmts.Delete table key))
-by_line P w (lines.Plain (stmts.Get table key moment)) now found tables notarizes validates analyses = tables (lines.Plain (stmts.Get table key moment))
-by_line P w (lines.Plain (stmts.Scan table filter moment)) now found tables notarizes validates analyses = tables (lines.Plain (stmts.Scan table filter moment))
-by_line P w (lines.Plain (stmts.History table key)) now found tables notarizes validates analyses = tables (lines.Plain (stmts.History table key))
-by_line P w (lines.Plain stmts.Begin) now found tables notarizes validates analyses = tables (lines.Plain stmts.Begin)
-by_line P w (lines.Plain stmts.Commit) now found tables notarizes validates analyses = tables (lines.Plain stmts.Commit)
-by_line P w (lines.Plain stmts.Abort) now found tables notarizes validates analyses = tables (lines.Plain stmts.Abort)
 by_line P w (lines.Plain stmts.Notarize) now found tables notarizes validates analyses = notarizes
 by_line P w (lines.Plain stmts.Validate) now found tables notarizes validates analyses = validates
 by_line P w (lines.Plain (stmts.Analyse algorithm)) now found tables notarizes validates analyses = analyses algorithm
-by_line P w (lines.Plain (stmts.Now moment)) now found tables notarizes validates analyses = tables (lines.Plain (stmts.Now moment))
-by_line P w (lines.InSession session stmt) now found tables notarizes validates analyses = tables (lines.InSession session stmt)
-by_line P w (lines.Drill event) now found tables notarizes validates analyses = tables (lines.Drill event)
+by_line P w line now found tables notarizes validates analyses = tables line
 
 -- ---- only items more are stored
 
-extends_same : (w : statements.World) → Extends w w
+extends_same : (w : statements.Database) → Extends w w
 extends_same w = record { header = refl; more = []; items = sym (append-nil w.items) }
 
-pub appends_none : (o : Option statements.World) → OnlyAppends o o
+pub appends_none : (o : Option statements.Database) → OnlyAppends o o
 appends_none None = tt
 appends_none (Some w) = extends_same w
 
-added_extends : (w new : statements.World) → Adds w new → Extends w new
+added_extends : (w new : statements.Database) → Adds w new → Extends w new
 added_extends w new (inl same) = subst (Extends w) (sym same) (extends_same w)
 added_extends w new (inr more) = subst (Extends w) (sym more.is) (record { header = refl; more = items.Txn more.txn ∷ []; items = refl })
 
-pub reached_extends : (need : Option ℕ) (w : statements.World) → Extends w (reached need w)
+pub reached_extends : (need : Option ℕ) (w : statements.Database) → Extends w (reached need w)
 reached_extends None w = extends_same w
 reached_extends (Some moment) w = record { header = refl; more = items.Frontier moment ∷ []; items = refl }
 
@@ -79,23 +66,23 @@ module _ (w : World) where
   Appends s = OnlyAppends w.store s.world.store
 
   none_stored : (s : Step) → s.world.store ≡ w.store → Appends s
-  none_stored s is = subst (λ (o : Option statements.World). OnlyAppends w.store o) (sym is) (appends_none w.store)
+  none_stored s is = subst (λ (o : Option statements.Database). OnlyAppends w.store o) (sym is) (appends_none w.store)
 
-  pub some_stored : (store new : statements.World) → Some store ≡ w.store → Extends store new → OnlyAppends w.store (Some new)
-  some_stored store new is more = subst (λ (o : Option statements.World). OnlyAppends o (Some new)) is more
+  pub some_stored : (store new : statements.Database) → Some store ≡ w.store → Extends store new → OnlyAppends w.store (Some new)
+  some_stored store new is more = subst (λ (o : Option statements.Database). OnlyAppends o (Some new)) is more
 
-  pub tables_append : (o : Option statements.World) → o ≡ w.store → (line : Line) (now : ℕ) → Appends (on_tables w o line now)
+  pub tables_append : (o : Option statements.Database) → o ≡ w.store → (line : Line) (now : ℕ) → Appends (on_tables w o line now)
   tables_append None is line now = appends_none w.store
   tables_append (Some store) is line now =
-      let before : sessions.World = record { store = store; sessions = w.sessions } in
-      let new = (session_steps.step before line now).world.store in
+      let before : sessions.Service = record { store = store; sessions = w.sessions } in
+      let new = (session_steps.serve before line now).world.store in
       some_stored store new is (added_extends store new (step_adds before line now))
 
   unless_appends : (fault : Option AuditFail) (new : World) (s : Step) → OnlyAppends w.store new.store → Appends s → Appends (unless fault new s)
   unless_appends (Some fail) new s more is = more
   unless_appends None new s more is = is
 
-  notarized_appends : (o : Option statements.World) → o ≡ w.store → (now : ℕ) (heard : Heard) (refusal : Option AuditFail) → Appends (notarized w o now heard refusal)
+  notarized_appends : (o : Option statements.Database) → o ≡ w.store → (now : ℕ) (heard : Heard) (refusal : Option AuditFail) → Appends (notarized w o now heard refusal)
   notarized_appends None is now heard refusal = appends_none w.store
   notarized_appends (Some store) is now heard refusal =
       let i = intent_in store now heard in
@@ -124,7 +111,7 @@ the_digits : (number : ℕ) (digits : List ℕ) → reply_text (replies.Committe
 unfolding reply_text
 the_digits number digits is = append_cancel_right (decimal number) digits (10 ∷ []) (append_cancel_left (codes "ok ") (decimal number ++ 10 ∷ []) (digits ++ 10 ∷ []) is)
 
-one_more : (w new : statements.World) (number : ℕ) (digits : List ℕ) → HasOneMore w new number → decimal number ≡ digits → HasTxn digits new.items
+one_more : (w new : statements.Database) (number : ℕ) (digits : List ℕ) → HasOneMore w new number → decimal number ≡ digits → HasTxn digits new.items
 one_more w new number digits m is = record {
   txn = m.txn;
   number = ap decimal m.numbered ∙ is;
@@ -135,13 +122,13 @@ one_more w new number digits m is = record {
 }
 
 -- an answer of that number was a reply
-pub promised : (w new : statements.World) (answer : Answer) (number : ℕ) → session_promises.IsPromised w answer new → reply_of answer ≡ replies.Committed number → HasOneMore w new number
+pub promised : (w new : statements.Database) (answer : Answer) (number : ℕ) → session_promises.IsPromised w answer new → reply_of answer ≡ replies.Committed number → HasOneMore w new number
 promised w new (Replied reply) number is same = subst (λ (r : Reply). IsPromised w r new) same is
 promised w new (Stopped refusal) number is same = absurd cc
 
-statement_acknowledges : (w : sessions.World) (line : Line) (now : ℕ) (digits : List ℕ) → reply_text (reply_of (session_steps.step w line now).answer) ≡ ok_text digits → HasTxn digits (session_steps.step w line now).world.store.items
+statement_acknowledges : (w : sessions.Service) (line : Line) (now : ℕ) (digits : List ℕ) → reply_text (reply_of (session_steps.serve w line now).answer) ≡ ok_text digits → HasTxn digits (session_steps.serve w line now).world.store.items
 statement_acknowledges w line now digits text =
-    let s = session_steps.step w line now in
+    let s = session_steps.serve w line now in
     let ok = reply_ok (reply_of s.answer) (subst SaysOk (sym text) (says_ok digits)) in
     one_more w.store s.world.store ok.0 digits (promised w.store s.world.store s.answer ok.0 (steps_keep_promises w line now).store ok.1) (the_digits ok.0 digits (sym (ap reply_text ok.1) ∙ text))
 
@@ -149,7 +136,7 @@ module _ (w : World) (digits : List ℕ) where
   says_else : (s : Step) → (SaysOk s.text → ⊥) → Acknowledges digits s
   says_else s never is = absurd (never (subst SaysOk (sym is) (says_ok digits)))
 
-  pub tables_acknowledge : (o : Option statements.World) (line : Line) (now : ℕ) → Acknowledges digits (on_tables w o line now)
+  pub tables_acknowledge : (o : Option statements.Database) (line : Line) (now : ℕ) → Acknowledges digits (on_tables w o line now)
   tables_acknowledge None line now = says_else (on_tables w None line now) (refusal_no w (codes "NotAStore"))
   tables_acknowledge (Some store) line now = statement_acknowledges (record { store = store; sessions = w.sessions }) line now digits
 

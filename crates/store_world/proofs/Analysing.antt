@@ -22,7 +22,7 @@ use Rattle.forensic_report.specs.declared.fail.AnalyseFail.TheVariants as fails
 use Rattle.forensic_report.specs.declared.report.Report.{Report}
 use Rattle.forensic_report.specs.Analysis.{Analysis, Unsealed, HeaderAltered, IsWithoutStore}
 use Rattle.std.proofs.lemmas.List.{append_cancel_left}
-use Rattle.statement_core.specs.World as statements
+use Rattle.statement_core.specs.Database as statements
 use Rattle.forensic_report.specs.Fails.{refusal_text}
 use Rattle.forensic_report.specs.Finding.{IsAnalysisIn, IsAnalysis, IsOfAnalysis}
 use Rattle.forensic_report.specs.Held.{HoldsFiled}
@@ -189,7 +189,7 @@ module _ (algorithm : LineAlgorithm) (now : ℕ) (old new : State) (same : Uncha
         → (w.store ≡ None → ReportsNone (algorithm_of algorithm) w.id (Ok report)) → WhereTold filed.lists filed_later.lists (ToldBy report a) → Steps line now w result held (desk old filed) (desk new filed_later) bytes bytes
     tells_report result report a reply begins nowhere told = by w.store refl
       where
-        by : (o : Option statements.World) → w.store ≡ o → Steps line now w result held (desk old filed) (desk new filed_later) bytes bytes
+        by : (o : Option statements.Database) → w.store ≡ o → Steps line now w result held (desk old filed) (desk new filed_later) bytes bytes
         by None none = without_store result report a reply begins none (nowhere none) filed.lists filed_later.lists refl refl told
         by (Some ws) some = tells_so result report a reply begins (λ none. let no : Some ws ≡ None = sym some ∙ none in absurd cc) told
 
@@ -207,7 +207,7 @@ module _ (algorithm : LineAlgorithm) (now : ℕ) (old new : State) (same : Uncha
     came result (Ok report) reply (a, found, is) only nowhere = tells_report result report a reply is.begins nowhere (told_both filed.lists filed_later.lists _ _ found is.text)
     came result (Err (fails.SealMissing name)) reply is only nowhere = tells_refusal result (fails.SealMissing name) reply (only, λ none. nowhere none) is
     came result (Err fails.NotSealedSo) reply is only nowhere = tells_refusal result fails.NotSealedSo reply (only, λ none. nowhere none) is
-    came result (Err (fails.NotaryInconsistent level index)) reply is only nowhere = tells_refusal result (fails.NotaryInconsistent level index) reply (only, λ none. nowhere none) is
+    came result (Err (fails.NotaryInconsistent era level index)) reply is only nowhere = tells_refusal result (fails.NotaryInconsistent era level index) reply (only, λ none. nowhere none) is
     came result (Err fails.DiskFault) reply is only nowhere = tells_none result (none_replied result line_fails.DiskFault reply)
     came result (Err fails.NotaryFault) reply is only nowhere = tells_none result (none_replied result line_fails.NotaryFault reply)
     came result (Err fails.NoMemory) reply is only nowhere = tells_none result (none_replied result line_fails.NoMemory reply)
@@ -227,7 +227,7 @@ module _ (algorithm : LineAlgorithm) (now : ℕ) (old new : State) (same : Uncha
     come (Ok report) (a, found, is) = if_map old.reads _ (λ bytes. CameAt (Ok report) id bytes) found (λ bytes told. (a, told, is))
     come (Err (fails.SealMissing name)) is = is
     come (Err fails.NotSealedSo) is = is
-    come (Err (fails.NotaryInconsistent level index)) is = is
+    come (Err (fails.NotaryInconsistent era level index)) is = is
     come (Err fails.DiskFault) is = of_any old.reads
     come (Err fails.NotaryFault) is = of_any old.reads
     come (Err fails.NoMemory) is = of_any old.reads

@@ -24,12 +24,12 @@ use Rattle.statement_core.specs.declared.reply.Reply.{Reply}
 use Rattle.statement_core.specs.declared.reply.Reply.TheVariants as replies
 use Rattle.statement_core.specs.declared.statements.StepFail.{StepFail}
 use Rattle.statement_core.specs.declared.statements.StepFail.TheVariants as steps
-use Rattle.statement_core.specs.World as statements
+use Rattle.statement_core.specs.Database as statements
 use Rattle.statement_core.specs.Steps as statement_steps
 use Rattle.statement_core.specs.Stepping.{MakesFor, Appends}
 use Rattle.statement_core.specs.Promises.{KeepsPromise, IsPromised}
-use Rattle.session_model.specs.World as sessions
-use Rattle.session_model.specs.World.{Session}
+use Rattle.session_model.specs.Service as sessions
+use Rattle.session_model.specs.Service.{Session}
 use Rattle.session_model.specs.Steps as session_steps
 use Rattle.session_model.specs.Standing.{Machine, of_store, StepsIn}
 use Rattle.validator.specs.Desk.{Desk, desk}
@@ -88,7 +88,7 @@ module _ (w : World) (line : Line) (now : ℕ) (found : Found) (next : Step) (st
 
 -- ---- a statement, or a line of a session
 
-module _ (w : statements.World) (s : Opened) (before : List ℕ) (i : statements.IsIn w s before) where
+module _ (w : statements.Database) (s : Opened) (before : List ℕ) (i : statements.IsIn w s before) where
   -- the store stands where a journal over these bytes does
   same_calls : (payload : List ℕ) → append_calls s.at payload ≡ append_calls (standing w.end before) payload
   same_calls payload =
@@ -98,24 +98,24 @@ module _ (w : statements.World) (s : Opened) (before : List ℕ) (i : statements
   one_item : (item : Item) → append_calls s.at (spell_item item) ≡ appends (standing w.end before) (item ∷ [])
   one_item item = same_calls (spell_item item) ∙ sym (append-nil (append_calls (standing w.end before) (spell_item item)))
 
-  module _ (begun : ℕ → Option Session) (next : session_steps.Step) (m later_m : Machine) (later : Opened) (old new : disks.State) (after : List ℕ) where
-    abbrev from : sessions.World
+  module _ (begun : ℕ → Option Session) (next : session_steps.Served) (m later_m : Machine) (later : Opened) (old new : disks.State) (after : List ℕ) where
+    abbrev from : sessions.Service
     from = record { store = w; sessions = begun }
 
-    abbrev here : statement_steps.Step
+    abbrev here : statement_steps.Performed
     here = of_store next
 
     abbrev made_calls : List disks.Call
     made_calls = appends (standing w.end before) (items_added (Some w) (Some next.world.store))
 
     none_calls : next.world.store ≡ w → made_calls ≡ []
-    none_calls same = ap (λ (x : statements.World). appends (standing w.end before) (drop (length w.items) x.items)) same ∙ ap (appends (standing w.end before)) (drop_all w.items)
+    none_calls same = ap (λ (x : statements.Database). appends (standing w.end before) (drop (length w.items) x.items)) same ∙ ap (appends (standing w.end before)) (drop_all w.items)
 
     -- one append
     txn_calls : (r : Result Reply StepFail) (a : Appends w here r s old new) → append_calls s.at (spell_txn a.txn) ≡ made_calls
     txn_calls r a =
         one_item (items.Txn a.txn)
-        ∙ ap (appends (standing w.end before)) (sym (ap (λ (x : statement_steps.Step). drop (length w.items) x.world.items) a.stores ∙ drop_at w.items (items.Txn a.txn ∷ []) (length w.items) refl))
+        ∙ ap (appends (standing w.end before)) (sym (ap (λ (x : statement_steps.Performed). drop (length w.items) x.world.items) a.stores ∙ drop_at w.items (items.Txn a.txn ∷ []) (length w.items) refl))
 
     stayed : (result : Result Answered LineFail) → next.world.store ≡ w → new.trace ≡ old.trace → MakesOfDisk made_calls result old new
     stayed result same trace = subst (λ (cs : List disks.Call). MakesOfDisk cs result old new) (sym (none_calls same)) (no_calls result old new trace)
@@ -130,12 +130,7 @@ module _ (w : statements.World) (s : Opened) (before : List ℕ) (i : statements
     -- a reply
     told_calls : (reply : Reply) (result : Result Answered LineFail) → IsReplied (Ok reply) result → IsPromised w reply next.world.store → MakesFor w here (Ok reply) s old new → MakesOfDisk made_calls result old new
     told_calls (replies.Committed number) result answer promised makes = acknowledged (replied (replies.Committed number)) result answer (subst (λ (cs : List disks.Call). MakesCalls cs (Ok tt) old new) (txn_calls (Ok (replies.Committed number)) makes) makes.makes)
-    told_calls replies.Done result answer promised makes = stayed result promised makes
-    told_calls (replies.Found row) result answer promised makes = stayed result promised makes
-    told_calls replies.Missing result answer promised makes = stayed result promised makes
-    told_calls (replies.Scanned rows) result answer promised makes = stayed result promised makes
-    told_calls (replies.Told versions) result answer promised makes = stayed result promised makes
-    told_calls (replies.Refused refusal) result answer promised makes = stayed result promised makes
+    told_calls reply result answer promised makes = stayed result promised makes
 
     wanted : Appends w here (Err steps.NoMemory) s old new ⊎ (new.trace ≡ old.trace) → MakesOfDisk made_calls (Err fails.NoMemory) old new
     wanted (inl a) = subst (λ (cs : List disks.Call). MakesOfDisk cs (Err fails.NoMemory) old new) (txn_calls (Err steps.NoMemory) a) a.makes
@@ -179,11 +174,11 @@ module _ (calls : List disks.Call) (old new : disks.State) where
   audit_calls text (Err (audits.SealMissing name)) result answer free makes = absurd cc
   audit_calls text (Err (audits.OutOfTurn count)) result answer free makes = all_made (refusal (refusal_text (audits.OutOfTurn count))) result answer makes
 
-module _ (now : ℕ) (w : World) (ws : statements.World) (is : w.store ≡ Some ws) (s : Opened) (before : List ℕ) (stands : statements.IsIn ws s before) (heard : Heard) (taken : Option AuditFail) where
+module _ (now : ℕ) (w : World) (ws : statements.Database) (is : w.store ≡ Some ws) (s : Opened) (before : List ℕ) (stands : statements.IsIn ws s before) (heard : Heard) (taken : Option AuditFail) where
   abbrev intent : Intent
   intent = intent_in ws now heard
 
-  abbrev calls_to : Option statements.World → List disks.Call
+  abbrev calls_to : Option statements.Database → List disks.Call
   calls_to store = appends (standing ws.end before) (items_added (Some ws) store)
 
   frontier_is : (o : Option ℕ) → reaching.frontier_calls s o ≡ calls_to (Some (reached o ws))
@@ -196,10 +191,10 @@ module _ (now : ℕ) (w : World) (ws : statements.World) (is : w.store ≡ Some 
 
   -- what holds of the calls, whether something speaks against it or not
   pub by_fault : (P : List disks.Call → Type 0) → ((fail : AuditFail) → intent.fault ≡ Some fail → P []) → (intent.fault ≡ None → P (reaching.frontier_calls s intent.frontier)) → P (disk_calls w (notarized w w.store now heard taken) before)
-  by_fault P against free = subst (λ (o : Option statements.World). P (appends (standing (end_of_store o) before) (items_added o (notarized w o now heard taken).world.store))) (sym is) (by intent.fault refl)
+  by_fault P against free = subst (λ (o : Option statements.Database). P (appends (standing (end_of_store o) before) (items_added o (notarized w o now heard taken).world.store))) (sym is) (by intent.fault refl)
     where
       by : (o : Option AuditFail) → intent.fault ≡ o → P (calls_to (unless o w (carried_out w ws intent taken)).world.store)
-      by (Some fail) e = subst (λ (store : Option statements.World). P (calls_to store)) (sym is) (subst (λ (its : List Item). P (appends (standing ws.end before) its)) (sym (drop_all ws.items)) (against fail e))
+      by (Some fail) e = subst (λ (store : Option statements.Database). P (calls_to store)) (sym is) (subst (λ (its : List Item). P (appends (standing ws.end before) its)) (sym (drop_all ws.items)) (against fail e))
       by None e = subst P frontier_stored (free e)
 
   module _ (later : Opened) (after : List ℕ) (old new : Desk) (r : Result ℕ AuditFail) (told : CarriesOut intent ws.items r s later old new before after) where

@@ -5,8 +5,8 @@ use Rattle.disk_model.specs.Moments.{EveryImage}
 use Rattle.disk_model.proofs.Moments.{started, stays}
 use Rattle.notary_link.specs.Notary.{Lists, Keeps}
 use Rattle.store_engine.specs.Opened.{Stores}
-use Rattle.statement_core.specs.World as statements
-use Rattle.session_model.specs.World.{Session}
+use Rattle.statement_core.specs.Database as statements
+use Rattle.session_model.specs.Service.{Session}
 use Rattle.store_world.specs.declared.open_store.OpenStore.{OpenStore}
 use Rattle.outside_words.specs.Told.{WhereTold}
 use Rattle.outside_words.proofs.Told.{told_map, told_same}
@@ -25,7 +25,7 @@ pub given : {P : Type 0} (result : Result Answered LineFail) → P → OnOk resu
 given (Ok answered) p = p
 given (Err fail) p = tt
 
-pub stores_of : (id : ℕ) (o : Option statements.World) (begun : ℕ → Option Session) (s : Option OpenStore) (bytes : List ℕ) → StoreIsIn id o begun s bytes → StoresOf id o bytes
+pub stores_of : (id : ℕ) (o : Option statements.Database) (begun : ℕ → Option Session) (s : Option OpenStore) (bytes : List ℕ) → StoreIsIn id o begun s bytes → StoresOf id o bytes
 stores_of id (Some w) begun (Some s) bytes i = subst (λ h. Stores h w.items bytes) i.0.store.header i.0.store.open_on.stores
 stores_of id None begun None bytes i = i.0
 stores_of id (Some w) begun None bytes i = absurd i
@@ -42,7 +42,7 @@ module _ (w : World) (held : OpenWorld) (old new : State) (bytes : List ℕ) (i 
 
   -- the bytes store what they stored
   still_stores : (next : World) → next.id ≡ w.id → next.store ≡ w.store → StoresWorld next bytes
-  still_stores next id_stays store = subst (λ (o : Option statements.World). StoresOf next.id o bytes) (sym store)
+  still_stores next id_stays store = subst (λ (o : Option statements.Database). StoresOf next.id o bytes) (sym store)
       (subst (λ (n : ℕ). StoresOf n w.store bytes) (sym id_stays) (stores_world w held bytes i))
 
   pub left : (next : Step) (result : Result Answered LineFail) → next.world.id ≡ w.id → next.world.store ≡ w.store → next.world.sessions ≡ w.sessions
@@ -52,7 +52,7 @@ module _ (w : World) (held : OpenWorld) (old new : State) (bytes : List ℕ) (i 
     stands = record {
       id = i.id ∙ sym id_stays;
       store = subst (λ (f : ℕ → Option Session). StoreIsIn next.world.id next.world.store f held.opened bytes) (sym begun)
-          (subst (λ (o : Option statements.World). StoreIsIn next.world.id o w.sessions held.opened bytes) (sym store)
+          (subst (λ (o : Option statements.Database). StoreIsIn next.world.id o w.sessions held.opened bytes) (sym store)
           (subst (λ (n : ℕ). StoreIsIn n w.store w.sessions held.opened bytes) (sym id_stays) i.store));
     };
     settled = λ only c now. only c ((same.images c).0 now);

@@ -1,6 +1,6 @@
 -- The items that a line adds to a store.
 use Rattle.std.proofs.Common.{◌≡◌, List, [], ◌∷◌, length, drop, Option, Some, None, refl}
-use Rattle.statement_core.specs.World as statements
+use Rattle.statement_core.specs.Database as statements
 use Rattle.validator.specs.declared.fail.AuditFail.{AuditFail}
 use Rattle.validator.specs.Notarizing.{Intent}
 use Rattle.store_world.specs.LineCalls.{items_added}
@@ -12,7 +12,7 @@ drop_all [] = refl
 drop_all (x ∷ xs) = drop_all xs
 
 -- none where the store stays
-pub none_added : (o : Option statements.World) → items_added o o ≡ []
+pub none_added : (o : Option statements.Database) → items_added o o ≡ []
 none_added None = refl
 none_added (Some store) = drop_all store.items
 
@@ -22,5 +22,5 @@ unless_world (Some fail) new s is = refl
 unless_world None new s is = is
 
 -- the world of a notarization that is carried out
-pub carried_world : (w : World) (store : statements.World) (i : Intent) (refusal : Option AuditFail) → (carried_out w store i refusal).world ≡ filed (with_store w (reached i.frontier store)) i.batches
+pub carried_world : (w : World) (store : statements.Database) (i : Intent) (refusal : Option AuditFail) → (carried_out w store i refusal).world ≡ filed (with_store w (reached i.frontier store)) i.batches
 carried_world w store i refusal = unless_world refusal _ _ refl

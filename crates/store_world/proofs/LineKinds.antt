@@ -5,7 +5,7 @@ use Rattle.stmt_text.specs.declared.stmt.Stmt.{Stmt}
 use Rattle.stmt_text.specs.declared.stmt.Stmt.TheVariants as stmts
 use Rattle.stmt_text.specs.declared.line.Line.{Line}
 use Rattle.stmt_text.specs.declared.line.Line.TheVariants as lines
-use Rattle.statement_core.specs.World as statements
+use Rattle.statement_core.specs.Database as statements
 use Rattle.session_model.specs.Standing.{IsOfStore, IsStatementLine}
 use Rattle.validator.specs.declared.verdict.Verdict.{Verdict}
 use Rattle.validator.specs.declared.verdict.Verdict.TheVariants as verdicts
@@ -48,13 +48,6 @@ pub record GoesToTables (line : Line) : Type 0 where
 
 stmt_goes : (stmt : Stmt) → IsStatementLine (lines.Plain stmt) → GoesToTables (lines.Plain stmt)
 unfolding step notary_calls
-stmt_goes (stmts.Create table columns) on = record { steps = λ w now found. refl; tells = λ w found. tt; may = λ w now found. tt; calls = λ w now found. refl; early = λ w now. refl; kind = tt }
-stmt_goes (stmts.Insert table row) on = record { steps = λ w now found. refl; tells = λ w found. tt; may = λ w now found. tt; calls = λ w now found. refl; early = λ w now. refl; kind = tt }
-stmt_goes (stmts.Update table row) on = record { steps = λ w now found. refl; tells = λ w found. tt; may = λ w now found. tt; calls = λ w now found. refl; early = λ w now. refl; kind = tt }
-stmt_goes (stmts.Delete table key) on = record { steps = λ w now found. refl; tells = λ w found. tt; may = λ w now found. tt; calls = λ w now found. refl; early = λ w now. refl; kind = tt }
-stmt_goes (stmts.Get table key moment) on = record { steps = λ w now found. refl; tells = λ w found. tt; may = λ w now found. tt; calls = λ w now found. refl; early = λ w now. refl; kind = tt }
-stmt_goes (stmts.Scan table filter moment) on = record { steps = λ w now found. refl; tells = λ w found. tt; may = λ w now found. tt; calls = λ w now found. refl; early = λ w now. refl; kind = tt }
-stmt_goes (stmts.History table key) on = record { steps = λ w now found. refl; tells = λ w found. tt; may = λ w now found. tt; calls = λ w now found. refl; early = λ w now. refl; kind = tt }
 stmt_goes stmts.Begin on = absurd on
 stmt_goes stmts.Commit on = absurd on
 stmt_goes stmts.Abort on = absurd on
@@ -62,6 +55,7 @@ stmt_goes stmts.Notarize on = absurd on
 stmt_goes stmts.Validate on = absurd on
 stmt_goes (stmts.Analyse algorithm) on = absurd on
 stmt_goes (stmts.Now moment) on = absurd on
+stmt_goes stmt on = record { steps = λ w now found. refl; tells = λ w found. tt; may = λ w now found. tt; calls = λ w now found. refl; early = λ w now. refl; kind = tt }
 
 pub goes_to_tables : (line : Line) → IsStatementLine line → GoesToTables line
 unfolding step notary_calls
@@ -79,7 +73,7 @@ module _ (w : World) (now : ℕ) where
 
   pub notarize_none : (heard : Heard) (refusal : Option AuditFail) → w.store ≡ None → notary_calls w (lines.Plain stmts.Notarize) now (heard_so heard refusal) ≡ []
   unfolding notary_calls
-  notarize_none heard refusal none = ap (λ (o : Option statements.World). notarize_calls w o now heard) none
+  notarize_none heard refusal none = ap (λ (o : Option statements.Database). notarize_calls w o now heard) none
 
   pub validate_step : (verdict : Result Verdict AuditFail) (refusal : Option AuditFail) → step w (lines.Plain stmts.Validate) now (judged verdict refusal) ≡ validated w now verdict refusal
   unfolding step

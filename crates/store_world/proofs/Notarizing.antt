@@ -23,7 +23,7 @@ use Rattle.store_engine.specs.Opened.{Opened, Stores, IsOpenOn}
 use Rattle.store_engine.proofs.Telling.{txns_no_more}
 use Rattle.stmt_text.specs.declared.stmt.Stmt.TheVariants as stmts
 use Rattle.stmt_text.specs.declared.line.Line.TheVariants as lines
-use Rattle.statement_core.specs.World as statements
+use Rattle.statement_core.specs.Database as statements
 use Rattle.session_model.specs.Standing as sessions
 use Rattle.session_model.specs.Standing.{Machine}
 use Rattle.validator.specs.Desk.{desk}
@@ -143,7 +143,7 @@ taken_may (Err (fails.SealMissing name)) b = full_may b
 
 module _ (now : ℕ) (s later_s : Opened) (old new : State) (before after : List ℕ) (header : later_s.header ≡ s.header) (only_now : (c : List ℕ) → old.was_image (turn old) c → old.is_image c)
     (reads : Unchanged old new → after ≡ before) (w : World) (kept_sessions : Machine) (i : IsIn w (alone kept_sessions s) before) (has : HasStore w kept_sessions s before) (heard : Heard) where
-  abbrev ws : statements.World
+  abbrev ws : statements.Database
   ws = has.world
 
   abbrev To : Step → Result Answered LineFail → Type 0
@@ -214,7 +214,7 @@ module _ (now : ℕ) (s later_s : Opened) (old new : State) (before after : List
   Around c = StoresAround s.header ws.items need c
 
   of_ws : (c : List ℕ) → Stores s.header ws.items c → StoresOf w.id w.store c
-  of_ws c stores = subst (λ (o : Option statements.World). StoresOf w.id o c) (sym has.is) (subst (λ (h : Header). Stores h ws.items c) has.stands.header stores)
+  of_ws c stores = subst (λ (o : Option statements.Database). StoresOf w.id o c) (sym has.is) (subst (λ (h : Header). Stores h ws.items c) has.stands.header stores)
 
   pub either_of : (o : Option ℕ) (c : List ℕ) → StoresAround s.header ws.items o c → StoresOf w.id w.store c ⊎ StoresOf w.id (Some (reached o ws)) c
   either_of None c stores = inl (of_ws c stores)
@@ -376,7 +376,7 @@ module _ (now : ℕ) (s later_s : Opened) (old new : State) (before after : List
       })
 
 -- the lists' batches are those of the world
-heard_in : (w : World) (ws : statements.World) (lists : Lists) (id : ℕ) (header : Header) → id ≡ w.id → header ≡ ws.header → Keeps w.lists lists → heard_of (lists.batches id) (history header ws.items) ≡ heard_of (filed_for w) (history ws.header ws.items)
+heard_in : (w : World) (ws : statements.Database) (lists : Lists) (id : ℕ) (header : Header) → id ≡ w.id → header ≡ ws.header → Keeps w.lists lists → heard_of (lists.batches id) (history header ws.items) ≡ heard_of (filed_for w) (history ws.header ws.items)
 heard_in w ws lists id header own is keeps = ap (λ (bs : List Batch). heard_of bs (history header ws.items)) (ap lists.batches own ∙ keeps.batches w.id) ∙ ap (λ (h : Header). heard_of (filed_for w) (history h ws.items)) is
 
 pub told_known : {A : Type 0} (o n : Option A) (P Q : A → A → Type 0) → WhereTold o n P → ((b a : A) → o ≡ Some b → n ≡ Some a → P b a → Q b a) → WhereTold o n Q
@@ -389,7 +389,7 @@ module _ (now : ℕ) (s later_s : Opened) (old new : State) (filed later : notar
     (early : IsEarly (early_fault (tail_of s) s.at.is_closed now) r) (turn : IfErr r (λ fail. TellsCount fail later)) (kept_sessions : Machine) where
   module _ (before after : List ℕ) (reads : Unchanged old new → after ≡ before) (w : World) (i : IsIn w (alone kept_sessions s) before) (has : HasStore w kept_sessions s before)
       (n : Notarizes now has.world.items r s later_s (desk old filed) (desk new later) before after) where
-    abbrev mine : statements.World
+    abbrev mine : statements.Database
     mine = has.world
 
     abbrev heard : Heard
@@ -411,7 +411,7 @@ module _ (now : ℕ) (s later_s : Opened) (old new : State) (filed later : notar
     line = lines.Plain stmts.Notarize
 
     step_is : step w line now found ≡ notarized w (Some mine) now heard kept_back
-    step_is = notarize_step w now heard kept_back ∙ ap (λ (o : Option statements.World). notarized w o now heard kept_back) has.is
+    step_is = notarize_step w now heard kept_back ∙ ap (λ (o : Option statements.Database). notarized w o now heard kept_back) has.is
 
     -- where the notary tells its lists
     module _ (lists later_lists : Lists) (was : filed.lists ≡ Some lists) (is : later.lists ≡ Some later_lists) (beside : IsBeside w filed.limits lists) where
@@ -426,7 +426,7 @@ module _ (now : ℕ) (s later_s : Opened) (old new : State) (filed later : notar
       files = told_here filed.lists later.lists _ lists later_lists was is does.told (counted_is ∙ ap length (sym (ap lists.batches i.id ∙ beside.lists.batches w.id)))
 
       finds : MayFind w line now found
-      finds = subst (λ (o : Option statements.World). IfSome o (MayFile w now found)) (sym has.is) (record {
+      finds = subst (λ (o : Option statements.Database). IfSome o (MayFile w now found)) (sym has.is) (record {
         heard = heard_is;
         refusal = λ free. taken_is now s later_s old new before after header only_now reads w kept_sessions i has heard r result answer filed later does lists later_lists beside files r
             (subst (λ (id : ℕ). FilesFor id filed.limits aim.batches r lists later_lists) i.id files.files);
@@ -440,7 +440,7 @@ module _ (now : ℕ) (s later_s : Opened) (old new : State) (filed later : notar
       goes = subst (λ (x : Step). Goes w x result (alone kept_sessions later_s) old new before after) (sym step_is)
           (goes_by now s later_s old new before after header only_now reads w kept_sessions i has heard r result answer filed later does aim.fault refl);
       only = ends_anyhow result;
-      timely = subst (λ (e : Option AuditFail). IfErr result (EndsTimely e)) (sym (ap (λ (o : Option statements.World). early_over o now) has.is))
+      timely = subst (λ (e : Option AuditFail). IfErr result (EndsTimely e)) (sym (ap (λ (o : Option statements.Database). early_over o now) has.is))
           (subst (λ (e : Option AuditFail). IfErr result (EndsTimely e)) (early_in now mine s before has.stands is_open) (ends_timely sealed_text (tail_of s) s.at.is_closed now r result answer early));
       finds = beside_by w (desk old filed) (desk new later) _ (λ lists later_lists was is beside. finds lists later_lists was is beside);
       files = beside_by w (desk old filed) (desk new later) _ (λ lists later_lists was is beside. subst (λ (x : Step). ListsGo w x.world (IsOk result) old new before after later_lists) (sym step_is)

@@ -13,7 +13,7 @@ use Rattle.notary_link.specs.Runs as runs
 use Rattle.store_engine.specs.Opened.{Opened}
 use Rattle.stmt_text.specs.declared.stmt.Stmt.TheVariants as stmts
 use Rattle.stmt_text.specs.declared.line.Line.TheVariants as lines
-use Rattle.statement_core.specs.World as statements
+use Rattle.statement_core.specs.Database as statements
 use Rattle.validator.specs.Desk.{Desk}
 use Rattle.validator.specs.declared.fail.AuditFail.{AuditFail}
 use Rattle.validator.specs.declared.fail.AuditFail.TheVariants as audits
@@ -94,7 +94,7 @@ all_fit id limits batches (Err audits.Closed) lists later files = tt
 all_fit id limits batches (Err audits.Broken) lists later files = tt
 all_fit id limits batches (Err (audits.SealMissing name)) lists later files = tt
 
-module _ (now : ℕ) (w : World) (ws : statements.World) (is : w.store ≡ Some ws) (s : Opened) (before : List ℕ) (stands : statements.IsIn ws s before) (heard : Heard) (taken : Option AuditFail)
+module _ (now : ℕ) (w : World) (ws : statements.Database) (is : w.store ≡ Some ws) (s : Opened) (before : List ℕ) (stands : statements.IsIn ws s before) (heard : Heard) (taken : Option AuditFail)
     (own : s.header.id ≡ w.id) (later : Opened) (lists later_lists : Lists) (keeps : Keeps w.lists lists) (after : List ℕ) (old new : Desk) (limits : w.limits ≡ old.notary.limits)
     (r : Result ℕ AuditFail) (told : CarriesOut (intent_in ws now heard) ws.items r s later old new before after) (Reached : Type 0) (files : Files s.header.id (intent_in ws now heard) r Reached old.notary new.notary lists later_lists)
     (counted : heard.count ≡ length (filed_for w)) where
@@ -124,7 +124,7 @@ module _ (now : ℕ) (w : World) (ws : statements.World) (is : w.store ≡ Some 
         (made_by w.id intent.first (fitting (room_in w.limits w.lists) intent.batches) intent.batches was is text r result answer (subst (λ (o : Option AuditFail). IsRefusedBy o r) e told.refused) calls_world.1 made))
 
     filings_made : WhereTold old.notary.trace new.notary.trace (MakesOfNotary (notarize_calls w w.store now heard) result)
-    filings_made = subst (λ (o : Option statements.World). WhereTold old.notary.trace new.notary.trace (MakesOfNotary (notarize_calls w o now heard) result)) (sym is) (by_fault intent.fault refl)
+    filings_made = subst (λ (o : Option statements.Database). WhereTold old.notary.trace new.notary.trace (MakesOfNotary (notarize_calls w o now heard) result)) (sym is) (by_fault intent.fault refl)
 
     -- behind those of the disk
     in_order : WhereTold old.notary.trace new.notary.trace (reaching.CallsBehind (disk_calls w (notarized w w.store now heard taken) before) old.disk new.disk)

@@ -8,7 +8,7 @@ use Rattle.stmt_text.specs.declared.stmt.Stmt.TheVariants as stmts
 use Rattle.stmt_text.specs.declared.line.Line.{Line}
 use Rattle.stmt_text.specs.declared.line.Line.TheVariants as lines
 use Rattle.stmt_text.specs.Kinds.{line_kind}
-use Rattle.statement_core.specs.World as statements
+use Rattle.statement_core.specs.Database as statements
 use Rattle.statement_core.proofs.Untouched.{unchanged_same}
 use Rattle.validator.specs.Desk.{desk}
 use Rattle.validator.specs.Steps.{counted}
@@ -35,7 +35,7 @@ use Rattle.store_world.proofs.Validating.{replies_as}
 has_none : (w : World) (id : ℕ) (bytes : List ℕ) → IsIn w (no_store id) bytes → w.store ≡ None
 has_none w id bytes i = by w.store refl i.store
   where
-    by : (o : Option statements.World) → w.store ≡ o → StoreIsIn w.id o w.sessions None bytes → w.store ≡ None
+    by : (o : Option statements.Database) → w.store ≡ o → StoreIsIn w.id o w.sessions None bytes → w.store ≡ None
     by None is none = is
     by (Some ws) is none = absurd none
 
@@ -51,30 +51,24 @@ module _ (w : World) (now : ℕ) (none : w.store ≡ None) where
   on_no_tables line goes = record {
     tells = goes.tells w none_found;
     may = goes.may w now none_found;
-    step_is = goes.steps w now none_found ∙ ap (λ (o : Option statements.World). on_tables w o line now) none;
+    step_is = goes.steps w now none_found ∙ ap (λ (o : Option statements.Database). on_tables w o line now) none;
     calls = goes.calls w now none_found;
   }
 
   refuses_stmt : (stmt : Stmt) → NeedsStore (lines.Plain stmt) → Refuses w now (lines.Plain stmt)
   refuses_stmt stmts.Notarize needs = record {
     tells = (tt, tt);
-    may = subst (λ (o : Option statements.World). IfSome o (MayFile w now none_found)) (sym none) tt;
-    step_is = notarize_step w now (counted 0) None ∙ ap (λ (o : Option statements.World). notarized w o now (counted 0) None) none;
+    may = subst (λ (o : Option statements.Database). IfSome o (MayFile w now none_found)) (sym none) tt;
+    step_is = notarize_step w now (counted 0) None ∙ ap (λ (o : Option statements.Database). notarized w o now (counted 0) None) none;
     calls = notarize_none w now (counted 0) None none;
   }
   refuses_stmt stmts.Validate needs = absurd needs
   refuses_stmt (stmts.Analyse algorithm) needs = absurd needs
-  refuses_stmt (stmts.Create table columns) needs = on_no_tables (lines.Plain (stmts.Create table columns)) (goes_to_tables (lines.Plain (stmts.Create table columns)) tt)
-  refuses_stmt (stmts.Insert table row) needs = on_no_tables (lines.Plain (stmts.Insert table row)) (goes_to_tables (lines.Plain (stmts.Insert table row)) tt)
-  refuses_stmt (stmts.Update table row) needs = on_no_tables (lines.Plain (stmts.Update table row)) (goes_to_tables (lines.Plain (stmts.Update table row)) tt)
-  refuses_stmt (stmts.Delete table key) needs = on_no_tables (lines.Plain (stmts.Delete table key)) (goes_to_tables (lines.Plain (stmts.Delete table key)) tt)
-  refuses_stmt (stmts.Get table key moment) needs = on_no_tables (lines.Plain (stmts.Get table key moment)) (goes_to_tables (lines.Plain (stmts.Get table key moment)) tt)
-  refuses_stmt (stmts.Scan table filter moment) needs = on_no_tables (lines.Plain (stmts.Scan table filter moment)) (goes_to_tables (lines.Plain (stmts.Scan table filter moment)) tt)
-  refuses_stmt (stmts.History table key) needs = on_no_tables (lines.Plain (stmts.History table key)) (goes_to_tables (lines.Plain (stmts.History table key)) tt)
   refuses_stmt stmts.Begin needs = absurd needs
   refuses_stmt stmts.Commit needs = absurd needs
   refuses_stmt stmts.Abort needs = absurd needs
   refuses_stmt (stmts.Now moment) needs = absurd needs
+  refuses_stmt stmt needs = on_no_tables (lines.Plain stmt) (goes_to_tables (lines.Plain stmt) tt)
 
   refuses : (line : Line) → NeedsStore line → Refuses w now line
   refuses (lines.Plain stmt) needs = refuses_stmt stmt needs

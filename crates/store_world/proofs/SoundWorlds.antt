@@ -18,8 +18,8 @@ use Rattle.stmt_text.specs.declared.stmt.Stmt.{Stmt}
 use Rattle.stmt_text.specs.declared.stmt.Stmt.TheVariants as stmts
 use Rattle.stmt_text.specs.declared.line.Line.{Line}
 use Rattle.stmt_text.specs.declared.line.Line.TheVariants as lines
-use Rattle.statement_core.specs.World as statements
-use Rattle.session_model.specs.World as sessions
+use Rattle.statement_core.specs.Database as statements
+use Rattle.session_model.specs.Service as sessions
 use Rattle.session_model.specs.Steps as session_steps
 use Rattle.validator.specs.declared.verdict.Verdict.{Verdict}
 use Rattle.validator.specs.declared.fail.AuditFail.{AuditFail}
@@ -49,16 +49,16 @@ IsSoundAndFit w = IsSoundWorld w × HasFitHeader w
 
 module _ (w : World) (fits : HasFitHeader w) (sound : IsSoundWorld w) where
   -- of the store of a world
-  module _ (ws : statements.World) (is : w.store ≡ Some ws) where
+  module _ (ws : statements.Database) (is : w.store ≡ Some ws) where
     fit : FitsHeader ws.header × (ws.header.id ≡ w.id)
-    fit = subst (λ (o : Option statements.World). IfSome o (λ store. FitsHeader store.header × (store.header.id ≡ w.id))) is fits
+    fit = subst (λ (o : Option statements.Database). IfSome o (λ store. FitsHeader store.header × (store.header.id ≡ w.id))) is fits
 
     holds : HoldsFiled (filed_for w) w.id (Some (history ws.header ws.items))
-    holds = subst (λ (o : Option statements.World). HoldsFiled (filed_for w) w.id (history_of o)) is sound
+    holds = subst (λ (o : Option statements.Database). HoldsFiled (filed_for w) w.id (history_of o)) is sound
 
-    with_added : (new : statements.World) → Adds ws new → IsSoundAndFit (with_store w new)
-    with_added new (inl same) = subst (λ (x : statements.World). IsSoundAndFit (with_store w x)) (sym same) (holds, fit)
-    with_added new (inr added) = subst (λ (x : statements.World). IsSoundAndFit (with_store w x)) (sym added.is) (by holds, fit)
+    with_added : (new : statements.Database) → Adds ws new → IsSoundAndFit (with_store w new)
+    with_added new (inl same) = subst (λ (x : statements.Database). IsSoundAndFit (with_store w x)) (sym same) (holds, fit)
+    with_added new (inr added) = subst (λ (x : statements.Database). IsSoundAndFit (with_store w x)) (sym added.is) (by holds, fit)
       where
         by : HoldsFiled (filed_for w) w.id (Some (history ws.header ws.items)) → HoldsFiled (filed_for w) w.id (Some (history ws.header (ws.items ++ items.Txn added.txn ∷ [])))
         by (inl none) = inl none
@@ -67,11 +67,11 @@ module _ (w : World) (fits : HasFitHeader w) (sound : IsSoundWorld w) where
   of_tables : (line : Line) (now : ℕ) → IsSoundAndFit (on_tables w w.store line now).world
   of_tables line now = by w.store refl
     where
-      by : (o : Option statements.World) → w.store ≡ o → IsSoundAndFit (on_tables w o line now).world
+      by : (o : Option statements.Database) → w.store ≡ o → IsSoundAndFit (on_tables w o line now).world
       by None is = (sound, fits)
       by (Some ws) is =
-          let before : sessions.World = record { store = ws; sessions = w.sessions } in
-          with_added ws is (session_steps.step before line now).world.store (step_adds before line now)
+          let before : sessions.Service = record { store = ws; sessions = w.sessions } in
+          with_added ws is (session_steps.serve before line now).world.store (step_adds before line now)
 
   -- ---- a notarization
 
@@ -83,12 +83,12 @@ module _ (w : World) (fits : HasFitHeader w) (sound : IsSoundWorld w) where
       by (Some h) (inl none) = ap (λ (bs : List Batch). filed_fault bs h) none
       by (Some h) (inr known) = sound_not_refused (filed_for w) w.id known.0 h known.2
 
-  module _ (ws : statements.World) (is : w.store ≡ Some ws) (now : ℕ) (refusal : Option AuditFail) where
+  module _ (ws : statements.Database) (is : w.store ≡ Some ws) (now : ℕ) (refusal : Option AuditFail) where
     abbrev heard : Heard
     heard = heard_of (filed_for w) (history ws.header ws.items)
 
     abbrev t : Tail
-    t = statements.tail_of_world ws
+    t = statements.tail_of_database ws
 
     abbrev need : Option ℕ
     need = frontier_for (layout (history ws.header ws.items)) t now (length (filed_for w))
@@ -174,13 +174,13 @@ module _ (w : World) (fits : HasFitHeader w) (sound : IsSoundWorld w) where
   of_notarization : (now : ℕ) (heard : Heard) (refusal : Option AuditFail) → IfSome w.store (λ store. heard ≡ heard_of (filed_for w) (history store.header store.items)) → IsSoundAndFit (notarized w w.store now heard refusal).world
   of_notarization now heard refusal hears = by w.store refl hears
     where
-      by : (o : Option statements.World) → w.store ≡ o → IfSome o (λ store. heard ≡ heard_of (filed_for w) (history store.header store.items)) → IsSoundAndFit (notarized w o now heard refusal).world
+      by : (o : Option statements.Database) → w.store ≡ o → IfSome o (λ store. heard ≡ heard_of (filed_for w) (history store.header store.items)) → IsSoundAndFit (notarized w o now heard refusal).world
       by None is hears = (sound, fits)
       by (Some ws) is hears = subst (λ (h : Heard). IsSoundAndFit (notarized w (Some ws) now h refusal).world) (sym hears)
-          (of_fault ws is now refusal (notarize_fault (statements.tail_of_world ws) false now ws.items (heard_of (filed_for w) (history ws.header ws.items))) refl)
+          (of_fault ws is now refusal (notarize_fault (statements.tail_of_database ws) false now ws.items (heard_of (filed_for w) (history ws.header ws.items))) refl)
 
   -- what is filed was heard
-  filed_heard : (o : Option statements.World) (found : Found) (now : ℕ) → IfSome o (MayFile w now found) → IfSome o (λ store. found.heard ≡ heard_of (filed_for w) (history store.header store.items))
+  filed_heard : (o : Option statements.Database) (found : Found) (now : ℕ) → IfSome o (MayFile w now found) → IfSome o (λ store. found.heard ≡ heard_of (filed_for w) (history store.header store.items))
   filed_heard None found now may = tt
   filed_heard (Some ws) found now may = may.heard
 
@@ -223,27 +223,15 @@ module _ (w : World) (fits : HasFitHeader w) (sound : IsSoundWorld w) where
     unfolding step
     of_stmt stmts.Notarize may = let both = of_notarization now found.heard found.refusal (filed_heard w.store found now may) in (both.0, both.1, not_refused)
     of_stmt stmts.Validate may = let both = of_validation now found.verdict found.refusal in (both.0, both.1, clean_by (history_of w.store) (filed_for w) found.verdict sound may.0)
-    of_stmt (stmts.Create table columns) may = beside (of_tables (lines.Plain (stmts.Create table columns)) now)
-    of_stmt (stmts.Insert table row) may = beside (of_tables (lines.Plain (stmts.Insert table row)) now)
-    of_stmt (stmts.Update table row) may = beside (of_tables (lines.Plain (stmts.Update table row)) now)
-    of_stmt (stmts.Delete table key) may = beside (of_tables (lines.Plain (stmts.Delete table key)) now)
-    of_stmt (stmts.Get table key moment) may = beside (of_tables (lines.Plain (stmts.Get table key moment)) now)
-    of_stmt (stmts.Scan table filter moment) may = beside (of_tables (lines.Plain (stmts.Scan table filter moment)) now)
-    of_stmt (stmts.History table key) may = beside (of_tables (lines.Plain (stmts.History table key)) now)
-    of_stmt stmts.Begin may = beside (of_tables (lines.Plain stmts.Begin) now)
-    of_stmt stmts.Commit may = beside (of_tables (lines.Plain stmts.Commit) now)
-    of_stmt stmts.Abort may = beside (of_tables (lines.Plain stmts.Abort) now)
     of_stmt (stmts.Analyse algorithm) may =
         let both = of_analysis (algorithm_of algorithm) found.analysis found.body in
         (both.0, both.1, none_by (algorithm_of algorithm) (history_of w.store) (filed_for w) found.analysis sound may.0)
-    of_stmt (stmts.Now moment) may = beside (of_tables (lines.Plain (stmts.Now moment)) now)
+    of_stmt stmt may = beside (of_tables (lines.Plain stmt) now)
 
     of_line : (line : Line) → Stays line
     unfolding step
     of_line (lines.Plain stmt) may = of_stmt stmt may
-    of_line lines.Blank may = beside (of_tables lines.Blank now)
-    of_line (lines.InSession session stmt) may = beside (of_tables (lines.InSession session stmt) now)
-    of_line (lines.Drill event) may = beside (of_tables (lines.Drill event) now)
+    of_line line may = beside (of_tables line now)
 
 pub sound_worlds : SoundWorldsStaySound
 sound_worlds w line now found fits sound may = of_line w fits sound now found line may

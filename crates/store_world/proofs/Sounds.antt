@@ -18,9 +18,9 @@ use Rattle.store_engine.specs.Opened.{Opened, Stores}
 use Rattle.stmt_text.specs.declared.line.Line.{Line}
 use Rattle.statement_core.specs.declared.reply.Reply.{Reply}
 use Rattle.statement_core.specs.declared.statements.StepFail.{StepFail}
-use Rattle.statement_core.specs.World.{World, StoresEither}
-use Rattle.session_model.specs.World as sessions
-use Rattle.session_model.specs.Steps.{step}
+use Rattle.statement_core.specs.Database.{Database, StoresEither}
+use Rattle.session_model.specs.Service as sessions
+use Rattle.session_model.specs.Steps.{serve}
 use Rattle.session_model.specs.Standing.{Machine, IsIn, StepsTo}
 use Rattle.store_world.specs.Parts.{alone, StaysSound}
 use Rattle.store_world.proofs.Adding.{Adds, step_adds}
@@ -45,7 +45,7 @@ told_with None n P Q R told given f = tt
 
 module _ (kept later_kept : Machine) (s later : Opened) (line : Line) (now : ℕ) (r : Result Reply StepFail) (old new : State) (fits : FitsHeader s.header)
     (counts_now : (c : List ℕ) → turn old ≤ turn new → new.is_image c → new.was_image (turn old) c) where
-  module _ (b a : List ℕ) (image : old.is_image b) (does : StepsTo line now r kept later_kept s later old new b a) (only : Only b old) (w : sessions.World) (i : IsIn w kept s b) where
+  module _ (b a : List ℕ) (image : old.is_image b) (does : StepsTo line now r kept later_kept s later old new b a) (only : Only b old) (w : sessions.Service) (i : IsIn w kept s b) where
     fits_own : FitsHeader w.store.header
     fits_own = subst FitsHeader i.store.header fits
 
@@ -53,14 +53,14 @@ module _ (kept later_kept : Machine) (s later : Opened) (line : Line) (now : ℕ
     stores_own = subst (λ (h : Header). Stores h w.store.items b) i.store.header i.store.open_on.stores
 
     module _ (batches : List Batch) (id n : ℕ) (was : IsNotarized batches id n (history w.store.header w.store.items)) (c : List ℕ) where
-      in_new : (x : World) → Adds w.store x → Stores x.header x.items c → HoldsNotarized batches id n (history_in (stored c))
-      in_new x (inl is) stores = to_bytes batches id n w.store.header w.store.items c (subst (λ (y : World). Stores y.header y.items c) is stores) was
-      in_new x (inr added) stores = to_bytes batches id n w.store.header (w.store.items ++ items.Txn added.txn ∷ []) c (subst (λ (y : World). Stores y.header y.items c) added.is stores)
+      in_new : (x : Database) → Adds w.store x → Stores x.header x.items c → HoldsNotarized batches id n (history_in (stored c))
+      in_new x (inl is) stores = to_bytes batches id n w.store.header w.store.items c (subst (λ (y : Database). Stores y.header y.items c) is stores) was
+      in_new x (inr added) stores = to_bytes batches id n w.store.header (w.store.items ++ items.Txn added.txn ∷ []) c (subst (λ (y : Database). Stores y.header y.items c) added.is stores)
           (added_stays batches id n w.store.header w.store.items (items.Txn added.txn) fits_own was added.later)
 
-      in_either : StoresEither w.store (step w line now).world.store c → HoldsNotarized batches id n (history_in (stored c))
+      in_either : StoresEither w.store (serve w line now).world.store c → HoldsNotarized batches id n (history_in (stored c))
       in_either (inl stores) = to_bytes batches id n w.store.header w.store.items c stores was
-      in_either (inr stores) = in_new (step w line now).world.store (step_adds w line now) stores
+      in_either (inr stores) = in_new (serve w line now).world.store (step_adds w line now) stores
 
     stays : (batches : List Batch) (id : ℕ) → IsSound old.is_image batches id → IsSound new.is_image batches id
     stays batches id (inl none) = inl none
@@ -70,7 +70,7 @@ module _ (kept later_kept : Machine) (s later : Opened) (line : Line) (now : ℕ
         inr (n, counted, λ c now_image. in_either batches id n was c (every.each c (counts_now c every.later now_image)))
 
   abbrev Stands : List ℕ → Type 0
-  Stands bytes = (w : sessions.World) × IsIn w kept s bytes
+  Stands bytes = (w : sessions.Service) × IsIn w kept s bytes
 
   pub stays_sound : IfSome old.reads old.is_image → WhereTold old.reads new.reads (StepsTo line now r kept later_kept s later old new) → StaysSound (alone kept s) old new
   stays_sound reads told filed = told_with old.reads new.reads (StepsTo line now r kept later_kept s later old new)

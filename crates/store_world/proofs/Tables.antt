@@ -13,12 +13,12 @@ use Rattle.statement_core.specs.declared.reply.Reply.{Reply}
 use Rattle.statement_core.specs.declared.statements.StepFail.{StepFail}
 use Rattle.statement_core.specs.declared.statements.StepFail.TheVariants as steps_as
 use Rattle.statement_core.specs.Replies.{reply_text, is_refusal}
-use Rattle.statement_core.specs.World as statements
+use Rattle.statement_core.specs.Database as statements
 use Rattle.statement_core.specs.Steps as statement_steps
 use Rattle.statement_core.specs.Stepping.{MakesFor}
 use Rattle.statement_core.specs.Promises as statement_promises
 use Rattle.txn_journal.specs.Held as journals
-use Rattle.session_model.specs.World as sessions
+use Rattle.session_model.specs.Service as sessions
 use Rattle.session_model.specs.Steps as session_steps
 use Rattle.session_model.specs.Steps.{Answer, Replied, Stopped, reply_of}
 use Rattle.session_model.specs.Promises as promises
@@ -49,7 +49,7 @@ use Rattle.store_world.proofs.LineKinds.{none_found, goes_to_tables}
 
 -- the world of an open store, with its sessions
 pub record HasStore (w : World) (kept : Machine) (s : Opened) (bytes : List ℕ) : Type 0 where
-  pub world : statements.World
+  pub world : statements.Database
   pub is : w.store ≡ Some world
   pub with_sessions : standing.IsIn (record { store = world; sessions = w.sessions }) kept s bytes
   pub stands : statements.IsIn world s bytes
@@ -58,7 +58,7 @@ pub record HasStore (w : World) (kept : Machine) (s : Opened) (bytes : List ℕ)
 pub has_store : (w : World) (kept : Machine) (s : Opened) (bytes : List ℕ) → IsIn w (alone kept s) bytes → HasStore w kept s bytes
 has_store w kept s bytes i = by w.store refl i.store
   where
-    by : (o : Option statements.World) → w.store ≡ o → StoreIsIn w.id o w.sessions (Some (record { store = s; sessions = kept })) bytes → HasStore w kept s bytes
+    by : (o : Option statements.Database) → w.store ≡ o → StoreIsIn w.id o w.sessions (Some (record { store = s; sessions = kept })) bytes → HasStore w kept s bytes
     by (Some world) is stands = record { world = world; is = is; with_sessions = stands.0; stands = stands.0.store; own = stands.1 }
     by None is stands = absurd stands
 
@@ -74,39 +74,34 @@ not_notary steps_as.NoMemory is = absurd cc
 pub never_longer : (l : List Item) (x : Item) → l ++ x ∷ [] ≡ l → ⊥
 never_longer l x same = let e : length (l ++ x ∷ []) ≡ length l = ap length same in let more = length-append l (x ∷ []) in omega (arith, e, more)
 
-abbrev items_in : Option statements.World → List Item
+abbrev items_in : Option statements.Database → List Item
 items_in None = []
 items_in (Some w) = w.items
 
-pub items_stay : (x w : statements.World) → Some x ≡ Some w → x.items ≡ w.items
+pub items_stay : (x w : statements.Database) → Some x ≡ Some w → x.items ≡ w.items
 items_stay x w same = ap items_in same
 
 -- a reply without a transaction more has made no call
-unmoved : (w : statements.World) (next : statement_steps.Step) (reply : Reply) (s : Opened) (old new : disks.State) → MakesFor w next (Ok reply) s old new → Some next.world ≡ Some w → new.trace ≡ old.trace
+unmoved : (w : statements.Database) (next : statement_steps.Performed) (reply : Reply) (s : Opened) (old new : disks.State) → MakesFor w next (Ok reply) s old new → Some next.world ≡ Some w → new.trace ≡ old.trace
 unmoved w next (replies.Committed number) s old new makes stays =
-    absurd (never_longer w.items (items.Txn makes.txn) (sym (ap (λ (x : statement_steps.Step). x.world.items) makes.stores) ∙ items_stay next.world w stays))
-unmoved w next replies.Done s old new makes stays = makes
-unmoved w next (replies.Found row) s old new makes stays = makes
-unmoved w next replies.Missing s old new makes stays = makes
-unmoved w next (replies.Scanned rows) s old new makes stays = makes
-unmoved w next (replies.Told versions) s old new makes stays = makes
-unmoved w next (replies.Refused refusal) s old new makes stays = makes
+    absurd (never_longer w.items (items.Txn makes.txn) (sym (ap (λ (x : statement_steps.Performed). x.world.items) makes.stores) ∙ items_stay next.world w stays))
+unmoved w next reply s old new makes stays = makes
 
 -- what an answer promises is what its reply promises
-of_answer : (w new : statements.World) (answer : Answer) → promises.IsPromised w answer new → statement_promises.IsPromised w (reply_of answer) new
+of_answer : (w new : statements.Database) (answer : Answer) → promises.IsPromised w answer new → statement_promises.IsPromised w (reply_of answer) new
 of_answer w new (Replied reply) is = is
 of_answer w new (Stopped refusal) is = is
 
 module _ (kept later_kept : Machine) (s later : Opened) (header : later.header ≡ s.header) (old new : disks.State) where
   module _ (w : World) (b a : List ℕ) (i : IsIn w (alone kept s) b) (has : HasStore w kept s b) where
-    abbrev own : sessions.World
+    abbrev own : sessions.Service
     own = record { store = has.world; sessions = w.sessions }
 
-    either : (next : session_steps.Step) (c : List ℕ) → statements.StoresEither has.world next.world.store c → StoresEither w (after_statement w next).world c
-    either next c (inl stores) = inl (subst (λ (o : Option statements.World). StoresOf w.id o c) (sym has.is) stores)
+    either : (next : session_steps.Served) (c : List ℕ) → statements.StoresEither has.world next.world.store c → StoresEither w (after_statement w next).world c
+    either next c (inl stores) = inl (subst (λ (o : Option statements.Database). StoresOf w.id o c) (sym has.is) stores)
     either next c (inr stores) = inr stores
 
-    goes : (next : session_steps.Step) (r : Result Reply StepFail) (result : Result Answered LineFail) → StepsIn own next r kept later_kept s later old new b a → IsReplied r result
+    goes : (next : session_steps.Served) (r : Result Reply StepFail) (result : Result Answered LineFail) → StepsIn own next r kept later_kept s later old new b a → IsReplied r result
         → Goes w (after_statement w next) result (alone later_kept later) old new b a
     goes next (Ok reply) (Ok answered) steps is = record {
       reply = record { text = ap (λ (x : Answered). x.text) is ∙ ap (λ (x : Reply). (replied x).text) steps.reply; refused = ap (λ (x : Answered). x.refused) is ∙ ap (λ (x : Reply). (replied x).refused) steps.reply };
@@ -130,20 +125,20 @@ module _ (kept later_kept : Machine) (s later : Opened) (header : later.header �
     goes next (Err fail) (Ok answered) steps is = absurd cc
 
     -- in a fault of the disk, only where it stores
-    only : (next : session_steps.Step) (r : Result Reply StepFail) (result : Result Answered LineFail) → StepsIn own next r kept later_kept s later old new b a → IsReplied r result → IfErr result (IsOfStoring (Some next.world.store ≢ w.store))
+    only : (next : session_steps.Served) (r : Result Reply StepFail) (result : Result Answered LineFail) → StepsIn own next r kept later_kept s later old new b a → IsReplied r result → IfErr result (IsOfStoring (Some next.world.store ≢ w.store))
     only next r (Ok answered) steps is = tt
     only next (Ok reply) (Err fails.NoMemory) steps is = tt
     only next (Ok reply) (Err fails.DiskFault) steps is = absurd is
     only next (Ok reply) (Err fails.NotaryFault) steps is = absurd is
     only next (Err steps_as.NoMemory) (Err fail) steps is = subst (λ (x : Result Answered LineFail). IfErr x (IsOfStoring (Some next.world.store ≢ w.store))) (sym is) tt
     only next (Err steps_as.DiskFault) (Err fail) steps is = subst (λ (x : Result Answered LineFail). IfErr x (IsOfStoring (Some next.world.store ≢ w.store))) (sym is)
-        (λ stays. never_longer has.world.items (items.Txn steps.trace.txn) (sym (ap (λ (x : statement_steps.Step). x.world.items) steps.trace.stores) ∙ items_stay next.world.store has.world (stays ∙ has.is)))
+        (λ stays. never_longer has.world.items (items.Txn steps.trace.txn) (sym (ap (λ (x : statement_steps.Performed). x.world.items) steps.trace.stores) ∙ items_stay next.world.store has.world (stays ∙ has.is)))
 
     -- the calls that store what it stores, and none of the notary
-    makes : (line : Line) (now : ℕ) (found : Found) (next : session_steps.Step) (r : Result Reply StepFail) (result : Result Answered LineFail) (filed : notaries.State) → notary_calls w line now found ≡ [] → statement_promises.KeepsPromise has.world (of_store next)
+    makes : (line : Line) (now : ℕ) (found : Found) (next : session_steps.Served) (r : Result Reply StepFail) (result : Result Answered LineFail) (filed : notaries.State) → notary_calls w line now found ≡ [] → statement_promises.KeepsPromise has.world (of_store next)
         → StepsIn own next r kept later_kept s later old new b a → IsReplied r result → MakesLineCalls w line now found (after_statement w next) result (desk old filed) (desk new filed) b
     makes line now found next r result filed none promised steps is = record {
-      disk = subst (λ (o : Option statements.World). MakesOfDisk (appends (journals.standing (end_of_store o) b) (items_added o (Some next.world.store))) result old new) (sym has.is)
+      disk = subst (λ (o : Option statements.Database). MakesOfDisk (appends (journals.standing (end_of_store o) b) (items_added o (Some next.world.store))) result old new) (sym has.is)
           (statement_calls has.world s b has.stands w.sessions next kept later_kept later old new a r result is promised steps);
       notary = subst (λ (cs : List notaries.Call). WhereTold filed.trace filed.trace (MakesOfNotary cs result)) (sym none) (told_same filed.trace filed.trace _ refl (λ was. none_made result was was refl));
       order = told_same filed.trace filed.trace _ refl (λ was. inl refl);
@@ -154,9 +149,9 @@ module _ (kept later_kept : Machine) (s later : Opened) (header : later.header �
     steps filed w b a i does =
         let has = has_store w kept s b i in
         let goes_on = goes_to_tables line on in
-        let before : sessions.World = record { store = has.world; sessions = w.sessions } in
-        let next = session_steps.step before line now in
-        let is = goes_on.steps w now none_found ∙ ap (λ (o : Option statements.World). on_tables w o line now) has.is in
+        let before : sessions.Service = record { store = has.world; sessions = w.sessions } in
+        let next = session_steps.serve before line now in
+        let is = goes_on.steps w now none_found ∙ ap (λ (o : Option statements.Database). on_tables w o line now) has.is in
         let done = does before has.with_sessions in
         record {
           found = none_found;

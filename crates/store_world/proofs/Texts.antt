@@ -6,7 +6,7 @@ use Rattle.stmt_text.specs.Printing.{row_text}
 use Rattle.statement_core.specs.declared.reply.Reply.{Reply}
 use Rattle.statement_core.specs.declared.reply.Reply.TheVariants as replies
 use Rattle.statement_core.specs.Replies.{reply_text}
-use Rattle.statement_core.specs.World as statements
+use Rattle.statement_core.specs.Database as statements
 use Rattle.validator.specs.declared.verdict.Verdict.{Verdict}
 use Rattle.validator.specs.declared.verdict.Verdict.TheVariants as verdicts
 use Rattle.validator.specs.declared.fail.AuditFail.{AuditFail}
@@ -41,6 +41,8 @@ reply_ok (replies.Scanned []) ok = absurd (let first = ok.first in omega (arith,
 reply_ok (replies.Scanned (row ∷ rows)) ok = absurd (let first = ok.first in omega (arith, first))
 reply_ok (replies.Told []) ok = absurd (let first = ok.first in omega (arith, first))
 reply_ok (replies.Told (version ∷ versions)) ok = absurd (let first = ok.first in omega (arith, first))
+reply_ok (replies.Over []) ok = absurd (let first = ok.first in omega (arith, first))
+reply_ok (replies.Over (piece ∷ pieces)) ok = absurd (let first = ok.first in omega (arith, first))
 reply_ok (replies.Refused refusal) ok = absurd (let first = ok.first in omega (arith, first))
 
 -- ---- audits say something else
@@ -52,7 +54,7 @@ unless_no : (fault : Option AuditFail) (w : World) (s : Step) → (SaysOk s.text
 unless_no (Some fail) w s never ok = (let first = ok.first in omega (arith, first))
 unless_no None w s never ok = never ok
 
-pub notarized_no : (w : World) (o : Option statements.World) (now : ℕ) (heard : Heard) (refusal : Option AuditFail) → SaysOk (notarized w o now heard refusal).text → ⊥
+pub notarized_no : (w : World) (o : Option statements.Database) (now : ℕ) (heard : Heard) (refusal : Option AuditFail) → SaysOk (notarized w o now heard refusal).text → ⊥
 notarized_no w None now heard refusal ok = (let first = ok.first in omega (arith, first))
 notarized_no w (Some store) now heard refusal ok =
     let i = intent_in store now heard in

@@ -17,13 +17,13 @@ use Rattle.notary_link.specs.Batches.{Batch}
 use Rattle.notary_link.specs.Notary as notaries
 use Rattle.notary_link.specs.Notary.{Call, Lists, Keeps, Notes, HasRoom, note, marks_in_all}
 use Rattle.notary_link.proofs.InAll.{kept_marks}
-use Rattle.session_model.specs.World.{Session}
+use Rattle.session_model.specs.Service.{Session}
 use Rattle.store_world.specs.declared.open_store.OpenStore.{OpenStore}
 use Rattle.store_engine.specs.Refusals.{IsOfAnother}
 use Rattle.stmt_text.specs.declared.stmt.Stmt.TheVariants as stmts
 use Rattle.stmt_text.specs.declared.line.Line.{Line}
 use Rattle.stmt_text.specs.declared.line.Line.TheVariants as lines
-use Rattle.statement_core.specs.World as statements
+use Rattle.statement_core.specs.Database as statements
 use Rattle.validator.specs.Desk.{desk}
 use Rattle.validator.specs.declared.verdict.Verdict.TheVariants as verdicts
 use Rattle.validator.specs.declared.verdict.Verdict.{Verdict}
@@ -92,7 +92,7 @@ module _ (id : ℕ) where
   none_of None s other = refl
   none_of (Some header) s other = ap (λ (b : Bool). if b then Some (history header s.items) else None) (ne_eqb header.id id other)
 
-  pub history_is : (o : Option statements.World) (begun : ℕ → Option Session) (s : Option OpenStore) (bytes : List ℕ) → StoreIsIn id o begun s bytes → history_with id (stored bytes) ≡ history_of o
+  pub history_is : (o : Option statements.Database) (begun : ℕ → Option Session) (s : Option OpenStore) (bytes : List ℕ) → StoreIsIn id o begun s bytes → history_with id (stored bytes) ≡ history_of o
   history_is (Some ws) begun (Some o) bytes i =
       let s = i.0.store in
       of_header o.store.header ws.items bytes s.open_on.stores.header_is s.open_on.stores.items_are (ap (λ (h : Header). h.id) s.header ∙ i.1)

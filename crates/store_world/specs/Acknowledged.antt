@@ -6,7 +6,7 @@ use Rattle.tuple_bytes.specs.declared.item.Txn.{Txn}
 use Rattle.history_model.specs.History.{txns}
 use Rattle.history_model.specs.Stored.{stored}
 use Rattle.stmt_text.specs.declared.line.Line.{Line}
-use Rattle.statement_core.specs.World as statements
+use Rattle.statement_core.specs.Database as statements
 use Rattle.store_world.specs.World.{World}
 use Rattle.store_world.specs.Found.{Found}
 use Rattle.store_world.specs.Steps.{step}
@@ -25,7 +25,7 @@ pub record HasTxn (digits : List ℕ) (items : List Item) : Type 0 where
   pub place : txn.number ≡ length before + 1
 
 -- it is in this store
-abbrev pub IsStored : List ℕ → Option statements.World → Type 0
+abbrev pub IsStored : List ℕ → Option statements.Database → Type 0
 IsStored digits None = ⊥
 IsStored digits (Some store) = HasTxn digits store.items
 
@@ -35,13 +35,13 @@ pub record StoresMore (items : List Item) (bytes : List ℕ) : Type 0 where
   pub all : (stored bytes).items ≡ items ++ more
 
 -- the same header, and perhaps items more behind all others
-pub record Extends (old new : statements.World) : Type 0 where
+pub record Extends (old new : statements.Database) : Type 0 where
   pub header : new.header ≡ old.header
   pub more : List Item
   pub items : new.items ≡ old.items ++ more
 
 -- there is a store as before, and only items more are stored
-abbrev pub OnlyAppends : Option statements.World → Option statements.World → Type 0
+abbrev pub OnlyAppends : Option statements.Database → Option statements.Database → Type 0
 OnlyAppends None None = Unit {0}
 OnlyAppends None (Some new) = ⊥
 OnlyAppends (Some old) None = ⊥

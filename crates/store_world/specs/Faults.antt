@@ -1,5 +1,7 @@
 -- In which faults a line may end.
-use Rattle.std.specs.Prelude.{◌≡◌, ℕ, false, Option, Some, None}
+use Rattle.std.specs.Prelude.{◌≡◌, ℕ, true, false, Option, Some, None, Result}
+use Rattle.outside_words.specs.Faults.{HidesNoFault}
+use Rattle.notary_link.specs.Notary as notaries
 use Rattle.stmt_text.specs.declared.stmt.Stmt.TheVariants as stmts
 use Rattle.stmt_text.specs.declared.line.Line.{Line}
 use Rattle.stmt_text.specs.declared.line.Line.TheVariants as lines
@@ -8,7 +10,7 @@ use Rattle.stmt_text.specs.declared.kind.LineKind.TheVariants as kinds
 use Rattle.stmt_text.specs.declared.kind.WorldPart.TheVariants as parts
 use Rattle.store_world.specs.declared.fail.LineFail.{LineFail}
 use Rattle.store_world.specs.declared.fail.LineFail.TheVariants as fails
-use Rattle.statement_core.specs.World as statements
+use Rattle.statement_core.specs.Database as statements
 use Rattle.validator.specs.declared.fail.AuditFail.{AuditFail}
 use Rattle.validator.specs.Notarizing.{early_fault}
 use Rattle.store_world.specs.World.{World}
@@ -25,12 +27,16 @@ abbrev pub MayEndIn : LineKind → Type 0 → LineFail → Type 0
 MayEndIn (kinds.InWorld (parts.Notary asks)) stores fail = Unit {0}
 MayEndIn kind stores fail = IsOfStoring stores fail
 
+-- behind a reply, a notary that shows its faults counted none
+abbrev pub HidesNone : {T E : Type 0} → notaries.State → notaries.State → Result T E → Type 0
+HidesNone old new result = old.shows ≡ true → HidesNoFault old.faults new.faults result
+
 -- ---- before anything is asked
 
 -- what speaks early against a notarization of an open store at these clock seconds
-abbrev pub early_over : Option statements.World → ℕ → Option AuditFail
+abbrev pub early_over : Option statements.Database → ℕ → Option AuditFail
 early_over None now = None
-early_over (Some store) now = early_fault (statements.tail_of_world store) false now
+early_over (Some store) now = early_fault (statements.tail_of_database store) false now
 
 -- and against a line
 abbrev pub early_of : World → Line → ℕ → Option AuditFail

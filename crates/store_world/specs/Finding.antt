@@ -8,7 +8,7 @@ use Rattle.notary_link.specs.Notary.{marks_in_all}
 use Rattle.stmt_text.specs.declared.stmt.Stmt.TheVariants as stmts
 use Rattle.stmt_text.specs.declared.line.Line.{Line}
 use Rattle.stmt_text.specs.declared.line.Line.TheVariants as lines
-use Rattle.statement_core.specs.World as statements
+use Rattle.statement_core.specs.Database as statements
 use Rattle.validator.specs.declared.verdict.Verdict.{Verdict}
 use Rattle.validator.specs.declared.fail.AuditFail.{AuditFail}
 use Rattle.validator.specs.declared.fail.AuditFail.TheVariants as fails
@@ -77,7 +77,7 @@ abbrev pub have_room : World → List Batch → Bool
 have_room w batches = fitting (room_in w.limits w.lists) batches == length batches
 
 -- it says what it holds; and where nothing speaks against the store it takes what there is room for
-pub record MayFile (w : World) (now : ℕ) (found : Found) (store : statements.World) : Type 0 where
+pub record MayFile (w : World) (now : ℕ) (found : Found) (store : statements.Database) : Type 0 where
   pub heard : found.heard ≡ heard_of (filed_for w) (history store.header store.items)
   pub refusal : (intent_in store now found.heard).fault ≡ None → found.refusal ≡ full_unless (have_room w (intent_in store now found.heard).batches)
 

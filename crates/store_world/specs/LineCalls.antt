@@ -14,7 +14,7 @@ use Rattle.stmt_text.specs.declared.stmt.Stmt.TheVariants as stmts
 use Rattle.stmt_text.specs.declared.line.Line.{Line}
 use Rattle.stmt_text.specs.declared.line.Line.TheVariants as lines
 use Rattle.store_engine.specs.Record.{with_record}
-use Rattle.statement_core.specs.World as statements
+use Rattle.statement_core.specs.Database as statements
 use Rattle.validator.specs.declared.verdict.Verdict.{Verdict}
 use Rattle.validator.specs.declared.fail.AuditFail.{AuditFail}
 use Rattle.validator.specs.Notarizing.{Heard}
@@ -26,7 +26,7 @@ use Rattle.store_world.specs.Steps.{Step, filed_for, intent_in}
 -- ---- items more
 
 -- the items that stand behind those of before
-abbrev pub items_added : Option statements.World → Option statements.World → List Item
+abbrev pub items_added : Option statements.Database → Option statements.Database → List Item
 items_added (Some old) (Some new) = drop (length old.items) new.items
 items_added old new = []
 
@@ -41,7 +41,7 @@ appends at [] = []
 appends at (item ∷ items) = append_calls at (spell_item item) ++ appends (behind at (spell_item item)) items
 
 -- where the gate behind all items stands
-abbrev pub end_of_store : Option statements.World → ℕ
+abbrev pub end_of_store : Option statements.Database → ℕ
 end_of_store None = 0
 end_of_store (Some w) = w.end
 
@@ -61,7 +61,7 @@ unless (Some fail) calls = []
 unless None calls = calls
 
 -- those of a notarization, where this is heard
-abbrev pub notarize_calls : World → Option statements.World → ℕ → Heard → List Call
+abbrev pub notarize_calls : World → Option statements.Database → ℕ → Heard → List Call
 notarize_calls w None now heard = []
 notarize_calls w (Some store) now heard = unless (intent_in store now heard).fault (filing_calls w (intent_in store now heard).batches)
 

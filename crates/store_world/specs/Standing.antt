@@ -4,9 +4,9 @@ use Rattle.history_model.specs.Stored.{stored}
 use Rattle.store_engine.specs.declared.fail.StoreFail.{StoreFail}
 use Rattle.store_engine.specs.Opened.{IsOpenOn}
 use Rattle.store_engine.specs.Refusals.{IsOfAnother, IsNoStore}
-use Rattle.statement_core.specs.World as statements
-use Rattle.session_model.specs.World as session_worlds
-use Rattle.session_model.specs.World.{Session}
+use Rattle.statement_core.specs.Database as statements
+use Rattle.session_model.specs.Service as session_worlds
+use Rattle.session_model.specs.Service.{Session}
 use Rattle.session_model.specs.Standing as sessions
 use Rattle.store_world.specs.declared.open_store.OpenStore.{OpenStore}
 use Rattle.store_world.specs.World.{World}
@@ -18,7 +18,7 @@ pub record OpenWorld : Type 0 where
 
 -- An open store of this id and its sessions stand for what is stored and for the sessions over it. Or there is no store and no
 -- session, and the bytes have no header with the id.
-abbrev pub StoreIsIn : ℕ → Option statements.World → (ℕ → Option Session) → Option OpenStore → List ℕ → Type 0
+abbrev pub StoreIsIn : ℕ → Option statements.Database → (ℕ → Option Session) → Option OpenStore → List ℕ → Type 0
 StoreIsIn id (Some w) begun (Some o) bytes = sessions.IsIn (record { store = w; sessions = begun }) o.sessions o.store bytes × (w.header.id ≡ id)
 StoreIsIn id None begun None bytes = IsOfAnother id (stored bytes).header × ((n : ℕ) → begun n ≡ None)
 StoreIsIn id (Some w) begun None bytes = ⊥
@@ -31,7 +31,7 @@ pub record IsIn (w : World) (held : OpenWorld) (bytes : List ℕ) : Type 0 where
 
 -- there is no store, or it stands over these bytes with its sessions, for whatever world
 abbrev pub StandsOver : OpenWorld → List ℕ → Type 0
-StandsOver held bytes = IfSome held.opened (λ o. (w : session_worlds.World) × sessions.IsIn w o.sessions o.store bytes)
+StandsOver held bytes = IfSome held.opened (λ o. (w : session_worlds.Service) × sessions.IsIn w o.sessions o.store bytes)
 
 -- the store of an id was opened over these bytes, or refused
 abbrev pub IsEntered : ℕ → List ℕ → Result (Unit {0}) StoreFail → Option OpenStore → Type 0

@@ -13,7 +13,7 @@ use Rattle.stmt_text.specs.declared.line.Line.TheVariants as lines
 use Rattle.stmt_text.specs.declared.kind.LineKind.{LineKind}
 use Rattle.stmt_text.specs.declared.kind.LineKind.TheVariants as kinds
 use Rattle.stmt_text.specs.Kinds.{stmt_kind, line_kind}
-use Rattle.statement_core.specs.World as statements
+use Rattle.statement_core.specs.Database as statements
 use Rattle.session_model.specs.Steps.{reply_of}
 use Rattle.session_model.specs.Steps as session_steps
 use Rattle.statement_core.specs.Replies as replies
@@ -21,7 +21,7 @@ use Rattle.validator.specs.declared.verdict.Verdict.{Verdict}
 use Rattle.validator.specs.declared.fail.AuditFail.{AuditFail}
 use Rattle.validator.specs.Notarizing.{Heard, Intent, intent_of}
 use Rattle.validator.specs.Verdicts.{mark_of}
-use Rattle.number_text.specs.Numbered.{numbered}
+use Rattle.byte_grammar.specs.Numbered.{numbered}
 use Rattle.validator.specs.Texts.{verdict_text, refusal_text}
 use Rattle.forensic_report.specs.declared.algorithm.Algorithm.{Algorithm}
 use Rattle.forensic_report.specs.declared.algorithm.Algorithm.TheVariants as algorithms
@@ -52,21 +52,21 @@ has_no_store w = refuses w (codes "NotAStore")
 
 -- ---- a statement on tables, or a line of a session
 
-abbrev pub after_statement : World → session_steps.Step → Step
+abbrev pub after_statement : World → session_steps.Served → Step
 after_statement w s = record {
   world = with_sessions (with_store w s.world.store) s.world.sessions;
   text = replies.reply_text (reply_of s.answer);
   is_refused = replies.is_refusal (reply_of s.answer);
 }
 
-abbrev pub on_tables : World → Option statements.World → Line → ℕ → Step
+abbrev pub on_tables : World → Option statements.Database → Line → ℕ → Step
 on_tables w None line now = has_no_store w
-on_tables w (Some store) line now = after_statement w (session_steps.step (record { store = store; sessions = w.sessions }) line now)
+on_tables w (Some store) line now = after_statement w (session_steps.serve (record { store = store; sessions = w.sessions }) line now)
 
 -- ---- a notarization
 
 -- with a Frontier more, where one is stored
-abbrev pub reached : Option ℕ → statements.World → statements.World
+abbrev pub reached : Option ℕ → statements.Database → statements.Database
 reached None w = w
 reached (Some moment) w = statements.with_frontier w moment
 
@@ -88,19 +88,19 @@ unless (Some fail) w s = refuses w (refusal_text fail)
 unless None w s = s
 
 -- what a notarization is to do, where this is heard
-abbrev pub intent_in : statements.World → ℕ → Heard → Intent
-intent_in store now heard = intent_of (statements.tail_of_world store) false now store.items heard
+abbrev pub intent_in : statements.Database → ℕ → Heard → Intent
+intent_in store now heard = intent_of (statements.tail_of_database store) false now store.items heard
 
 -- its Frontier is stored, and of its batches as many are filed as there is room for
-abbrev pub with_seals : World → statements.World → Intent → World
+abbrev pub with_seals : World → statements.Database → Intent → World
 with_seals w store i = filed (with_store w (reached i.frontier store)) i.batches
 
 -- that is done, whether all batches are taken or not
-abbrev pub carried_out : World → statements.World → Intent → Option AuditFail → Step
+abbrev pub carried_out : World → statements.Database → Intent → Option AuditFail → Step
 carried_out w store i refusal = unless refusal (with_seals w store i) (says (with_seals w store i) (sealed_text i.sealed))
 
 -- nothing is done where there is no store, or something speaks against it
-abbrev pub notarized : World → Option statements.World → ℕ → Heard → Option AuditFail → Step
+abbrev pub notarized : World → Option statements.Database → ℕ → Heard → Option AuditFail → Step
 notarized w None now heard refusal = has_no_store w
 notarized w (Some store) now heard refusal = unless (intent_in store now heard).fault w (carried_out w store (intent_in store now heard) refusal)
 
@@ -117,7 +117,7 @@ validated w now (Ok verdict) refusal = marked w (mark_of verdict now) refusal (v
 validated w now (Err fail) refusal = refuses w (refusal_text fail)
 
 -- the history of a world
-abbrev pub history_of : Option statements.World → Option History
+abbrev pub history_of : Option statements.Database → Option History
 history_of None = None
 history_of (Some store) = Some (history store.header store.items)
 

@@ -7,14 +7,14 @@ use Rattle.notary_link.specs.Batches.{Batch}
 use Rattle.notary_link.specs.Notary.{Lists}
 use Rattle.store_engine.specs.Opened.{Stores}
 use Rattle.store_engine.specs.Refusals.{IsOfAnother}
-use Rattle.statement_core.specs.World as statements
-use Rattle.session_model.specs.World.{Session}
+use Rattle.statement_core.specs.Database as statements
+use Rattle.session_model.specs.Service.{Session}
 
 pub record World : Type 0 where
   -- of the store, and of what is filed for it
   pub id : ℕ
   -- what is stored, where the file has a header with this id
-  pub store : Option statements.World
+  pub store : Option statements.Database
   -- those that are begun, by their numbers; without a store there are none
   pub sessions : ℕ → Option Session
   -- what the notary holds under each id; no step goes by it
@@ -26,7 +26,7 @@ abbrev pub no_sessions : ℕ → Option Session
 no_sessions n = None
 
 -- with another history
-abbrev pub with_store : World → statements.World → World
+abbrev pub with_store : World → statements.Database → World
 with_store w store = record w { store = Some store }
 
 -- with other sessions
@@ -52,7 +52,7 @@ with_mark id mark lists = record lists {
 -- ---- in bytes
 
 -- the bytes store this history, or have no header with the id
-abbrev pub StoresOf : ℕ → Option statements.World → List ℕ → Type 0
+abbrev pub StoresOf : ℕ → Option statements.Database → List ℕ → Type 0
 StoresOf id (Some w) bytes = Stores w.header w.items bytes
 StoresOf id None bytes = IsOfAnother id (stored bytes).header
 

@@ -10,6 +10,7 @@ ghost use Rattle.validator.specs.Desk.{KeepsSound, desk};
 ghost use Rattle.forensic_report.specs.declared.fail.AnalyseFail.TheVariants as analyses;
 ghost use Rattle.forensic_report.specs.Fails.{disk_in_doubt, notary_in_doubt};
 ghost use Rattle.store_world.specs.declared.fail.LineFail.TheVariants.{DiskFault, NotaryFault};
+ghost use Rattle.store_world.specs.Faults.{HidesNone};
 ghost use Rattle.store_world.specs.Answers.{IsReported};
 ghost use Rattle.store_world.specs.Parts.{StepsWithout};
 ghost use Rattle.store_world.specs.Standing.{OpenWorld};
@@ -73,7 +74,7 @@ pub(crate) fn answer_analysis<D: Disk, N: Notary>(
     ensures disk_cause { HasCause DiskFault (D.state disk.old).faults (D.state disk.new).faults result }
     ensures disk_counted { HidesNoFault (D.state disk.old).faults (D.state disk.new).faults result }
     ensures notary_cause { HasCause NotaryFault (N.state notary.old).faults (N.state notary.new).faults result }
-    ensures notary_counted { HidesNoFault (N.state notary.old).faults (N.state notary.new).faults result }
+    ensures notary_counted { HidesNone (N.state notary.old) (N.state notary.new) result }
 {
     reports_show();
     let answer = analyse(alloc, disk, notary, id, algorithm_of(algorithm), now);

@@ -1,7 +1,7 @@
 //! What a line is answered.
 
 ghost use Rattle.std.specs.Prelude.{◌≡◌, ◌++◌, ◌∷◌, [], codes, IfOk};
-ghost use Rattle.number_text.specs.Numbered.{numbered};
+ghost use Rattle.byte_grammar.specs.Numbered.{numbered};
 ghost use Rattle.validator.specs.Texts.{verdict_text, refusal_text};
 ghost use Rattle.forensic_report.specs.Fails as reports;
 ghost use Rattle.store_world.specs.Answers.{said, refusal, reported};

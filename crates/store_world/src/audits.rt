@@ -13,6 +13,7 @@ ghost use Rattle.validator.specs.declared.fail.AuditFail.TheVariants as audits;
 ghost use Rattle.validator.specs.Desk.{KeepsSound, desk};
 ghost use Rattle.validator.specs.Fails.{disk_in_doubt, notary_in_doubt};
 ghost use Rattle.store_world.specs.declared.fail.LineFail.TheVariants.{DiskFault, NotaryFault};
+ghost use Rattle.store_world.specs.Faults.{HidesNone};
 ghost use Rattle.store_world.specs.Answers.{IsAnswerTo};
 ghost use Rattle.store_world.specs.Stepping.{StepsFor};
 ghost use Rattle.store_world.specs.Parts.{alone, StepsWithout};
@@ -63,7 +64,7 @@ pub(crate) fn answer_notarization<D: Disk, N: Notary>(
     ensures disk_cause { HasCause DiskFault (D.state disk.old).faults (D.state disk.new).faults result }
     ensures disk_counted { HidesNoFault (D.state disk.old).faults (D.state disk.new).faults result }
     ensures notary_cause { HasCause NotaryFault (N.state notary.old).faults (N.state notary.new).faults result }
-    ensures notary_counted { HidesNoFault (N.state notary.old).faults (N.state notary.new).faults result }
+    ensures notary_counted { HidesNone (N.state notary.old) (N.state notary.new) result }
 {
     match notarize(alloc, store, disk, notary, now) {
         Ok(tiles) => Ok(sealed(alloc, tiles)?),
@@ -90,7 +91,7 @@ pub(crate) fn answer_validation<D: Disk, N: Notary>(
     ensures disk_cause { HasCause DiskFault (D.state disk.old).faults (D.state disk.new).faults result }
     ensures disk_counted { HidesNoFault (D.state disk.old).faults (D.state disk.new).faults result }
     ensures notary_cause { HasCause NotaryFault (N.state notary.old).faults (N.state notary.new).faults result }
-    ensures notary_counted { HidesNoFault (N.state notary.old).faults (N.state notary.new).faults result }
+    ensures notary_counted { HidesNone (N.state notary.old) (N.state notary.new) result }
 {
     match validate(alloc, disk, notary, id, now) {
         Ok(verdict) => Ok(found(alloc, verdict)?),

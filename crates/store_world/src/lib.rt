@@ -36,7 +36,7 @@
 //! | where no store is held, whatever is told, all but `validate` and `analyse` are refused and call nothing | `none` of `World::line` |
 //! | a validation goes by the stored bytes and what is filed alone, and leaves the disk | `bytes` of `World::line`, by `Judges` |
 //! | so does an analysis, which leaves the notary, too; its report shows what is altered of each history that was filed so | `bytes` of `World::line`, by `Reports` |
-//! | a failure is a fault of the disk or of the notary, or want of memory; behind a reply, a refusal too, neither counted a fault | `disk_cause` and `notary_cause`, `disk_counted` and `notary_counted` |
+//! | a failure is a fault of the disk or of the notary, or want of memory; behind a reply, a refusal too, the disk counted no fault, nor a notary that shows its faults | `disk_cause` and `notary_cause`, `disk_counted` and `notary_counted` |
 //! | only a line that the notary answers ends in a fault of the notary; only such a line, or one that stores, in one of the disk | `only` of `World::line` and of `told`, by `MayEndIn` |
 //! | where the clock speaks against a notarization before anything is asked, it ends in no fault | `timely` of `told`, by `EndsTimely` |
 //! | any notary allows `notarize` the refusals `Broken`, `SealMissing`, `Full` and `OutOfTurn`; `validate` a verdict, `SealMissing` and `Full`; `analyse` an analysis or a refusal of its algorithm. Without a store the last two tell only that nothing was filed or that the header is altered, or `Full` | `MayTell` |

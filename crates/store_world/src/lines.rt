@@ -10,7 +10,7 @@ ghost use Rattle.session_model.specs.Standing.{IsStatementLine};
 ghost use Rattle.validator.specs.Desk.{KeepsSound, desk};
 ghost use Rattle.store_world.specs.declared.fail.LineFail.TheVariants.{DiskFault, NotaryFault, NoMemory};
 ghost use Rattle.store_world.specs.Answers.{refusal};
-ghost use Rattle.store_world.specs.Faults.{MayEndIn};
+ghost use Rattle.store_world.specs.Faults.{HidesNone, MayEndIn};
 ghost use Rattle.store_world.specs.Standing.{StandsOver};
 ghost use Rattle.store_world.specs.Steps.{IsWorldLine};
 ghost use Rattle.store_world.specs.Stepping.{StepsFor};
@@ -57,7 +57,7 @@ pub(crate) fn answer_with_store<D: Disk, N: Notary>(
     ensures disk_cause { HasCause DiskFault (D.state disk.old).faults (D.state disk.new).faults result }
     ensures disk_counted { HidesNoFault (D.state disk.old).faults (D.state disk.new).faults result }
     ensures notary_cause { HasCause NotaryFault (N.state notary.old).faults (N.state notary.new).faults result }
-    ensures notary_counted { HidesNoFault (N.state notary.old).faults (N.state notary.new).faults result }
+    ensures notary_counted { HidesNone (N.state notary.old) (N.state notary.new) result }
 {
     match line {
         Line::Plain {
@@ -80,13 +80,10 @@ pub(crate) fn answer_with_store<D: Disk, N: Notary>(
 }
 
 /// What is told where a store is needed, and there is none.
-fn no_answer(alloc: Global, line: &Line) -> Result<Answered, LineFail>
-    requires needs { NeedsStore line.now }
-    ensures needs { NeedsStore line.now }
+fn no_answer(alloc: Global) -> Result<Answered, LineFail>
     ensures value { IfOk result (λ answered. answered ≡ refusal (codes "NotAStore")) }
     ensures only_memory { IfErr result (λ fail. fail ≡ NoMemory) }
 {
-    let _line = line;
     Ok(not_a_store(alloc)?)
 }
 
@@ -114,7 +111,7 @@ pub(crate) fn answer_without_store<D: Disk, N: Notary>(
     ensures disk_cause { HasCause DiskFault (D.state disk.old).faults (D.state disk.new).faults result }
     ensures disk_counted { HidesNoFault (D.state disk.old).faults (D.state disk.new).faults result }
     ensures notary_cause { HasCause NotaryFault (N.state notary.old).faults (N.state notary.new).faults result }
-    ensures notary_counted { HidesNoFault (N.state notary.old).faults (N.state notary.new).faults result }
+    ensures notary_counted { HidesNone (N.state notary.old) (N.state notary.new) result }
 {
     match line {
         Line::Plain {
@@ -123,7 +120,7 @@ pub(crate) fn answer_without_store<D: Disk, N: Notary>(
         Line::Plain {
             stmt: Stmt::Analyse { algorithm },
         } => answer_analysis(alloc, disk, notary, id, *algorithm, now),
-        _ => no_answer(alloc, line),
+        _ => no_answer(alloc),
     }
 }
 

@@ -41,7 +41,7 @@ pub(crate) fn answer_statement<D: Disk>(
     ensures cause { HasCause DiskFault (D.state disk.old).faults (D.state disk.new).faults result }
     ensures counted { HidesNoFault (D.state disk.old).faults (D.state disk.new).faults result }
 {
-    // What it answers is no matter here: that it may be asked says that its fields fit.
+    // that its fields fit
     let _header = store.header();
     let reply = sessions.step(alloc, store, disk, line, now)?;
     Ok(Answered {

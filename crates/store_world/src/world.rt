@@ -14,7 +14,7 @@ ghost use Rattle.store_engine.specs.Refusals.{IsOfOpening};
 ghost use Rattle.validator.specs.Desk.{KeepsSound, desk};
 ghost use Rattle.store_world.specs.declared.fail.LineFail.TheVariants.{DiskFault, NotaryFault};
 ghost use Rattle.store_world.specs.Standing.{StandsOver, IsEntered};
-ghost use Rattle.store_world.specs.Faults.{MayEndIn};
+ghost use Rattle.store_world.specs.Faults.{HidesNone, MayEndIn};
 ghost use Rattle.store_world.specs.Steps.{IsWorldLine};
 ghost use Rattle.store_world.specs.Stepping.{StepsFor, KeepsStore};
 ghost use Rattle.store_world.specs.ByBytes.{NeedsStore, IsToldNone, GoesByBytes};
@@ -110,7 +110,7 @@ impl World {
         ensures disk_cause { HasCause DiskFault (D.state disk.old).faults (D.state disk.new).faults result }
         ensures disk_counted { HidesNoFault (D.state disk.old).faults (D.state disk.new).faults result }
         ensures notary_cause { HasCause NotaryFault (N.state notary.old).faults (N.state notary.new).faults result }
-        ensures notary_counted { HidesNoFault (N.state notary.old).faults (N.state notary.new).faults result }
+        ensures notary_counted { HidesNone (N.state notary.old) (N.state notary.new) result }
     {
         match self.opened.take() {
             Some(mut open) => {

@@ -25,7 +25,7 @@ use Rattle.stmt_text.specs.declared.line.Line.TheVariants as lines
 use Rattle.stmt_text.specs.Fits.{FitsParts}
 use Rattle.statement_core.specs.declared.reply.Reply.TheVariants as replies
 use Rattle.statement_core.specs.Replies.{reply_text}
-use Rattle.statement_core.specs.World as statements
+use Rattle.statement_core.specs.Database as statements
 use Rattle.statement_core.proofs.Promising.{none_more}
 use Rattle.session_model.specs.Steps as session_steps
 use Rattle.session_model.specs.Steps.{Answer, Replied, reply_of}
@@ -89,18 +89,18 @@ IfOk more t next = SaysOk next.text → Acknowledges more t next
 refusal_not : (more : List Item) (t was : Scene) (name : List ℕ) → IfOk more was (refuses t name)
 refusal_not more t was name ok = absurd (no_refusal t name ok)
 
-module _ (i : ℕ) (t : Scene) (line : Line) (found : Found) (store : statements.World) (is : store_in i (stored t.bytes) ≡ Some store)
+module _ (i : ℕ) (t : Scene) (line : Line) (found : Found) (store : statements.Database) (is : store_in i (stored t.bytes) ≡ Some store)
     (bytes_before : IsBytes t.bytes) (no_calls : notary_calls (world_with t i (Some store)) line t.clock found ≡ []) where
   abbrev w : worlds.World
   w = world_with t i (Some store)
 
-  abbrev next : session_steps.Step
-  next = session_steps.step (with_begun w store) line t.clock
+  abbrev next : session_steps.Served
+  next = session_steps.serve (with_begun w store) line t.clock
 
   facts : StoreIs i t.bytes store
   facts = store_is i t.bytes store is
 
-  module _ (s : world_steps.Step) (s_is : s ≡ world_steps.after_statement w (session_steps.step (with_begun w store) line t.clock)) where
+  module _ (s : world_steps.Step) (s_is : s ≡ world_steps.after_statement w (session_steps.serve (with_begun w store) line t.clock)) where
     store_of_step : s.world.store ≡ Some next.world.store
     store_of_step = ap (λ (x : world_steps.Step). x.world.store) s_is
 
@@ -114,15 +114,15 @@ module _ (i : ℕ) (t : Scene) (line : Line) (found : Found) (store : statements
         by : (number : ℕ) × (reply_of next.answer ≡ replies.Committed number) → ⊥
         by (number, reply) =
             let promise = promised store next.world.store next.answer number (steps_keep_promises (with_begun w store) line t.clock).store reply in
-            none_more (txns store.items) promise.txn (sym (ap (λ (x : statements.World). txns x.items) same) ∙ promise.behind)
+            none_more (txns store.items) promise.txn (sym (ap (λ (x : statements.Database). txns x.items) same) ∙ promise.behind)
 
-    module _ (ops : List Op) (some : 1 ≤ length ops) (fit : AllByRecursion IsFitOp ops) (free : commit_fault (statements.tail_of_world store) false ops t.clock ≡ None)
+    module _ (ops : List Op) (some : 1 ≤ length ops) (fit : AllByRecursion IsFitOp ops) (free : commit_fault (statements.tail_of_database store) false ops t.clock ≡ None)
         (stored_is : next.world.store ≡ statements.with_txn store (new_txn store ops t.clock)) (answer : next.answer ≡ Replied (replies.Committed (new_txn store ops t.clock).number)) where
       abbrev txn : Txn
       txn = new_txn store ops t.clock
 
       store_same : s.world.store ≡ Some (statements.with_txn store (new_txn store ops t.clock))
-      store_same = store_of_step ∙ ap (λ (x : statements.World). Some x) stored_is
+      store_same = store_of_step ∙ ap (λ (x : statements.Database). Some x) stored_is
 
       small : txn.number < 2 ^ 32
       small = few i t store is bytes_before ops some fit free
@@ -143,11 +143,11 @@ module _ (i : ℕ) (t : Scene) (line : Line) (found : Found) (store : statements
     statement_acks : FitsParts line → AreFit t.sessions → IfOk (items_added (Some store) s.world.store) t (over_world t w line found s).next
     statement_acks fits begun ok = by (stores_or_not (with_begun w store) line t.clock)
       where
-        by : StoresOrNot (with_begun w store) line t.clock (session_steps.step (with_begun w store) line t.clock) → Acknowledges (items_added (Some store) s.world.store) t (over_world t w line found s).next
+        by : StoresOrNot (with_begun w store) line t.clock (session_steps.serve (with_begun w store) line t.clock) → Acknowledges (items_added (Some store) s.world.store) t (over_world t w line found s).next
         by (inl same) = absurd (not_same same ok)
         by (inr one) = acknowledges one.ops one.some (asked_fit (with_begun w store) line one.ops one.asked fits begun) one.free one.store one.answer
 
-tables_acks : (i : ℕ) (t : Scene) (line : Line) → FitsParts line → (found : Found) → IsFit t → (o : Option statements.World) → store_in i (stored t.bytes) ≡ o
+tables_acks : (i : ℕ) (t : Scene) (line : Line) → FitsParts line → (found : Found) → IsFit t → (o : Option statements.Database) → store_in i (stored t.bytes) ≡ o
     → (s : world_steps.Step) → s ≡ on_tables (world_with t i o) o line t.clock → notary_calls (world_with t i o) line t.clock found ≡ [] → IfOk (items_added o s.world.store) t (over_world t (world_with t i o) line found s).next
 tables_acks i t line parts found fits (Some store) is s s_is no_calls ok = statement_acks i t line found store is fits.bytes no_calls s s_is parts fits.sessions ok
 tables_acks i t line parts found fits None is s s_is no_calls ok =
@@ -199,17 +199,11 @@ unfolding act world_steps.step notary_calls
 stmt_acks t stmts.Notarize found is parts fits ok = absurd (over_notarize t t.id found ok)
 stmt_acks t stmts.Validate found is parts fits ok = absurd (over_validate t t.id found ok)
 stmt_acks t (stmts.Now moment) found is parts fits ok = absurd (says_only_ok t ok)
-stmt_acks t (stmts.Create table columns) found is parts fits ok = over_tables t t.id (lines.Plain (stmts.Create table columns)) parts found fits (goes_to_tables (lines.Plain (stmts.Create table columns)) tt) ok
-stmt_acks t (stmts.Insert table row) found is parts fits ok = over_tables t t.id (lines.Plain (stmts.Insert table row)) parts found fits (goes_to_tables (lines.Plain (stmts.Insert table row)) tt) ok
-stmt_acks t (stmts.Update table row) found is parts fits ok = over_tables t t.id (lines.Plain (stmts.Update table row)) parts found fits (goes_to_tables (lines.Plain (stmts.Update table row)) tt) ok
-stmt_acks t (stmts.Delete table key) found is parts fits ok = over_tables t t.id (lines.Plain (stmts.Delete table key)) parts found fits (goes_to_tables (lines.Plain (stmts.Delete table key)) tt) ok
-stmt_acks t (stmts.Get table key moment) found is parts fits ok = over_tables t t.id (lines.Plain (stmts.Get table key moment)) parts found fits (goes_to_tables (lines.Plain (stmts.Get table key moment)) tt) ok
-stmt_acks t (stmts.Scan table filter moment) found is parts fits ok = over_tables t t.id (lines.Plain (stmts.Scan table filter moment)) parts found fits (goes_to_tables (lines.Plain (stmts.Scan table filter moment)) tt) ok
-stmt_acks t (stmts.History table key) found is parts fits ok = over_tables t t.id (lines.Plain (stmts.History table key)) parts found fits (goes_to_tables (lines.Plain (stmts.History table key)) tt) ok
 stmt_acks t stmts.Begin found is parts fits ok = absurd is
 stmt_acks t stmts.Commit found is parts fits ok = absurd is
 stmt_acks t stmts.Abort found is parts fits ok = absurd is
 stmt_acks t (stmts.Analyse algorithm) found is parts fits ok = absurd (over_analyse t algorithm t.id found ok)
+stmt_acks t stmt found is parts fits ok = over_tables t t.id (lines.Plain stmt) parts found fits (goes_to_tables (lines.Plain stmt) tt) ok
 
 line_acks : (t : Scene) (line : Line) (found : Found) → IsDrillLine line → FitsParts line → IsFit t → IfOk (stored_by t.id t (Ok line) found) t (act t line found).next
 unfolding act world_steps.step notary_calls

@@ -24,7 +24,7 @@ use Rattle.stmt_text.specs.declared.stmt.LineAlgorithm.{LineAlgorithm}
 use Rattle.stmt_text.specs.declared.stmt.Stmt.TheVariants as stmts
 use Rattle.stmt_text.specs.declared.line.Line.{Line}
 use Rattle.stmt_text.specs.declared.line.Line.TheVariants as lines
-use Rattle.statement_core.specs.World as statements
+use Rattle.statement_core.specs.Database as statements
 use Rattle.audit_model.specs.Altered.{history_in, history_with, under_id}
 use Rattle.validator.specs.declared.verdict.Verdict.{Verdict}
 use Rattle.validator.specs.declared.fail.AuditFail.{AuditFail}
@@ -94,13 +94,13 @@ spelled_of bytes s fits held_is = spelled_by bytes (stored bytes).header s fits 
 
 -- ---- the world that stands under an id
 
-pub record StoreIs (i : ℕ) (bytes : List ℕ) (store : statements.World) : Type 0 where
+pub record StoreIs (i : ℕ) (bytes : List ℕ) (store : statements.Database) : Type 0 where
   pub header : (stored bytes).header ≡ Some store.header
   pub items : (stored bytes).items ≡ store.items
   pub end : (stored bytes).end ≡ store.end
   pub own : store.header.id ≡ i
 
-store_by : (i : ℕ) (bytes : List ℕ) (o : Option Header) (store : statements.World) → (stored bytes).header ≡ o → store_under i o (stored bytes) ≡ Some store → StoreIs i bytes store
+store_by : (i : ℕ) (bytes : List ℕ) (o : Option Header) (store : statements.Database) → (stored bytes).header ≡ o → store_under i o (stored bytes) ≡ Some store → StoreIs i bytes store
 store_by i bytes None store is e = absurd cc
 store_by i bytes (Some h) store is e = by (h.id == i) refl e
   where
@@ -108,14 +108,14 @@ store_by i bytes (Some h) store is e = by (h.id == i) refl e
     by true own e =
         let same : record { header = h; items = (stored bytes).items; end = (stored bytes).end } ≡ store = same_Some (record { header = h; items = (stored bytes).items; end = (stored bytes).end }) store e in
         record {
-          header = is ∙ ap (λ (w : statements.World). Some w.header) same;
-          items = ap (λ (w : statements.World). w.items) same;
-          end = ap (λ (w : statements.World). w.end) same;
-          own = sym (ap (λ (w : statements.World). w.header.id) same) ∙ eqb-true h.id i own;
+          header = is ∙ ap (λ (w : statements.Database). Some w.header) same;
+          items = ap (λ (w : statements.Database). w.items) same;
+          end = ap (λ (w : statements.Database). w.end) same;
+          own = sym (ap (λ (w : statements.Database). w.header.id) same) ∙ eqb-true h.id i own;
         }
     by false other e = absurd cc
 
-pub store_is : (i : ℕ) (bytes : List ℕ) (store : statements.World) → store_in i (stored bytes) ≡ Some store → StoreIs i bytes store
+pub store_is : (i : ℕ) (bytes : List ℕ) (store : statements.Database) → store_in i (stored bytes) ≡ Some store → StoreIs i bytes store
 store_is i bytes store e = store_by i bytes (stored bytes).header store refl e
 
 -- its history is what is stored under the id
@@ -129,7 +129,7 @@ history_same i (Some h) s = by (h.id == i)
 
 -- ---- lines on tables
 
-tables_lists : (w : worlds.World) (o : Option statements.World) (line : Line) (now : ℕ) → (on_tables w o line now).world.lists ≡ w.lists
+tables_lists : (w : worlds.World) (o : Option statements.Database) (line : Line) (now : ℕ) → (on_tables w o line now).world.lists ≡ w.lists
 tables_lists w None line now = refl
 tables_lists w (Some store) line now = refl
 
@@ -179,10 +179,10 @@ module _ (id i : ℕ) (t : Scene) (found : Found) where
   line = lines.Plain stmts.Validate
 
   -- the bytes stay
-  bytes_stay : (o : Option statements.World) (lists : Lists) (end : ℕ) → with_items end (items_added o o) t.bytes ≡ t.bytes
+  bytes_stay : (o : Option statements.Database) (lists : Lists) (end : ℕ) → with_items end (items_added o o) t.bytes ≡ t.bytes
   bytes_stay o lists end = ap (λ (is : List Item). with_items end is t.bytes) (none_added o)
 
-  module _ (o : Option statements.World) (is : store_in i (stored t.bytes) ≡ o) (may : IsFoundIn (batches_of t i) (history_of o) found.verdict) where
+  module _ (o : Option statements.Database) (is : store_in i (stored t.bytes) ≡ o) (may : IsFoundIn (batches_of t i) (history_of o) found.verdict) where
     abbrev w : worlds.World
     w = world_with t i o
 

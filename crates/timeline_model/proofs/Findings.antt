@@ -54,7 +54,7 @@ use Rattle.timeline_model.specs.Timeline.{Event, after, IsTimeline}
 use Rattle.timeline_model.specs.Filed.{IsFiledOver, HasClash}
 use Rattle.timeline_model.specs.Kept.{Kept}
 use Rattle.timeline_model.specs.Findings.{DoesSame, HasFiledClash, FindingsAreOne}
-use Rattle.statement_core.specs.World as statements
+use Rattle.statement_core.specs.Database as statements
 use Rattle.timeline_model.proofs.Doings.{spelled_of, history_same}
 use Rattle.timeline_model.proofs.Judged.{audit, under_held}
 use Rattle.timeline_model.proofs.Steady.{Holds}
@@ -258,7 +258,7 @@ module _ (limits : NotaryLimits) (es : List Event) (id : ℕ) (is_timeline : IsT
 -- ---- so the line does the same
 
 module _ (w : World) (now : ℕ) where
-  filed_same : (one other : FoundOf) (o : Option statements.World) → IfSome o (MayFile w now one) → IfSome o (MayFile w now other) → notarized w o now one.heard one.refusal ≡ notarized w o now other.heard other.refusal
+  filed_same : (one other : FoundOf) (o : Option statements.Database) → IfSome o (MayFile w now one) → IfSome o (MayFile w now other) → notarized w o now one.heard one.refusal ≡ notarized w o now other.heard other.refusal
   filed_same one other None x y = refl
   filed_same one other (Some store) x y = ap (λ (h : Heard). notarized w (Some store) now h one.refusal) heard ∙ by intent.fault refl
     where

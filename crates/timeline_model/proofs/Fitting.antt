@@ -19,7 +19,7 @@ use Rattle.store_engine.specs.Appended.{Takes}
 use Rattle.stmt_text.specs.declared.error.ParseFail.{ParseFail}
 use Rattle.stmt_text.specs.declared.line.Line.{Line}
 use Rattle.stmt_text.specs.Fits.{FitsParts}
-use Rattle.statement_core.specs.World as statements
+use Rattle.statement_core.specs.Database as statements
 use Rattle.session_model.proofs.Rooms.{no_cause}
 use Rattle.session_model.proofs.Storing.{IsFree, is_free}
 use Rattle.store_world.specs.Found.{Found}
@@ -36,8 +36,8 @@ use Rattle.timeline_model.proofs.Sealing as sealing
 use Rattle.timeline_model.proofs.Events.{fit_after, nothing_fit}
 
 -- over the store of a scene
-module _ (i : ℕ) (t : Scene) (store : statements.World) (is : store_in i (stored t.bytes) ≡ Some store) (bytes_before : IsBytes t.bytes)
-    (ops : List Op) (some : 1 ≤ length ops) (fit : AllByRecursion IsFitOp ops) (free : commit_fault (statements.tail_of_world store) false ops t.clock ≡ None) where
+module _ (i : ℕ) (t : Scene) (store : statements.Database) (is : store_in i (stored t.bytes) ≡ Some store) (bytes_before : IsBytes t.bytes)
+    (ops : List Op) (some : 1 ≤ length ops) (fit : AllByRecursion IsFitOp ops) (free : commit_fault (statements.tail_of_database store) false ops t.clock ≡ None) where
   facts : StoreIs i t.bytes store
   facts = store_is i t.bytes store is
 
@@ -47,8 +47,8 @@ module _ (i : ℕ) (t : Scene) (store : statements.World) (is : store_in i (stor
   abbrev txn : Txn
   txn = new_txn store ops t.clock
 
-  none : IsFree (statements.tail_of_world store) ops t.clock
-  none = is_free (statements.tail_of_world store) ops t.clock free
+  none : IsFree (statements.tail_of_database store) ops t.clock
+  none = is_free (statements.tail_of_database store) ops t.clock free
 
   -- nothing stood against it
   causes : (nat_lt 32768 (length (spell_txn txn)) ≡ false) × (is_full store.end (length (spell_txn txn)) ≡ false)
@@ -77,7 +77,7 @@ module _ (t : Scene) (scene_fits : IsFit t) (id : ℕ) (line : Line) (found : Fo
   abbrev bytes : IsBytes t.bytes
   bytes = scene_fits.bytes
 
-  by_kind : (new : Option statements.World) → Stores (world_of t id) line t.clock new → All IsStorable (items_added (world_of t id).store new)
+  by_kind : (new : Option statements.Database) → Stores (world_of t id) line t.clock new → All IsStorable (items_added (world_of t id).store new)
   unfolding world_of
   by_kind new (inl same) = subst (All IsStorable) (sym (same_added (world_of t id) line t.clock new same)) (All-nil IsStorable)
   by_kind new (inr (inl txn)) =

@@ -41,7 +41,7 @@ use Rattle.store_engine.specs.Refusals.{Tail, is_back, is_late, is_full}
 use Rattle.stmt_text.specs.declared.stmt.Stmt.TheVariants as stmts
 use Rattle.stmt_text.specs.declared.line.Line.{Line}
 use Rattle.stmt_text.specs.declared.line.Line.TheVariants as lines
-use Rattle.statement_core.specs.World as statements
+use Rattle.statement_core.specs.Database as statements
 use Rattle.validator.specs.declared.fail.AuditFail.{AuditFail}
 use Rattle.validator.specs.declared.fail.AuditFail.TheVariants as fails
 use Rattle.policy_eras.specs.Policy.{first_past}
@@ -209,7 +209,7 @@ frontier_items (Some moment) = items.Frontier moment ∷ []
 line : Line
 line = lines.Plain stmts.Notarize
 
-module _ (i : ℕ) (t : Scene) (found : Found) (store : statements.World) (is : store_in i (stored t.bytes) ≡ Some store) (bytes_before : IsBytes t.bytes) where
+module _ (i : ℕ) (t : Scene) (found : Found) (store : statements.Database) (is : store_in i (stored t.bytes) ≡ Some store) (bytes_before : IsBytes t.bytes) where
   abbrev h : History
   h = history store.header store.items
 
@@ -223,7 +223,7 @@ module _ (i : ℕ) (t : Scene) (found : Found) (store : statements.World) (is : 
   now = t.clock
 
   abbrev tail : Tail
-  tail = statements.tail_of_world store
+  tail = statements.tail_of_database store
 
   abbrev need : Option ℕ
   need = frontier_for (layout h) tail now found.heard.count
@@ -449,7 +449,7 @@ module _ (i : ℕ) (t : Scene) (found : Found) (store : statements.World) (is : 
 
 -- ---- whatever is stored
 
-with_store : (id i : ℕ) (t : Scene) (found : Found) → IsBytes t.bytes → (o : Option statements.World) → store_in i (stored t.bytes) ≡ o → IfSome o (MayFile (world_with t i o) t.clock found) → ActsEither id t (over_world t (world_with t i o) line found (notarized (world_with t i o) o t.clock found.heard found.refusal))
+with_store : (id i : ℕ) (t : Scene) (found : Found) → IsBytes t.bytes → (o : Option statements.Database) → store_in i (stored t.bytes) ≡ o → IfSome o (MayFile (world_with t i o) t.clock found) → ActsEither id t (over_world t (world_with t i o) line found (notarized (world_with t i o) o t.clock found.heard found.refusal))
 unfolding notary_calls line
 with_store id i t found bytes None is may = without_notary id t (over_world t (world_with t i None) line found (notarized (world_with t i None) None t.clock found.heard found.refusal)) refl refl
 with_store id i t found bytes (Some store) is may = store_acts i t found store is bytes may.heard id

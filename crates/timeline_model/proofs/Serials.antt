@@ -18,13 +18,13 @@ use Rattle.stmt_text.specs.declared.stmt.Stmt.TheVariants as stmts
 use Rattle.stmt_text.specs.declared.line.Line.{Line}
 use Rattle.stmt_text.specs.declared.line.Line.TheVariants as lines
 use Rattle.stmt_text.specs.Fits.{FitsParts}
-use Rattle.statement_core.specs.World as statements
+use Rattle.statement_core.specs.Database as statements
 use Rattle.statement_core.specs.Replies.{reply_text}
 use Rattle.validator.specs.declared.fail.AuditFail.{AuditFail}
 use Rattle.validator.specs.Notarizing.{Heard, frontier_for}
 use Rattle.validator.proofs.Growing.{need_follows}
-use Rattle.session_model.specs.World as sessions
-use Rattle.session_model.specs.World.{Session}
+use Rattle.session_model.specs.Service as sessions
+use Rattle.session_model.specs.Service.{Session}
 use Rattle.session_model.specs.Serial.{IsSerialAt}
 use Rattle.session_model.specs.Steps.{reply_of}
 use Rattle.session_model.specs.Steps as session_steps
@@ -52,57 +52,57 @@ use Rattle.timeline_model.proofs.StayBytes.{still_fit}
 use Rattle.timeline_model.proofs.Stepping.{read_by, take_step}
 
 -- what is kept of sessions over a store, where there is one
-abbrev pub HeldIn : Option sessions.World → Logs → Type 0
+abbrev pub HeldIn : Option sessions.Service → Logs → Type 0
 HeldIn o logs = IfSome o (λ w. AreHeld w logs)
 
 -- ---- the step of a world
 
-abbrev store_of : worlds.World → Option sessions.World
+abbrev store_of : worlds.World → Option sessions.Service
 store_of w = option_map (with_begun w) w.store
 
 -- a line of neither kind tells no session anything
-told_plain : (o : Option sessions.World) (stmt : Stmt) (now : ℕ) (logs : Logs) → told_more logs o (Ok (lines.Plain stmt)) now ≡ logs
+told_plain : (o : Option sessions.Service) (stmt : Stmt) (now : ℕ) (logs : Logs) → told_more logs o (Ok (lines.Plain stmt)) now ≡ logs
 told_plain None stmt now logs = refl
 told_plain (Some w) stmt now logs = refl
 
-told_drill : (o : Option sessions.World) (event : drills.Event) (now : ℕ) (logs : Logs) → told_more logs o (Ok (lines.Drill event)) now ≡ logs
+told_drill : (o : Option sessions.Service) (event : drills.Event) (now : ℕ) (logs : Logs) → told_more logs o (Ok (lines.Drill event)) now ≡ logs
 told_drill None event now logs = refl
 told_drill (Some w) event now logs = refl
 
-told_none : (o : Option sessions.World) (fail : ParseFail) (now : ℕ) (logs : Logs) → told_more logs o (Err fail) now ≡ logs
+told_none : (o : Option sessions.Service) (fail : ParseFail) (now : ℕ) (logs : Logs) → told_more logs o (Err fail) now ≡ logs
 told_none None fail now logs = refl
 told_none (Some w) fail now logs = refl
 
 module _ (w : worlds.World) (now : ℕ) (logs : Logs) where
-  tables_held : (o : Option statements.World) → w.store ≡ o → (line : Line) → HeldIn (option_map (with_begun w) o) logs → HeldIn (store_of (on_tables w o line now).world) (told_more logs (option_map (with_begun w) o) (Ok line) now)
-  tables_held None is line held = subst (λ (x : Option statements.World). HeldIn (option_map (with_begun w) x) logs) (sym is) tt
+  tables_held : (o : Option statements.Database) → w.store ≡ o → (line : Line) → HeldIn (option_map (with_begun w) o) logs → HeldIn (store_of (on_tables w o line now).world) (told_more logs (option_map (with_begun w) o) (Ok line) now)
+  tables_held None is line held = subst (λ (x : Option statements.Database). HeldIn (option_map (with_begun w) x) logs) (sym is) tt
   tables_held (Some store) is line held = (line_goes (with_begun w store) logs held line now).1
 
   -- the store goes on, and the sessions stay
-  goes_on : (store later : statements.World) (new : worlds.World) → IsLater store later → new.store ≡ Some later → new.sessions ≡ w.sessions → AreHeld (with_begun w store) logs → HeldIn (store_of new) logs
+  goes_on : (store later : statements.Database) (new : worlds.World) → IsLater store later → new.store ≡ Some later → new.sessions ≡ w.sessions → AreHeld (with_begun w store) logs → HeldIn (store_of new) logs
   goes_on store later new more store_is same held =
-      subst (λ (x : Option statements.World). HeldIn (option_map (with_begun new) x) logs) (sym store_is)
+      subst (λ (x : Option statements.Database). HeldIn (option_map (with_begun new) x) logs) (sym store_is)
       (subst (λ (begun : ℕ → Option Session). AreHeld (record { store = later; sessions = begun }) logs) (sym same) (all_later (with_begun w store) logs held later more))
 
   stays_held : (new : worlds.World) → new.store ≡ w.store → new.sessions ≡ w.sessions → HeldIn (store_of w) logs → HeldIn (store_of new) logs
   stays_held new store_is same held =
-      subst (λ (x : Option statements.World). HeldIn (option_map (with_begun new) x) logs) (sym store_is)
+      subst (λ (x : Option statements.Database). HeldIn (option_map (with_begun new) x) logs) (sym store_is)
       (subst (λ (begun : ℕ → Option Session). HeldIn (option_map (λ store. record { store = store; sessions = begun }) w.store) logs) (sym same) held)
 
-  notarized_held : (heard : Heard) (refusal : Option AuditFail) (o : Option statements.World) → w.store ≡ o → HeldIn (store_of w) logs → HeldIn (store_of (notarized w o now heard refusal).world) logs
+  notarized_held : (heard : Heard) (refusal : Option AuditFail) (o : Option statements.Database) → w.store ≡ o → HeldIn (store_of w) logs → HeldIn (store_of (notarized w o now heard refusal).world) logs
   notarized_held heard refusal None is held = held
   notarized_held heard refusal (Some store) is held = elim (notarized_store w store now heard refusal) [
     | inl same ↦ stays_held (notarized w (Some store) now heard refusal).world same (notarized_rest w (Some store) is now heard refusal).sessions held
     | inr gets ↦ goes_on store (reached need store) (notarized w (Some store) now heard refusal).world (later need refl) gets.is (notarized_rest w (Some store) is now heard refusal).sessions
-        (subst (λ (x : Option statements.World). HeldIn (option_map (with_begun w) x) logs) is held)
+        (subst (λ (x : Option statements.Database). HeldIn (option_map (with_begun w) x) logs) is held)
   ]
     where
       need : Option ℕ
-      need = frontier_for (layout (history store.header store.items)) (statements.tail_of_world store) now heard.count
+      need = frontier_for (layout (history store.header store.items)) (statements.tail_of_database store) now heard.count
 
-      later : (o : Option ℕ) → frontier_for (layout (history store.header store.items)) (statements.tail_of_world store) now heard.count ≡ o → IsLater store (reached o store)
+      later : (o : Option ℕ) → frontier_for (layout (history store.header store.items)) (statements.tail_of_database store) now heard.count ≡ o → IsLater store (reached o store)
       later None e = later_same store
-      later (Some moment) e = later_frontier store moment (need_follows (layout (history store.header store.items)) (statements.tail_of_world store) store.items refl now heard.count moment e)
+      later (Some moment) e = later_frontier store moment (need_follows (layout (history store.header store.items)) (statements.tail_of_database store) store.items refl now heard.count moment e)
 
   plain_held : (stmt : Stmt) (new : worlds.World) → HeldIn (store_of new) logs → HeldIn (store_of new) (told_more logs (store_of w) (Ok (lines.Plain stmt)) now)
   plain_held stmt new held = subst (HeldIn (store_of new)) (sym (told_plain (store_of w) stmt now logs)) held
@@ -129,7 +129,7 @@ held_without_sessions : (id : Option ℕ) (t : Scene) (logs : Logs) → HeldIn (
 held_without_sessions None t logs = tt
 held_without_sessions (Some id) t logs = by (store_in id (stored t.bytes))
   where
-    by : (o : Option statements.World) → HeldIn (option_map (λ store. record { store = store; sessions = no_sessions }) o) logs
+    by : (o : Option statements.Database) → HeldIn (option_map (λ store. record { store = store; sessions = no_sessions }) o) logs
     by None = tt
     by (Some store) = λ k. tt
 
@@ -146,7 +146,7 @@ same_store : (t : Scene) (id : ℕ) → store_of (world_of t id) ≡ begun_under
 unfolding world_of
 same_store t id = by (store_in id (stored t.bytes))
   where
-    by : (o : Option statements.World) → option_map {U = sessions.World} (λ store. record { store = store; sessions = sessions_over o t.sessions }) o ≡ option_map {U = sessions.World} (λ store. record { store = store; sessions = t.sessions }) o
+    by : (o : Option statements.Database) → option_map {U = sessions.Service} (λ store. record { store = store; sessions = sessions_over o t.sessions }) o ≡ option_map {U = sessions.Service} (λ store. record { store = store; sessions = t.sessions }) o
     by None = refl
     by (Some store) = refl
 
@@ -156,9 +156,9 @@ module _ (t : Scene) (fits : IsFit t) (logs : Logs) (held : HeldIn (begun_in t) 
   with_id id line found parts here =
       let s = world_steps.step (world_of t id) line t.clock found in
       let read = read_by id t line found fits parts s.world.store (step_stores (world_of t id) line t.clock found) in
-      subst (λ (x : Option statements.World). HeldIn (option_map (λ store. record { store = store; sessions = s.world.sessions }) x) (told_more logs (begun_under (Some id) t) (Ok line) t.clock)) (sym read)
-      (subst (λ (x : Option sessions.World). HeldIn (store_of s.world) (told_more logs x (Ok line) t.clock)) (same_store t id)
-      (step_held (world_of t id) t.clock logs line found (subst (λ (x : Option sessions.World). HeldIn x logs) (sym (same_store t id)) here)))
+      subst (λ (x : Option statements.Database). HeldIn (option_map (λ store. record { store = store; sessions = s.world.sessions }) x) (told_more logs (begun_under (Some id) t) (Ok line) t.clock)) (sym read)
+      (subst (λ (x : Option sessions.Service). HeldIn (store_of s.world) (told_more logs x (Ok line) t.clock)) (same_store t id)
+      (step_held (world_of t id) t.clock logs line found (subst (λ (x : Option sessions.Service). HeldIn x logs) (sym (same_store t id)) here)))
 
   over_held : (o : Option ℕ) → t.id ≡ o → (line : Line) (found : Found) → FitsParts line → HeldIn (begun_under o t) logs
       → HeldIn (begun_under o (over_store t o line found).next.scene) (told_more logs (begun_under o t) (Ok line) t.clock)
@@ -199,14 +199,14 @@ module _ (t : Scene) (fits : IsFit t) (logs : Logs) (held : HeldIn (begun_in t) 
 
   brings_held : (event : drills.Event) → HeldIn (begun_in (brings t event).next.scene) logs
   brings_held (events.Init id width k algs) = inits_held id (header_at id t.clock width k algs)
-  brings_held (events.Crash after choice) = subst (λ (o : Option sessions.World). HeldIn o logs) (sym (crash_same t.id t (Some (record { after = after; choice = choice })))) held
+  brings_held (events.Crash after choice) = subst (λ (o : Option sessions.Service). HeldIn o logs) (sym (crash_same t.id t (Some (record { after = after; choice = choice })))) held
   brings_held (events.Alter place bytes) = altered_held place bytes
   brings_held (events.Cut n) = shortened_held n
 
   stmt_held : (stmt : Stmt) (found : Found) → FitsParts (lines.Plain stmt) → HeldIn (begun_in (act t (lines.Plain stmt) found).next.scene) (told_more logs (begun_in t) (Ok (lines.Plain stmt)) t.clock)
   unfolding act
   stmt_held (stmts.Now moment) found parts =
-      subst (λ (o : Option sessions.World). HeldIn o (told_more logs (begun_in t) (Ok (lines.Plain (stmts.Now moment))) t.clock)) (sym (clock_same t.id t moment))
+      subst (λ (o : Option sessions.Service). HeldIn o (told_more logs (begun_in t) (Ok (lines.Plain (stmts.Now moment))) t.clock)) (sym (clock_same t.id t moment))
       (subst (HeldIn (begun_in t)) (sym (told_plain (begun_in t) (stmts.Now moment) t.clock logs)) held)
   stmt_held stmt found parts = over (lines.Plain stmt) found parts
 
@@ -228,8 +228,8 @@ unfolding step
 event_held t e logs fits may held =
     let same = crash_same t.id t None in
     under_held (without_crash t) (act_on (without_crash t) e.line e.found) t.crash (told_more logs (begun_in t) e.line t.clock)
-    (subst (λ (o : Option sessions.World). HeldIn (begun_in (act_on (without_crash t) e.line e.found).next.scene) (told_more logs o e.line t.clock)) same
-    (reading_held (without_crash t) (still_fit t fits) logs (subst (λ (o : Option sessions.World). HeldIn o logs) (sym same) held) e.line e.found may.fits))
+    (subst (λ (o : Option sessions.Service). HeldIn (begun_in (act_on (without_crash t) e.line e.found).next.scene) (told_more logs o e.line t.clock)) same
+    (reading_held (without_crash t) (still_fit t fits) logs (subst (λ (o : Option sessions.Service). HeldIn o logs) (sym same) held) e.line e.found may.fits))
 
 all_held : (t : Scene) (es : List Event) → IsFit t → HeldIn (begun_in t) no_logs → IsTimeline t es → HeldIn (begun_in (after t es)) (told t es)
 unfolding after told
@@ -238,31 +238,31 @@ all_held t (e ∷ es) fits held is = event_held (after t es) e (told t es) (fit_
 
 -- ---- what is replied
 
-replied_by : (t : Scene) (id n : ℕ) (stmt : Stmt) (found : Found) (w : sessions.World) → begun_under (Some id) t ≡ Some w
-    → (world_steps.step (world_of t id) (lines.InSession n stmt) t.clock found).text ≡ reply_text (reply_of (session_steps.step w (lines.InSession n stmt) t.clock).answer)
+replied_by : (t : Scene) (id n : ℕ) (stmt : Stmt) (found : Found) (w : sessions.Service) → begun_under (Some id) t ≡ Some w
+    → (world_steps.step (world_of t id) (lines.InSession n stmt) t.clock found).text ≡ reply_text (reply_of (session_steps.serve w (lines.InSession n stmt) t.clock).answer)
 unfolding world_of world_steps.step
 replied_by t id n stmt found w is = by (store_in id (stored t.bytes)) is
   where
-    by : (o : Option statements.World) → option_map {U = sessions.World} (λ store. record { store = store; sessions = t.sessions }) o ≡ Some w
-        → (on_tables (world_with t id o) o (lines.InSession n stmt) t.clock).text ≡ reply_text (reply_of (session_steps.step w (lines.InSession n stmt) t.clock).answer)
+    by : (o : Option statements.Database) → option_map {U = sessions.Service} (λ store. record { store = store; sessions = t.sessions }) o ≡ Some w
+        → (on_tables (world_with t id o) o (lines.InSession n stmt) t.clock).text ≡ reply_text (reply_of (session_steps.serve w (lines.InSession n stmt) t.clock).answer)
     by None is = absurd cc
-    by (Some store) is = ap (λ (x : sessions.World). reply_text (reply_of (session_steps.step x (lines.InSession n stmt) t.clock).answer)) (same_Some (record { store = store; sessions = t.sessions }) w is)
+    by (Some store) is = ap (λ (x : sessions.Service). reply_text (reply_of (session_steps.serve x (lines.InSession n stmt) t.clock).answer)) (same_Some (record { store = store; sessions = t.sessions }) w is)
 
-are_replied : (limits : NotaryLimits) (e : Event) (es : List Event) (w : sessions.World) (n : ℕ) (stmt : Stmt) → IsTimeline (nothing_yet limits) (e ∷ es) → begun_in (after (nothing_yet limits) es) ≡ Some w
+are_replied : (limits : NotaryLimits) (e : Event) (es : List Event) (w : sessions.Service) (n : ℕ) (stmt : Stmt) → IsTimeline (nothing_yet limits) (e ∷ es) → begun_in (after (nothing_yet limits) es) ≡ Some w
     → e.line ≡ Ok (lines.InSession n stmt) → IsWhole (after (nothing_yet limits) es) e
-    → (step (after (nothing_yet limits) es) e.line e.found).text ≡ reply_text (reply_of (session_steps.step w (lines.InSession n stmt) (after (nothing_yet limits) es).clock).answer)
+    → (step (after (nothing_yet limits) es) e.line e.found).text ≡ reply_text (reply_of (session_steps.serve w (lines.InSession n stmt) (after (nothing_yet limits) es).clock).answer)
 are_replied limits e es w n stmt is begun line_is passes = by (after (nothing_yet limits) es).id refl begun
   where
     by : (o : Option ℕ) → (after (nothing_yet limits) es).id ≡ o → begun_under o (after (nothing_yet limits) es) ≡ Some w
-        → (step (after (nothing_yet limits) es) e.line e.found).text ≡ reply_text (reply_of (session_steps.step w (lines.InSession n stmt) (after (nothing_yet limits) es).clock).answer)
+        → (step (after (nothing_yet limits) es) e.line e.found).text ≡ reply_text (reply_of (session_steps.serve w (lines.InSession n stmt) (after (nothing_yet limits) es).clock).answer)
     by None own begun = absurd cc
     by (Some id) own begun = (take_step limits e es id (lines.InSession n stmt) is own line_is tt passes).text ∙ replied_by (after (nothing_yet limits) es) id n stmt e.found w begun
 
-serial : (limits : NotaryLimits) (es : List Event) (w : sessions.World) (line : Line) → IsTimeline (nothing_yet limits) es → begun_in (after (nothing_yet limits) es) ≡ Some w
-    → IsSerialAt w (told (nothing_yet limits) es) line (session_steps.step w line (after (nothing_yet limits) es).clock).answer
+serial : (limits : NotaryLimits) (es : List Event) (w : sessions.Service) (line : Line) → IsTimeline (nothing_yet limits) es → begun_in (after (nothing_yet limits) es) ≡ Some w
+    → IsSerialAt w (told (nothing_yet limits) es) line (session_steps.serve w line (after (nothing_yet limits) es).clock).answer
 serial limits es w line is begun =
     let all = all_held (nothing_yet limits) es (nothing_fit limits) tt is in
-    (line_goes w (told (nothing_yet limits) es) (subst (λ (o : Option sessions.World). HeldIn o (told (nothing_yet limits) es)) begun all) line (after (nothing_yet limits) es).clock).0
+    (line_goes w (told (nothing_yet limits) es) (subst (λ (o : Option sessions.Service). HeldIn o (told (nothing_yet limits) es)) begun all) line (after (nothing_yet limits) es).clock).0
 
 pub are_serial : SessionsAreSerial
 are_serial = record { serial = serial; replied = are_replied }

@@ -15,8 +15,8 @@ use Rattle.stmt_text.specs.declared.stmt.Stmt.{Stmt}
 use Rattle.stmt_text.specs.declared.line.Line.{Line}
 use Rattle.stmt_text.specs.declared.line.Line.TheVariants as lines
 use Rattle.stmt_text.specs.Fits.{FitsStmt, FitsParts}
-use Rattle.statement_core.specs.World as statements
-use Rattle.statement_core.specs.World.{tables_now}
+use Rattle.statement_core.specs.Database as statements
+use Rattle.statement_core.specs.Database.{tables_now}
 use Rattle.statement_core.specs.Steps.{write_in}
 use Rattle.statement_core.proofs.Preparing.{op_is}
 use Rattle.validator.specs.declared.verdict.Verdict.{Verdict}
@@ -24,8 +24,8 @@ use Rattle.validator.specs.declared.fail.AuditFail.{AuditFail}
 use Rattle.validator.specs.Notarizing.{Heard}
 use Rattle.validator.specs.Verdicts.{mark_of}
 use Rattle.validator.specs.Texts.{verdict_text}
-use Rattle.session_model.specs.World as sessions
-use Rattle.session_model.specs.World.{Session}
+use Rattle.session_model.specs.Service as sessions
+use Rattle.session_model.specs.Service.{Session}
 use Rattle.session_model.specs.Statements.{size_fault, pended, pend, change_or_read, say}
 use Rattle.session_model.specs.Steps as session_steps
 use Rattle.session_model.proofs.Each.{KeptBy, one_line}
@@ -51,7 +51,7 @@ one_more : (ops : List Op) (op : Op) → AllByRecursion IsFitOp ops → IsFitOp 
 one_more [] op all is = (is, tt)
 one_more (first ∷ ops) op all is = (all.0, one_more ops op all.1 is)
 
-module _ (w : statements.World) where
+module _ (w : statements.Database) where
   pended_fit : (pending : List Op) (op : Op) (fault : Option StoreFail) → AllByRecursion IsFitOp pending → IsFitOp op → AllByRecursion IsFitOp (pended pending op fault).pending
   pended_fit pending op None all is = one_more pending op all is
   pended_fit pending op (Some fail) all is = all
@@ -68,7 +68,7 @@ module _ (w : statements.World) where
   unfolding say
   say_fit pending stmt fits all = change_fit pending (write_in stmt) stmt (change_fits stmt fits) all
 
-session_fit : (w : sessions.World) (line : Line) (now : ℕ) → FitsParts line → AreFit w.sessions → AreFit (session_steps.step w line now).world.sessions
+session_fit : (w : sessions.Service) (line : Line) (now : ℕ) → FitsParts line → AreFit w.sessions → AreFit (session_steps.serve w line now).world.sessions
 session_fit w line now fits all = one_line (λ s. AllByRecursion IsFitOp s.pending) w tt line now (by line fits) all
   where
     by : (line : Line) → FitsParts line → KeptBy (λ s. AllByRecursion IsFitOp s.pending) w tt line
@@ -78,7 +78,7 @@ session_fit w line now fits all = one_line (λ s. AllByRecursion IsFitOp s.pendi
     by (lines.Drill event) fits = tt
 
 -- what a line asks to be stored
-pub asked_fit : (w : sessions.World) (line : Line) (ops : List Op) → AsksFor w line ops → FitsParts line → AreFit w.sessions → AllByRecursion IsFitOp ops
+pub asked_fit : (w : sessions.Service) (line : Line) (ops : List Op) → AsksFor w line ops → FitsParts line → AreFit w.sessions → AllByRecursion IsFitOp ops
 asked_fit w (lines.Plain stmt) ops (change, asked, one) fits all =
     subst (AllByRecursion IsFitOp) (sym one) (record { change = change; is = refl; fits = subst (λ (o : Option Write). IfSome o FitsChange) asked (change_fits stmt fits.0) }, tt)
 asked_fit w (lines.InSession n stmt) ops (s, is, same) fits all =
@@ -101,7 +101,7 @@ unless_rest : (w : worlds.World) (fault : Option AuditFail) (new : worlds.World)
 unless_rest w (Some fail) new s one other = one
 unless_rest w None new s one other = other
 
-pub notarized_rest : (w : worlds.World) (o : Option statements.World) → w.store ≡ o → (now : ℕ) (heard : Heard) (refusal : Option AuditFail) → KeepsRest w (notarized w o now heard refusal).world
+pub notarized_rest : (w : worlds.World) (o : Option statements.Database) → w.store ≡ o → (now : ℕ) (heard : Heard) (refusal : Option AuditFail) → KeepsRest w (notarized w o now heard refusal).world
 notarized_rest w None is now heard refusal = rest_same w
 notarized_rest w (Some store) is now heard refusal =
     let i = intent_in store now heard in
@@ -125,7 +125,7 @@ pub record StaysUnder (w new : worlds.World) : Type 0 where
   pub over : sessions_over w.store w.sessions ≡ w.sessions → sessions_over new.store new.sessions ≡ new.sessions
   pub fit : AreFit w.sessions → AreFit new.sessions
 
-over_same : (a b : Option statements.World) (begun : ℕ → Option Session) → is_some a ≡ is_some b → sessions_over b begun ≡ begun → sessions_over a begun ≡ begun
+over_same : (a b : Option statements.Database) (begun : ℕ → Option Session) → is_some a ≡ is_some b → sessions_over b begun ≡ begun → sessions_over a begun ≡ begun
 over_same None None begun same over = over
 over_same (Some x) b begun same over = refl
 over_same None (Some y) begun same over = absurd cc
@@ -138,7 +138,7 @@ stays_under w new rest = record {
   fit = subst AreFit (sym rest.sessions);
 }
 
-tables_under : (w : worlds.World) (o : Option statements.World) (line : Line) (now : ℕ) → FitsParts line → StaysUnder w (on_tables w o line now).world
+tables_under : (w : worlds.World) (o : Option statements.Database) (line : Line) (now : ℕ) → FitsParts line → StaysUnder w (on_tables w o line now).world
 tables_under w None line now fits = stays_under w w (rest_same w)
 tables_under w (Some store) line now fits = record { id = refl; limits = refl; over = λ over. refl; fit = session_fit (with_begun w store) line now fits }
 
@@ -149,7 +149,7 @@ step_under w line now found = by_line (λ line s. FitsParts line → StaysUnder 
 
 -- ---- the world of a scene
 
-over_fit : (o : Option statements.World) (begun : ℕ → Option Session) → AreFit begun → AreFit (sessions_over o begun)
+over_fit : (o : Option statements.Database) (begun : ℕ → Option Session) → AreFit begun → AreFit (sessions_over o begun)
 over_fit None begun all = λ n. tt
 over_fit (Some store) begun all = all
 
@@ -157,11 +157,11 @@ pub world_fit : (t : Scene) (id : ℕ) → AreFit t.sessions → AreFit (world_o
 unfolding world_of
 world_fit t id all = over_fit (store_in id (stored t.bytes)) t.sessions all
 
-over_over : (o : Option statements.World) (begun : ℕ → Option Session) → sessions_over o (sessions_over o begun) ≡ sessions_over o begun
+over_over : (o : Option statements.Database) (begun : ℕ → Option Session) → sessions_over o (sessions_over o begun) ≡ sessions_over o begun
 over_over None begun = refl
 over_over (Some store) begun = refl
 
-pub none_over : (o : Option statements.World) → sessions_over o no_sessions ≡ no_sessions
+pub none_over : (o : Option statements.Database) → sessions_over o no_sessions ≡ no_sessions
 none_over None = refl
 none_over (Some store) = refl
 

@@ -36,7 +36,7 @@ use Rattle.stmt_text.specs.declared.stmt.Stmt.TheVariants as stmts
 use Rattle.stmt_text.specs.declared.line.Line.{Line}
 use Rattle.stmt_text.specs.declared.line.Line.TheVariants as lines
 use Rattle.stmt_text.specs.Fits.{FitsParts}
-use Rattle.statement_core.specs.World as statements
+use Rattle.statement_core.specs.Database as statements
 use Rattle.validator.specs.declared.verdict.Verdict.{Verdict}
 use Rattle.validator.specs.declared.fail.AuditFail.{AuditFail}
 use Rattle.validator.specs.Notarizing.{Heard, heard_of, notarize_fault, next_batches, frontier_for}
@@ -86,7 +86,7 @@ validated_batches n w now (Ok verdict) lists id = noted_batches n w.id (mark_of 
 validated_batches n w now (Err fail) lists id = ap (λ (calls : List Call). (with_calls calls lists).batches id) (take_none n)
 
 -- a line that leaves the store and its batches
-asked_by : (i : ℕ) (t : Scene) (line : Line) (found : Found) (o : Option statements.World) (s : world_steps.Step) → s.world.store ≡ o → ((id : ℕ) → s.world.lists.batches id ≡ t.lists.batches id)
+asked_by : (i : ℕ) (t : Scene) (line : Line) (found : Found) (o : Option statements.Database) (s : world_steps.Step) → s.world.store ≡ o → ((id : ℕ) → s.world.lists.batches id ≡ t.lists.batches id)
     → ((n id : ℕ) → (with_calls (take n (notary_calls (world_with t i o) line t.clock found)) t.lists).batches id ≡ t.lists.batches id) → SoundEither (items_added o s.world.store) t (over_world t (world_with t i o) line found s)
 asked_by i t line found o s store_same batches_same calls_same = record {
   whole = good_same (items_added o s.world.store) t (over_world t (world_with t i o) line found s).next.scene batches_same (ap (λ (its : List Item). history_in (stored (with_items (end_of_store o) its t.bytes))) none);
@@ -99,7 +99,7 @@ asked_by i t line found o s store_same batches_same calls_same = record {
     none : items_added o s.world.store ≡ []
     none = ap (items_added o) store_same ∙ none_added o
 
-validate_by : (i : ℕ) (t : Scene) (found : Found) → (o : Option statements.World) → SoundEither (items_added o (validated (world_with t i o) t.clock found.verdict found.refusal).world.store) t (over_world t (world_with t i o) (lines.Plain stmts.Validate) found (validated (world_with t i o) t.clock found.verdict found.refusal))
+validate_by : (i : ℕ) (t : Scene) (found : Found) → (o : Option statements.Database) → SoundEither (items_added o (validated (world_with t i o) t.clock found.verdict found.refusal).world.store) t (over_world t (world_with t i o) (lines.Plain stmts.Validate) found (validated (world_with t i o) t.clock found.verdict found.refusal))
 unfolding notary_calls
 validate_by i t found o =
     let parts = with_validated (world_with t i o) t.clock found.verdict found.refusal in
@@ -112,7 +112,7 @@ validate_sound t (Some i) found = validate_by i t found (store_in i (stored t.by
 
 -- ---- an analysis
 
-analyse_by : (i : ℕ) (t : Scene) (algorithm : LineAlgorithm) (found : Found) → (o : Option statements.World)
+analyse_by : (i : ℕ) (t : Scene) (algorithm : LineAlgorithm) (found : Found) → (o : Option statements.Database)
     → SoundEither (items_added o (analysed (world_with t i o) (algorithm_of algorithm) found.analysis found.body).world.store) t (over_world t (world_with t i o) (lines.Plain (stmts.Analyse algorithm)) found (analysed (world_with t i o) (algorithm_of algorithm) found.analysis found.body))
 unfolding notary_calls
 analyse_by i t algorithm found o =
@@ -135,7 +135,7 @@ unfolding frontier_items
 around_is None its = sym (append-nil its)
 around_is (Some moment) its = refl
 
-module _ (i : ℕ) (t : Scene) (found : Found) (store : statements.World) (is : store_in i (stored t.bytes) ≡ Some store) (bytes_before : IsBytes t.bytes)
+module _ (i : ℕ) (t : Scene) (found : Found) (store : statements.Database) (is : store_in i (stored t.bytes) ≡ Some store) (bytes_before : IsBytes t.bytes)
     (hears : found.heard ≡ heard_of (t.lists.batches i) (history store.header store.items)) where
   abbrev h : History
   h = history store.header store.items
@@ -150,7 +150,7 @@ module _ (i : ℕ) (t : Scene) (found : Found) (store : statements.World) (is : 
   now = t.clock
 
   abbrev tail : Tail
-  tail = statements.tail_of_world store
+  tail = statements.tail_of_database store
 
   abbrev need : Option ℕ
   need = frontier_for (layout h) tail now found.heard.count
@@ -274,7 +274,7 @@ module _ (i : ℕ) (t : Scene) (found : Found) (store : statements.World) (is : 
           same : history store.header store.items ≡ k
           same = same_Some (history store.header store.items) k (sym held_now ∙ some)
 
-          by : (held after ≡ Some (history store.header store.items)) ⊎ (held after ≡ Some (history store.header (with_frontier_for (frontier_for (layout (history store.header store.items)) (statements.tail_of_world store) t.clock found.heard.count) store.items)))
+          by : (held after ≡ Some (history store.header store.items)) ⊎ (held after ≡ Some (history store.header (with_frontier_for (frontier_for (layout (history store.header store.items)) (statements.tail_of_database store) t.clock found.heard.count) store.items)))
               → (held after ≡ Some k) ⊎ (held after ≡ Some (history k.header (k.items ++ items_added (Some store) step.world.store)))
           by (inl old) = inl (old ∙ ap (λ (x : History). Some x) same)
           by (inr new) = inr (new ∙ ap (λ (l : List Item). Some (history store.header l)) (around_is need store.items ∙ ap (λ (l : List Item). store.items ++ l) (sym (items_same ∙ sealing.added_is i t found store is bytes_before need)))
@@ -288,7 +288,7 @@ module _ (i : ℕ) (t : Scene) (found : Found) (store : statements.World) (is : 
         bare = stored_already a.next.scene;
       }
         where
-          full : held (over_world t (world_with t i (Some store)) line found step).next.scene ≡ Some (history store.header (with_frontier_for (frontier_for (layout (history store.header store.items)) (statements.tail_of_world store) t.clock found.heard.count) store.items))
+          full : held (over_world t (world_with t i (Some store)) line found step).next.scene ≡ Some (history store.header (with_frontier_for (frontier_for (layout (history store.header store.items)) (statements.tail_of_database store) t.clock found.heard.count) store.items))
           full = sealing.held_after i t found store is bytes_before free (over_world t (world_with t i (Some store)) line found step).next.scene (ap bytes_to items_same)
 
       module _ (crash : Crash) (soon : crash.after < calls_in a) where
@@ -345,7 +345,7 @@ module _ (i : ℕ) (t : Scene) (found : Found) (store : statements.World) (is : 
           (ap (λ (fault : Option AuditFail). (world_steps.unless fault w (carried_out w store (intent_in store now found.heard) found.refusal)).world.store) cause)
           (ap (λ (fault : Option AuditFail). (world_steps.unless fault w (carried_out w store (intent_in store now found.heard) found.refusal)).world.lists) cause)
 
-with_store : (i : ℕ) (t : Scene) (found : Found) → IsFit t → (o : Option statements.World) → store_in i (stored t.bytes) ≡ o → IfSome o (MayFile (world_with t i o) t.clock found)
+with_store : (i : ℕ) (t : Scene) (found : Found) → IsFit t → (o : Option statements.Database) → store_in i (stored t.bytes) ≡ o → IfSome o (MayFile (world_with t i o) t.clock found)
     → SoundEither (items_added o (notarized (world_with t i o) o t.clock found.heard found.refusal).world.store) t (over_world t (world_with t i o) line found (notarized (world_with t i o) o t.clock found.heard found.refusal))
 unfolding notary_calls line
 with_store i t found fits None is may = tables_by i t line (tt, refl) found fits None is (notarized (world_with t i None) None t.clock found.heard found.refusal) refl refl
@@ -363,17 +363,11 @@ unfolding act world_steps.step notary_calls
 stmt_sound t stmts.Notarize found is parts may fits = notarize_sound t t.id found may fits
 stmt_sound t stmts.Validate found is parts may fits = validate_sound t t.id found
 stmt_sound t (stmts.Now moment) found is parts may fits = quiet_sound (stored_by t.id t (Ok (lines.Plain (stmts.Now moment))) found) t (says (record t { clock = moment }) (codes "ok")) refl refl
-stmt_sound t (stmts.Create table columns) found is parts may fits = tables_sound t t.id (lines.Plain (stmts.Create table columns)) parts found fits (goes_to_tables (lines.Plain (stmts.Create table columns)) tt)
-stmt_sound t (stmts.Insert table row) found is parts may fits = tables_sound t t.id (lines.Plain (stmts.Insert table row)) parts found fits (goes_to_tables (lines.Plain (stmts.Insert table row)) tt)
-stmt_sound t (stmts.Update table row) found is parts may fits = tables_sound t t.id (lines.Plain (stmts.Update table row)) parts found fits (goes_to_tables (lines.Plain (stmts.Update table row)) tt)
-stmt_sound t (stmts.Delete table key) found is parts may fits = tables_sound t t.id (lines.Plain (stmts.Delete table key)) parts found fits (goes_to_tables (lines.Plain (stmts.Delete table key)) tt)
-stmt_sound t (stmts.Get table key moment) found is parts may fits = tables_sound t t.id (lines.Plain (stmts.Get table key moment)) parts found fits (goes_to_tables (lines.Plain (stmts.Get table key moment)) tt)
-stmt_sound t (stmts.Scan table filter moment) found is parts may fits = tables_sound t t.id (lines.Plain (stmts.Scan table filter moment)) parts found fits (goes_to_tables (lines.Plain (stmts.Scan table filter moment)) tt)
-stmt_sound t (stmts.History table key) found is parts may fits = tables_sound t t.id (lines.Plain (stmts.History table key)) parts found fits (goes_to_tables (lines.Plain (stmts.History table key)) tt)
 stmt_sound t stmts.Begin found is parts may fits = absurd is
 stmt_sound t stmts.Commit found is parts may fits = absurd is
 stmt_sound t stmts.Abort found is parts may fits = absurd is
 stmt_sound t (stmts.Analyse algorithm) found is parts may fits = analyse_sound t algorithm t.id found
+stmt_sound t stmt found is parts may fits = tables_sound t t.id (lines.Plain stmt) parts found fits (goes_to_tables (lines.Plain stmt) tt)
 
 line_sound : (t : Scene) (line : Line) (found : Found) → IsDrillLine line → IsFromInside (Ok line) → FitsParts line → MayBeFound t.id t (Ok line) found → IsFit t → SoundEither (stored_by t.id t (Ok line) found) t (act t line found)
 unfolding act world_steps.step notary_calls
@@ -429,7 +423,7 @@ sound_under filed_ones id (Some hd) x (inr known) =
     let test : (hd.id == id) ≡ true = eq-eqb hd.id id known.2.filed.header in
     inr (known.0, known.1, subst (λ (b : Bool). HoldsNotarized filed_ones id known.0 (if b then Some (history hd x.items) else None)) (sym test) known.2)
 
-fit_header : (t : Scene) (id : ℕ) → IsBytes t.bytes → (o : Option statements.World) → store_in id (stored t.bytes) ≡ o → IfSome o (λ store. FitsHeader store.header × (store.header.id ≡ id))
+fit_header : (t : Scene) (id : ℕ) → IsBytes t.bytes → (o : Option statements.Database) → store_in id (stored t.bytes) ≡ o → IfSome o (λ store. FitsHeader store.header × (store.header.id ≡ id))
 fit_header t id bytes None is = tt
 fit_header t id bytes (Some store) is = (let facts = store_is id t.bytes store is in ((stored_history t.bytes store.header bytes facts.header).header, facts.own))
 

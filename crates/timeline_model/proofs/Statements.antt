@@ -12,9 +12,9 @@ use Rattle.stmt_text.specs.declared.line.Line.{Line}
 use Rattle.stmt_text.specs.declared.line.Line.TheVariants as lines
 use Rattle.validator.specs.declared.fail.AuditFail.{AuditFail}
 use Rattle.validator.specs.Notarizing.{Heard, notarize_fault, frontier_for}
-use Rattle.statement_core.specs.World as statements
-use Rattle.statement_core.specs.World.{tail_of_world, with_txn}
-use Rattle.session_model.specs.World as sessions
+use Rattle.statement_core.specs.Database as statements
+use Rattle.statement_core.specs.Database.{tail_of_database, with_txn}
+use Rattle.session_model.specs.Service as sessions
 use Rattle.session_model.proofs.Storing.{AsksFor, stores_or_not}
 use Rattle.store_world.specs.Found.{Found}
 use Rattle.store_world.specs.World as worlds
@@ -30,73 +30,73 @@ use Rattle.digest_model.specs.Layout.{layout}
 -- ---- a statement on tables, or a line of a session
 
 -- the transaction that operations become
-abbrev pub new_txn : statements.World → List Op → ℕ → Txn
-new_txn w ops now = next_txn (tail_of_world w) ops now
+abbrev pub new_txn : statements.Database → List Op → ℕ → Txn
+new_txn w ops now = next_txn (tail_of_database w) ops now
 
 -- a store with the sessions of a world
-abbrev pub with_begun : worlds.World → statements.World → sessions.World
+abbrev pub with_begun : worlds.World → statements.Database → sessions.Service
 with_begun w store = record { store = store; sessions = w.sessions }
 
 -- ---- a notarization
 
 -- the store gets its Frontier, where nothing speaks against it
-pub record GetsFrontier (store : statements.World) (now : ℕ) (heard : Heard) (s : world_steps.Step) : Type 0 where
-  pub free : notarize_fault (tail_of_world store) false now store.items heard ≡ None
-  pub is : s.world.store ≡ Some (reached (frontier_for (layout (history store.header store.items)) (tail_of_world store) now heard.count) store)
+pub record GetsFrontier (store : statements.Database) (now : ℕ) (heard : Heard) (s : world_steps.Step) : Type 0 where
+  pub free : notarize_fault (tail_of_database store) false now store.items heard ≡ None
+  pub is : s.world.store ≡ Some (reached (frontier_for (layout (history store.header store.items)) (tail_of_database store) now heard.count) store)
 
-pub notarized_store : (w : worlds.World) (store : statements.World) (now : ℕ) (heard : Heard) (refusal : Option AuditFail)
+pub notarized_store : (w : worlds.World) (store : statements.Database) (now : ℕ) (heard : Heard) (refusal : Option AuditFail)
     → ((notarized w (Some store) now heard refusal).world.store ≡ w.store) ⊎ GetsFrontier store now heard (notarized w (Some store) now heard refusal)
-notarized_store w store now heard refusal = by (notarize_fault (tail_of_world store) false now store.items heard) refl
+notarized_store w store now heard refusal = by (notarize_fault (tail_of_database store) false now store.items heard) refl
   where
     carried : world_steps.Step
     carried = carried_out w store (intent_in store now heard) refusal
 
-    by : (fault : Option AuditFail) → notarize_fault (tail_of_world store) false now store.items heard ≡ fault → ((world_steps.unless fault w carried).world.store ≡ w.store) ⊎ GetsFrontier store now heard (world_steps.unless fault w carried)
+    by : (fault : Option AuditFail) → notarize_fault (tail_of_database store) false now store.items heard ≡ fault → ((world_steps.unless fault w carried).world.store ≡ w.store) ⊎ GetsFrontier store now heard (world_steps.unless fault w carried)
     by (Some fail) is = inl refl
     by None is = inr (record { free = is; is = ap (λ (x : worlds.World). x.store) (carried_world w store (intent_in store now heard) refusal) })
 
 -- ---- a line
 
 -- the transaction of what a line asks to be stored
-pub record IsTxnOf (w : worlds.World) (line : Line) (now : ℕ) (new : Option statements.World) : Type 0 where
-  pub store : statements.World
+pub record IsTxnOf (w : worlds.World) (line : Line) (now : ℕ) (new : Option statements.Database) : Type 0 where
+  pub store : statements.Database
   pub store_is : w.store ≡ Some store
   pub ops : List Op
   pub asked : AsksFor (with_begun w store) line ops
   pub some : 1 ≤ length ops
-  pub free : commit_fault (tail_of_world store) false ops now ≡ None
+  pub free : commit_fault (tail_of_database store) false ops now ≡ None
   pub new_is : new ≡ Some (with_txn store (new_txn store ops now))
 
 -- the Frontier of a notarization, by what was heard
-pub record IsFrontierOf (w : worlds.World) (now : ℕ) (new : Option statements.World) : Type 0 where
+pub record IsFrontierOf (w : worlds.World) (now : ℕ) (new : Option statements.Database) : Type 0 where
   pub heard : Heard
-  pub store : statements.World
+  pub store : statements.Database
   pub store_is : w.store ≡ Some store
-  pub free : notarize_fault (tail_of_world store) false now store.items heard ≡ None
+  pub free : notarize_fault (tail_of_database store) false now store.items heard ≡ None
   pub moment : ℕ
-  pub need : frontier_for (layout (history store.header store.items)) (tail_of_world store) now heard.count ≡ Some moment
+  pub need : frontier_for (layout (history store.header store.items)) (tail_of_database store) now heard.count ≡ Some moment
   pub new_is : new ≡ Some (statements.with_frontier store moment)
 
 -- the store of a world stays, or has one of these more
-abbrev pub Stores : worlds.World → Line → ℕ → Option statements.World → Type 0
+abbrev pub Stores : worlds.World → Line → ℕ → Option statements.Database → Type 0
 Stores w line now new = (new ≡ w.store) ⊎ IsTxnOf w line now new ⊎ IsFrontierOf w now new
 
 module _ (w : worlds.World) (line : Line) (now : ℕ) where
-  of_tables : (o : Option statements.World) → w.store ≡ o → Stores w line now (on_tables w o line now).world.store
+  of_tables : (o : Option statements.Database) → w.store ≡ o → Stores w line now (on_tables w o line now).world.store
   of_tables None is = inl refl
   of_tables (Some store) is = elim (stores_or_not (with_begun w store) line now) [
-    | inl same ↦ inl (ap (λ (x : statements.World). Some x) same ∙ sym is)
-    | inr one ↦ inr (inl (record { store = store; store_is = is; ops = one.ops; asked = one.asked; some = one.some; free = one.free; new_is = ap (λ (x : statements.World). Some x) one.store }))
+    | inl same ↦ inl (ap (λ (x : statements.Database). Some x) same ∙ sym is)
+    | inr one ↦ inr (inl (record { store = store; store_is = is; ops = one.ops; asked = one.asked; some = one.some; free = one.free; new_is = ap (λ (x : statements.Database). Some x) one.store }))
   ]
 
-  of_notarize : (heard : Heard) (refusal : Option AuditFail) (o : Option statements.World) → w.store ≡ o → Stores w line now (notarized w o now heard refusal).world.store
+  of_notarize : (heard : Heard) (refusal : Option AuditFail) (o : Option statements.Database) → w.store ≡ o → Stores w line now (notarized w o now heard refusal).world.store
   of_notarize heard refusal None is = inl refl
   of_notarize heard refusal (Some store) is = elim (notarized_store w store now heard refusal) [
     | inl same ↦ inl same
-    | inr gets ↦ subst (Stores w line now) (sym gets.is) (by gets.free (frontier_for (layout (history store.header store.items)) (tail_of_world store) now heard.count) refl)
+    | inr gets ↦ subst (Stores w line now) (sym gets.is) (by gets.free (frontier_for (layout (history store.header store.items)) (tail_of_database store) now heard.count) refl)
   ]
     where
-      by : notarize_fault (tail_of_world store) false now store.items heard ≡ None → (need : Option ℕ) → frontier_for (layout (history store.header store.items)) (tail_of_world store) now heard.count ≡ need → Stores w line now (Some (reached need store))
+      by : notarize_fault (tail_of_database store) false now store.items heard ≡ None → (need : Option ℕ) → frontier_for (layout (history store.header store.items)) (tail_of_database store) now heard.count ≡ need → Stores w line now (Some (reached need store))
       by free None need = inl (sym is)
       by free (Some moment) need = inr (inr (record { heard = heard; store = store; store_is = is; free = free; moment = moment; need = need; new_is = refl }))
 
@@ -105,13 +105,13 @@ step_stores w line now found = by_line (λ line s. Stores w line now s.world.sto
     (inl (with_validated w now found.verdict found.refusal).store) (λ algorithm. inl (ap (λ (x : worlds.World). x.store) (analysed_stays w (algorithm_of algorithm) found.analysis found.body)))
 
 -- the items of that
-module _ (w : worlds.World) (line : Line) (now : ℕ) (new : Option statements.World) where
+module _ (w : worlds.World) (line : Line) (now : ℕ) (new : Option statements.Database) where
   pub same_added : new ≡ w.store → items_added w.store new ≡ []
   same_added same = ap (items_added w.store) same ∙ none_added w.store
 
-  one_added : (store more : statements.World) (item : Item) → w.store ≡ Some store → new ≡ Some more → more.items ≡ store.items ++ item ∷ [] → items_added w.store new ≡ item ∷ []
+  one_added : (store more : statements.Database) (item : Item) → w.store ≡ Some store → new ≡ Some more → more.items ≡ store.items ++ item ∷ [] → items_added w.store new ≡ item ∷ []
   one_added store more item is new_is items_are =
-      ap (λ (o : Option statements.World). items_added o new) is ∙ ap (items_added (Some store)) new_is
+      ap (λ (o : Option statements.Database). items_added o new) is ∙ ap (items_added (Some store)) new_is
       ∙ ap (drop (length store.items)) items_are ∙ drop_at store.items (item ∷ []) (length store.items) refl
 
   pub txn_added : (txn : IsTxnOf w line now new) → items_added w.store new ≡ items.Txn (new_txn txn.store txn.ops now) ∷ []

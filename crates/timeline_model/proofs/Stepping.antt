@@ -18,8 +18,8 @@ use Rattle.stmt_text.specs.declared.stmt.Stmt.TheVariants as stmts
 use Rattle.stmt_text.specs.declared.line.Line.{Line}
 use Rattle.stmt_text.specs.declared.line.Line.TheVariants as lines
 use Rattle.stmt_text.specs.Fits.{FitsParts}
-use Rattle.statement_core.specs.World as statements
-use Rattle.session_model.specs.World.{Session}
+use Rattle.statement_core.specs.Database as statements
+use Rattle.session_model.specs.Service.{Session}
 use Rattle.store_world.specs.Found.{Found}
 use Rattle.store_world.specs.World as worlds
 use Rattle.store_world.specs.Steps as world_steps
@@ -47,7 +47,7 @@ world_read id header s is own =
     ap (λ (o : Option Header). store_under id o s) is
     ∙ ap (λ (b : Bool). if b then Some (record { header = header; items = s.items; end = s.end }) else None) (eq-eqb header.id id own)
 
-module _ (id : ℕ) (t : Scene) (store : statements.World) (is : store_in id (stored t.bytes) ≡ Some store) (bytes : IsBytes t.bytes) (item : Item) (takes : Takes t.bytes item) where
+module _ (id : ℕ) (t : Scene) (store : statements.Database) (is : store_in id (stored t.bytes) ≡ Some store) (bytes : IsBytes t.bytes) (item : Item) (takes : Takes t.bytes item) where
   facts : StoreIs id t.bytes store
   facts = store_is id t.bytes store is
 
@@ -83,14 +83,14 @@ module _ (id : ℕ) (t : Scene) (line : Line) (found : Found) (scene_fits : IsFi
   abbrev w : worlds.World
   w = world_of t id
 
-  abbrev bytes_to : Option statements.World → List ℕ
+  abbrev bytes_to : Option statements.Database → List ℕ
   bytes_to new = with_items (end_of_store w.store) (items_added w.store new) t.bytes
 
   -- with this item
-  with_one : (new : Option statements.World) (store : statements.World) (item : Item) → w.store ≡ Some store → items_added w.store new ≡ item ∷ [] → bytes_to new ≡ with_items store.end (item ∷ []) t.bytes
-  with_one new store item is one = ap (λ (o : Option statements.World). with_items (end_of_store o) (items_added w.store new) t.bytes) is ∙ ap (λ (its : List Item). with_items store.end its t.bytes) one
+  with_one : (new : Option statements.Database) (store : statements.Database) (item : Item) → w.store ≡ Some store → items_added w.store new ≡ item ∷ [] → bytes_to new ≡ with_items store.end (item ∷ []) t.bytes
+  with_one new store item is one = ap (λ (o : Option statements.Database). with_items (end_of_store o) (items_added w.store new) t.bytes) is ∙ ap (λ (its : List Item). with_items store.end its t.bytes) one
 
-  pub read_by : (new : Option statements.World) → Stores w line t.clock new → store_in id (stored (bytes_to new)) ≡ new
+  pub read_by : (new : Option statements.Database) → Stores w line t.clock new → store_in id (stored (bytes_to new)) ≡ new
   unfolding world_of
   read_by new (inl same) = ap (λ (its : List Item). store_in id (stored (with_items (end_of_store w.store) its t.bytes))) (same_added w line t.clock new same) ∙ sym same
   read_by new (inr (inl txn)) =
@@ -114,7 +114,7 @@ module _ (id : ℕ) (t : Scene) (line : Line) (found : Found) (scene_fits : IsFi
       let store = read_by s.world.store (step_stores w line t.clock found) in
       record {
         world =
-            ap (λ (o : Option statements.World). record { id = id; store = o; sessions = sessions_over o s.world.sessions; lists = s.world.lists; limits = t.limits }) store
+            ap (λ (o : Option statements.Database). record { id = id; store = o; sessions = sessions_over o s.world.sessions; lists = s.world.lists; limits = t.limits }) store
             ∙ ap (λ (begun : ℕ → Option Session). record { id = id; store = s.world.store; sessions = begun; lists = s.world.lists; limits = t.limits }) (under.over (world_over t id))
             ∙ ap (λ (n : ℕ). record { id = n; store = s.world.store; sessions = s.world.sessions; lists = s.world.lists; limits = t.limits }) (sym under.id)
             ∙ ap (λ (l : NotaryLimits). record { id = s.world.id; store = s.world.store; sessions = s.world.sessions; lists = s.world.lists; limits = l }) (sym under.limits)
@@ -125,20 +125,11 @@ module _ (id : ℕ) (t : Scene) (line : Line) (found : Found) (scene_fits : IsFi
 
 stmt_act : (t : Scene) (stmt : Stmt) (found : Found) → IsWorldStmt stmt → act t (lines.Plain stmt) found ≡ over_store t t.id (lines.Plain stmt) found
 unfolding act
-stmt_act t stmts.Notarize found is = refl
-stmt_act t stmts.Validate found is = refl
-stmt_act t (stmts.Create table columns) found is = refl
-stmt_act t (stmts.Insert table row) found is = refl
-stmt_act t (stmts.Update table row) found is = refl
-stmt_act t (stmts.Delete table key) found is = refl
-stmt_act t (stmts.Get table key moment) found is = refl
-stmt_act t (stmts.Scan table filter moment) found is = refl
-stmt_act t (stmts.History table key) found is = refl
 stmt_act t stmts.Begin found is = absurd is
 stmt_act t stmts.Commit found is = absurd is
 stmt_act t stmts.Abort found is = absurd is
-stmt_act t (stmts.Analyse algorithm) found is = refl
 stmt_act t (stmts.Now moment) found is = absurd is
+stmt_act t stmt found is = refl
 
 pub line_act : (t : Scene) (line : Line) (found : Found) → IsWorldLine line → act t line found ≡ over_store t t.id line found
 unfolding act

@@ -13,8 +13,8 @@ use Rattle.txn_journal.specs.Append.{append_calls, closed_gate}
 use Rattle.txn_journal.specs.Create.{is_free, creation}
 use Rattle.store_engine.specs.declared.fail.StoreFail.{StoreFail}
 use Rattle.store_engine.specs.declared.fail.StoreFail.TheVariants as fails
-use Rattle.statement_core.specs.World as statements
-use Rattle.session_model.specs.World.{Session}
+use Rattle.statement_core.specs.Database as statements
+use Rattle.session_model.specs.Service.{Session}
 use Rattle.session_model.specs.Standing.{NoneKept}
 use Rattle.store_world.specs.declared.open_store.OpenStore.{OpenStore}
 use Rattle.store_world.specs.Standing.{StoreIsIn, IsIn, IsEntered}
@@ -53,7 +53,7 @@ ImagesGoByNewCalls = (choice : ℕ) (first : List ℕ) (trace : List (Call × Bo
 
 -- The world that an open store stands for over some bytes is the one that a timeline reads from them.
 abbrev pub WorldsGoByBytes : Type 0
-WorldsGoByBytes = (id : ℕ) (w : Option statements.World) (begun : ℕ → Option Session) (kept : Option OpenStore) (bytes : List ℕ) → StoreIsIn id w begun kept bytes → store_in id (stored bytes) ≡ w
+WorldsGoByBytes = (id : ℕ) (w : Option statements.Database) (begun : ℕ → Option Session) (kept : Option OpenStore) (bytes : List ℕ) → StoreIsIn id w begun kept bytes → store_in id (stored bytes) ≡ w
 
 -- what a machine stands for behind an answer of entering, if it came to one: a world without sessions
 abbrev pub StandsEntered : Scene → ℕ → Result (Unit {0}) StoreFail → Option OpenStore → Type 0

@@ -1,13 +1,17 @@
+use Rattle.std.proofs.Common.{rules}
 use Rattle.std.specs.Prelude.{⊤}
 use Rattle.disk_words.proofs.Frame.{goes_on_same}
 use Rattle.notary_link.proofs.Frame as notary_frames
 use Rattle.stmt_text.specs.Kinds.{line_kind}
+use Rattle.store_world.specs.ByBytes.{NeedsStore}
 use Rattle.store_world.proofs.Faults.{ends_wanting}
 use Rattle.store_world.proofs.Nowhere.{nowhere}
 use Rattle.store_world.proofs.lines.answer_without_store.Goals as goal
 
 pub returns-in_default-clause-told : goal.returns-in_default-clause-told
-returns-in_default-clause-told g c = nowhere c.args.line.now c.no_answer.ensures.needs c.args.id c.args.now (g.D.Disk.state c.args.disk.now) (g.met.D.Disk.only_now c.args.disk.now) (g.N.Notary.state c.args.notary.now) c.no_answer.result c.no_answer.ensures.value c.no_answer.ensures.only_memory
+returns-in_default-clause-told g c =
+    let needs : NeedsStore c.args.line.now = search rules in
+    nowhere c.args.line.now needs c.args.id c.args.now (g.D.Disk.state c.args.disk.now) (g.met.D.Disk.only_now c.args.disk.now) (g.N.Notary.state c.args.notary.now) c.no_answer.result c.no_answer.ensures.value c.no_answer.ensures.only_memory
 
 pub returns-in_default-clause-disk_frame : goal.returns-in_default-clause-disk_frame
 returns-in_default-clause-disk_frame g c = goes_on_same _

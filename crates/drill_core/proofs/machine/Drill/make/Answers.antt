@@ -1,7 +1,7 @@
 use Rattle.std.proofs.Common.{arith}
 use Rattle.drill_core.specs.Drills.{crash_of}
 use Rattle.drill_core.proofs.Ready.{ok_map}
-use Rattle.drill_core.proofs.MadeStores.{late_left, made_left}
+use Rattle.drill_core.proofs.MadeStores.{made_left}
 use Rattle.drill_core.proofs.machine.Drill.make.Goals as goal
 
 pub returns : goal.returns
