@@ -310,9 +310,9 @@ module _ (id n : ℕ) (h : History) (bytes : List ℕ) (are : IsBytes bytes) (sp
       (λ (none : has_chains algorithm (layout h) n ≡ false). let e : true ≡ false = sym chains ∙ none in absurd cc)
       (λ (clash : HashClash h (history_in (stored bytes)) n). some.1 clash)
       (refusals_clash.chains algorithm (lists.batches id) id n h bytes some.0 spelled (held_history id n h bytes are spelled (lists.batches id)) is)) is)
-  reported algorithm now old later (Err (analyses.NotaryInconsistent level index)) chains reads told still disk notary found =
-      let is = found_at algorithm old later (analyses.NotaryInconsistent level index) reads told still found in
-      absurd (refuses_none algorithm (analyses.NotaryInconsistent level index) (λ some. refusals_clash.consistent algorithm (lists.batches id) id n level index h bytes (Err (analyses.NotaryInconsistent level index)) some.0 is refl) is)
+  reported algorithm now old later (Err (analyses.NotaryInconsistent era level index)) chains reads told still disk notary found =
+      let is = found_at algorithm old later (analyses.NotaryInconsistent era level index) reads told still found in
+      absurd (refuses_none algorithm (analyses.NotaryInconsistent era level index) (λ some. refusals_clash.consistent algorithm (lists.batches id) id n era level index h bytes (Err (analyses.NotaryInconsistent era level index)) some.0 is refl) is)
 
 module _ (id : ℕ) (result : Status) (old new : Devices) (causes : HasCauses result old new) (goes : AllGoOn old new) (n : ℕ) (h : History) (held : Content) where
   still_lists : NoneFailed old new → DeskTells held old.desk → is_some new.desk.notary.lists ≡ false → ⊥

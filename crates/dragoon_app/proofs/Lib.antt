@@ -1,4 +1,5 @@
 pub mod WordFacts
+pub mod Paths
 pub mod ItemFacts
 pub mod Going
 pub mod Stores

@@ -10,7 +10,7 @@ use Rattle.validator.specs.declared.verdict.Verdict.{Verdict}
 use Rattle.validator.specs.declared.verdict.Verdict.TheVariants as verdicts
 use Rattle.validator.specs.declared.fail.AuditFail.{AuditFail}
 use Rattle.validator.specs.declared.fail.AuditFail.TheVariants as fails
-use Rattle.number_text.specs.Numbered.{numbered}
+use Rattle.byte_grammar.specs.Numbered.{numbered}
 use Rattle.validator.specs.Texts.{verdict_text}
 use Rattle.validator.specs.Notarizing.{early_fault, IsEarly}
 use Rattle.validator.specs.Reaching.{Notarizes}
@@ -103,7 +103,7 @@ IsUnaltered statuses.Altered = ⊥
 IsUnaltered statuses.Broken = ⊥
 IsUnaltered (statuses.SealMissing name) = ⊥
 IsUnaltered (statuses.OutOfTurn count) = ⊥
-IsUnaltered (statuses.NotaryInconsistent level index) = ⊥
+IsUnaltered (statuses.NotaryInconsistent era level index) = ⊥
 IsUnaltered s = Unit {0}
 
 -- Of a store that is sound under the id it isn't said that it is altered.

@@ -21,7 +21,7 @@ use Rattle.audit_model.specs.Notary.{NotaryOf}
 use Rattle.audit_model.specs.Altered.{history_in, HasOtherHeader, IsAltered, HashClash}
 use Rattle.txn_journal.specs.Create.{is_free}
 use Rattle.store_engine.specs.Refusals.{Tail}
-use Rattle.statement_core.specs.World.{tail_of_world}
+use Rattle.statement_core.specs.Database.{tail_of_database}
 use Rattle.validator.specs.Notarizing.{early_fault, room_fault, frontier_for, next_batches}
 use Rattle.forensic_report.specs.declared.algorithm.Algorithm.{Algorithm}
 use Rattle.forensic_report.specs.Finding.{has_chains}
@@ -77,7 +77,7 @@ pub record IsFiled (id n : ℕ) (h : History) (held : Content) : Type 0 where
 -- ---- what is supposed of a notarization
 
 abbrev pub tail_in : Header → List ℕ → Tail
-tail_in header bytes = tail_of_world (world_of header bytes)
+tail_in header bytes = tail_of_database (world_of header bytes)
 
 -- nothing speaks against it early at these clock seconds, and there is room for what it stores and files
 pub record HasRoomFor (t : Tail) (s : History) (lists : Lists) (limits : NotaryLimits) (now : ℕ) : Type 0 where

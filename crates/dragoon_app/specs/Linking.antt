@@ -17,7 +17,7 @@ items_behind bytes = items_of (left store_shape header_length bytes).0
 -- after one more item
 abbrev pub after_item : Linked → Item → Linked
 after_item l (items.Txn t) = record { count = l.count + 1; link = next_link l.link (spell_txn t) }
-after_item l (items.Frontier moment) = l
+after_item l item = l
 
 abbrev pub linked_from : Linked → List Item → Linked
 linked_from l is = fold after_item l is

@@ -35,6 +35,16 @@ impl Ask {
         self == Ask::Link || self == Ask::Validate || self == Ask::Analyse
     }
 
+    /// Whether it makes a store where none is.
+    pub(crate) fn makes_store(self) -> bool {
+        self == Ask::Init
+    }
+
+    /// Whether it makes a book where none is.
+    pub(crate) fn makes_book(self) -> bool {
+        !self.only_asks()
+    }
+
     /// Whether it holds one thing against another, or says what is there.
     pub(crate) fn compares(self) -> bool {
         self.only_asks() || self == Ask::Notarize || self == Ask::Run

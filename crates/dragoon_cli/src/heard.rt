@@ -1,5 +1,6 @@
 //! What went to the output, as far as something is told of it at the end.
 
+use crate::sessions::Sessions;
 use crate::shared::Shared;
 use std::str;
 
@@ -84,12 +85,13 @@ impl<'a> Heard<'a> {
 
     fn begin(&mut self, reply: &[u8]) {
         let front = Front::of(reply);
-        if reply.starts_with(b"refused ".as_slice()) {
+        if let Some(refusal) = front.text().strip_prefix("refused ") {
             if self.refused == 0 {
                 self.first_refusal = front;
                 self.shared.first_refused.set(Some(self.replies));
             }
             self.refused = self.refused.saturating_add(1);
+            self.shared.sessions.refuse(self.replies, refusal);
         }
         self.hear(front);
         self.goes_back = self.goes_back || goes_back(reply);
@@ -106,6 +108,10 @@ impl<'a> Heard<'a> {
                 self.altered = reply;
             }
         }
+    }
+
+    pub(crate) fn sessions(&self) -> &Sessions {
+        &self.shared.sessions
     }
 
     /// Whether the last verdict compared nothing.

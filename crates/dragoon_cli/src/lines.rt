@@ -109,7 +109,7 @@ fn find(
 }
 
 /// Whether a line has no reply: nothing but spaces, or `#` at its front.
-fn is_blank(line: &[u8]) -> bool {
+pub(crate) fn is_blank(line: &[u8]) -> bool {
     let line = line.strip_suffix(b"\r".as_slice()).unwrap_or(line);
     line.first() == Some(&b'#') || line.iter().all(|byte| *byte == b' ')
 }

@@ -9,8 +9,10 @@
 //! | a line of progress, and how lines are given at a terminal | `progress`, moved by `watched` |
 //! | what a file was before the call, by a look of its own | `peek` |
 //! | which reply was refused first, and to which line | `heard`, `lines` |
+//! | which sessions are left without a commit | `sessions` |
+//! | which notary of a quorum failed, or differed | `ballot`, told by `members` |
 //! | why a call ended with a fault | `telling` |
-//! | what else output and status don't say | `warnings`, with `refusal` and `wording` |
+//! | what else output and status don't say | `warnings`, with `refusal`, and `wording` over `tokens` |
 //! | words that are no command | `nearest` |
 //!
 //! None of this changes output or status. What is told is made from values that the call has left behind. The look comes
@@ -18,19 +20,26 @@
 //! memory is wanting for a line or a guess it is left out, and what standard error doesn't take is lost.
 #![tactic(auto)]
 
+ghost use Rattle.std.specs.Prelude.{◌≡◌, ◌≤◌, IfOk, length};
+
 mod ask;
+mod ballot;
 mod date;
 mod device;
 mod heard;
 mod lines;
+mod members;
 mod nearest;
 mod peek;
 mod progress;
 mod refusal;
+mod sessions;
 mod shared;
 mod shown;
 mod telling;
+mod tokens;
 mod usage;
+mod wanted;
 mod warnings;
 mod watched;
 mod wording;
@@ -39,13 +48,13 @@ use crate::ask::Ask;
 use crate::device::Device;
 use crate::heard::Heard;
 use crate::lines::Lines;
+use crate::members::quorum_of;
 use crate::peek::{Found, look};
 use crate::progress::Progress;
 use crate::shared::Shared;
-use crate::telling::{Ending, Named, tell};
+use crate::telling::{Called, Ending, Named, Notaries, tell};
 use crate::watched::{WatchedDisk, WatchedSink, WatchedSource};
 use dragoon_app::{Status, dragoon, leading};
-use notary_book::Book;
 use outside_io::{Clock, StdSink, StdSource, SystemClock};
 use std::alloc::{AllocError, Global};
 use std::fs::File;
@@ -82,9 +91,6 @@ fn spare_numbers<R: Files<File = File>>(rt: &R) -> [io::Result<File>; 3] {
     [fs::open(rt, "/"), fs::open(rt, "/"), fs::open(rt, "/")]
 }
 
-/// What the notary's device is called.
-const BOOK: &str = "notary's book";
-
 /// Which streams are terminals. Where standard error is one, it says how far a long call is.
 #[derive(Clone, Copy)]
 struct Terminals {
@@ -93,32 +99,77 @@ struct Terminals {
     error: bool,
 }
 
-/// The words of a call, and what was found of the files that they name.
-#[derive(Clone, Copy)]
+/// The words of a call, and the files that they name.
+#[derive(Drop)]
 struct Asked<'a> {
     ask: Ask,
     call: &'a [String],
-    store: Option<&'a str>,
-    notary: Option<&'a str>,
-    store_found: Found,
-    notary_found: Found,
+    store: Named<'a>,
+    books: Vec<Named<'a>>,
+    ghost some: { 1 ≤ length books.items },
+    ghost few: { length books.items ≤ 9 },
 }
 
-fn found_for<'a, R: Runtime + Files<File = File> + AllocGlobal>(
+fn asked_by<'a, R: Runtime + Files<File = File> + AllocGlobal>(
     rt: &R,
     names: &'a [String],
     call: &'a [String],
-) -> Asked<'a> {
+) -> Result<Asked<'a>, AllocError> {
     let ask = Ask::of(call);
     let store = path_behind("store=", names);
-    let notary = path_behind("notary=", names);
-    Asked {
+    let store = named_by(rt, Called::Store, store, ask.uses_store());
+    let books = books_of(rt, ask, path_behind("notary=", names))?;
+    Ok(Asked {
         ask,
         call,
         store,
-        notary,
-        store_found: look(rt, rt.alloc(), store.filter(|_| ask.uses_store())),
-        notary_found: look(rt, rt.alloc(), notary.filter(|_| ask.uses_notary())),
+        books,
+    })
+}
+
+/// What is known of a device before the call, which is looked at where it is used.
+fn named_by<'a, R: Files<File = File> + AllocGlobal>(
+    rt: &R,
+    called: Called,
+    path: Option<&'a str>,
+    is_used: bool,
+) -> Named<'a> {
+    Named::new(called, path, look(rt, rt.alloc(), path.filter(|_| is_used)))
+}
+
+/// A book for each path between the commas, of which there are at most nine, or one in memory where none is named.
+fn books_of<'a, R: Files<File = File> + AllocGlobal>(
+    rt: &R,
+    ask: Ask,
+    paths: Option<&'a str>,
+) -> Result<Vec<Named<'a>>, AllocError>
+    ensures some { IfOk result (λ books. 1 ≤ length books.items) }
+    ensures few { IfOk result (λ books. length books.items ≤ 9) }
+{
+    let mut books = Vec::new(rt.alloc());
+    if let Some(paths) = paths {
+        let of = paths.split(',').count();
+        for path in paths.split(',') {
+            if books.len() < 9 {
+                let called = called_among(books.len(), of);
+                books.push(named_by(rt, called, Some(path), ask.uses_notary()))?;
+            }
+        }
+    }
+    if books.is_empty() {
+        books.push(named_by(rt, Called::Book, None, false))?;
+    }
+    Ok(books)
+}
+
+fn called_among(place: usize, of: usize) -> Called {
+    if of == 1 {
+        Called::Book
+    } else {
+        Called::Member {
+            number: place.saturating_add(1),
+            of,
+        }
     }
 }
 
@@ -126,22 +177,29 @@ fn found_for<'a, R: Runtime + Files<File = File> + AllocGlobal>(
 #[derive(Drop)]
 struct Devices<'a, R: Runtime + Files<File = File> + AllocGlobal + Drop> {
     store: WatchedDisk<'a, Device<R>, R>,
-    book: WatchedDisk<'a, Device<R>, R>,
+    books: Vec<WatchedDisk<'a, Device<R>, R>>,
     clock: SystemClock<R>,
     input: WatchedSource<'a, StdSource<R>, R>,
     out: WatchedSink<'a, StdSink<R>, R>,
+    ghost some: { 1 ≤ length books.items },
+    ghost few: { length books.items ≤ 9 },
 }
 
-/// Where a file is missing, a command that only asks takes an empty device in its place, and leaves no file behind. It
-/// does so only where a file could be made there: else the call ends with the fault of it, as for every command.
+/// Where a file is missing that a command doesn't make, the command takes an empty device in its place, and leaves no file
+/// behind. It does so only where a file could be made there: else the call ends with the fault of it, as for every command.
 fn path_of<'a, R: Runtime + Files<File = File> + AllocGlobal>(
     rt: &R,
     ask: Ask,
-    path: Option<&'a str>,
-    found: Found,
+    device: &Named<'a>,
 ) -> Option<&'a str> {
-    let is_missing = matches!(&found, Found::Missing) && ask.only_asks();
-    path.filter(|path| !(is_missing && may_be_made(rt, path)))
+    let makes = match device.called {
+        Called::Store => ask.makes_store(),
+        Called::Book | Called::Member { .. } => ask.makes_book(),
+    };
+    let is_missing = matches!(&device.found, Found::Missing) && !makes;
+    device
+        .path
+        .filter(|path| !(is_missing && may_be_made(rt, path)))
 }
 
 /// Whether a file can be made beside this path. It is removed again.
@@ -158,12 +216,32 @@ fn may_be_made<R: Runtime + Files<File = File> + AllocGlobal>(rt: &R, path: &str
 fn disk_of<'a, R: Runtime + Files<File = File> + AllocGlobal + Drop>(
     rt: &R,
     shared: &'a Shared,
-    name: &'static str,
-    path: Option<&str>,
+    ask: Ask,
+    device: &Named<'_>,
     terminals: Terminals,
 ) -> Result<WatchedDisk<'a, Device<R>, R>, AllocError> {
+    let name = match device.called {
+        Called::Store => "store",
+        Called::Book | Called::Member { .. } => "notary's book",
+    };
     let progress = Progress::new(rt, shared, name, terminals.error)?;
-    Ok(WatchedDisk::new(Device::named(rt, path)?, progress))
+    Ok(WatchedDisk::new(Device::named(rt, path_of(rt, ask, device))?, progress))
+}
+
+fn disks_of<'a, R: Runtime + Files<File = File> + AllocGlobal + Drop>(
+    rt: &R,
+    shared: &'a Shared,
+    ask: Ask,
+    books: &[Named<'_>],
+    terminals: Terminals,
+) -> Result<Vec<WatchedDisk<'a, Device<R>, R>>, AllocError>
+    ensures each { IfOk result (λ disks. length disks.items ≡ length books.now) }
+{
+    let mut disks = Vec::new(rt.alloc());
+    for book in books {
+        disks.push(disk_of(rt, shared, ask, book, terminals)?)?;
+    }
+    Ok(disks)
 }
 
 /// A person at the terminal sees the lines, and is told how to give them.
@@ -206,13 +284,11 @@ fn devices_of<'a, R: Runtime + Files<File = File> + AllocGlobal + Drop>(
     let clock = SystemClock::new(rt.clone()?);
     let input = input_of(rt, shared, ask, terminals)?;
     let out = output_of(rt, shared, terminals)?;
-    let store = path_of(rt, ask, asked.store, asked.store_found);
-    let store = disk_of(rt, shared, "store", store, terminals)?;
-    let book = path_of(rt, ask, asked.notary, asked.notary_found);
-    let book = disk_of(rt, shared, BOOK, book, terminals)?;
+    let store = disk_of(rt, shared, ask, &asked.store, terminals)?;
+    let books = disks_of(rt, shared, ask, asked.books.as_slice(), terminals)?;
     Ok(Devices {
         store,
-        book,
+        books,
         clock,
         input,
         out,
@@ -220,43 +296,57 @@ fn devices_of<'a, R: Runtime + Files<File = File> + AllocGlobal + Drop>(
 }
 
 /// Makes the call, and says beside a fault what happened to which device.
-fn carry_out<R: Runtime + Files<File = File> + AllocGlobal + Drop>(
+fn carry_out<'a, R: Runtime + Files<File = File> + AllocGlobal + Drop>(
     rt: &R,
-    asked: &Asked<'_>,
-    devices: Devices<'_, R>,
-) -> Status {
+    asked: Asked<'_>,
+    devices: Devices<'a, R>,
+    shared: &'a Shared,
+) -> Result<Status, AllocError> {
+    let Asked {
+        ask,
+        call,
+        store: mut named_store,
+        books: mut named_books,
+    } = asked;
     let Devices {
         mut store,
-        book,
+        books,
         mut clock,
         mut input,
         mut out,
     } = devices;
-    let mut notary = Book::new(rt.alloc(), book);
+    let mut notary = quorum_of(rt.alloc(), books, &shared.ballot)?;
     let status = dragoon(
         rt.alloc(),
-        asked.call,
+        call,
         &mut store,
         &mut notary,
         &mut clock,
         &mut input,
         &mut out,
     );
-    let store_error = store.below().error();
-    let notary_error = notary.into_disk().below().error();
+    named_store.error = store.below().error();
+    for (place, (named, member)) in named_books
+        .iter_mut()
+        .zip(notary.into_members())
+        .enumerate()
+    {
+        named.error = member.into_below().into_disk().below().error();
+        named.odd = shared.ballot.odd(place);
+    }
     let ending = Ending {
-        ask: asked.ask,
+        ask,
         status,
-        store: Named::new("store", asked.store, store_error, asked.store_found),
-        notary: Named::new(BOOK, asked.notary, notary_error, asked.notary_found),
+        store: named_store,
+        notaries: Notaries(named_books),
         input: input.below().error(),
         output: out.below().error(),
         heard: &out.heard,
         refused: input.lines.first.as_ref(),
         now: clock.now(),
     };
-    let _ = tell(rt, asked.call, &ending);
-    status
+    let _ = tell(rt, call, &ending);
+    Ok(status)
 }
 
 fn run<R: Runtime + Files<File = File> + AllocGlobal + Drop>(
@@ -266,10 +356,10 @@ fn run<R: Runtime + Files<File = File> + AllocGlobal + Drop>(
     let _spare = spare_numbers(rt);
     let words = words_of(rt)?;
     let (names, call) = words.split_at(leading(&words));
-    let asked = found_for(rt, names, call);
-    let shared = Shared::new();
+    let asked = asked_by(rt, names, call)?;
+    let shared = Shared::new(asked.books.len());
     let devices = devices_of(rt, &shared, &asked, terminals)?;
-    Ok(carry_out(rt, &asked, devices))
+    carry_out(rt, asked, devices, &shared)
 }
 
 fn main(rt: HostRuntime) -> ExitCode {

@@ -122,10 +122,16 @@ fn is_number(word: &str, least: u64, most: u64) -> bool {
 enum Wrong<'a> {
     /// There are none, or they ask for the page.
     Page,
+    /// There are none behind those that name devices.
+    NoCommand,
     /// The first one is no command.
     Command {
         word: &'a str,
         nearest: Option<&'static str>,
+    },
+    /// The first one begins a statement.
+    Statement {
+        word: &'a str,
     },
     /// The first one would name a device, and begins otherwise.
     Almost {
@@ -133,6 +139,10 @@ enum Wrong<'a> {
     },
     /// It names a device, which stands elsewhere or was named before.
     Device {
+        word: &'a str,
+    },
+    /// It would name books, and no list of paths stands there.
+    Books {
         word: &'a str,
     },
     Word {
@@ -151,12 +161,20 @@ enum Wrong<'a> {
 }
 
 /// Says it: the whole page only where no words stand there.
-pub(crate) fn tell_usage<R: Eprint + AllocGlobal>(rt: &R, call: &[String]) -> io::Result<()> {
-    let wrong = wrong_of(rt.alloc(), call);
+pub(crate) fn tell_usage<R: Eprint + AllocGlobal>(
+    rt: &R,
+    call: &[String],
+    is_device_named: bool,
+) -> io::Result<()> {
+    let wrong = match call {
+        [] if is_device_named => Wrong::NoCommand,
+        _ => wrong_of(rt.alloc(), call),
+    };
     let command = match &wrong {
         Wrong::Page => return eprint!(rt; "{USAGE}"),
+        Wrong::Statement { .. } => "run",
         Wrong::Command { nearest, .. } => nearest.unwrap_or(""),
-        Wrong::Device { .. } | Wrong::Almost { .. } => "",
+        Wrong::NoCommand | Wrong::Device { .. } | Wrong::Books { .. } | Wrong::Almost { .. } => "",
         Wrong::Word { command, .. }
         | Wrong::Missing { command, .. }
         | Wrong::TooMany { command, .. } => command,
@@ -189,10 +207,13 @@ fn wrong_of(alloc: Global, call: &[String]) -> Wrong<'_> {
         return Wrong::Page;
     }
     if names_device(word) {
-        return Wrong::Device { word };
+        return wrong_device(word);
     }
-    if word.as_bytes().contains(&b'=') {
+    if word.as_bytes().contains(&b'=') || word == "store" || word == "notary" {
         return Wrong::Almost { word };
+    }
+    if STATEMENTS.iter().any(|statement| *statement == word) {
+        return Wrong::Statement { word };
     }
     match FORMS.iter().find(|form| form.word == word) {
         Some(form) => wrong_behind(form, rest),
@@ -205,6 +226,18 @@ fn wrong_of(alloc: Global, call: &[String]) -> Wrong<'_> {
 
 fn names_device(word: &str) -> bool {
     word.starts_with("store=") || word.starts_with("notary=")
+}
+
+fn wrong_device(word: &str) -> Wrong<'_> {
+    match word.strip_prefix("notary=") {
+        Some(paths) if !are_paths(paths) => Wrong::Books { word },
+        _ => Wrong::Device { word },
+    }
+}
+
+/// One to nine, and none of them empty.
+fn are_paths(paths: &str) -> bool {
+    paths.split(',').count() <= 9 && paths.split(',').all(|path| !path.is_empty())
 }
 
 /// The first word that can't stand where it stands, or what is missing.
@@ -226,9 +259,7 @@ fn wrong_behind<'a>(form: &Form, rest: &'a [String]) -> Wrong<'a> {
         }
     }
     match words.next() {
-        Some(word) if names_device(word.as_str()) => Wrong::Device {
-            word: word.as_str(),
-        },
+        Some(word) if names_device(word.as_str()) => wrong_device(word.as_str()),
         Some(word) => Wrong::TooMany {
             command,
             word: word.as_str(),
@@ -239,7 +270,7 @@ fn wrong_behind<'a>(form: &Form, rest: &'a [String]) -> Wrong<'a> {
 
 fn wrong_at<'a>(command: &'static str, word: &'a str, slot: Slot, is_tiled: bool) -> Wrong<'a> {
     if names_device(word) {
-        Wrong::Device { word }
+        wrong_device(word)
     } else if slot == Slot::Kappa && !is_tiled {
         Wrong::TooMany { command, word }
     } else {
@@ -250,6 +281,13 @@ fn wrong_at<'a>(command: &'static str, word: &'a str, slot: Slot, is_tiled: bool
         }
     }
 }
+
+/// What begins a statement, and no command.
+const STATEMENTS: [&str; 8] = [
+    "create", "insert", "update", "delete", "get", "scan", "history", "over",
+];
+
+const COMMANDS: &str = "link, init, run, make, drill, notarize, validate and analyse";
 
 /// The command that is nearest, where two changes of a letter lead to it. Without memory it is none.
 fn nearest(alloc: Global, word: &str) -> Option<&'static str> {
@@ -269,16 +307,23 @@ impl fmt::Display for Wrong<'_> {
     fn fmt<W: fmt::Write>(&self, f: &mut fmt::Formatter<W>) -> fmt::Result {
         match self {
             Wrong::Page => Ok(()),
+            Wrong::NoCommand => {
+                write!(
+                    f,
+                    "no command stands behind the words that name files: those are {COMMANDS}"
+                )
+            }
             Wrong::Command { word, nearest } => {
                 let word = Shown(word);
                 match nearest {
                     Some(command) => write!(f, "`{word}` is no command: is `{command}` meant?"),
-                    None => write!(
-                        f,
-                        "`{word}` is no command: those are link, init, run, make, drill, notarize, validate and analyse"
-                    ),
+                    None => write!(f, "`{word}` is no command: those are {COMMANDS}"),
                 }
             }
+            Wrong::Statement { word } => write!(
+                f,
+                "`{word}` begins a statement, which `run ID` reads from its input, as in echo '{word} ..' | dragoon store=FILE run ID"
+            ),
             Wrong::Almost { word } => {
                 let word = Shown(word);
                 write!(
@@ -290,7 +335,14 @@ impl fmt::Display for Wrong<'_> {
                 let word = Shown(word);
                 write!(
                     f,
-                    "`{word}` names a device, which is done once, and before the command: [store=FILE] [notary=FILE] COMMAND"
+                    "`{word}` names a device, which is done once, and before the command: [store=FILE] [notary=FILE,..] COMMAND"
+                )
+            }
+            Wrong::Books { word } => {
+                let word = Shown(word);
+                write!(
+                    f,
+                    "`{word}` names no books: one to nine paths have to stand there, with a comma between two, and none empty"
                 )
             }
             Wrong::Word {

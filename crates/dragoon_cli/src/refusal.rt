@@ -2,19 +2,41 @@
 
 /// By its name and what stands behind that in the reply.
 pub(crate) fn meaning(refusal: &str) -> &'static str {
-    let name = refusal.split(' ').next().unwrap_or(refusal);
-    MEANINGS
-        .iter()
-        .find_map(|(known, words)| if *known == name { Some(*words) } else { None })
-        .unwrap_or("docs/COMMANDS.md says when it comes")
+    found_in(MEANINGS.as_slice(), refusal).unwrap_or("docs/COMMANDS.md says when it comes")
 }
 
-const MEANINGS: [(&str, &str); 28] = [
+/// The same of a join, which names two tables and two columns.
+pub(crate) fn meaning_in_join(refusal: &str) -> &'static str {
+    found_in(MEANINGS_IN_JOINS.as_slice(), refusal).unwrap_or(meaning(refusal))
+}
+
+fn found_in(meanings: &[(&str, &'static str)], refusal: &str) -> Option<&'static str> {
+    let name = refusal.split(' ').next().unwrap_or(refusal);
+    meanings.iter().find_map(|(known, words)| if *known == name { Some(*words) } else { None })
+}
+
+const MEANINGS_IN_JOINS: [(&str, &str); 3] = [
+    ("NoTable", "one of the two tables isn't there"),
+    ("NoColumn", "one of the two columns isn't in its table"),
+    (
+        "BadType",
+        "the two columns have different kinds, of which the second is the column of that number",
+    ),
+];
+
+const MEANINGS: [(&str, &str); 29] = [
     ("Syntax", "the line isn't in the grammar"),
-    ("NumberTooWide", "a number is out of its range"),
+    (
+        "NumberTooWide",
+        "a number is out of its range: a value has 64 bits with its sign, a moment is at most 1099511627775, KAPPA 1 to 1024",
+    ),
     (
         "NotScripted",
         "`now` sets the clock of `run ID scripted` alone",
+    ),
+    (
+        "NoSpan",
+        "the span has no moment: it ends where it begins, or before",
     ),
     ("NoTable", "there is no table of this name"),
     ("TableExists", "there is a table of this name already"),

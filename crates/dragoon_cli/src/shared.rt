@@ -1,5 +1,7 @@
 //! What the devices of a call know of one another, for what standard error is told.
 
+use crate::ballot::Ballot;
+use crate::sessions::Sessions;
 use std::cell::Cell;
 
 /// It stands beside the devices, and each has it by reference.
@@ -9,13 +11,18 @@ pub(crate) struct Shared {
     pub(crate) is_shown: Cell<bool>,
     /// Which reply was the first refusal, counted from 0.
     pub(crate) first_refused: Cell<Option<u64>>,
+    pub(crate) sessions: Sessions,
+    pub(crate) ballot: Ballot,
 }
 
 impl Shared {
-    pub(crate) fn new() -> Shared {
+    /// Of a call that names so many notaries.
+    pub(crate) fn new(notaries: usize) -> Shared {
         Shared {
             is_shown: Cell::new(false),
             first_refused: Cell::new(None),
+            sessions: Sessions::new(),
+            ballot: Ballot::new(notaries),
         }
     }
 }

@@ -2,6 +2,7 @@
 //! else what the output and the status alone don't say.
 
 use crate::ask::Ask;
+use crate::ballot::Odd;
 use crate::date::Date;
 use crate::heard::Heard;
 use crate::lines::Refused;
@@ -13,39 +14,56 @@ use dragoon_app::Status;
 use std::io::ErrorKind;
 use std::{fmt, io};
 
-/// A device as whoever runs the program knows it: what it is called, its file where one was named, why its last call
-/// that failed did so, and what was found there before the call.
+/// What a device is called.
+#[derive(Clone, Copy)]
+pub(crate) enum Called {
+    Store,
+    Book,
+    /// The book of a notary among others, counted from 1.
+    Member { number: usize, of: usize },
+}
+
+/// A device as whoever runs the program knows it: what it is called, its file where one was named, what was found there
+/// before the call, why its last call that failed did so, and how a notary stood out among others.
 #[derive(Clone, Copy)]
 pub(crate) struct Named<'a> {
-    pub(crate) name: &'static str,
+    pub(crate) called: Called,
     pub(crate) path: Option<&'a str>,
-    pub(crate) error: Option<io::Error>,
     pub(crate) found: Found,
+    pub(crate) error: Option<io::Error>,
+    pub(crate) odd: Odd,
 }
 
 impl<'a> Named<'a> {
-    pub(crate) fn new(
-        name: &'static str,
-        path: Option<&'a str>,
-        error: Option<io::Error>,
-        found: Found,
-    ) -> Named<'a> {
+    pub(crate) fn new(called: Called, path: Option<&'a str>, found: Found) -> Named<'a> {
         Named {
-            name,
+            called,
             path,
-            error,
             found,
+            error: None,
+            odd: Odd::No,
         }
+    }
+}
+
+/// All notaries of a call, which are one or a quorum.
+#[derive(Drop)]
+pub(crate) struct Notaries<'a>(pub(crate) Vec<Named<'a>>);
+
+impl Notaries<'_> {
+    /// Whether no book was named.
+    pub(crate) fn are_in_memory(&self) -> bool {
+        self.0.iter().all(|book| book.path.is_none())
     }
 }
 
 /// How a run ended, with what its devices tell of it.
 #[derive(Drop)]
-pub(crate) struct Ending<'a> {
+pub(crate) struct Ending<'a, 'w> {
     pub(crate) ask: Ask,
     pub(crate) status: Status,
-    pub(crate) store: Named<'a>,
-    pub(crate) notary: Named<'a>,
+    pub(crate) store: Named<'w>,
+    pub(crate) notaries: Notaries<'w>,
     pub(crate) input: Option<io::Error>,
     pub(crate) output: Option<io::Error>,
     pub(crate) heard: &'a Heard<'a>,
@@ -58,26 +76,54 @@ pub(crate) struct Ending<'a> {
 pub(crate) fn tell<R: Eprint + AllocGlobal>(
     rt: &R,
     call: &[String],
-    ending: &Ending<'_>,
+    ending: &Ending<'_, '_>,
 ) -> io::Result<()> {
     match ending.status {
-        Status::Usage => return tell_usage(rt, call),
+        Status::Usage => {
+            let is_device_named = ending.store.path.is_some() || !ending.notaries.are_in_memory();
+            return tell_usage(rt, call, is_device_named);
+        }
         Status::Ok | Status::Altered | Status::Refused => {}
         _ => eprintln!(rt; "dragoon: {ending}")?,
     }
     tell_warnings(rt, ending)
 }
 
+impl fmt::Display for Called {
+    fn fmt<W: fmt::Write>(&self, f: &mut fmt::Formatter<W>) -> fmt::Result {
+        match self {
+            Called::Store => write!(f, "the store"),
+            Called::Book => write!(f, "the notary's book"),
+            Called::Member { number, of } => write!(f, "notary {number} of {of}"),
+        }
+    }
+}
+
 impl fmt::Display for Named<'_> {
     fn fmt<W: fmt::Write>(&self, f: &mut fmt::Formatter<W>) -> fmt::Result {
-        let name = self.name;
+        let called = self.called;
         match self.path {
-            Some(path) if path.is_empty() => write!(f, "the {name} of an empty path"),
+            Some(path) if path.is_empty() => write!(f, "{called} of an empty path"),
             Some(path) => {
                 let path = Shown(path);
-                write!(f, "the {name} {path}")
+                match called {
+                    Called::Member { .. } => write!(f, "{called} ({path})"),
+                    _ => write!(f, "{called} {path}"),
+                }
             }
-            None => write!(f, "the {name} in memory (no file was named)"),
+            None => write!(f, "{called} in memory (no file was named)"),
+        }
+    }
+}
+
+impl fmt::Display for Notaries<'_> {
+    fn fmt<W: fmt::Write>(&self, f: &mut fmt::Formatter<W>) -> fmt::Result {
+        match self.0.as_slice() {
+            [only] => write!(f, "{only}"),
+            all => {
+                let count = all.len();
+                write!(f, "the quorum of {count} notaries")
+            }
         }
     }
 }
@@ -109,12 +155,12 @@ impl fmt::Display for Kind {
     }
 }
 
-// Of a device that failed.
+// Of a device that failed, and of a call that this ended.
 fn tell_failed<W: fmt::Write>(device: &Named<'_>, f: &mut fmt::Formatter<W>) -> fmt::Result {
     match device.error {
         Some(error) if error.kind() == ErrorKind::WouldBlock => write!(
             f,
-            "{device} is locked by another process, or named as store and book at once: start again when it is free"
+            "{device} {LOCKED}: start again when it is free"
         ),
         Some(error) if is_not_writable(error) => write!(
             f,
@@ -125,6 +171,34 @@ fn tell_failed<W: fmt::Write>(device: &Named<'_>, f: &mut fmt::Formatter<W>) -> 
             "{device}: {error}; mend this and start again, what was answered is kept"
         ),
         None => tell_odd(device, f),
+    }
+}
+
+const LOCKED: &str = "is locked by another process, or named twice in one call";
+
+// Of a notary that failed, whatever the others did.
+pub(crate) fn tell_member_failed<W: fmt::Write>(
+    device: &Named<'_>,
+    f: &mut fmt::Formatter<W>,
+) -> fmt::Result {
+    match device.error {
+        Some(error) if error.kind() == ErrorKind::WouldBlock => write!(f, "{device} {LOCKED}"),
+        Some(error) => write!(f, "{device}: {error}"),
+        None => tell_odd(device, f),
+    }
+}
+
+// Of notaries that failed the call.
+fn tell_notaries_failed<W: fmt::Write>(
+    notaries: &Notaries<'_>,
+    f: &mut fmt::Formatter<W>,
+) -> fmt::Result {
+    match notaries.0.as_slice() {
+        [only] => tell_failed(only, f),
+        _ => write!(
+            f,
+            "{notaries} has no answer that more than half of them gave: mend what is named next, and start again; what was answered is kept"
+        ),
     }
 }
 
@@ -217,13 +291,13 @@ fn tell_taken<W: fmt::Write>(store: &Named<'_>, f: &mut fmt::Formatter<W>) -> fm
     }
 }
 
-impl fmt::Display for Ending<'_> {
+impl fmt::Display for Ending<'_, '_> {
     fn fmt<W: fmt::Write>(&self, f: &mut fmt::Formatter<W>) -> fmt::Result {
         let store = &self.store;
-        let notary = &self.notary;
+        let notary = &self.notaries;
         match self.status {
             Status::DiskFault => tell_failed(store, f),
-            Status::NotaryFault => tell_failed(notary, f),
+            Status::NotaryFault => tell_notaries_failed(notary, f),
             Status::ReadFault => {
                 let error = reason(self.input);
                 write!(

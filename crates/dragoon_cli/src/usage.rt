@@ -1,11 +1,13 @@
 //! The usage page, which goes to standard error.
 
 pub const USAGE: &str = "\
-usage: dragoon [store=FILE] [notary=FILE] COMMAND
+usage: dragoon [store=FILE] [notary=FILE,..] COMMAND
 
   store=FILE        the store; one process at a time uses it
   notary=FILE       the notary's book: keep it where whoever writes the store can't write
                     (a missing file counts as empty, and without these words both stand in memory)
+  notary=FILE,FILE,..
+                    the books of up to nine notaries: what more than half of them answer counts
 
 Make and fill
   init ID W K ALGS  makes a store that begins now, and prints `ready ID`
@@ -18,7 +20,7 @@ Make and fill
   drill             carries out standard input over a store in memory, with crashes, alterations and cuts
 
 Ask
-  run ID            takes `get`, `scan` and `history` too, of now or `as of` a moment
+  run ID            takes `get` and `scan` too, of now or `as of` a moment, `history`, and `over` a span
   link              prints `txns N` and `link H`: the number of transactions and the chain over them
 
 File and check

@@ -1,13 +1,15 @@
 //! What output and status alone don't say, of a call that was carried out.
 
 use crate::ask::Ask;
+use crate::ballot::Odd;
 use crate::date::Date;
 use crate::lines::Refused;
 use crate::peek::{Behind, Found};
-use crate::refusal::meaning;
+use crate::refusal::{meaning, meaning_in_join};
+use crate::sessions::Sessions;
 use crate::shown::ShownBytes;
-use crate::telling::{Ending, Named};
-use crate::wording::first_wrong;
+use crate::telling::{Called, Ending, Named, tell_member_failed};
+use crate::wording::{first_wrong, is_join};
 use dragoon_app::Status;
 use std::{fmt, io};
 
@@ -27,6 +29,12 @@ enum Warning<'a> {
         /// Whether something was filed later, and compared.
         is_compared: bool,
     },
+    /// A notary stood out among others.
+    Odd {
+        device: &'a Named<'a>,
+    },
+    /// More than half of the books held nothing, and another holds something.
+    Lost,
     /// No store was named.
     Unnamed,
     /// It stood in memory.
@@ -35,11 +43,11 @@ enum Warning<'a> {
         what: &'static str,
     },
     Unsealed {
-        notary: &'a Named<'a>,
+        ending: &'a Ending<'a, 'a>,
     },
     HeaderAlone,
     Altered {
-        ending: &'a Ending<'a>,
+        ending: &'a Ending<'a, 'a>,
     },
     /// The clock says less than when something was filed.
     ClockBehind {
@@ -50,32 +58,51 @@ enum Warning<'a> {
     SpanBack,
     /// Lines were refused.
     Refused {
-        ending: &'a Ending<'a>,
+        ending: &'a Ending<'a, 'a>,
+    },
+    /// Sessions were begun and not committed.
+    Open {
+        sessions: &'a Sessions,
     },
 }
 
 /// Says each on a line of its own.
-pub(crate) fn tell_warnings<R: Eprint>(rt: &R, ending: &Ending<'_>) -> io::Result<()> {
-    let all = [
-        behind_of(&ending.store),
-        behind_of(&ending.notary),
-        nothing_in(ending, &ending.store),
-        nothing_in(ending, &ending.notary),
+pub(crate) fn tell_warnings<R: Eprint>(rt: &R, ending: &Ending<'_, '_>) -> io::Result<()> {
+    let books = ending.notaries.0.as_slice();
+    say(rt, behind_of(&ending.store))?;
+    for book in books {
+        say(rt, behind_of(book))?;
+    }
+    say(rt, nothing_in(ending, &ending.store))?;
+    for book in books {
+        say(rt, nothing_in(ending, book))?;
+        say(rt, odd_in(ending, book))?;
+    }
+    let others = [
+        lost(ending),
         unnamed(ending),
         gone(ending),
         compared(ending),
         altered(ending),
         clock_of(ending),
         refused(ending),
+        open(ending),
     ];
-    for warning in all.iter().flatten() {
-        eprintln!(rt; "dragoon: {warning}")?;
+    for warning in others {
+        say(rt, warning)?;
     }
     Ok(())
 }
 
+fn say<R: Eprint>(rt: &R, warning: Option<Warning<'_>>) -> io::Result<()> {
+    match warning {
+        Some(warning) => eprintln!(rt; "dragoon: {warning}"),
+        None => Ok(()),
+    }
+}
+
 /// Whether the call was carried out to its end.
-fn is_done(ending: &Ending<'_>) -> bool {
+fn is_done(ending: &Ending<'_, '_>) -> bool {
     matches!(
         &ending.status,
         Status::Ok | Status::Altered | Status::Refused
@@ -92,35 +119,72 @@ fn behind_of<'a>(device: &'a Named<'a>) -> Option<Warning<'a>> {
     }
 }
 
-fn nothing_in<'a>(ending: &'a Ending<'a>, device: &'a Named<'a>) -> Option<Warning<'a>> {
+fn nothing_in<'a>(ending: &'a Ending<'a, 'a>, device: &'a Named<'a>) -> Option<Warning<'a>> {
     let is_missing = matches!(&device.found, Found::Missing);
-    let is_empty = matches!(&device.found, Found::Empty);
     let is_used = ending.ask != Ask::Run || ending.heard.uses_notary();
-    if !(is_missing || is_empty) || !is_done(ending) || !ending.ask.compares() || !is_used {
+    let is_told = device.error.is_some();
+    if !holds_nothing(device) || is_told || !is_done(ending) || !ending.ask.compares() || !is_used {
         return None;
     }
+    let is_other_book = ending
+        .notaries
+        .0
+        .iter()
+        .any(|book| matches!(&book.found, Found::Book { .. }));
     Some(Warning::Nothing {
         device,
         is_missing,
-        is_made: is_missing && !ending.ask.only_asks(),
-        is_compared: is_later_compared(ending),
+        is_made: is_missing && ending.ask.makes_book(),
+        is_compared: is_later_compared(ending)
+            || is_other_book && matches!(device.called, Called::Member { .. }),
     })
 }
 
-fn is_later_compared(ending: &Ending<'_>) -> bool {
+/// Whether it was missing, or empty.
+fn holds_nothing(device: &Named<'_>) -> bool {
+    matches!(&device.found, Found::Missing | Found::Empty)
+}
+
+/// What more than half of the books say is then what new books say.
+fn lost<'a>(ending: &'a Ending<'a, 'a>) -> Option<Warning<'a>> {
+    let books = ending.notaries.0.as_slice();
+    let empty = books.iter().filter(|book| holds_nothing(book)).count();
+    let full = books
+        .iter()
+        .filter(|book| matches!(&book.found, Found::Book { .. }))
+        .count();
+    let is_used = ending.ask != Ask::Run || ending.heard.uses_notary();
+    if is_used && full > 0 && empty > books.len().saturating_sub(empty) {
+        Some(Warning::Lost)
+    } else {
+        None
+    }
+}
+
+/// A book of which that was told tells so why it differs.
+fn odd_in<'a>(ending: &'a Ending<'a, 'a>, device: &'a Named<'a>) -> Option<Warning<'a>> {
+    let is_quorum = matches!(device.called, Called::Member { .. });
+    let is_told = device.odd == Odd::Differs && nothing_in(ending, device).is_some();
+    if !is_quorum || device.odd == Odd::No || is_told {
+        return None;
+    }
+    Some(Warning::Odd { device })
+}
+
+fn is_later_compared(ending: &Ending<'_, '_>) -> bool {
     let heard = ending.heard;
     ending.ask == Ask::Run && heard.verdict.text() != "" && !heard.is_unsealed()
 }
 
 /// Whether something stood where the store is named.
-fn has_store(ending: &Ending<'_>) -> bool {
+fn has_store(ending: &Ending<'_, '_>) -> bool {
     !matches!(
         &ending.store.found,
         Found::Missing | Found::Empty | Found::Unused
     )
 }
 
-fn unnamed<'a>(ending: &'a Ending<'a>) -> Option<Warning<'a>> {
+fn unnamed<'a>(ending: &'a Ending<'a, 'a>) -> Option<Warning<'a>> {
     if ending.store.path.is_none() && is_done(ending) && ending.ask.gives_verdict() {
         Some(Warning::Unnamed)
     } else {
@@ -128,7 +192,7 @@ fn unnamed<'a>(ending: &'a Ending<'a>) -> Option<Warning<'a>> {
     }
 }
 
-fn gone<'a>(ending: &'a Ending<'a>) -> Option<Warning<'a>> {
+fn gone<'a>(ending: &'a Ending<'a, 'a>) -> Option<Warning<'a>> {
     if !is_done(ending) {
         return None;
     }
@@ -141,7 +205,7 @@ fn gone<'a>(ending: &'a Ending<'a>) -> Option<Warning<'a>> {
     let files = ending.ask == Ask::Notarize
         || ending.ask == Ask::Make
         || ending.ask == Ask::Run && ending.heard.is_filed;
-    if files && ending.notary.path.is_none() {
+    if files && ending.notaries.are_in_memory() {
         return Some(Warning::Gone {
             word: "notary=FILE",
             what: "what was filed",
@@ -151,16 +215,18 @@ fn gone<'a>(ending: &'a Ending<'a>) -> Option<Warning<'a>> {
 }
 
 /// What the last verdict was of, where that is less than it may seem.
-fn compared<'a>(ending: &'a Ending<'a>) -> Option<Warning<'a>> {
+fn compared<'a>(ending: &'a Ending<'a, 'a>) -> Option<Warning<'a>> {
     if !ending.ask.gives_verdict() || !is_done(ending) {
         return None;
     }
     let said = ending.heard.verdict.text();
-    let is_there = matches!(&ending.notary.found, Found::Book { .. } | Found::Unused);
+    let notaries = &ending.notaries;
+    let is_there = notaries.0.iter().any(|book| matches!(
+        &book.found,
+        Found::Book { .. } | Found::Unused
+    ));
     if ending.heard.is_unsealed() && is_there {
-        return Some(Warning::Unsealed {
-            notary: &ending.notary,
-        });
+        return Some(Warning::Unsealed { ending });
     }
     if said == "clean 0" || said.ends_with(" tiles 0 clean") {
         return Some(Warning::HeaderAlone);
@@ -168,7 +234,7 @@ fn compared<'a>(ending: &'a Ending<'a>) -> Option<Warning<'a>> {
     None
 }
 
-fn altered<'a>(ending: &'a Ending<'a>) -> Option<Warning<'a>> {
+fn altered<'a>(ending: &'a Ending<'a, 'a>) -> Option<Warning<'a>> {
     let is_altered = ending.heard.altered.text() != "";
     if is_altered && is_done(ending) && ending.ask.gives_verdict() && has_store(ending) {
         Some(Warning::Altered { ending })
@@ -177,24 +243,45 @@ fn altered<'a>(ending: &'a Ending<'a>) -> Option<Warning<'a>> {
     }
 }
 
-fn clock_of<'a>(ending: &'a Ending<'a>) -> Option<Warning<'a>> {
+fn clock_of<'a>(ending: &'a Ending<'a, 'a>) -> Option<Warning<'a>> {
     if !ending.ask.gives_verdict() || !is_done(ending) {
         return None;
     }
-    match ending.notary.found {
-        Found::Book {
-            filed: Some(filed),
-            ..
-        } if ending.ask != Ask::Run && ending.now < filed => Some(Warning::ClockBehind {
-            now: ending.now,
-            filed,
-        }),
+    let now = ending.now;
+    let later = ending
+        .notaries
+        .0
+        .iter()
+        .filter_map(|book| filed_in(book))
+        .find(|filed| now < *filed);
+    match later {
+        Some(filed) if ending.ask != Ask::Run => Some(Warning::ClockBehind { now, filed }),
         _ if ending.heard.goes_back => Some(Warning::SpanBack),
         _ => None,
     }
 }
 
-fn refused<'a>(ending: &'a Ending<'a>) -> Option<Warning<'a>> {
+/// When the last batch of a book was filed.
+fn filed_in(book: &Named<'_>) -> Option<u64> {
+    match book.found {
+        Found::Book { filed, .. } => filed,
+        _ => None,
+    }
+}
+
+/// What a session keeps is stored by its commit alone.
+fn open<'a>(ending: &'a Ending<'a, 'a>) -> Option<Warning<'a>> {
+    let is_at_end = matches!(&ending.status, Status::ReadFault | Status::InputLimit)
+        || is_done(ending);
+    let sessions = ending.heard.sessions();
+    if ending.ask == Ask::Run && is_at_end && sessions.is_any_open() {
+        Some(Warning::Open { sessions })
+    } else {
+        None
+    }
+}
+
+fn refused<'a>(ending: &'a Ending<'a, 'a>) -> Option<Warning<'a>> {
     match ending.status {
         Status::Refused if ending.ask.takes_lines() => Some(Warning::Refused { ending }),
         _ => None,
@@ -220,6 +307,17 @@ fn tell_nothing<W: fmt::Write>(
     }
 }
 
+fn tell_odd<W: fmt::Write>(device: &Named<'_>, f: &mut fmt::Formatter<W>) -> fmt::Result {
+    match device.odd {
+        Odd::Failed => tell_member_failed(device, f),
+        Odd::NoMemory => write!(f, "{device} found no memory"),
+        Odd::Differs | Odd::No => write!(
+            f,
+            "{device} differs from the others: keep it as it is; docs/NOTARY.md says why one does"
+        ),
+    }
+}
+
 fn tell_behind<W: fmt::Write>(
     device: &Named<'_>,
     behind: Behind,
@@ -232,9 +330,24 @@ fn tell_behind<W: fmt::Write>(
     )
 }
 
-fn tell_altered<W: fmt::Write>(ending: &Ending<'_>, f: &mut fmt::Formatter<W>) -> fmt::Result {
+fn tell_unsealed<W: fmt::Write>(ending: &Ending<'_, '_>, f: &mut fmt::Formatter<W>) -> fmt::Result {
+    let notary = &ending.notaries;
+    write!(
+        f,
+        "nothing was compared: {notary} had nothing that was filed under this id"
+    )?;
+    match ending.store.found {
+        Found::Store { header, .. } => {
+            let id = header.id;
+            write!(f, "; the store has the id {id}")
+        }
+        _ => Ok(()),
+    }
+}
+
+fn tell_altered<W: fmt::Write>(ending: &Ending<'_, '_>, f: &mut fmt::Formatter<W>) -> fmt::Result {
     let store = &ending.store;
-    let notary = &ending.notary;
+    let notary = &ending.notaries;
     let said = ending.heard.altered.text();
     if said.starts_with("header ") {
         return write!(
@@ -254,7 +367,7 @@ fn tell_altered<W: fmt::Write>(ending: &Ending<'_>, f: &mut fmt::Formatter<W>) -
     )
 }
 
-fn tell_refused<W: fmt::Write>(ending: &Ending<'_>, f: &mut fmt::Formatter<W>) -> fmt::Result {
+fn tell_refused<W: fmt::Write>(ending: &Ending<'_, '_>, f: &mut fmt::Formatter<W>) -> fmt::Result {
     let refused = ending.heard.refused;
     let replies = ending.heard.replies;
     let reply = ending.heard.first_refusal.text();
@@ -285,7 +398,11 @@ fn tell_line<W: fmt::Write>(
             return write!(f, "at column {column}: {wanted}");
         }
     }
-    let means = meaning(refusal);
+    let means = if is_join(line.text.as_slice()) {
+        meaning_in_join(refusal)
+    } else {
+        meaning(refusal)
+    };
     write!(f, "{means}")
 }
 
@@ -299,15 +416,17 @@ impl fmt::Display for Warning<'_> {
                 is_made,
                 is_compared,
             } => tell_nothing(device, is_missing, is_made, is_compared, f),
+            Warning::Odd { device } => tell_odd(device, f),
+            Warning::Lost => write!(
+                f,
+                "more than half of the books were missing or empty, and what they say is what new books say: stop, keep the others as they are, and look for copies; docs/NOTARY.md"
+            ),
             Warning::Unnamed => write!(f, "no store=FILE was named: nothing was compared"),
             Warning::Gone { word, what } => write!(
                 f,
                 "no {word} was named: {what} stood in memory, and is gone"
             ),
-            Warning::Unsealed { notary } => write!(
-                f,
-                "nothing was compared: {notary} had nothing that was filed under this id"
-            ),
+            Warning::Unsealed { ending } => tell_unsealed(ending, f),
             Warning::HeaderAlone => write!(
                 f,
                 "only the header was compared: no tile is filed yet, and no row is compared before its tile is"
@@ -326,6 +445,10 @@ impl fmt::Display for Warning<'_> {
                 "the clock went back: a span of the report ends before it begins"
             ),
             Warning::Refused { ending } => tell_refused(ending, f),
+            Warning::Open { sessions } => write!(
+                f,
+                "no commit came for what was begun as {sessions}: nothing of it is stored"
+            ),
         }
     }
 }

@@ -3,6 +3,7 @@
 use crate::heard::Heard;
 use crate::lines::Lines;
 use crate::progress::{Progress, Step};
+use crate::sessions::SessionLines;
 use crate::shared::Shared;
 use disk_model::{Disk, DiskFail};
 use outside_io::{Sink, Source, StreamFail};
@@ -88,6 +89,7 @@ pub(crate) struct WatchedSource<'a, I: Drop, R: Runtime> {
     /// Whether it is said, before the first read, how lines are given.
     is_asked: bool,
     count: u64,
+    sessions: SessionLines,
     pub(crate) lines: Lines,
 }
 
@@ -105,6 +107,7 @@ impl<'a, I: Source + Drop, R: Runtime> WatchedSource<'a, I, R> {
             shared,
             is_asked,
             count: 0,
+            sessions: SessionLines::new(),
             lines,
         }
     }
@@ -130,6 +133,11 @@ impl<'a, I: Source + Drop, R: Runtime> Source for WatchedSource<'a, I, R> {
         let count = self.below.read(into)?;
         self.count = self.count.saturating_add(ends_in(&into[..count]));
         self.lines.take(&into[..count]);
+        if count == 0 {
+            self.sessions.end_line(&self.shared.sessions);
+        } else {
+            self.sessions.take(&into[..count], &self.shared.sessions);
+        }
         Ok(count)
     }
 }

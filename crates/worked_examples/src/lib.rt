@@ -20,6 +20,8 @@ mod makes;
 #[cfg(test)]
 mod notarized;
 #[cfg(test)]
+mod quorums;
+#[cfg(test)]
 mod scripts;
 #[cfg(test)]
 mod sessions;

@@ -70,6 +70,28 @@ $ run 7 scripted = 3
 < create t k int; now 1048575; insert t 1; now 1048576; insert t 2
 > ok 1; ok; ok 2; ok; refused TooLate";
 
+/// Rows at all moments of a span, and pairs of them.
+const SPANS: &str = "\
+< create t k int v int; create u k int v int; now 10; insert t 5 1; now 15; update t 5 1; now 20; update t 5 2
+> ok 1; ok 2; ok; ok 3; ok; ok 4; ok; ok 5
+< now 25; insert u 1 2; now 30; delete t 5; over 0 to 100 select t; over 0 to 40 join t u on v v
+> ok; ok 6; ok; ok 7; during 10 20 row 5 1; during 20 30 row 5 2; pieces 2; during 25 30 row 5 2 1 2; pieces 1
+< over 20 to 20 select t; over 0 to 9 select x; over 0 to 9 select t
+> refused NoSpan; refused NoTable; pieces 0";
+
+#[test]
+fn a_span_is_answered_by_what_holds_at_each_moment(rt: HostRuntime) -> Result<(), Fail> {
+    let alloc = rt.alloc();
+    for call in [
+        "init 7 60 3 m @ 0 = 0 ready 7\n$ run 7 scripted = 3",
+        "drill = 3\n< init 7 60 3 m\n> ready 7",
+    ] {
+        let story = format!(in alloc; "a span\n$ {call}\n{SPANS}")?;
+        tell(&rt, alloc, "", &story)?;
+    }
+    Ok(())
+}
+
 #[test]
 fn scripts_are_answered_line_by_line(rt: HostRuntime) -> Result<(), Fail> {
     tell(&rt, rt.alloc(), NEW, SCRIPTS)?;

@@ -12,6 +12,11 @@ $ run 7 scripted = 3
 < s2 update t 1 12; s1 commit; s2 commit; get t 1
 > ok; ok 3; refused Conflict 3; row 1 11
 
+a query over a span sees what is committed alone, and has read the whole table
+$ run 7 scripted = 3
+< create t k int v int; s1 begin; s1 insert t 1 1; s1 over 0 to 9 select t; insert t 2 2; s1 commit
+> ok 1; ok; ok; pieces 0; ok 2; refused Conflict 2
+
 another key is free, a scan is not, and the first transaction that touches is named
 $ run 7 scripted = 3
 < create t k int v int; s1 begin; s2 begin; s1 get t 1; s2 scan t; insert t 2 2; s1 insert t 1 1; s1 commit
