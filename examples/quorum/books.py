@@ -1,0 +1,128 @@
+"""The books of several notaries, read as bytes, and the one that more than half of them say."""
+import collections
+import fcntl
+import itertools
+import os
+import pathlib
+import sys
+
+sys.dont_write_bytecode = True
+sys.path.insert(0, str(pathlib.Path(__file__).resolve().parents[1]))
+import verify
+
+HEAD = b"\xa7DRAGBOK1" + bytes(55)
+
+# the payloads of a book's records; `why` says in words why the file is no book
+Book = collections.namedtuple("Book", "path payloads behind why")
+
+
+class Missing(Exception):
+    """Why nothing can be said, in words."""
+
+
+def is_same_file(one, other):
+    try:
+        return os.path.samefile(one, other)
+    except OSError:
+        return os.path.realpath(one) == os.path.realpath(other)
+
+
+def read_all(paths):
+    """The books, of which each is a file of its own."""
+    for one, other in itertools.combinations(paths, 2):
+        if is_same_file(one, other):
+            raise Missing(f"{one} and {other} are one file")
+    return [read(path) for path in paths]
+
+
+def read(path):
+    """A book as it stands now. While somebody files or marks, it isn't read."""
+    try:
+        with open(path, "rb") as file:
+            fcntl.flock(file, fcntl.LOCK_SH | fcntl.LOCK_NB)
+            content = file.read()
+    except BlockingIOError as error:
+        raise Missing(f"{path} is in use: wait, and ask again") from error
+    except OSError as error:
+        return Book(path, [], 0, error.strerror)
+    if len(content) < 2 or len(content) <= 65 and content[0] != verify.OPEN:
+        return Book(path, [], 0, None)
+    if len(content) < 65 or content[:64] != HEAD:
+        return Book(path, [], 0, "its head is no book's")
+    payloads = [payload for _, payload in verify.records(content, *verify.BOOK)]
+    return Book(path, payloads, len(content) - place_of(payloads, len(payloads)) - 1, None)
+
+
+def place_of(payloads, number):
+    """The place of the gate of a record."""
+    return len(HEAD) + sum(5 + len(it) for it in payloads[:number])
+
+
+def spelled(payloads):
+    """The bytes of a book that has these records."""
+    records = (b"\xa7" + len(it).to_bytes(4, "big") + it for it in payloads)
+    return HEAD + b"".join(records) + b"\0"
+
+
+def seals_of(payloads):
+    return sum(int.from_bytes(it[21:23], "big") for it in payloads if it[0] == 1)
+
+
+def marks_of(payloads):
+    return sum(it[0] == 2 for it in payloads)
+
+
+def begins(book, front):
+    return book[: len(front)] == front
+
+
+def shared(one, other):
+    """How many records both begin with."""
+    return next((at for at, (mine, theirs) in enumerate(zip(one, other)) if mine != theirs), min(len(one), len(other)))
+
+
+def majority_of(books):
+    """The records of the longest book that more than half begin with. None where those that go on behind it differ from each other,
+    unless more than half end with it."""
+    read_ones, most = [it.payloads for it in books if it.why is None], len(books) // 2 + 1
+    agreed = [it for it in read_ones if sum(begins(other, it) for other in read_ones) >= most]
+    if not agreed:
+        return None
+    longest = max(agreed, key=len)
+    beyond = [it for it in read_ones if begins(it, longest) and it != longest]
+    split = any(not begins(one, other) and not begins(other, one) for one, other in itertools.combinations(beyond, 2))
+    return None if split and read_ones.count(longest) < most else longest
+
+
+def missed(book, majority):
+    """Whether it has nothing but what the majority's has, in the same order, and lacks some of it."""
+    left = iter(majority)
+    return all(it in left for it in book)
+
+
+def filed_before(book, majority):
+    """The first batch that this book filed at an earlier moment than the majority, as its id and index; or None."""
+    moments = {it[1:13]: it[13:21] for it in majority if it[0] == 1}
+    names = (it[1:13] for it in book if it[0] == 1 and it[13:21] < moments.get(it[1:13], b""))
+    return next(((int.from_bytes(it[:8], "big"), int.from_bytes(it[8:], "big")) for it in names), None)
+
+
+def standing(book, majority):
+    """How a book stands to the majority's, in words; `the same` where nothing is to be done."""
+    if book.why:
+        return f"no book: {book.why}"
+    mine, same = book.payloads, shared(book.payloads, majority)
+    place, lacks, more = place_of(majority, same), majority[same:], mine[same:]
+    if not lacks and not more:
+        text = "the same"
+    elif not lacks:
+        text = f"goes on alone from byte {place}: {seals_of(more)} seals and {marks_of(more)} marks more"
+    elif not more:
+        text = f"behind from byte {place}: lacks {seals_of(lacks)} seals and {marks_of(lacks)} marks"
+    elif missed(mine, majority):
+        text = f"missed some from byte {place} on: lacks {seals_of(majority) - seals_of(mine)} seals and {marks_of(majority) - marks_of(mine)} marks"
+    else:
+        text = f"differs from byte {place} on, where the majority's has {seals_of(lacks)} seals and {marks_of(lacks)} marks"
+        if earlier := filed_before(mine, majority):
+            text += "; it filed batch {1} under the id {0} BEFORE the majority did, as where those were begun anew: look at anchors".format(*earlier)
+    return text + (f"; {book.behind} bytes stand behind its end" if book.behind else "")
