@@ -1,10 +1,11 @@
 #!/usr/bin/env python3
-"""Turns the reply of one `scan` or `history` into a CSV with a heading.
+"""Turns the reply of one `scan`, `history` or `over` into a CSV with a heading.
 
     echo 'scan TABLE' | ./dragoon store=STORE run ID | python3 examples/csv_out.py [--utf8 NAME].. NAMES >file.csv
 
-NAMES are the table's columns in its order, with commas between them, as `create` had them. A version of a history has two
-columns more in front: `start`, and `stop`, which is empty where the version is the current one.
+NAMES are the table's columns in its order, with commas between them, as `create` had them; behind those of the left table of a
+join stand those of the right one. A version of a history, or a piece of a query over a span, has two columns more in front:
+`start`, and `stop`, which is empty where a version is the current one. Standard error says where a name stands twice in the heading.
 
 A null is an empty field, and an empty text is the field "". A value of kind bytes is printed in hexadecimal; one of a
 column after --utf8 is the text that its bytes spell in UTF-8 (as csv_in.py --kind NAME=utf8 put it in). Lines end with a
@@ -17,8 +18,11 @@ import re
 import sys
 
 VALUE = r"(-?[0-9]+|true|false|null|x'(?:[0-9a-f]{2})*'|'(?:[^']|'')*')"
-ROW = re.compile(rf"(?:version ([0-9]+) ([0-9]+|-) )?row((?: {VALUE})+)\n", re.DOTALL)
-END = re.compile(r"(row|version)s ([0-9]+)\n")
+ROW = re.compile(rf"(?:(version|during) ([0-9]+) ([0-9]+|-) )?row((?: {VALUE})+)\n", re.DOTALL)
+END = re.compile(r"(row|version|piece)s ([0-9]+)\n")
+
+# the word that a line of the reply begins with, by the word that its last line counts
+BEGINS = {"row": None, "version": "version", "piece": "during"}
 
 
 class Refused(Exception):
@@ -45,23 +49,23 @@ def field(value, is_utf8):
 
 
 def lines_of(text, names, utf8):
-    """The heading, and a line for each row or version."""
-    place, lines, versions = 0, [], 0
+    """The heading, and a line for each row, version or piece."""
+    place, lines, begins = 0, [], set()
     while row := ROW.match(text, place):
-        values = re.findall(VALUE, row[3])
+        values = re.findall(VALUE, row[4])
         if len(values) != len(names):
             raise Refused(f"a row has {len(values)} values, and there are {len(names)} names")
-        times = [row[1], row[2].strip("-")] if row[1] else []
-        versions += len(times) > 0
+        times = [row[2], row[3].strip("-")] if row[1] else []
+        begins.add(row[1])
         lines.append(times + [field(it, name in utf8) for it, name in zip(values, names)])
         place = row.end()
     end = END.match(text, place)
     if not end or end.end() != len(text) or int(end[2]) != len(lines):
         line = text[place:].partition("\n")[0]
-        raise Refused(f"not the whole reply of one scan or history: {line[:80] or 'it ends too early'}")
-    if versions != (len(lines) if end[1] == "version" else 0):
-        raise Refused("rows and versions stand mixed")
-    return [(["start", "stop"] if end[1] == "version" else []) + names, *lines]
+        raise Refused(f"not the whole reply of one scan, history or query over a span: {line[:80] or 'it ends too early'}")
+    if begins - {BEGINS[end[1]]}:
+        raise Refused("rows, versions and pieces stand mixed")
+    return [(["start", "stop"] if BEGINS[end[1]] else []) + names, *lines]
 
 
 def words():
@@ -83,7 +87,14 @@ def main():
     except (UnicodeDecodeError, Refused) as fault:
         print(f"csv_out: {fault}", file=sys.stderr)
         return 1
-    sys.stdout.buffer.write("".join(",".join(line) + "\r\n" for line in lines).encode())
+    for name in sorted({name for name in lines[0] if lines[0].count(name) > 1}):
+        print(f"csv_out: the heading has {name} twice", file=sys.stderr)
+    try:
+        with open(1, "wb", closefd=False) as out:
+            out.write("".join(",".join(line) + "\r\n" for line in lines).encode())
+    except OSError as fault:
+        print(f"csv_out: the output: {fault.strerror}", file=sys.stderr)
+        return 1
     return 0
 
 

@@ -88,12 +88,16 @@ REFUSED = [  # options, heading, rows, and what is said
 ]
 # columns that become text, and what is said of them
 NOTED = [
-    ("TRUE,FALSE,", "--kind b=bool"), ("true,True", "--kind b=bool"), ('"12,50",7', None), ('"12,50","-1.234,00"', "a fraction"), ("12.50,0.1", "a fraction"),
-    ("31.12.2026,1/2/26", "20261231"), ("2026-12-31,2027-01-01", "20261231"), ("2026-12-31 10:00,2027-01-01T00:00:00Z", "dates"), ("true,false", None), ("x,TRUE", None), ("1'000,2'000", "between their digits"),
+    ("TRUE,FALSE,", "--kind b=bool"), ("true,True", "--kind b=bool"), ("true,false", None), ("x,TRUE", None), ("yes,no", "words for true"), ('"12,50",7', "a fraction"),
+    ('"12,50","-1.234,00"', "a fraction"), ("12.50,0.1", "a fraction"), ("5,1.5,.5", "a fraction"), ("1'000,2'000", "between their digits"), ("1_000,2_000", "between their digits"),
+    ("01.02.2026,31.12.2026", "20261231"), ("31.12.2026,1/2/26", "20261231"), ("2026-12-31,2027-01-01", "20261231"), ("2026-12-31 10:00,2027-01-01T00:00:00Z", "dates"),
+    ("10:30,23:59:59", "times of day"), ("007,12", "--kind b=int"), ("+5,7", "--kind b=int"), ("-0,1", "--kind b=int"), ("12345678901234567890,1", "wider than 64 bits"), ("9223372036854775808,007", "wider than 64 bits"), ("9223372036854775807,007", "--kind b=int"), ("1e5,2E-3", "an exponent"),
+    ("1e5,2,1.5", "an exponent"), ("0x1F,0xff", "--kind b=bytes"), (" 5,6 ", "blanks"), ("5 %,6 %", "a unit"), ("$5,€ 6.50", "a unit"), ("5.00 EUR,6.50 EUR", "a unit"),
+    ("1,2,n/a", "1 of 3 fields are no whole numbers, as `n/a`"), ("1,x,y", None), ("a,b", None), ("007x,8x", None), ("192.168.0.1,10.0.0.1", None), ("1.2.3,1.2.4", None), ("-,-", None), ("030 123456,040 98765", None),
 ]
 NO_REPLIES = (
     "", "row 1\n", "row 1\nrows 2\n", "row 1 2\nrows 1\n", "rows 0\nrows 0\n", "version 1 - row 1\nrows 1\n", "none\n",
-    "refused NoTable\n", "row 1\nrows 1\nfault DiskFault\n")
+    "refused NoTable\n", "row 1\nrows 1\nfault DiskFault\n", "during 1 2 row 1\nversions 1\n", "row 1\npieces 1\n")
 
 
 def refusals(folder):
@@ -115,10 +119,14 @@ def refusals(folder):
         status, out, told = script("csv_in.py", "t", folder / "in.csv")
         if status or not out.startswith("create t a int b ") or (wanted or "") not in told or bool(told) != bool(wanted):
             raise Wrong(f"of {fields} is said {told}, and not {wanted}")
+    if script("csv_in.py", "--kind", "b=int", "t", "-", lines="a,b\n1,007\n2,+5\n3,-0\n")[1] != "create t a int b int\ninsert t 1 7\ninsert t 2 5\ninsert t 3 0\n":
+        raise Wrong("007 and +5 aren't taken for ints")
     if script("csv_in.py", "--kind", "b=bool", "t", "-", lines="a,b\n1,TRUE\n2,False\n")[1] != "create t a int b bool\ninsert t 1 true\ninsert t 2 false\n":
         raise Wrong("TRUE isn't taken for true")
     if script("csv_in.py", "--delimiter", "tab", "t", "-", lines="a\tb\n1\tx\n")[0]:
         raise Wrong("a tab isn't taken between fields")
+    if script("csv_out.py", "a,b,a", lines="row 1 2 3\nrows 1\n") != (0, "a,b,a\r\n1,2,3\r\n", "csv_out: the heading has a twice\n"):
+        raise Wrong("csv_out doesn't say that a name stands twice")
     for reply in NO_REPLIES:
         if script("csv_out.py", "a", lines=reply)[:2] != (1, ""):
             raise Wrong(f"csv_out takes the reply {reply!r}")
