@@ -6,15 +6,18 @@
 REPORT is a file with what `analyse` printed, or else the report comes on standard input:
 `./dragoon store=PATH notary=PATH analyse 7 tiled | python3 examples/diagram_svg.py >report.svg`.
 
-Each sign of the diagram is a coloured field. The span in which a bad tile was changed is shaded, and that of the first
-change is outlined. The picture is made from the report's lines alone, so it says no more than they do. Where the report
+Each sign of the diagram is a coloured field, and whoever points at a line reads what it says. The span in which a bad tile
+was changed is shaded, and that of the first change is outlined. The picture is made from the report's lines alone, so it says no more than they do. Where the report
 has no diagram, the picture says so.
 """
 import re
 import sys
 from html import escape
 
-CELL, LEFT, TOP = 24, 130, 64
+sys.dont_write_bytecode = True
+from parts.script import Refused, put
+
+CELL, LEAST_LEFT, TOP = 24, 130, 64
 SIGNS = {  # colour of the field, colour of the sign, what it says
     "N": ("#cfe2f3", "#0b5394", "filed"),
     "v": ("#d9ead3", "#38761d", "clean then"),
@@ -75,37 +78,54 @@ def picture(width, height, parts):
         box(0, 0, width, height, 'fill="#ffffff"'), *parts, "</svg>\n"])
 
 
-def drawn(head, events, tiles, granules, first):
-    """The fields; over them the shades and the outline, from the row of one moment to that of the other; then the signs."""
+def told(signs):
+    """What a line of the diagram says, in words."""
+    at = [tile for tile, sign in enumerate(signs) if sign != "."]
+    over = f"a validation over {len(at)} tile{'s' * (len(at) != 1)}"
+    if "N" in signs:
+        return f"batch {signs.index('N') + 1}: tile {signs.index('N')} was filed"
+    if "x" in signs:
+        return f"{over}: tile {signs.index('x')} the first bad one"
+    if "v" in signs:
+        return f"{over}: clean"
+    return f"{over}: the header was another" if "H" in signs else f"this analysis: tile{'s' * (len(at) > 1)} {' '.join(map(str, at))} {'are' if len(at) > 1 else 'is'} bad"
+
+
+def drawn(head, events, tiles, granules, first, date=str):
+    """The fields; over them the shades and the outline, from the row of one moment to that of the other; then the signs, and what
+    each line says."""
     last = len(events) - 1
     count = len(events[last][1])
+    left = max(LEAST_LEFT, 8 * max(len(date(moment)) for moment, _ in events) + 20)
 
     def field(tile, since, until, style):
         begin = max((row for row in range(last) if events[row][0] <= since), default=0)
         end = last if until == events[last][0] else min((row for row in range(last) if events[row][0] >= until), default=last)
         height = CELL * max(end - begin, 0) + CELL // 2
-        return box(LEFT + CELL * tile + 2, TOP + CELL * begin + CELL // 2, CELL - 4, height, style)
+        return box(left + CELL * tile + 2, TOP + CELL * begin + CELL // 2, CELL - 4, height, style)
 
-    fields, signs = [], []
+    fields, signs, words = [], [], []
     for row, (moment, line) in enumerate(events):
         y = TOP + CELL * row
-        signs.append(word(LEFT - 10, y + 17, str(moment), 'text-anchor="end" fill="#444444"'))
+        signs.append(word(left - 10, y + 17, date(moment), 'text-anchor="end" fill="#444444"'))
         for tile, sign in enumerate(line):
             back, front, _ = SIGNS.get(sign, ("#ffffff", "#bbbbbb", ""))
-            x = LEFT + CELL * tile
+            x = left + CELL * tile
             fields.append(box(x, y, CELL, CELL, f'fill="{back}" stroke="#dddddd"'))
             signs.append(word(x + CELL // 2, y + 17, sign, f'text-anchor="middle" fill="{front}"'))
+        said = escape(f"{date(moment)}: {told(line)}")
+        words.append(f'<g fill-opacity="0"><title>{said}</title>{box(0, y, left + CELL * count, CELL, "")}</g>')
     spans = spans_of(events, tiles, granules)
     shades = [field(tile, *span, 'fill="#cc0000" fill-opacity="0.18"') for tile, span in spans.items()]
     if first:
         shades.append(field(*first, 'fill="none" stroke="#cc0000" stroke-width="2"'))
     low = TOP + CELL * (last + 1) + 24
-    words = [word(10, 24, head, 'font-weight="bold"'), word(LEFT, TOP - 10, f"tiles 0 to {count - 1}", 'fill="#444444"')]
+    words += [word(10, 24, head, 'font-weight="bold"'), word(left, TOP - 10, f"tiles 0 to {count - 1}", 'fill="#444444"')]
     for place, (sign, (back, front, says)) in enumerate(SIGNS.items()):
         x, y = 10 + place % 2 * 200, low + place // 2 * 22
         words += [box(x, y - 14, 18, 18, f'fill="{back}"'), word(x + 5, y, sign, f'fill="{front}"'), word(x + 26, y, says, "")]
     words.append(word(10, low + 68, "shaded: when a bad tile was changed; outlined: the first change", ""))
-    width = max(LEFT + CELL * count + 20, 9 * len(head) + 20, 540)
+    width = max(left + CELL * count + 20, 9 * len(head) + 20, 540)
     return picture(width, low + 84, fields + shades + signs + words)
 
 
@@ -118,18 +138,24 @@ def main(words):
     try:
         text = open(words[0]).read() if words else sys.stdin.read()
     except (OSError, UnicodeDecodeError) as fault:
-        return f"diagram_svg: {words[0] if words else 'standard input'} can't be read: {fault}"
+        why = fault.strerror if isinstance(fault, OSError) else "it is no text"
+        return f"diagram_svg: {words[0] if words else 'standard input'} can't be read: {why}"
     if not text.startswith("report "):
         return "diagram_svg: this is no report"
     head, events, *rest = read(text)
     if len({len(signs) for _, signs in events}) > 1:
         return "diagram_svg: the report isn't whole: its events have not the same tiles"
     if events:
-        sys.stdout.write(drawn(head, events, *rest))
+        made = drawn(head, events, *rest)
     else:
         why = "the diagram was left out: it would have more than 64 events" if "diagram left out" in text else "there is no diagram"
         parts = [word(10, 24, head, 'font-weight="bold"'), word(10, 52, why, 'fill="#444444"')]
-        sys.stdout.write(picture(max(9 * len(head) + 20, 560), 74, parts))
+        made = picture(max(9 * len(head) + 20, 560), 74, parts)
+    try:
+        put(made)
+    except Refused as why:
+        return f"diagram_svg: {why}"
+    return 0
 
 
 if __name__ == "__main__":

@@ -1,0 +1,362 @@
+#!/usr/bin/env python3
+"""Tries what shows a store: look.py, dump.py, differ.py, explain, report_page.py, timeline_page.py, on_copy --keep and case.
+
+    python3 examples/checks/looking.py [COUNT]
+
+COUNT stores (1,000 if none is given) with statements and sessions of their own are dumped, whole or in two parts, and made anew
+from that. The new store has to say the same `link`. Then come verdicts of each kind, files that are none, hostile texts, and the
+worked store and book with one byte changed (each one, from 100 stores on): no script may print a traceback, or a letter that steers
+what shows it.
+"""
+import contextlib
+import hashlib
+import importlib.util
+import io
+import os
+import pathlib
+import random
+import shutil
+import struct
+import subprocess
+import sys
+import tempfile
+
+from program import EXAMPLES, Wrong, count_of, dragoon, script
+
+sys.dont_write_bytecode = True
+spec = importlib.util.spec_from_file_location("checks_verify", EXAMPLES / "checks" / "verify.py")
+made = importlib.util.module_from_spec(spec)
+spec.loader.exec_module(made)
+# (the scripts' own verify.py stands before the one beside this file)
+sys.path.insert(0, str(EXAMPLES))
+import differ
+import dump
+import look
+import timeline_page
+from make_worked_files import record, transaction, word
+from parts.script import Refused, is_odd
+
+WORKED, ALTERED, BOOK = (EXAMPLES / name for name in ("worked.store", "altered.store", "worked.book"))
+HOSTILE = "<script>document.title = 'run'</script>\u202egnp.exe\u200b\u2028 \" onmouseover='x' --> ]]> שלום 漢字"
+
+
+def inside(module, *words):
+    """The status, the output, and what is said on standard error, of a script that is carried out here."""
+    sys.argv, told = [module.__name__, *map(str, words)], io.StringIO()
+    with contextlib.redirect_stderr(told):
+        try:
+            text, status = module.main(module.words())
+        except Refused as why:
+            return 3, "", str(why)
+    return status, text, told.getvalue()
+
+
+# ---- dumps
+
+
+def with_sessions(rng, lines):
+    """The same lines, with some of the statements in sessions."""
+    session, begun = rng.randint(0, 15), False
+    for line in lines:
+        changes = line.split()[0] in ("create", "insert", "update", "delete")
+        if begun and (not changes or rng.random() < 0.2):
+            yield f"s{session} {rng.choice(['commit'] * 9 + ['abort'])}"
+            begun = False
+        if not begun and changes and rng.random() < 0.3:
+            yield f"s{session} begin"
+            begun = True
+        yield f"s{session} {line}" if begun and changes else line
+    if begun:
+        yield f"s{session} commit"
+
+
+def restored(folder, seed):
+    """Makes a store, dumps it, and makes it anew. The answer is how many transactions it has."""
+    rng = random.Random(seed)
+    store, new = folder / "store", folder / "new"
+    store.unlink(missing_ok=True)
+    id, width = str(rng.choice([0, 7, (1 << 64) - 1, rng.getrandbits(64)])), rng.choice([1, 60, 3600, 86400])
+    dragoon(f"store={store}", "init", id, str(width), str(rng.randint(0, 5)), rng.choice(["m", "t", "a", "ta"]))
+    name, quotes = "n" * 32, "''" * rng.randint(0, 99)
+    lines = [*with_sessions(rng, made.a_script(rng, width).splitlines()), f"create {name} k text b bytes", f"insert {name} '{quotes}' x'00'"]
+    dragoon(f"store={store}", "run", id, "scripted", lines="\n".join(lines) + "\n")
+    new.write_bytes(store.read_bytes()[:64] + b"\0")
+    cut = rng.choice([None, rng.randint(0, 40 * width)])
+    for part in [()] if cut is None else [("--to", cut), ("--from", cut + 1)]:
+        status, said, told = inside(dump, *part, store)
+        if status or told and not (part and "nothing is written" in told):
+            raise Wrong(f"made store {seed}: dump.py ends with {status}: {told}")
+        dragoon(f"store={new}", "run", id, "scripted", lines=said)
+    links = [dragoon(f"store={it}", "link") for it in (store, new)]
+    if links[0] != links[1] or links[0][0]:
+        raise Wrong(f"made store {seed}: links {links}")
+    if inside(differ, store, new)[0]:
+        raise Wrong(f"made store {seed}: differ.py finds that it isn't what was dumped")
+    return int(links[0][1].split()[1])
+
+
+# ---- files by hand
+
+
+def stored(number, moment, operation):
+    return record(transaction(number, moment, operation))
+
+
+def text(value):
+    return b"\x02" + struct.pack(">H", len(value.encode())) + value.encode()
+
+
+def put(table, *values):
+    return b"\x02" + word(table) + bytes([len(values)]) + b"".join(values)
+
+
+def by_hand(*records):
+    """A store with the id 7 and granules of a minute."""
+    return b"\xa7DRAGOON1" + struct.pack(">QQIBB", 7, 0, 60, 3, 3) + bytes(33) + b"".join(records) + b"\0"
+
+
+CREATE = b"\x01" + word("t") + b"\x02" + word("k") + b"\x02" + word("v") + b"\x02"
+
+
+def odd_stores():
+    """Stores that no honest writer makes, each with what dump.py says of it, and how many lines of it store something."""
+    begin = stored(1, 0, CREATE)
+    yield [begin, stored(2, 0, put("t", text("a\x1b[2J\nb"), text("\0")))], "no statement can spell its text", 1
+    yield [begin, stored(2, 60, put("t", text("a"), b"\0")), stored(3, 59, put("t", text("b"), b"\0"))], "its moment is before 60", 3
+    yield [begin, stored(9, 0, put("t", text("a"), b"\0"))], "its number isn't 2", 1
+    yield [begin, stored(2, 0, put("u", text("a"), b"\0"))], "doesn't fit the tables (NoTable)", 1
+    yield [begin, stored(2, 0, put("t", b"\x04\x01", b"\0"))], "doesn't fit the tables (BadType 1)", 1
+    yield [begin, stored(2, 0, put("t", b"\0", b"\0"))], "doesn't fit the tables (NullKey)", 1
+    yield [begin, stored(2, (1 << 64) - 1, put("t", text("a"), b"\0"))], "its moment is too late", 1
+    yield [begin, stored(2, 0, b"\x03" + word("t") + text("a"))], "doesn't fit the tables (NoRow)", 1
+
+
+def odd(folder):
+    for records, why, lines in odd_stores():
+        (folder / "odd").write_bytes(by_hand(*records))
+        status, said, _ = inside(dump, folder / "odd")
+        storing = [line for line in said.splitlines() if not line.startswith("#")]
+        if status != 1 or why not in said or len(storing) != lines:
+            raise Wrong(f"dump.py ends with {status} where it has to say `{why}`: {said}")
+        no_steering(folder / "odd")
+    policy = record(b"\x03" + bytes(8) + b"\x02\x03")
+    (folder / "odd").write_bytes(by_hand(stored(1, 0, CREATE), policy, stored(2, 0, put("t", text("a"), b"\0"))))
+    status, said, _ = inside(dump, folder / "odd")
+    is_read = "transactions    2, in" in inside(look, folder / "odd")[1]
+    if status or not is_read or said.splitlines()[1:] != ["# policy from tile 0 on: exponent 2, algorithms 3", "insert t 'a' null"]:
+        raise Wrong(f"dump.py of a policy: {said}")
+
+
+def no_steering(store):
+    """What the scripts show of a store has no letter that steers what shows it."""
+    shown = [inside(look, store), inside(differ, store, WORKED), inside(timeline_page, store, 7, "t", "a")]
+    for _, said, told in shown:
+        if any(is_odd(it) for it in (said + told).replace("\n", "")) or "<script" in said:
+            raise Wrong(f"an odd letter is out: {said[:200]!r}")
+
+
+# ---- each verdict, and what is refused
+
+
+def files(folder):
+    """The worked files, and others that aren't what they should be."""
+    worked = WORKED.read_bytes()
+    shutil.copy(BOOK, folder / "book")
+    policy = record(b"\x03" + bytes(8) + b"\x02\x03")
+    for name, content in (("cut", worked[:65]), ("hides_all", worked[:64] + b"\xa6" + worked[65:]), ("policy", worked[:64] + policy + worked[64:]),
+                          ("empty", b""), ("zeros", bytes(500)), ("other_id", worked[:16] + b"\x08" + worked[17:]), ("wide", worked[:28] + b"\x3d" + worked[29:]),
+                          ("closed", b"\0" + worked[1:]), ("text", b"this is a text, and no store\n" * 9), ("hidden", worked[:430] + b"\0" + worked[431:])):
+        (folder / name).write_bytes(content)
+
+
+# the words, the status, and what has to be said
+SAYS = [
+    ("look.py", (WORKED, BOOK, "7"), 0, ("1 tile, before 1970-01-01 00:08:00 UTC", "t, 8 rows: k int, v int", "the one that was filed")),
+    ("look.py", (WORKED, BOOK, "8"), 3, ("has the id 7, and not 8",)),
+    ("look.py", ("hidden",), 0, ("14 bytes: a crash leaves such bytes",)),
+    ("look.py", (ALTERED, BOOK, "7"), 0, ("the one that was filed", "compared        the header alone")),
+    ("look.py", ("cut", BOOK, "7"), 0, ("moment 480; the store ends BEFORE that",)),
+    ("look.py", ("policy",), 0, ("policies        1 item that no program writes",)),
+    ("look.py", ("wide", BOOK, "7"), 0, ("NOT the one that was filed",)),
+    ("look.py", (WORKED, "empty", "7"), 0, ("nothing under this id; the book has no other",)),
+    ("look.py", (BOOK,), 3, ("is no store: it is a notary's book",)),
+    ("look.py", (WORKED, WORKED, "7"), 3, ("is no notary's book: it is a store with the id 7",)),
+    ("look.py", ("nowhere",), 3, ("nowhere can't be read: No such file",)),
+    ("look.py", (WORKED, BOOK), 2, ("usage: look.py",)),
+    ("look.py", ("--zone", "Nowhere/Land", WORKED), 2, ("is no time zone",)),
+    ("dump.py", ("--granule", "5", WORKED), 0, ("now 300\ninsert t 5 0\n",)),
+    ("dump.py", ("--granule", "5", "--to", "7", WORKED), 2, ("usage: dump.py",)),
+    ("dump.py", ("--from", "300", "--to", "100", WORKED), 2, ("this ends before it begins",)),
+    ("dump.py", ("--granule", "99", WORKED), 0, ("dump: nothing is written",)),
+    ("dump.py", ("hides_all",), 0, ("dump: behind the end of", "380 bytes: a crash", "dump: nothing is written")),
+    ("dump.py", ("closed",), 3, ("whose header's gate is closed",)),
+    ("differ.py", (ALTERED, WORKED), 1, ("v: 1 in the store, 0 in the copy", "1 of 9 transactions differs, in granule 5;")),
+    ("differ.py", ("--granule", "5", ALTERED, WORKED), 1, ("1 of 1 transaction differs, in granule 5;",)),
+    ("differ.py", ("--granule", "4", ALTERED, WORKED), 0, ("0 of 1 transaction differ",)),
+    ("differ.py", ("--granule", "99", ALTERED, WORKED), 0, ("no transaction was compared;",)),
+    ("differ.py", (ALTERED, "hides_all"), 0, ("differ: behind the end of", "no transaction was compared; behind the last one of the copy the store has 9")),
+    ("differ.py", ("policy", WORKED), 1, ("policies, which no program writes: 1 in the store, 0 in the copy", "0 of 9 transactions differ;")),
+    ("differ.py", ("wide", WORKED), 1, ("header: width of granules 61 in the store, 60 in the copy",)),
+    ("differ.py", (WORKED, "text"), 3, ("don't begin as those of a store",)),
+    ("diagram_svg.py", ("nowhere",), 1, ("diagram_svg: nowhere can't be read: No such file",)),
+    ("explain", (WORKED, BOOK, "7"), 0, ("Clean: ",)),
+    ("explain", ("--alg", "tiled", ALTERED, BOOK, "7"), 1, ("Tile 0: granules 5, 7, changed between 1970-01-01 00:08:00 UTC",)),
+    ("explain", (WORKED, BOOK, "9"), 0, ("Nothing was filed: ", "it is a store with the id 7")),
+    ("explain", ("empty", BOOK, "7"), 1, ("Header altered: ", "it is empty")),
+    ("explain", ("other_id", BOOK, "7"), 1, ("its id is 8, and not 7",)),
+    ("explain", ("wide", BOOK, "7"), 1, ("Today's says granules of 61 s",)),
+    ("explain", (WORKED, "text", "7"), 3, ("fault NotaryFault",)),
+    ("explain", (WORKED, BOOK, "07"), 2, ("usage: explain",)),
+    ("explain", ("nowhere", BOOK, "7"), 3, ("explain: nowhere can't be read: No such file",)),
+    ("explain", (WORKED, "nowhere", "7"), 3, ("explain: nowhere can't be read: No such file",)),
+    ("explain", (ALTERED, BOOK, "7"), 1, (f"the store {ALTERED} isn't what was filed",)),
+    ("report_page.py", (ALTERED, BOOK, "7"), 0, ("<b>Altered</b>", "<h3>Granule 5</h3>", "<title>1970-01-01 00:08:00 UTC: batch 1: tile 0 was filed</title>")),
+    ("report_page.py", (WORKED, BOOK, "7"), 0, ("<b>Clean</b>",)),
+    ("report_page.py", ("zeros", BOOK, "7"), 0, ("<b>Header altered</b>", "its 500 bytes are zeros")),
+    ("report_page.py", (WORKED, BOOK, "9"), 0, ("<b>Nothing was filed</b>",)),
+    ("report_page.py", (WORKED, BOOK, "7", "--alg", "a3"), 2, ("usage: report_page.py",)),
+    ("timeline_page.py", ("--notary", BOOK, WORKED, "7", "t", "5"), 0, ("<b>1 version</b>", "2 filings", "batch 1 filed")),
+    ("timeline_page.py", ("hidden", "7", "t", "1"), 0, ("14 bytes: a crash leaves such bytes",)),
+    ("timeline_page.py", (WORKED, "7", "t", "99"), 0, ("There never was such a row.",)),
+    ("timeline_page.py", (WORKED, "7", "u", "5"), 3, ("has no table u; its tables are: t",)),
+    ("timeline_page.py", (WORKED, "7", "t", "'5'"), 3, ("its keys are of kind int",)),
+    ("timeline_page.py", (WORKED, "8", "t", "5"), 3, ("has the id 7, and not 8",)),
+]
+
+
+def in_words(folder):
+    """What each script says. `examples/explain` ends as the program does."""
+    for name, words, status, says in SAYS:
+        there = [str(folder / it) if isinstance(it, str) and it.isidentifier() and (folder / it).exists() else str(it) for it in words]
+        ended, said, told = script(name, *there)
+        wrong = [it for it in says if it not in " ".join((said + told).split()) and it not in said + told]
+        if ended != status or wrong or "Traceback" in told or status > 1 and said:
+            raise Wrong(f"{name} {' '.join(map(str, words))} ends with {ended}, and doesn't say {wrong}: {(said + told)[-300:]}")
+    for name in ("report_page.py", "explain"):
+        call = [sys.executable, EXAMPLES / name, WORKED, BOOK, "7"]
+        done = subprocess.run(call, env={**os.environ, "DRAGOON": "/nowhere/dragoon"}, capture_output=True, text=True)
+        if done.returncode != 3 or done.stdout or len(done.stderr.splitlines()) != 1:
+            raise Wrong(f"{name} without a program ends with {done.returncode}: {done.stderr}")
+    (folder / "report").write_text("report a3d id 7 tiles 0 clean\n")
+    for output, why in ((">/dev/full", "No space left on device"), (">&-", "Bad file descriptor")):
+        for name, *words in (("report_page.py", WORKED, BOOK, "7"), ("explain", WORKED, BOOK, "7"), ("look.py", WORKED), ("dump.py", WORKED), ("differ.py", WORKED, WORKED),
+                             ("verify.py", WORKED, BOOK, "7"), ("quorum/compare", BOOK, folder / "book"), ("diagram_svg.py", folder / "report")):
+            done = subprocess.run(["bash", "-c", f'"$0" "$@" {output}', sys.executable, EXAMPLES / name, *words], capture_output=True, text=True)
+            if done.returncode != (1 if name == "diagram_svg.py" else 3) or done.stderr != f"{pathlib.Path(name).stem}: the output: {why}\n":
+                raise Wrong(f"{name} {output} ends with {done.returncode}: {done.stderr}")
+
+
+def backwards(folder):
+    """A batch from the far future makes a span that ends before it begins."""
+    book = bytearray(BOOK.read_bytes())
+    book[125 + 18 : 125 + 26] = struct.pack(">Q", 1 << 40)
+    (folder / "later").write_bytes(book)
+    for name, says in (("explain", "this span ends before it begins"), ("report_page.py", '<span class="note bad">between')):
+        if says not in " ".join(script(name, str(ALTERED), str(folder / "later"), "7")[1].split()):
+            raise Wrong(f"{name} doesn't flag a span that runs backwards")
+
+
+def hostile(folder):
+    """Texts that would be run, or would steer what shows them, are shown."""
+    store, book = folder / "hostile <b>", folder / "hostile.book"
+    dragoon(f"store={store}", "init", "7", "60", "3", "ta")
+    quoted = HOSTILE.replace("'", "''")
+    lines = f"create t k text v text\ninsert t '{quoted}' '{'x' * 30000}'\nupdate t '{quoted}' '{quoted}'\nnow 480\nnotarize\n"
+    dragoon(f"store={store}", f"notary={book}", "run", "7", "scripted", lines=lines)
+    content = bytearray(store.read_bytes())
+    content[content.index(b"x" * 30000)] = ord("y")
+    store.write_bytes(content)
+    pages = script("report_page.py", str(store), str(book), "7"), script("timeline_page.py", "--notary", str(book), str(store), "7", "t", HOSTILE)
+    for status, said, told in pages:
+        if status or "<script" in said or any(is_odd(it) for it in said.replace("\n", "")) or "U+202E" not in said or "30,002 letters" not in said:
+            raise Wrong(f"a page of hostile texts ends with {status}: {told or said[:300]}")
+    return pages[0][1]
+
+
+def changed_bytes(folder, step):
+    """The worked store and book with one byte changed, each or each so many: what can't be shown is refused."""
+    store, book, count = WORKED.read_bytes(), BOOK.read_bytes(), 0
+    (folder / "s").write_bytes(store)
+    (folder / "b").write_bytes(book)
+    for name, content in (("s", store), ("b", book)):
+        for place in range(0, len(content), step):
+            (folder / name).write_bytes(made.changed(content, place, content[place] ^ 1 << place % 8))
+            shown = [inside(look, folder / "s", folder / "b", 7), inside(timeline_page, "--notary", folder / "b", folder / "s", 7, "t", 5)]
+            shown += [inside(dump, folder / "s"), inside(differ, folder / "s", WORKED)] if name == "s" else []
+            count += 1
+            for status, said, told in shown:
+                if status not in (0, 1, 3) or status == 3 and (said or not told):
+                    raise Wrong(f"{name} with byte {place} changed: {status} {told}")
+        (folder / name).write_bytes(content)
+    return count
+
+
+# ---- for the examiner
+
+
+def kept(folder):
+    """on_copy and case keep all that was asked, leave the files as they are, and leave no half folder."""
+    sums = [hashlib.sha256(it.read_bytes()).digest() for it in (ALTERED, BOOK, WORKED)]
+    calls = [
+        (["on_copy", "--keep", folder / "asked", f"store={ALTERED}", f"notary={BOOK}", "validate", "7"], 1, "asked"),
+        (["on_copy", "--keep", folder / "asked", f"store={ALTERED}", "link"], 70, "asked"),
+        (["on_copy", "--keep", folder / "none", "store=/nowhere", "link"], 5, None),
+        (["case", folder / "case", ALTERED, BOOK, "7", WORKED], 1, "case"),
+        (["case", folder / "case", ALTERED, BOOK, "7"], 3, "case"),
+        (["case", folder / "none", ALTERED, "/nowhere", "7"], 3, None),
+        (["case", folder / "clean", WORKED, BOOK, "7"], 0, "clean"),
+    ]
+    for (name, *words), status, made_folder in calls:
+        done = subprocess.run([EXAMPLES / name, *words], stdin=subprocess.DEVNULL, capture_output=True, text=True)
+        if done.returncode != status:
+            raise Wrong(f"{name} {' '.join(map(str, words))} ends with {done.returncode}: {done.stdout + done.stderr}")
+        if made_folder and subprocess.run(["sha256sum", "-c", "--quiet", "SHA256SUMS"], cwd=folder / made_folder, capture_output=True).returncode:
+            raise Wrong(f"{name}: the sums of {made_folder} don't hold")
+    for words, verdict, says in (((BOOK, ALTERED, "7"), "no verdict", "store is no store: it is a notary's book"), ((WORKED, BOOK, "8"), "unsealed", "store has the id 7, and not 8")):
+        done = subprocess.run([EXAMPLES / "case", folder / "odd case", *words], stdin=subprocess.DEVNULL, capture_output=True, text=True)
+        if done.stdout.split("\n")[0] != verdict or says not in done.stderr:
+            raise Wrong(f"case {' '.join(map(str, words))} doesn't say {says}: {done.stdout + done.stderr}")
+        shutil.rmtree(folder / "odd case")
+    left = {it.name for it in folder.iterdir() if it.is_dir()}
+    if left != {"asked", "case", "clean"} or sums != [hashlib.sha256(it.read_bytes()).digest() for it in (ALTERED, BOOK, WORKED)]:
+        raise Wrong(f"a half folder is left, or a file was changed: {left}")
+    if (folder / "asked" / "status").read_text() != "1\n" or "v: 1 in the store, 0 in the copy" not in (folder / "case" / "differs.txt").read_text():
+        raise Wrong("what was asked isn't kept")
+
+
+def in_a_browser(folder, page):
+    """Whether a browser runs nothing of a hostile page, and prints it. None where there is no browser."""
+    browser = shutil.which("chromium")
+    if not browser:
+        return None
+    (folder / "page.html").write_text(page)
+    call = [browser, "--headless", "--disable-gpu", *(["--no-sandbox"] if os.getuid() == 0 else []), f"--user-data-dir={folder / 'browser'}"]
+    done = subprocess.run([*call, "--dump-dom", (folder / "page.html").as_uri()], capture_output=True, text=True, timeout=60)
+    printed = subprocess.run([*call, f"--print-to-pdf={folder / 'page.pdf'}", (folder / "page.html").as_uri()], capture_output=True, timeout=60)
+    if "<title>hostile &lt;b&gt;: altered</title>" not in done.stdout or printed.returncode or not (folder / "page.pdf").read_bytes().startswith(b"%PDF"):
+        raise Wrong(f"a browser doesn't show a hostile page as it is: {done.stdout[:300]}")
+    return True
+
+
+def main(words):
+    count = count_of(words, 1000, __doc__)
+    with tempfile.TemporaryDirectory() as name, tempfile.TemporaryDirectory() as room:
+        folder = pathlib.Path(name)
+        transactions = sum(restored(folder, seed) for seed in range(count))
+        print(f"looking: {count} stores, with {transactions} transactions, were dumped and made anew under the same link")
+        odd(folder)
+        files(folder)
+        in_words(folder)
+        backwards(folder)
+        print(f"looking: {len(SAYS)} calls, and {changed_bytes(folder, 1 if count > 99 else 9)} files with one byte changed, are answered in words")
+        page = hostile(folder)
+        kept(folder)
+        is_tried = in_a_browser(pathlib.Path(room), page)
+        print(f"looking: hostile texts are shown{', and a browser runs none of them' if is_tried else '; in a browser: not tried, there is no chromium'}")
+
+
+if __name__ == "__main__":
+    try:
+        main(sys.argv[1:])
+    except Wrong as fault:
+        sys.exit(f"looking: WRONG: {fault}")

@@ -1,0 +1,146 @@
+#!/usr/bin/env python3
+"""Says what a store is and holds, and what a notary has of it.
+
+    python3 examples/look.py [--json] [--zone ZONE] STORE [BOOK ID]
+
+Of the store: its id, granules and chains, its first second and its last moment, its tables with their columns and rows, and what
+room is left. Of the book: up to which moment the store is filed, what stands behind that, and its last mark. Of both: the bytes that
+stand behind the gate that ends them. Dates are those of ZONE, as Europe/Zurich, or else of UTC. With --json it is one object, in
+which all times are numbers.
+
+It reads the two files as docs/FORMATS.md says, opens neither for writing, and compares no digest but that of the header: `validate`
+does that. It ends with 0, and with 3 if a file can't be read, is no store or no book, or the store has another id.
+"""
+import collections
+import json
+import sys
+
+sys.dont_write_bytecode = True
+import verify
+from parts import moments
+from parts.book import Book, said
+from parts.script import Refused, counted, end, number, plain, words_of
+from parts.store import GRANULES, LIMIT, Frontier, Policy, Store, Tables, Transaction, hidden
+
+
+def of_store(store):
+    """What the store says, in numbers and names."""
+    tables, last, counts, granules = Tables(), 0, collections.Counter(), set()
+    for item in store.items():
+        counts[type(item)] += 1
+        if isinstance(item, Policy):
+            continue
+        last = max(last, item.moment)
+        if not isinstance(item, Frontier):
+            granules.add(store.granule(item))
+            for operation in item.operations:
+                counts["misfits"] += tables.apply(operation) is not None
+    return {
+        "store": store.path, "bytes": len(store.content), "id": store.id, "first_second": store.epoch, "last_moment": last,
+        "granule_seconds": store.width, "granules_in_a_tile": 1 << store.k, "chains": store.chains(),
+        "transactions": counts[Transaction], "frontiers": counts[Frontier],
+        "policies": counts[Policy], "misfits": counts["misfits"], "granules_with_transactions": len(granules),
+        "tables": {name: {"rows": len(tables.keys[name]), "columns": dict(columns)} for name, columns in sorted(tables.columns.items())},
+        "bytes_left": max(0, LIMIT - 1 - store.gate()), "granules_left": max(0, GRANULES - 1 - last // store.width),
+        "full_second": store.epoch + GRANULES * store.width, "behind_the_end": store.behind(),
+    }
+
+
+def of_book(book, store, id):
+    """What the book says of the store under the id."""
+    batches, marks = book.batches(id), book.marks(id)
+    tiles = max(0, len(batches) - 1)
+    filed = tiles * store.tile_width
+    behind = [len(item.payload) + 5 for item in store.transactions() if item.moment >= filed]
+    header = dict(batches[0].seals).get("header") if batches else None
+    return {
+        "book": book.path, "bytes": len(book.content), "batches": len(batches), "tiles_filed": tiles, "filed_before_moment": filed,
+        "last_filing": batches[-1].moment if batches else None,
+        "header_is_filed": bool(header) and header == verify.digest(b"\x05", store.fields),
+        "transactions_behind": len(behind), "bytes_of_them": sum(behind), "marks": len(marks),
+        "last_mark": dict(marks[-1]._asdict(), says=said(marks[-1])) if marks else None,
+        "other_ids": [it for it in book.ids() if it != id], "behind_the_end": max(0, len(book.content) - book.gate() - 1),
+    }
+
+
+# ---- as lines
+
+
+def rows(pairs):
+    return "".join(f"{name:16}{value}\n" for name, value in pairs)
+
+
+def store_lines(it, date):
+    tile = it["granules_in_a_tile"] * it["granule_seconds"]
+    yield "store", f"{plain(it['store'])}, {counted(it['bytes'], 'byte')}"
+    yield "id", it["id"]
+    in_a_tile = counted(it["granules_in_a_tile"], "granule")
+    yield "granules", f"{moments.length(it['granule_seconds'])} each, {in_a_tile} to a tile of {moments.length(tile)}"
+    yield "chains", it["chains"]
+    yield "begins", f"{date(it['first_second'])}, second {it['first_second']}"
+    yield "last moment", f"{date(it['first_second'] + it['last_moment'])}, moment {it['last_moment']}"
+    yield "transactions", f"{it['transactions']:,}, in {counted(it['granules_with_transactions'], 'granule')}"
+    if it["misfits"]:
+        yield "misfits", f"{counted(it['misfits'], 'operation')} that fit no table: no honest writer stores such"
+    if it["policies"]:
+        yield "policies", f"{counted(it['policies'], 'item')} that no program writes, and on which no answer depends"
+    granules = counted(it["granules_left"], "granule")
+    yield "room left", f"{counted(it['bytes_left'], 'byte')}; {granules}, until {date(it['full_second'])}"
+    yield "behind its end", hidden(it["behind_the_end"]) if it["behind_the_end"] else "nothing"
+    for name, table in it["tables"].items():
+        columns = ", ".join(f"{column} {kind}" for column, kind in table["columns"].items())
+        yield "table", f"{name}, {counted(table['rows'], 'row')}: {columns}"
+
+
+def book_lines(it, store, date):
+    yield "book", f"{plain(it['book'])}, {counted(it['bytes'], 'byte')}"
+    if not it["batches"]:
+        others = "the ids " + ", ".join(map(str, it["other_ids"])) if it["other_ids"] else "no other"
+        yield "filed", f"nothing under this id; the book has {others}"
+    else:
+        until = it["filed_before_moment"]
+        before = f"before {date(store['first_second'] + until)}, moment {until}" if until else "no moment yet"
+        ends = "; the store ends BEFORE that, so it is NOT what was filed" if store["last_moment"] < until else ""
+        yield "filed", f"{counted(it['tiles_filed'], 'tile')}, {before}{ends}"
+        yield "last filing", date(it["last_filing"])
+        yield "header", "the one that was filed" if it["header_is_filed"] else "NOT the one that was filed"
+        yield "compared", "the header alone; `validate` compares what was stored"
+    yield "not yet filed", f"{counted(it['transactions_behind'], 'transaction')}, {counted(it['bytes_of_them'], 'byte')}"
+    mark = it["last_mark"]
+    yield "marks", f"{it['marks']:,}" + (f"; the last one at {date(mark['moment'])}: {mark['says']}" if mark else "")
+    yield "behind its end", hidden(it["behind_the_end"]) if it["behind_the_end"] else "nothing"
+
+
+def words():
+    parser = words_of(__doc__)
+    parser.add_argument("--json", action="store_true")
+    parser.add_argument("--zone", type=moments.zone, default=moments.UTC)
+    parser.add_argument("store")
+    parser.add_argument("book", nargs="?")
+    parser.add_argument("id", nargs="?", type=number)
+    given = parser.parse_args()
+    if given.book is not None and given.id is None:
+        parser.error("a book stands with the id under which the store is filed")
+    return given
+
+
+def main(given):
+    store = Store(given.store)
+    if given.id not in (None, store.id):
+        raise Refused(f"{plain(given.store)} has the id {store.id}, and not {given.id}")
+    found = {"store": of_store(store)}
+    if given.book:
+        found["book"] = of_book(Book(given.book), store, store.id)
+    if given.json:
+        return json.dumps(found, indent=2) + "\n", 0
+
+    def date(second):
+        return moments.date(second, given.zone)
+
+    text = rows(store_lines(found["store"], date))
+    return text + (rows(book_lines(found["book"], found["store"], date)) if given.book else ""), 0
+
+
+if __name__ == "__main__":
+    given = words()
+    end(lambda: main(given))

@@ -1,0 +1,162 @@
+"""A report of `analyse`, what it says in words, and what stands now in the granules that it names."""
+import bisect
+import re
+from collections import namedtuple
+
+import verify
+from . import moments
+from .script import Refused, counted, plain
+from .store import Create, Tables, what_is
+
+# granules are ranges, each with its first and its last; `tile` is one that fails, or None
+Found = namedtuple("Found", "ranges tile since until")
+Report = namedtuple("Report", "text algorithm id tiles verdict found first")
+HEAD = re.compile(r"report (mono|tiled(?: \d+)?|a3d) id (\d+) tiles (\d+) (unsealed|clean|altered|header altered)")
+BACKWARDS = "this span ends before it begins: a clock went back, or the book has a foreign mark. The granules don't depend on it"
+
+
+def ranges_of(numbers):
+    """Rising numbers as ranges."""
+    ranges = []
+    for number in numbers:
+        if ranges and ranges[-1][1] + 1 == number:
+            ranges[-1] = ranges[-1][0], number
+        else:
+            ranges.append((number, number))
+    return ranges
+
+
+def found_in(line):
+    """What a line of a report names, or None."""
+    if found := re.fullmatch(r"tiles \d+ to \d+ granules (\d+) to (\d+) when (\d+) to (\d+)", line):
+        first, last, since, until = map(int, found.groups())
+        return Found([(first, last)], None, since, until)
+    if found := re.fullmatch(r"tile (\d+) target [01-]+ candidates ([\d ]+|none) when (\d+) to (\d+)", line):
+        return Found(ranges_of(map(int, re.findall(r"\d+", found[2]))), int(found[1]), int(found[3]), int(found[4]))
+    if found := re.fullmatch(r"granule (\d+) when (\d+) to (\d+)", line):
+        granule, since, until = map(int, found.groups())
+        return Found([(granule, granule)], None, since, until)
+    return None
+
+
+def read(text):
+    head = HEAD.match(text)
+    if not head:
+        raise Refused(f"this is no report: {plain(text[:80])}")
+    found = [it for it in map(found_in, text.splitlines()) if it]
+    first = re.search(r"^first change in tile (\d+) when (\d+) to (\d+)$", text, re.MULTILINE)
+    return Report(text, head[1], int(head[2]), int(head[3]), head[4], found, first and tuple(map(int, first.groups())))
+
+
+class Standing:
+    """One pass over a store. Of each of these it has the first transactions that its granules have now, and how many they are; and
+    the columns of the tables, and how many transactions came behind what is filed.
+    """
+
+    def __init__(self, store, report, founds, most):
+        until, tables, self.behind = report.tiles * store.tile_width, Tables(), 0
+        self.first, self.counts = [[] for _ in founds], [0] * len(founds)
+        places = sorted((first, last, at) for at, found in enumerate(founds) for first, last in found.ranges)
+        for transaction in store.transactions():
+            self.behind += transaction.moment >= until
+            for operation in transaction.operations:
+                if isinstance(operation, Create):
+                    tables.apply(operation)
+            granule = store.granule(transaction)
+            at = bisect.bisect(places, (granule, verify.GRANULES << 1, 0)) - 1
+            if at >= 0 and places[at][0] <= granule <= places[at][1]:
+                self.counts[places[at][2]] += 1
+                if len(self.first[places[at][2]]) < most:
+                    self.first[places[at][2]].append(transaction)
+        self.columns = tables.columns
+
+
+# ---- in words
+
+
+def named(ranges):
+    """Ranges of granules in words."""
+    said = ", ".join(str(first) if first == last else f"{first} to {last}" for first, last in ranges[:40])
+    more = sum(last - first + 1 for first, last in ranges[40:])
+    is_one = len(ranges) == 1 and ranges[0][0] == ranges[0][1]
+    return f"granule{'s' * (not is_one)} {said}" + (f", and {more} more" if more else "")
+
+
+def headed(found):
+    """What a line of a report names, as the front of a sentence."""
+    said = named(found.ranges) if found.ranges else "no set of just so many granules explains it"
+    return f"Tile {found.tile}: {said}" if found.tile is not None else said.capitalize()
+
+
+def verdict(report, content, ids):
+    """The verdict in a few words, and in a sentence. `ids` are those under which the book has something."""
+    tiles = counted(report.tiles, "tile")
+    if report.verdict == "unsealed":
+        filed = f"Under {' and '.join(map(str, ids[:9]))} something is filed." if ids else "The book is empty."
+        compared = f"Nothing was filed under the id {report.id}, so nothing was compared."
+        return "Nothing was filed", f"{compared} {filed} Of the file that was asked: {what_is(content)}."
+    if report.verdict == "clean" and not report.tiles:
+        return "Clean so far", "The header is the one that was filed. No tile is filed yet, so no transaction was compared."
+    if report.verdict == "clean":
+        return "Clean", f"What stands in the store up to the end of the last filed tile is what was filed: {tiles}."
+    if report.verdict == "altered":
+        changed = f"Of what is filed ({tiles}) at least one transaction was changed, added or taken away."
+        return "Altered", f"The store isn't what was filed. {changed}"
+    doubt = f"So nothing that is filed ({tiles}) can be compared, and every granule of it is in doubt."
+    return "Header altered", f"{other_header(report, content)} {doubt}"
+
+
+def other_header(report, content):
+    """Why the header isn't the one that was filed: a store with this id and other fields, another store, or none."""
+    header = verify.header_of(content)
+    if header is None:
+        return f"The file has no header of a store: {what_is(content)}."
+    if header[1] != report.id:
+        return f"The file is another store: its id is {header[1]}, and not {report.id}."
+    first = int.from_bytes(header[0][8:16], "big")
+    now = f"Today's says granules of {header[2]} s, {1 << header[3]} to a tile, and second {first} as the first."
+    return f"The store has the id {report.id}, and another header than was filed: it was made anew, or its header was changed. {now}"
+
+
+def span(since, until, zone):
+    """A span of the clock's seconds in words, with what is odd of it."""
+    said = f"between {moments.date(since, zone)} and {moments.date(until, zone)} (seconds {since} to {until})"
+    return f"{said}; {BACKWARDS}" if until < since else f"{said}, within {moments.length(until - since)}"
+
+
+def cannot_say(report):
+    """What the algorithm can't say, a sentence each. docs/ANALYSIS.md has the reasons."""
+    kind = report.algorithm.split()[0]
+    if report.verdict == "altered":
+        if kind == "mono":
+            yield "By mono every granule from the first bad tile on is named. One of that tile is altered."
+            yield "All behind the first bad tile is only suspect, since the chain runs through it."
+        elif kind == "tiled":
+            yield "By tiled those granules of a tile are named that explain its chains. At least one of them is altered. It can't say which."
+            if report.algorithm != kind:
+                yield "With a number of granules given it can miss granules of a tile in which another number is altered."
+        else:
+            yield "By a3d the altered granules are named and no other, where the header is the one that was filed."
+        yield "What the granules had in them before isn't in the book, since it keeps digests alone. A copy has it."
+        yield "Which event changed a granule, and who did it, isn't said. Some event in the span did."
+    if report.verdict != "unsealed":
+        yield "What stands behind the filed tiles was compared with nothing. A change before its tile was filed counts as what was filed."
+    yield "All of this is only as good as the book: hold it against the copies and sums that others have."
+
+
+def what_next(report):
+    """What to do next, a sentence each. docs/OPERATING.md has the steps."""
+    if report.verdict == "unsealed":
+        return ["Make sure that the id and the book are the right ones.", "File with `notarize`, and validate again."]
+    if report.verdict == "clean":
+        return ["File what has ended since with `notarize`.", "Keep this page with the book's SHA-256, and give that to somebody else."]
+    by_tree = "Analyse by a3d, if the store has the tree: it names the altered granules alone."
+    return [
+        "Stop writing to the store, and stop its timers. Mend nothing.",
+        "Keep the store, the book and the last clean copies as they are, with their SHA-256: `examples/case` does that.",
+        "Hold the book against the copies and sums that others have.",
+        "See what differs from the last clean copy: `examples/differ.py STORE COPY`.",
+        *(["Hold the span of the first change against logins, changes of the machine and restores."] if report.first else []),
+        *([by_tree] if report.verdict == "altered" and report.algorithm != "a3d" else []),
+        "Go on in a new store, under a new id, over the last clean copy.",
+    ]

@@ -1,0 +1,217 @@
+"""What stands in a store: its transactions, the tables that they make, and statements that say the same.
+
+How records follow one another, and what a header is, stands in verify.py. Here stands what the payloads say.
+"""
+import re
+from collections import namedtuple
+
+import verify
+from .script import Refused, content_of, counted, plain, tell
+
+LIMIT, GRANULES, LAST_SECOND, LONGEST_LINE = 67_108_864, verify.GRANULES, 1_099_511_627_775, 65_536
+KINDS = {1: "int", 2: "text", 3: "bytes", 4: "bool"}
+
+Transaction = namedtuple("Transaction", "number moment operations payload")
+Frontier = namedtuple("Frontier", "moment")
+# the exponent and the algorithms from a tile on
+Policy = namedtuple("Policy", "tile granule k algorithms")
+Create = namedtuple("Create", "table columns")
+Put = namedtuple("Put", "table values")
+Remove = namedtuple("Remove", "table key")
+
+
+# ---- payloads
+
+
+def word_of(source):
+    begin = source.place + 1
+    source.word()
+    return source.content[begin : source.place].decode()
+
+
+def value_of(source):
+    begin = source.place
+    source.value()
+    kind, content = source.content[begin], source.content[begin + 1 : source.place]
+    if kind == 0:
+        return None
+    if kind == 1:
+        return int.from_bytes(content, "big", signed=True)
+    if kind == 4:
+        return content == b"\x01"
+    return content[2:].decode() if kind == 2 else content[2:]
+
+
+def operation_of(source):
+    kind, table = source.number(1, 1, 3), word_of(source)
+    if kind == 3:
+        return Remove(table, value_of(source))
+    count = source.number(1, 1, 32)
+    if kind == 2:
+        return Put(table, [value_of(source) for _ in range(count)])
+    return Create(table, [(word_of(source), KINDS[source.number(1, 1, 4)]) for _ in range(count)])
+
+
+def item_of(source):
+    kind = source.number(1, 1, 3)
+    if kind == 2:
+        return Frontier(source.number(8))
+    if kind == 3:
+        return Policy(source.number(4), source.number(4), source.number(1, 0, 10), source.number(1, 0, 3))
+    number, moment = source.number(4), source.number(8)
+    return Transaction(number, moment, [operation_of(source) for _ in range(source.number(2, 1, 256))], source.content)
+
+
+# how an item is read, and how long a payload and a store may be
+RECORDS = item_of, 32_768, LIMIT
+
+
+# ---- a store
+
+
+class Store:
+    """A header, and items that are read anew each time they are asked for."""
+
+    def __init__(self, path, content=None):
+        self.path, self.content = path, content_of(path) if content is None else content
+        if verify.header_of(self.content) is None:
+            raise Refused(f"{plain(path)} is no store: {what_is(self.content)}")
+        self.fields, self.id, self.width, self.k, self.algorithms = verify.header_of(self.content)
+        self.epoch = int.from_bytes(self.fields[8:16], "big")
+        self.tile_width = self.width << self.k
+
+    def items(self):
+        return (item for item, _ in verify.records(self.content, *RECORDS))
+
+    def transactions(self):
+        return (item for item in self.items() if isinstance(item, Transaction))
+
+    def granule(self, transaction):
+        return transaction.moment // self.width
+
+    def span(self, granule):
+        """The first second of a granule, and the first one behind it."""
+        return self.epoch + granule * self.width, self.epoch + (granule + 1) * self.width
+
+    def gate(self):
+        """The place of the gate that ends the store."""
+        return end_of(self.content, RECORDS)
+
+    def behind(self):
+        """How many bytes stand behind that gate."""
+        return len(self.content) - self.gate() - 1
+
+    def tell_hidden(self):
+        """Says on standard error where such bytes stand."""
+        if behind := self.behind():
+            tell(f"behind the end of {plain(self.path)} stand {hidden(behind)}")
+
+    def chains(self):
+        return ("the chain over all transactions alone", "tile chains", "the tree", "tile chains and the tree")[self.algorithms]
+
+
+def end_of(content, kind):
+    """The place of the gate that ends the records of a store or a book. `kind` is what verify.records takes of it."""
+    return verify.FIRST_GATE + sum(5 + len(payload) for _, payload in verify.records(content, *kind))
+
+
+def hidden(count):
+    """What so many bytes behind the end of a file may be, in words."""
+    return f"{counted(count, 'byte')}: a crash leaves such bytes, and so does whoever hides records (docs/NOTARY.md)"
+
+
+def what_is(content):
+    """What a file is by its front, in words."""
+    if not content:
+        return "it is empty"
+    header = verify.header_of(content)
+    if header:
+        return f"it is a store with the id {header[1]}"
+    if content[:9] == b"\xa7DRAGBOK1":
+        is_whole = len(content) > 64 and not any(content[9:64])
+        return "it is a notary's book" if is_whole else "it begins as a notary's book, whose front is cut or damaged"
+    if content[1:9] == b"DRAGOON1" and content[0] != verify.OPEN:
+        return "it is a store whose header's gate is closed"
+    if content[:9] == b"\xa7DRAGOON1":
+        return "it begins as a store, and " + ("ends within the header" if len(content) < 65 else "its header has a field that no store has")
+    if not any(content):
+        return f"its {len(content)} bytes are zeros"
+    return f"its {len(content)} bytes don't begin as those of a store or a book"
+
+
+# ---- tables
+
+
+class Tables:
+    """The tables, as operations make them: for each its columns and its keys. What doesn't fit changes nothing."""
+
+    def __init__(self):
+        self.columns, self.keys = {}, {}
+
+    def misfit(self, operation):
+        """Why the operation doesn't fit the tables, by the name of the program's refusal, or None."""
+        columns = self.columns.get(operation.table)
+        if isinstance(operation, Create):
+            names = {name for name, _ in operation.columns}
+            return "TableExists" if columns else None if len(names) == len(operation.columns) else "Syntax"
+        if columns is None:
+            return "NoTable"
+        if isinstance(operation, Remove):
+            is_row = kind_of(operation.key) == columns[0][1] and operation.key in self.keys[operation.table]
+            return None if is_row else "NoRow"
+        if len(operation.values) != len(columns):
+            return "BadCount"
+        if operation.values[0] is None:
+            return "NullKey"
+        for at, (value, (_, kind)) in enumerate(zip(operation.values, columns), 1):
+            if value is not None and kind_of(value) != kind:
+                return f"BadType {at}"
+        return None
+
+    def apply(self, operation):
+        """Carries it out where it fits. The answer is why it doesn't."""
+        misfit = self.misfit(operation)
+        if misfit is None and isinstance(operation, Create):
+            self.columns[operation.table], self.keys[operation.table] = operation.columns, set()
+        elif misfit is None and isinstance(operation, Put):
+            self.keys[operation.table].add(operation.values[0])
+        elif misfit is None:
+            self.keys[operation.table].discard(operation.key)
+        return misfit
+
+    def statement(self, operation):
+        """The statement that does what the operation does to these tables."""
+        if isinstance(operation, Create):
+            return f"create {operation.table} " + " ".join(f"{name} {kind}" for name, kind in operation.columns)
+        if isinstance(operation, Remove):
+            return f"delete {operation.table} {literal(operation.key)}"
+        is_there = operation.values[0] in self.keys.get(operation.table, ())
+        return f"{'update' if is_there else 'insert'} {operation.table} " + " ".join(map(literal, operation.values))
+
+
+def kind_of(value):
+    return {int: "int", str: "text", bytes: "bytes", bool: "bool"}.get(type(value))
+
+
+def literal(value):
+    """A value as statements spell it."""
+    if value is None or isinstance(value, bool):
+        return {None: "null", True: "true", False: "false"}[value]
+    if isinstance(value, int):
+        return str(value)
+    return f"x'{value.hex()}'" if isinstance(value, bytes) else "'" + value.replace("'", "''") + "'"
+
+
+def is_sayable(operation):
+    """Whether statements can spell its texts: none has a control letter."""
+    values = operation.values if isinstance(operation, Put) else [operation.key] if isinstance(operation, Remove) else []
+    return not any(isinstance(it, str) and re.search("[\x00-\x1f\x7f]", it) for it in values)
+
+
+def shown(operation):
+    """An operation as a person reads it, on one line that steers no terminal."""
+    if isinstance(operation, Create):
+        return f"create {operation.table} (" + ", ".join(f"{name} {kind}" for name, kind in operation.columns) + ")"
+    if isinstance(operation, Remove):
+        return f"remove {operation.table} {plain(literal(operation.key))}"
+    return f"put {operation.table} ({plain(', '.join(map(literal, operation.values)))})"

@@ -1,0 +1,172 @@
+#!/usr/bin/env python3
+"""Makes a page of an analysis, for an auditor: one file that any browser shows and prints, and that loads nothing from outside.
+
+    python3 examples/report_page.py [--alg ALG] [--zone ZONE] STORE BOOK ID >report.html
+
+It says the verdict in words; of which store and book that is, with their SHA-256, and when; each altered granule, when it was changed
+and what stands in it now; the diagram; what was filed and validated; what the algorithm can't say; and what to do next.
+
+It asks over copies, so it writes neither file, and the SHA-256 are those of what was asked. ALG is mono, tiled, `tiled KAPPA` or a3d.
+Where none is given it is a3d for a store with the tree, tiled for one with tile chains, else mono. Dates are those of ZONE, as
+Europe/Zurich, or else of UTC. It ends with 0 if the page is made, whatever the verdict, and with 3 if there is no report. DRAGOON
+names another program than ./dragoon.
+"""
+import hashlib
+import os
+import sys
+
+sys.dont_write_bytecode = True
+import diagram_svg
+import verify
+from parts import moments, page, report as reports
+from parts.book import Batch, Book, said
+from parts.script import algorithm, ask_report, counted, end, number, words_of
+from parts.store import Store
+
+MOST_GRANULES, MOST_TRANSACTIONS, MOST_OPERATIONS, MOST_EVENTS = 50, 50, 20, 40
+COLOUR = {"clean": "good", "altered": "bad", "header altered": "bad", "unsealed": "open"}
+
+
+class Page:
+    """A report, with the files that it is of."""
+
+    def __init__(self, given, asked):
+        self.given, self.asked = given, asked
+        self.report = reports.read(asked.output)
+        self.book = Book(given.book, asked.book)
+        is_read = verify.header_of(asked.store) and self.report.verdict != "header altered"
+        self.store = Store(given.store, asked.store) if is_read else None
+        self.shown = self.report.found[:MOST_GRANULES]
+        self.standing = reports.Standing(self.store, self.report, self.shown, MOST_TRANSACTIONS) if is_read else None
+
+    def date(self, second):
+        return moments.date(second, self.given.zone)
+
+    # ---- the files
+
+    def files(self):
+        yield "Asked at", page.safe(self.date(self.asked.at))
+        for name, path, content in (("Store", self.given.store, self.asked.store), ("Book", self.given.book, self.asked.book)):
+            sum = f'<span class="sum">SHA-256 {hashlib.sha256(content).hexdigest()}</span>'
+            yield name, f"{page.safe(path)}, {counted(len(content), 'byte')}<br>{sum}"
+        yield "Id", str(self.report.id)
+        yield "Algorithm", page.safe(self.report.algorithm)
+        if self.store:
+            tile = f"{1 << self.store.k} to a tile of {moments.length(self.store.tile_width)}"
+            yield "Granules", f"{moments.length(self.store.width)} each, {tile}; {self.store.chains()}"
+            yield "First second", f"{page.safe(self.date(self.store.epoch))} ({self.store.epoch})"
+            yield "Filed", self.filed()
+
+    def filed(self):
+        until = self.report.tiles * self.store.tile_width
+        up_to = f"{counted(self.report.tiles, 'tile')}, what was stored before {self.date(self.store.epoch + until)}"
+        behind = f"What was stored since, {counted(self.standing.behind, 'transaction')}, was compared with nothing."
+        return page.safe(f"{up_to if until else 'No tile yet'}. {behind}")
+
+    # ---- what was altered
+
+    def cards(self):
+        """What the report names, each with the transactions that its granules have now."""
+        for found, transactions, count in zip(self.shown, self.standing.first, self.standing.counts):
+            yield self.card(found, transactions, count)
+        if rest := self.report.found[MOST_GRANULES:]:
+            named = reports.named([it for found in rest for it in found.ranges])
+            yield f"<p>The report has {counted(len(rest), 'line')} more, for {page.safe(named)}.</p>"
+
+    def card(self, found, transactions, count):
+        if not found.ranges:
+            return f'<div class="card"><h3>{reports.headed(found)}</h3>{self.changed(found)}</div>'
+        begin, stop = self.store.span(found.ranges[0][0])[0], self.store.span(found.ranges[-1][1])[1]
+        held = f"{self.date(begin)} to {self.date(stop)} (seconds {begin} to {stop})"
+        heading = ("Transaction", "Stored at", f"What stands there now ({counted(count, 'transaction')})")
+        more = count - len(transactions)
+        return "".join([
+            f'<div class="card"><h3>{reports.headed(found)}</h3>',
+            page.facts([("Holds", page.safe(held))]), self.changed(found),
+            page.table(heading, map(self.row, transactions)) if transactions else "<p>No transaction stands there now.</p>",
+            f"<p class=soft>{counted(more, 'transaction')} more: <code>examples/dump.py</code> shows them.</p>" if more else "", "</div>"])
+
+    def changed(self, found):
+        when = reports.span(found.since, found.until, self.given.zone)
+        odd = ' class="note bad"' if found.until < found.since else ""
+        return page.facts([("Changed", f"<span{odd}>{page.safe(when)}</span>")])
+
+    def row(self, transaction):
+        when = f"{page.safe(self.date(self.store.epoch + transaction.moment))}<br><span class=soft>moment {transaction.moment}</span>"
+        operations = [page.operation(it, self.standing.columns) for it in transaction.operations[:MOST_OPERATIONS]]
+        more = len(transaction.operations) - len(operations)
+        if more:
+            operations.append(f"<span class=soft>{counted(more, 'operation')} more</span>")
+        return transaction.number, when, "<br>".join(operations)
+
+    # ---- the diagram, and what the book has
+
+    def diagram(self):
+        head, events, *rest = diagram_svg.read(self.report.text)
+        if not events:
+            return "<p>The diagram was left out: it would have more than 64 events or tiles.</p>"
+        drawn = diagram_svg.drawn(head, events, *rest, date=self.date)
+        return f'<div class="wide">{drawn}</div><p class=soft>Point at a line to read what it says. Tiles go across, events down.</p>'
+
+    def events(self):
+        filings = [it for it in self.book.filings if it.id == self.report.id]
+        rows = [self.event(it) for it in filings[-MOST_EVENTS:]]
+        if len(filings) > MOST_EVENTS:
+            yield f"<p class=soft>The last {MOST_EVENTS} of {len(filings):,}.</p>"
+        yield page.table(("Event", "At", "What the book has of it"), rows)
+
+    def event(self, filing):
+        at = f"{page.safe(self.date(filing.moment))}<br><span class=soft>second {filing.moment}</span>"
+        if not isinstance(filing, Batch):
+            return "validation", at, said(filing)
+        what = "the header" if filing.index == 0 else f"tile {filing.index - 1}"
+        return f"batch {filing.index}", at, f"{what}, {counted(len(filing.seals), 'digest')}"
+
+    # ---- all of it
+
+    def parts(self):
+        title, sentence = reports.verdict(self.report, self.asked.store, self.book.ids())
+        yield f"<h1>{page.safe(os.path.basename(self.given.store))}: is it what was filed?</h1>"
+        yield f'<div class="verdict {COLOUR[self.report.verdict]}"><b>{title}</b>{page.safe(sentence)}</div>'
+        yield page.heading("What was asked")
+        yield page.facts(self.files())
+        if self.report.verdict == "altered":
+            yield page.heading("What was altered")
+            if self.report.first:
+                tile, *span = self.report.first
+                yield f'<p class="note bad">The first change was in tile {tile}, {page.safe(reports.span(*span, self.given.zone))}.</p>'
+            yield from self.cards()
+            yield page.heading("When")
+            yield self.diagram()
+        if self.report.verdict != "unsealed":
+            yield page.heading("What was filed and validated")
+            yield from self.events()
+        yield page.heading("What this can't say")
+        yield page.listed(reports.cannot_say(self.report))
+        yield page.heading("What to do next")
+        yield page.listed(reports.what_next(self.report), "ol")
+        if self.asked.told:
+            yield page.heading("What the program says besides")
+            yield "".join(f"<p><code>{page.safe(line)}</code></p>" for line in self.asked.told.splitlines())
+        yield page.heading("The report itself")
+        yield f'<div class="wide"><pre><code>{chr(10).join(page.safe(it) for it in self.report.text.splitlines()[:200])}</code></pre></div>'
+
+
+def main(given):
+    made = Page(given, ask_report(given))
+    return page.page(f"{os.path.basename(given.store)}: {made.report.verdict}", made.parts()), 0
+
+
+def words():
+    parser = words_of(__doc__)
+    parser.add_argument("--alg", type=algorithm)
+    parser.add_argument("--zone", type=moments.zone, default=moments.UTC)
+    parser.add_argument("store")
+    parser.add_argument("book")
+    parser.add_argument("id", type=number)
+    return parser.parse_args()
+
+
+if __name__ == "__main__":
+    given = words()
+    end(lambda: main(given))
