@@ -14,9 +14,10 @@
     --delimiter C       between fields, a comma if not given; `tab` is a tab
 
 A kind that isn't given is found: int if each field is a number of 64 bits as it would be printed, bool if each is `true` or
-`false`, else text. (`007` is text, and a number of 20 digits too.) A text of the language holds no line end, tab or other
+`false`, else text. (`007` and `+5` are text, and ints where --kind says so.) A text of the language holds no line end, tab or other
 byte below 0x20, nor 0x7F. A column of kind utf8 is of kind bytes in the table: the UTF-8 of the field, whatever it holds.
-A column of which text is made, though it looks like something else (`TRUE`, `12,50`, `2026-12-31`), is named on standard error.
+A column of which text is made, though it looks like something else (`TRUE`, `007`, `12,50`, `1e5`, `2026-12-31`), or though most
+of it are numbers, is named on standard error.
 
 What the language can't hold is refused with its row and column, and so is a row with too few or too many fields, a key that
 is empty or stands there twice, and a name that is none. Nothing is written then, and the status is 1. The heading is row 1.
@@ -37,14 +38,22 @@ KINDS = {"int": "int", "text": "text", "bool": "bool", "bytes": "bytes", "utf8":
 TXN_LIMIT, OPERATIONS, LINE_LIMIT, INPUT_LIMIT = 32_768, 256, 65_536, 67_108_864
 
 
-# what a column looks like that becomes text, and what there is to do
+# a number with a fraction, which may have signs between its digits
+FRACTION = r"(?=.*[0-9])[+-]?([0-9]+|[0-9]{1,3}([.,' _][0-9]{3})+)?([.,][0-9]+)?"
+# what all fields of a column look like that becomes text, and what there is to do; the first one that fits is said
 LOOKS = (
     ("(?i:true|false)", "`true` and `false` in capitals stay text: --kind {0}=bool makes them bool"),
-    (r"[+-]?[0-9][0-9.,' ]*[.,][0-9]+", "numbers with a fraction stay text: no kind has one, so whole cents would have to stand there"),
-    (r"[+-]?[0-9]{1,3}([.,' ][0-9]{3})+", "numbers with signs between their digits stay text"),
-    (r"[0-9]{1,2}[./-][0-9]{1,2}[./-][0-9]{2,4}.*",
+    ("(?i:yes|no|y|n|t|f|on|off)", "words for true and false stay text: written as `true` and `false` they would be bool"),
+    (r"[0-9]{1,2}[./-][0-9]{1,2}[./-]([0-9]{2}|[0-9]{4})([ T].*)?",
         "dates stay text, and sort by their day first: 2026-12-31 would sort by time, and as 20261231 it would be an int"),
     (r"[0-9]{4}[./-][0-9]{1,2}[./-][0-9]{1,2}([ T].*)?", "dates stay text, and sort by time: written as 20261231 they would be ints"),
+    (r"[0-9]{1,2}:[0-9]{2}(:[0-9]{2}([.,][0-9]+)?)?", "times of day stay text; as seconds they would be ints"),
+    (r"[+-]?[0-9]{1,3}([.,' _][0-9]{3})+", "numbers with signs between their digits stay text"),
+    (FRACTION, "numbers with a fraction stay text: no kind has one, so whole cents would have to stand there"),
+    (FRACTION + "([eE][+-]?[0-9]+)?", "numbers with an exponent stay text: an int stands in digits alone"),
+    ("0[xX][0-9a-fA-F]+", "hexadecimal numbers stay text: without `0x` --kind {0}=bytes makes bytes of them"),
+    (r" *[+-]?[0-9]+ *", "whole numbers stay text, since blanks stand beside some: --kind {0}=int wants them gone"),
+    (r"(?=.*[^0-9.,' +-])[+-]?[^0-9a-zA-Z]? ?[+-]?[0-9][0-9.,' ]* ?([^0-9a-zA-Z]|[A-Z]{3})?", "numbers with a sign or a unit beside them stay text"),
 )
 
 
@@ -54,7 +63,7 @@ class Refused(Exception):
 
 def number_of(field):
     """The number of 64 bits that a field is, or None."""
-    found = re.fullmatch(r"(-?)0*([0-9]{1,19})", field)
+    found = re.fullmatch(r"([+-]?)0*([0-9]{1,19})", field)
     number = int(found[1] + found[2]) if found else 1 << 63
     return number if -(1 << 63) <= number < 1 << 63 else None
 
@@ -105,14 +114,27 @@ def legal(heading):
     return ",".join(names)
 
 
+def looks(name, fields):
+    """What these fields of a column look like that becomes text, or None."""
+    if all(re.fullmatch("[+-]?[0-9]+", field) for field in fields):
+        if None in map(number_of, fields):
+            return "whole numbers stay text, since some are wider than 64 bits"
+        return f"whole numbers stay text, since some have `+` or zeros at their front: --kind {name}=int drops these"
+    for pattern, note in LOOKS:
+        if all(re.fullmatch(pattern, field) for field in fields):
+            return note.format(name)
+    others = [field for field in fields if number_of(field) is None]
+    if 2 * len(others) < len(fields):
+        return f"it stays text, since {len(others)} of {len(fields)} fields are no whole numbers, as `{others[0][:20]}`: an empty field is null"
+    return None
+
+
 def note_looks(columns, rows):
     """Says of which columns text is made, though they look like something else."""
     for name, at, kind in columns:
         said = [row[at] for _, row in rows if row[at]]
-        for pattern, note in LOOKS if kind == "text" and said else ():
-            if all(re.fullmatch(pattern, field) for field in said):
-                print(f"csv_in: column {name}: {note.format(name)}", file=sys.stderr)
-                break
+        if kind == "text" and said and (note := looks(name, said)):
+            print(f"csv_in: column {name}: {note}", file=sys.stderr)
 
 
 def read(file, delimiter):
@@ -245,6 +267,14 @@ def words():
     return parsed
 
 
+def put(text):
+    try:
+        with open(1, "wb", closefd=False) as out:
+            out.write(text)
+    except OSError as fault:
+        raise Refused(f"the output: {fault.strerror}") from None
+
+
 def main():
     options = words()
     csv.field_size_limit(INPUT_LIMIT)
@@ -254,10 +284,10 @@ def main():
             text = "".join(line + "\n" for line in statements(file, options)).encode()
         if len(text) >= INPUT_LIMIT:
             raise Refused("longer than the input of a run can be: give the file in parts, the later ones with --add")
+        put(text)
     except (OSError, Refused) as fault:
-        print(f"csv_in: {fault}", file=sys.stderr)
+        print(f"csv_in: {fault.filename}: {fault.strerror}" if isinstance(fault, OSError) else f"csv_in: {fault}", file=sys.stderr)
         return 1
-    sys.stdout.buffer.write(text)
     return 0
 
 

@@ -124,4 +124,7 @@ if __name__ == "__main__":
     if len(sys.argv) != 2 or sys.argv[1].startswith("-"):
         print(f"usage: {__doc__.splitlines()[2].strip()}", file=sys.stderr)
         sys.exit(2)
-    main(sys.argv[1])
+    try:
+        main(sys.argv[1])
+    except OSError as fault:
+        sys.exit(f"make_worked_files: {fault.filename}: {fault.strerror}")

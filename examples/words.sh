@@ -15,5 +15,14 @@ takes() {
 # refuse: prints the words that the script takes, and ends with 2
 refuse() { sed -n '/^#     /{s/^# */usage: /; s/   .*//; p; q}' "$0" >&2; exit 2; }
 
+# is_there -d|-r PATH: else says that no such folder, or no file that can be read, stands there, and ends with 2
+is_there() {
+    [ ! "$1" "$2" ] || return 0
+    local what='file that can be read'
+    [ "$1" = -r ] || what=folder
+    echo "${0##*/}: there is no $what $2" >&2
+    exit 2
+}
+
 # behind TOLD: what the program told of bytes that stand behind the end of a file. Then `clean` is no verdict.
 behind() { sed -n 's/^dragoon: \(.* bytes stand behind it\):.*/\1/p' <<<"$1" | paste -s -d ';'; }

@@ -1,5 +1,5 @@
 #!/usr/bin/env python3
-"""Carries out the first day of docs/OPERATING.md, line by line, and then tries the installed scripts as the account that it made.
+"""Carries out the first day of docs/OPERATING.md and its anchors, line by line, and then tries the installed scripts as that account.
 
     python3 examples/checks/first_day.py [few]
 
@@ -49,12 +49,14 @@ def make_checkout(place):
         shutil.copytree(EXAMPLES.parent / name, place / name, ignore=shutil.ignore_patterns("__pycache__"))
 
 
-def first_day(place):
-    """How many lines of the page were carried out."""
-    text = PAGE.read_text()
-    text = text[text.index("\n## The first day"):text.index("\n## Timers and alarms")]
+def part_of_page(heading):
+    return PAGE.read_text().partition(f"\n## {heading}\n")[2].partition("\n## ")[0]
+
+
+def carried_out(heading, place):
+    """How many lines of this part of the page were carried out."""
     tried = 0
-    for lines in blocks(text):
+    for lines in blocks(part_of_page(heading)):
         for command, shown in lines:
             if not command.startswith(("systemctl ", "cd ")):
                 carry_out(command, [line for line in shown if line], place)
@@ -92,8 +94,8 @@ def main(words):
     room = pathlib.Path(os.environ.pop(ROOM))
     make_checkout(room / "checkout")
     mount_copies(room)
-    tried = first_day(room / "checkout")
-    print(f"first_day: {tried} lines of the first day do what the page shows")
+    for heading in ("The first day", *(["Anchors"] if shutil.which("ssh-keygen") else [])):
+        print(f"first_day: {carried_out(heading, room / 'checkout')} lines of `{heading}` do what the page shows")
     done = list(checks(words == ["few"]))
     print(f"first_day: as the account dragoon, from /opt/dragoon, {' and '.join(done)} said what it has to")
 

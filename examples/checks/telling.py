@@ -19,11 +19,15 @@ from program import DRAGOON, EXAMPLES, Wrong, count_of
 
 PROGRAM = str(pathlib.Path(DRAGOON).resolve()) if "/" in DRAGOON else DRAGOON
 STORE, BOOK = "store=worked.store", "notary=worked.book"
-WHOLE = "usage: dragoon [store=FILE] [notary=FILE] COMMAND"
+WHOLE = "usage: dragoon [store=FILE] [notary=FILE,..] COMMAND"
 BEHIND = "a crash leaves such bytes, and so does whoever hides records; docs/NOTARY.md"
 KEEP = "isn't what was filed: keep it and the notary's book worked.book as they are, and copy both"
 REFUSED = "lines were refused; the first one is line"
 GONE = "stood in memory, and is gone"
+QUORUM = "notary=a,b,c"
+DIFFERS = "differs from the others: keep it as it is; docs/NOTARY.md says why one does"
+LOST = "more than half of the books were missing or empty, and what they say is what new books say: stop, keep the others as they are, and look for copies; docs/NOTARY.md"
+UNSTORED = "nothing of it is stored"
 
 
 def put(name, place, new):
@@ -41,6 +45,29 @@ def new_store():
 def later_book():
     """The second of the last filing is set far ahead."""
     put("worked.book", 125 + 5 + 13, (1 << 40).to_bytes(8, "big"))
+
+
+def three_books():
+    """Three books, the second of which lost all but its head and its first batch."""
+    for name in ("a", "b", "c"):
+        shutil.copy("worked.book", name)
+    content = pathlib.Path("b").read_bytes()
+    pathlib.Path("b").write_bytes(content[:125] + b"\0")
+
+
+def a_book_missing():
+    three_books()
+    pathlib.Path("b").unlink()
+
+
+def a_book_that_is_none():
+    three_books()
+    shutil.copy("worked.store", "b")
+
+
+def three_ways():
+    a_book_that_is_none()
+    pathlib.Path("c").write_bytes(pathlib.Path("c").read_bytes()[:125] + b"\0")
 
 
 def two_batches_with_one_index():
@@ -64,7 +91,7 @@ ROWS = [
     ("a word too many", None, [STORE, "analyse", "7", "mono", "3"], "", 2, "fault Usage\n",
      ["dragoon: `3` is one word too many for `analyse`", "  analyse ID ALG ..", ".."]),
     ("a device behind the command", None, ["link", STORE], "", 2, "fault Usage\n",
-     ["dragoon: `store=worked.store` names a device, which is done once, and before the command: [store=FILE] [notary=FILE] COMMAND"]),
+     ["dragoon: `store=worked.store` names a device, which is done once, and before the command: [store=FILE] [notary=FILE,..] COMMAND"]),
     ("nothing odd", None, [STORE, BOOK, "validate", "7"], "", 0, "clean 1\n", []),
     ("an altered store", None, ["store=altered.store", BOOK, "validate", "7"], "", 1, "altered 1 from 0\n",
      [f"dragoon: the store altered.store {KEEP}; `analyse` says which granules, and since when; docs/OPERATING.md"]),
@@ -91,7 +118,7 @@ ROWS = [
      [f"dragoon: no notary=FILE was named: what was filed {GONE}"]),
     ("a run that files nothing", None, [STORE, "run", "7"], "get t 1\n", 0, "row 1 0\n", []),
     ("a validation without a book", None, [STORE, "validate", "7"], "", 0, "unsealed\n",
-     ["dragoon: nothing was compared: the notary's book in memory (no file was named) had nothing that was filed under this id"]),
+     ["dragoon: nothing was compared: the notary's book in memory (no file was named) had nothing that was filed under this id; the store has the id 7"]),
     ("a book that is missing", None, [STORE, "notary=none", "validate", "7"], "", 0, "unsealed\n",
      ["dragoon: the notary's book none was missing: nothing was compared"]),
     ("a book that is empty", lambda: pathlib.Path("none").touch(), [STORE, "notary=none", "analyse", "7", "mono"], "", 0, "report mono id 7 tiles 0 unsealed\n",
@@ -101,7 +128,7 @@ ROWS = [
     ("a store that is missing", None, ["store=none", "link"], "", 4, "fault NotAStore\n",
      ["dragoon: the store none is missing: make one by `init`, or name the right file and id"]),
     ("a book with nothing under the id", None, ["store=worked.store", "notary=worked.book", "validate", "9"], "", 0, "unsealed\n",
-     ["dragoon: nothing was compared: the notary's book worked.book had nothing that was filed under this id"]),
+     ["dragoon: nothing was compared: the notary's book worked.book had nothing that was filed under this id; the store has the id 7"]),
     ("another id", None, [STORE, "run", "8"], "", 4, "fault NotAStore\n",
      ["dragoon: the store worked.store holds a store with the id 7, which begins at 1970-01-01 00:00:00 UTC: make one by `init`, or name the right file and id"]),
     ("a store that is there already", None, [STORE, "init", "8", "60", "3", "ta"], "", 13, "fault AlreadyThere\n",
@@ -116,7 +143,7 @@ ROWS = [
      ["dragoon: the notary's book none was empty: nothing was compared"]),
     ("a run that asks no book, and none is there", None, [STORE, "notary=none", "run", "7"], "get t 1\n", 0, "row 1 0\n", []),
     ("a run that asks without a book", None, [STORE, "run", "7"], "validate\nanalyse mono\n", 0, None,
-     ["dragoon: nothing was compared: the notary's book in memory (no file was named) had nothing that was filed under this id"]),
+     ["dragoon: nothing was compared: the notary's book in memory (no file was named) had nothing that was filed under this id; the store has the id 7"]),
     ("a run that finds nothing odd", None, [STORE, BOOK, "run", "7"], "validate\nanalyse mono\n", 0, "clean 1\nreport mono id 7 tiles 1 clean\n", []),
     ("a run that asks of a header alone", new_store, ["store=new.store", "notary=new.book", "run", "7"], "validate\nnotarize\nvalidate\n", 0, "unsealed\nsealed 0\nclean 0\n",
      ["dragoon: the notary's book new.book was missing, and it was made anew", "dragoon: only the header was compared: .."]),
@@ -131,12 +158,16 @@ ROWS = [
     ("a validation without a store", None, [BOOK, "validate", "7"], "", 1, "header altered 1\n",
      ["dragoon: no store=FILE was named: nothing was compared"]),
     ("a drill's line that isn't whole", None, ["drill"], "init 7 60 3 ta\ncrash 4\n", 3, "ready 7\nrefused Syntax\n",
-     [f"dragoon: 1 of 2 {REFUSED} 2, `crash 4`: Syntax, at column 8: a number stands there"]),
+     [f"dragoon: 1 of 2 {REFUSED} 2, `crash 4`: Syntax, at column 8: a number has to stand there"]),
     ("a line of a drill that is none", None, ["drill"], "init 7 60 3 ta\nselect t\n", 3, "ready 7\nrefused Syntax\n",
      [f"dragoon: 1 of 2 {REFUSED} 2, `select t`: Syntax, at column 1: a line of a drill begins with init, crash, alter, cut, create, .."]),
     ("bytes of a drill that aren't hexadecimal", None, ["drill"], "init 7 60 3 ta\nalter 9 0g\n", 3, "ready 7\nrefused Syntax\n",
-     [f"dragoon: 1 of 2 {REFUSED} 2, `alter 9 0g`: Syntax, at column 9: the bytes stand there, in hexadecimal"]),
+     [f"dragoon: 1 of 2 {REFUSED} 2, `alter 9 0g`: Syntax, at column 9: hexadecimal, two digits a byte, has to stand there"]),
     ("a drill with verdicts", None, ["drill"], "init 7 60 3 ta\nvalidate\n", 0, "ready 7\nunsealed\n", []),
+    ("a statement as a command", None, [STORE, "scan", "t"], "", 2, "fault Usage\n", ["dragoon: `scan` begins a statement, which `run ID` reads from its input, ..", ".."]),
+    ("files and no command", None, [STORE, BOOK], "", 2, "fault Usage\n", ["dragoon: no command stands behind the words that name files: those are link, .."]),
+    ("a device without `=`", None, ["store", "worked.store", "link"], "", 2, "fault Usage\n",
+     ["dragoon: `store` is no command, and names no device: store=FILE does, and notary=FILE, in lower case"]),
     ("a device in capitals", None, ["STORE=worked.store", "link"], "", 2, "fault Usage\n",
      ["dragoon: `STORE=worked.store` is no command, and names no device: store=FILE does, and notary=FILE, in lower case"]),
     ("an empty path", None, ["store=", "link"], "", 4, "fault NotAStore\n",
@@ -149,6 +180,49 @@ ROWS = [
      [f"dragoon: 1 of 1 {REFUSED} 1, `insert t 9 9`: ClockBack 480, the clock is behind the store's last moment, which is that one"]),
     ("a filing by a clock that went back", lambda: put("worked.store", 17, (1 << 39).to_bytes(8, "big")), [STORE, "notarize", "7"], "", 14, "fault ClockBack 480\n",
      ["dragoon: the clock is behind the store worked.store, whose last moment is second 480, 19391-01-25 12:26:08 UTC: set it right and start again"]),
+    ("a notary that is behind the others", three_books, [STORE, QUORUM, "validate", "7"], "", 0, "clean 1\n",
+     [f"dragoon: notary 2 of 3 (b) {DIFFERS}"]),
+    ("a notary whose book is missing", a_book_missing, [STORE, QUORUM, "validate", "7"], "", 0, "clean 1\n",
+     ["dragoon: notary 2 of 3 (b) was missing"]),
+    ("a notary whose book is none", a_book_that_is_none, [STORE, QUORUM, "analyse", "7", "mono"], "", 0, None,
+     ["dragoon: notary 2 of 3 (b) holds a store with the id 7, which begins at 1970-01-01 00:00:00 UTC; it stays as it is, so look for copies of the book first (docs/OPERATING.md)"]),
+    ("a notary that is named twice", three_books, [STORE, "notary=a,c,c", "validate", "7"], "", 0, "clean 1\n",
+     ["dragoon: notary 3 of 3 (c) is locked by another process, or named twice in one call"]),
+    ("a run that a notary differs in", three_books, [STORE, QUORUM, "run", "7"], "validate\nvalidate\nanalyse a3d\n", 0, None,
+     [f"dragoon: notary 2 of 3 (b) {DIFFERS}"]),
+    ("a run that asks no notary", three_books, [STORE, QUORUM, "run", "7"], "get t 1\n", 0, "row 1 0\n", []),
+    ("notaries that all say the same", three_books, [STORE, "notary=a,c", "validate", "7"], "", 0, "clean 1\n", []),
+    ("two notaries that differ", three_books, [STORE, "notary=a,b", "validate", "7"], "", 6, "fault NotaryFault\n",
+     ["dragoon: the quorum of 2 notaries has no answer that more than half of them gave: mend what is named next, and start again; what was answered is kept",
+      f"dragoon: notary 1 of 2 (a) {DIFFERS}", f"dragoon: notary 2 of 2 (b) {DIFFERS}"]),
+    ("notaries of which one fails and two differ", three_ways, [STORE, QUORUM, "validate", "7"], "", 6, "fault NotaryFault\n",
+     ["dragoon: the quorum of 3 notaries has no answer that ..", f"dragoon: notary 1 of 3 (a) {DIFFERS}", "dragoon: notary 2 of 3 (b) holds a store ..", f"dragoon: notary 3 of 3 (c) {DIFFERS}"]),
+    ("notaries of whom two lost their books", lambda: shutil.copy("worked.book", "a"), [STORE, QUORUM, "validate", "7"], "", 0, "unsealed\n",
+     ["dragoon: notary 1 of 3 (a) differs ..", "dragoon: notary 2 of 3 (b) was missing", "dragoon: notary 3 of 3 (c) was missing", f"dragoon: {LOST}",
+      "dragoon: nothing was compared: the quorum of 3 notaries had nothing that was filed under this id; the store has the id 7"]),
+    ("notaries of whom none has a book", None, [STORE, QUORUM, "validate", "7"], "", 0, "unsealed\n",
+     [f"dragoon: notary {number} of 3 ({name}) was missing: nothing was compared" for number, name in ((1, "a"), (2, "b"), (3, "c"))]),
+    ("an altered store of a quorum", three_books, ["store=altered.store", "notary=a,c", "validate", "7"], "", 1, "altered 1 from 0\n",
+     ["dragoon: the store altered.store isn't what was filed: keep it and the quorum of 2 notaries as they are, and copy both; .."]),
+    ("a path between commas that is empty", None, [STORE, "notary=a,,c", "validate", "7"], "", 2, "fault Usage\n",
+     ["dragoon: `notary=a,,c` names no books: one to nine paths have to stand there, with a comma between two, and none empty"]),
+    ("ten books", None, ["notary=1,2,3,4,5,6,7,8,9,10", STORE, "validate", "7"], "", 2, "fault Usage\n", ["dragoon: `notary=1,2,3,4,5,6,7,8,9,10` names no books: .."]),
+    ("a run over a store that is missing", None, ["store=none", "run", "7"], "get t 1\n", 4, "fault NotAStore\n",
+     ["dragoon: the store none is missing: make one by `init`, or name the right file and id"]),
+    ("a script made over a store that is missing", None, ["store=none", "notary=none.book", "make", "7", "1", "5"], "", 4, "fault NotAStore\n",
+     ["dragoon: the store none is missing: make one by `init`, or name the right file and id"]),
+    ("a filing of a store that is missing", None, ["store=none", "notary=none.book", "notarize", "7"], "", 4, "fault NotAStore\n",
+     ["dragoon: the store none is missing: make one by `init`, or name the right file and id"]),
+    ("a session that isn't committed", None, [STORE, "run", "7", "scripted"], "s0 begin\ns0 insert t 9 9\n", 0, "ok\nok\n", [f"dragoon: no commit came for what was begun as s0: {UNSTORED}"]),
+    ("sessions of all kinds", None, [STORE, "run", "7", "scripted"],
+     " s15  begin\r\ns1 begin\ns1 abort\ns2 begin\ns2 get t 9\ns3 begin\ns3 get t 9\ns3 insert t 9 9\ninsert t 9 9\ns3 commit\n # s4 begin\n# s5 begin\ns2 begin", 3, None,
+     [".. lines were refused; ..", f"dragoon: no commit came for what was begun as s2, s15: {UNSTORED}"]),
+    ("a join of two kinds", None, [STORE, "run", "7", "scripted"], "create w k text\nover 1 to 2 join t w on k k\n", 3, None,
+     [f"dragoon: 1 of 2 {REFUSED} 2, `over 1 to 2 join t w on k k`: BadType 1, the two columns have different kinds, .."]),
+    ("a commit that leaves its session", None, [STORE, "run", "7", "scripted"], "now 1099511627775\ns0 begin\ns0 insert t 9 9\ns0 commit\n", 3, None,
+     [f"dragoon: 1 of 4 {REFUSED} 4, `s0 commit`: TooLate, ..", f"dragoon: no commit came for what was begun as s0: {UNSTORED}"]),
+    ("a commit that is repeated", None, [STORE, "run", "7", "scripted"], "now 1099511627775\ns0 begin\ns0 insert t 9 9\ns0 commit\nnow 600\ns0 commit\n", 3, None,
+     [f"dragoon: 1 of 6 {REFUSED} 4, .."]),
     ("a path with an escape code", None, ["store=a\x1b[2Jb", "link"], "", 4, "fault NotAStore\n",
      ["dragoon: the store a\\u{1b}[2Jb is missing: make one by `init`, or name the right file and id"]),
 ]
@@ -165,13 +239,27 @@ LINES = [
     ("no statement", "select t\n", "Syntax, at column 1: a statement begins with create, ..", 1, "select t"),
     ("a text that isn't ended", "insert t 9 'a\n", "Syntax, at column 12: a text begins there and isn't ended by `'`; ..", 1, "insert t 9 'a"),
     ("a line of a drill", "crash 1 1\n", "Syntax, at column 1: init, crash, alter and cut are lines of a drill alone", 1, "crash 1 1"),
-    ("no value", "insert t 9 1.5\n", "Syntax, at column 12: a value stands there: ..", 1, "insert t 9 1.5"),
+    ("no value", "insert t 9 1.5\n", "Syntax, at column 12: a value has to stand there: ..", 1, "insert t 9 1.5"),
     ("a word too many", "delete t 9 9\n", "Syntax, at column 12: the line has to end there", 1, "delete t 9 9"),
-    ("a kind that is none", "create u k integer\n", "Syntax, at column 12: int, text, bytes or bool stands there", 1, "create u k integer"),
-    ("a comparison that is none", "scan t k == 1\n", "Syntax, at column 10: =, !=, <, <=, > or >= stands there", 1, "scan t k == 1"),
+    ("a kind that is none", "create u k integer\n", "Syntax, at column 12: int, text, bytes or bool has to stand there", 1, "create u k integer"),
+    ("a comparison that is none", "scan t k == 1\n", "Syntax, at column 10: =, !=, <, <=, > or >= has to stand there, ..", 1, "scan t k == 1"),
+    ("a column that stands there already", "create u k int v int k int\n", "Syntax, at column 22: the table has a column of this name already", 1, "create u k int v int k int"),
+    ("a comparison without spaces", "scan t k=1\n", "Syntax, at column 8: =, !=, <, <=, > or >= has to stand there, with a space on each side", 1, "scan t k=1"),
+    ("a tab in a text", "insert t 9 'a\tb'\n", "Syntax, at column 14: no text holds a tab ..", 1, "insert t 9 'a\\tb'"),
+    ("an odd number of digits", "insert t 9 x'0'\n", "Syntax, at column 12: between the quotes stands an even number ..", 1, "insert t 9 x'0'"),
+    ("a text that isn't UTF-8", "insert t 9 'a\udce4'\n", "Syntax, at column 12: a text is in UTF-8", 1, "(bytes that are no text)"),
+    ("a span without its end", "over 1 select t\n", "Syntax, at column 8: `to` has to stand there", 1, "over 1 select t"),
+    ("a query over a span that is none", "over 1 to 2 scan t\n", "Syntax, at column 13: select or join has to stand there", 1, "over 1 to 2 scan t"),
+    ("a join without its columns", "over 1 to 2 join t t\n", "Syntax, at column 21: `on` has to stand there", 1, "over 1 to 2 join t t"),
+    ("a filter over a span", "over 1 to 2 select t k > 1 as of 5\n", "Syntax, at column 28: the line has to end there", 1, "over 1 to 2 select t k > 1 as of 5"),
+    ("a span without a moment", "over 5 to 5 select t\n", "NoSpan, the span has no moment: it ends where it begins, or before", 1, "over 5 to 5 select t"),
+    ("a join of a table that isn't there", "over 1  to 2 join t u on k k\n", "NoTable, one of the two tables isn't there", 1, "over 1  to 2 join t u on k k"),
+    ("a number out of its range", "get t 99999999999999999999\n", "NumberTooWide, a number is out of its range: ..", 1, "get t 99999999999999999999"),
+    ("a session's line without its name", "begin\n", "Syntax, at column 1: a line of a session begins with its name, s0 to s15", 1, "begin"),
+    ("a session that there isn't", "s16 begin\n", "Syntax, at column 1: a line of a session begins with its name, s0 to s15", 1, "s16 begin"),
     ("a session that isn't begun", "s0 get t 1\n", "NoSession, the session isn't begun", 1, "s0 get t 1"),
-    ("what no session takes", "s0 notarize\n", "Syntax, at column 4: in a session stands create, ..", 1, "s0 notarize"),
-    ("an escape code", "get \x1b[2 1\n", "Syntax, at column 5: a name stands there: ..", 1, "get \\u{1b}[2 1"),
+    ("what no session takes", "s0 notarize\n", "Syntax, at column 4: in a session a line goes on with create, ..", 1, "s0 notarize"),
+    ("an escape code", "get \x1b[2 1\n", "Syntax, at column 5: a name has to stand there: ..", 1, "get \\u{1b}[2 1"),
 ]
 
 
@@ -184,7 +272,7 @@ def fits(wanted, told):
 
 
 def call(words, lines):
-    done = subprocess.run([PROGRAM, *words], input=lines.encode(), stdout=subprocess.PIPE, stderr=subprocess.PIPE)
+    done = subprocess.run([PROGRAM, *words], input=lines.encode(errors="surrogateescape"), stdout=subprocess.PIPE, stderr=subprocess.PIPE)
     told = [line for line in done.stderr.decode().splitlines() if "this run is unproved" not in line]
     return done.returncode, done.stdout.decode(), told
 
@@ -200,9 +288,9 @@ def try_row(what, before, words, lines, status, output, told):
         found = call(words, lines)
         if found[0] != status or output not in (None, found[1]) or not fits(told, found[2]):
             raise Wrong(f"{what}: {found}, and wanted is {(status, output, told)}")
-        if words[-1:] == ["link"] or {"validate", "analyse"} & set(words):
+        if status == 4 or words[-1:] == ["link"] or {"validate", "analyse"} & set(words):
             if sorted(os.listdir()) != there:
-                raise Wrong(f"{what}: a command that only asks has left {sorted(os.listdir())}")
+                raise Wrong(f"{what}: what only asks, or finds no store, has left {sorted(os.listdir())}")
         os.chdir("/")
 
 

@@ -4,8 +4,8 @@
     python3 examples/checks/words.py
 
 Each is run in an empty folder, with an input that never ends and without a program: with `--help` (status 0), with `--wrong words`
-and with nine words that are none (status 2). None may take ten seconds, leave a file, or print a traceback. Where bench/ is missing,
-as in an installed copy, examples/ is tried alone.
+and with nine words that are none (status 2). None may take ten seconds, leave a file, or print a traceback. So it is of a word too
+many behind those that ./dragoon takes alone. Where bench/ is missing, as in an installed copy, examples/ is tried alone.
 """
 import concurrent.futures
 import os
@@ -32,6 +32,13 @@ def scripts():
             if path.is_file() and name not in PIECES and path.read_bytes()[:2] == b"#!":
                 is_python = b"python" in path.read_bytes().partition(b"\n")[0]
                 yield name, [sys.executable if is_python else "bash", path]
+
+
+def wrapper():
+    """./dragoon behind each of its own words, unless a program stands in its place."""
+    path = EXAMPLES.parent / "dragoon"
+    if path.is_file() and path.read_bytes()[:2] == b"#!":
+        yield from (("dragoon", ["bash", path, word]) for word in ("--help", "--version", "--prove"))
 
 
 def answer(call, words):
@@ -63,11 +70,13 @@ def answer(call, words):
 def main(words):
     count_of(words, None, __doc__)
     tries = [(script, kind) for script in scripts() for kind in (HELP, WRONG, NINE)]
+    count = len(tries) // 3
+    tries += [(call, ["words"]) for call in wrapper()]
     with concurrent.futures.ThreadPoolExecutor(os.cpu_count()) as pool:
         wrong = [it for it in pool.map(answer, *zip(*tries)) if it]
     if wrong:
         raise Wrong(f"{len(wrong)} of {len(tries)}:\n" + "\n".join(wrong))
-    print(f"words: {len(tries) // 3} scripts answer --help, and refuse wrong words")
+    print(f"words: {count} scripts answer --help, and refuse wrong words")
 
 
 if __name__ == "__main__":

@@ -1,7 +1,7 @@
 #!/usr/bin/env python3
 """Takes the changes of a database from its outbox, in order, and has a store hold them; then it ends.
 
-    python3 examples/mirror/drain.py [--notary BOOK] [--changes N] DATABASE STORE ID
+    python3 examples/mirror/drain.py [--notary BOOK,..] [--changes N] DATABASE STORE ID
 
 attach.py makes the outbox, and `./dragoon store=STORE init ID ..` the store, which is for this database alone. Run it as often as
 the history is to follow: by a timer, or in a loop. With --notary it ends by `notarize`. It prints how many changes it took.
@@ -147,7 +147,7 @@ def id_of(word):
 
 
 def words():
-    parser = argparse.ArgumentParser(usage="drain.py [--notary BOOK] [--changes N] DATABASE STORE ID", description=__doc__,
+    parser = argparse.ArgumentParser(usage="drain.py [--notary BOOK,..] [--changes N] DATABASE STORE ID", description=__doc__,
         formatter_class=argparse.RawDescriptionHelpFormatter)
     parser.add_argument("--notary")
     parser.add_argument("--changes", type=int, choices=range(1, CHANGES + 1), default=CHANGES, metavar="N")
@@ -164,10 +164,11 @@ def main():
         return 1
     if options.notary:
         # a filing would write over records that stand hidden behind the end of the book
-        held = subprocess.run([HOLD, options.notary, str(options.id)], stdout=subprocess.PIPE, text=True)
-        if held.returncode:
-            print(f"drain: nothing is taken and nothing is filed: {held.stdout.strip() or 'nobody could look into the book'}", file=sys.stderr)
-            return 6
+        for book in options.notary.split(","):
+            held = subprocess.run([HOLD, book, str(options.id)], stdout=subprocess.PIPE, text=True)
+            if held.returncode:
+                print(f"drain: nothing is taken and nothing is filed: {held.stdout.strip() or 'nobody could look into the book'}", file=sys.stderr)
+                return 6
     devices = [f"store={options.store}"] + ([f"notary={options.notary}"] if options.notary else [])
     try:
         db = sqlite3.connect(f"file:{quote(options.database)}?mode=rw", uri=True, isolation_level=None, timeout=60)

@@ -60,6 +60,8 @@ def read_conf(path):
         raise Wrong(f"{path}: ID={said['ID']} is no id")
     if not re.fullmatch("mono|tiled( [1-9][0-9]{0,3})?|a3d", said.setdefault("ALG", "mono")):
         raise Wrong(f"{path}: ALG={said['ALG']} is none of mono, tiled and a3d")
+    if "," in said["BOOK"] and not os.path.exists(said["BOOK"]):
+        raise Wrong(f"{path}: BOOK={said['BOOK']} names several books, and a conf has one")
     if not os.path.isdir(said["STATE"]):
         raise Wrong(f"{path}: STATE={said['STATE']} is no folder")
     return Conf(pathlib.Path(path).stem, said["STORE"], said["BOOK"], int(said["ID"]), said["ALG"], said["STATE"])
