@@ -1,4 +1,4 @@
-"""Proves and builds a program that measures something, over libraries of the repository that ./dragoon has built.
+"""Proves and builds a program that measures something, over libraries of the repository, which are built first where they aren't.
 
     python3 bench/prove.py FOLDER LIBRARY..
 
@@ -23,9 +23,8 @@ import build
 def prove(folder, libraries):
     """The log of rt where the program isn't proved."""
     crates = build.crates_below(libraries)
-    # the libraries are built with the program, where it isn't current
-    if subprocess.run([ROOT / "dragoon", "--prove"]).returncode:
-        return "the program is not built\n"
+    if subprocess.run([sys.executable, ROOT / "build.py", *libraries]).returncode:
+        return "the libraries are not built\n"
     with tempfile.TemporaryDirectory(prefix="bench-") as room:
         subprocess.run(["git", "init", "-q", room], check=True)
         tree = build.Lane(pathlib.Path(room), {**crates, folder.name: libraries})
