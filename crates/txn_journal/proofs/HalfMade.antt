@@ -56,6 +56,7 @@ module _ (shape : Shape) (rest x : List ℕ) (long : length rest ≡ 63) (free :
   -- each step
   shutting : (c : List ℕ) → Torn 0 1 x c → IsHalfMade shape head x c
   shutting c torn = record {
+    short = omega (arith, torn.no_longer, not_long x free);
     empty = no_room shape c (omega (arith, torn.no_longer, not_long x free));
     head_is = λ is_open is_long. inr (same is_long);
     from_empty = λ none. inl (inl (omega (arith, torn.no_longer, ap length none)));
@@ -66,13 +67,14 @@ module _ (shape : Shape) (rest x : List ℕ) (long : length rest ≡ 63) (free :
 
   filling : (c : List ℕ) → Torn 1 (length (rest ++ 0 ∷ [])) (shut x) c → IsHalfMade shape head x c
   filling c torn = record {
-    empty = no_room shape c short;
+    short = ends_there;
+    empty = no_room shape c ends_there;
     head_is = λ is_open is_long. absurd (closed is_open);
-    from_empty = λ none. inl (inr (short, closed));
+    from_empty = λ none. inl (inr (ends_there, closed));
   }
     where
-      short : length c ≤ 65
-      short = omega (arith, torn.no_longer, shut_long, length-piece)
+      ends_there : length c ≤ 65
+      ends_there = omega (arith, torn.no_longer, shut_long, length-piece)
 
       closed : get_or c 0 0 ≢ 0xA7
       closed is_open = absurd (omega (arith, is_open, torn.below 0 (omega arith) (omega arith)))
@@ -84,6 +86,7 @@ module _ (shape : Shape) (rest x : List ℕ) (long : length rest ≡ 63) (free :
   -- the head stands there, behind some gate
   gated : (c : List ℕ) → length c ≡ 65 → drop 1 c ≡ rest ++ 0 ∷ [] → IsHalfMade shape head x c
   gated c all behind = record {
+    short = omega (arith, all);
     empty = no_room shape c (omega (arith, all));
     head_is = λ is_open is_long. inl (head_there c is_open behind);
     from_empty = λ none. elim (cases_eq (get_or c 0 0) 0xA7) [

@@ -8,7 +8,6 @@ pub mod InFile
 pub mod SameFront
 pub mod Lifted
 pub mod HalfMade
-pub mod StoreHeads
 pub mod Gathering
 pub mod Replaced
 pub mod Free

@@ -1,5 +1,5 @@
 -- How a file of gated records begins.
-use Rattle.std.specs.Prelude.{◌≡◌, ◌≢◌, ◌⊎◌, ◌<◌, ◌≤◌, ◌==◌, ◌&&◌, ◌||◌, not, nat_le, ℕ, Bool, true, false, List, [], ◌∷◌, ◌++◌, length, take, drop, slice_index, Some, Result, Ok, Err, OnOk}
+use Rattle.std.specs.Prelude.{◌≡◌, ◌≢◌, ◌⊎◌, ◌+◌, ◌<◌, ◌≤◌, ◌==◌, ◌&&◌, ◌||◌, not, nat_le, ℕ, Bool, true, false, List, [], ◌∷◌, ◌++◌, length, take, drop, slice_index, Some, Result, Ok, Err, OnOk}
 use Rattle.disk_words.specs.declared.DiskFail.TheVariants.{Failed, NoMemory}
 use Rattle.disk_words.specs.Disk.{State, Only, Unchanged}
 use Rattle.disk_model.specs.Moments.{EveryImage, MakesCalls, calls_of}
@@ -31,8 +31,10 @@ IsFreeOrTaken false bytes = IsTaken bytes
 abbrev pub creation : List ℕ → List (ℕ × List ℕ)
 creation head = (0, closed_gate ∷ []) ∷ (1, drop 1 head ++ closed_gate ∷ []) ∷ (0, open_gate ∷ []) ∷ []
 
--- A file that is being made holds no payload. Its head, where that is gated open, is the new one or stood there.
+-- A file that is being made ends at most with the gate behind its head, and holds no payload. Its head, where that is gated open, is
+-- the new one or stood there.
 pub record IsHalfMade (shape : Shape) (head before c : List ℕ) : Type 0 where
+  pub short : length c ≤ header_length + 1
   pub empty : left shape header_length c ≡ ([], header_length)
   pub head_is : slice_index c 0 ≡ open_gate → header_length < length c → (take header_length c ≡ head) ⊎ (drop 1 (take header_length c) ≡ drop 1 (take header_length before))
   pub from_empty : before ≡ [] → IsFree c ⊎ ((take header_length c ≡ head) × (header_length < length c))

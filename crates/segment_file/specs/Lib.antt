@@ -1,0 +1,15 @@
+pub mod Placing
+pub mod Growth
+pub mod Damage
+pub mod Writes
+pub mod Places
+pub mod Walk
+pub mod Fail
+pub mod Reading
+pub mod Parts
+pub mod Append
+pub mod Opening
+pub mod LaidOut
+pub mod Creation
+pub mod Laying
+pub mod LayingOut
