@@ -1,10 +1,5 @@
-pub mod Ranges
 pub mod Rows
 pub mod Cums
 pub mod Seen
-pub mod Naming
-pub mod Finding
-pub mod Levels
-pub mod Parts
-pub mod Chosen
-pub mod Sealing
+pub mod ReadBack
+pub mod OwnLeaves

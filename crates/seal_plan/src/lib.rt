@@ -28,7 +28,7 @@
 //! | tiles, nodes or the chain alone are had for one hash a transaction | `new` of `TilePlan` and `TreePlan`, `links_of`: `value`, `steps` |
 //! | `digest` and the readers take no memory | they answer no want of it |
 //!
-//! Each digest is computed once; an empty granule costs one hash, since its number is hashed. Only
+//! The digests stand in `Tiles` of `tile_seals`. Each is computed once; an empty granule costs one hash, since its number is hashed. Only
 //! tested: that a call with memory at hand doesn't answer want of memory.
 //!
 //! ```rust
@@ -38,18 +38,18 @@
 //! ```
 #![tactic(auto)]
 
-mod chains;
-mod digests;
+mod folding;
 mod grouping;
+mod leaves;
 mod links;
-mod lookup;
 mod plan;
 mod scope;
+mod telling;
 mod tile_plan;
 mod tree_plan;
-mod trees;
 
 pub use links::links_of;
 pub use plan::Plan;
+pub use scope::Scope;
 pub use tile_plan::TilePlan;
 pub use tree_plan::TreePlan;

@@ -6,47 +6,39 @@ ghost use Rattle.history_model.specs.History.{history, txns};
 ghost use Rattle.history_model.specs.StoredHistory.{IsHistory};
 ghost use Rattle.digest_model.specs.Layout.{layout, first_granule, max_granules};
 ghost use Rattle.digest_model.specs.Digests.{cum};
-ghost use Rattle.audit_model.specs.Names.{planned, digest};
+ghost use Rattle.notary_link.specs.Batches.{IsBatch};
+ghost use Rattle.audit_model.specs.Names.{planned, digest, batch};
 ghost use Rattle.tuple_bytes.specs.Spelling.{FitsHeader};
 ghost use Rattle.policy_eras.specs.Policy.{policy_of};
+ghost use Rattle.tile_seals.specs.Places.{leaves_of};
 ghost use Rattle.seal_plan.specs.Plan.{planned_of};
-ghost use Rattle.seal_plan.specs.Places.{leaves_of};
 
-mod batch;
-
-use crate::chains::{leaves, planned_parts};
-use crate::digests::Digests;
+use crate::folding::fold;
 use crate::grouping::group_tiles;
-use crate::lookup::{digest_at, node_in, part_in};
-use crate::scope::Scope;
-use crate::trees::planned_levels;
-use cumulative_chain::{header_digest, links_at_tiles};
+use crate::leaves::leaves;
+use crate::telling::tell;
+use cumulative_chain::links_at_tiles;
 use history_model::Spelled;
-use notary_link::Name;
+use notary_link::{Name, Seals};
 use policy_eras::Eras;
 use std::alloc::{AllocError, Global};
 use std::marker::Model;
 use step_count::{Ledger, Steps};
+use tile_seals::Tiles;
 use tuple_bytes::Header;
 
 /// The digests of all planned names.
 #[derive(Drop)]
 pub struct Plan {
-    scope: Scope,
-    header_digest: [u8; 32],
-    links: Vec<[u8; 32]>,
-    parts: Digests,
-    levels: Vec<Digests>,
+    tiles: Tiles,
 }
 
 impl Model for Plan {
-    ghost use Rattle.seal_plan.specs.Plan.{Planned, Keeps};
+    ghost use Rattle.tile_seals.specs.Kept.{Planned};
 
     ghost Value = { Planned };
 
-    ghost view = { λ p. p.scope };
-
-    ghost invariant = { λ p. Keeps p.scope p.header_digest p.links.items p.parts p.levels.items };
+    ghost view = { λ p. p.tiles };
 }
 
 /// The chain's values and the granules' digests, over the spelling of each transaction.
@@ -57,13 +49,12 @@ fn hash_txns<L: Ledger>(
     items: &Spelled,
     tiles: u32,
     steps: &mut Steps<L>,
-) -> Result<(Vec<[u8; 32]>, Digests), AllocError>
+) -> Result<(Vec<[u8; 32]>, Vec<[u8; 32]>), AllocError>
     requires history { IsHistory (history header.now items.now) }
     requires eras { eras.now ≡ policy_of (history header.now items.now) }
     requires within { first_granule (layout (history header.now items.now)) tiles ≤ max_granules }
     ensures links { IfOk result (λ r. r.0.items ≡ map (cum (history header.now items.now)) (range_with_len 0 tiles)) }
-    ensures leaves { IfOk result (λ r. header.now.algs ≢ 0 → r.1 ≡ leaves_of (history header.now items.now) (first_granule (layout (history header.now items.now)) tiles)) }
-    ensures short { IfOk result (λ r. length r.1 ≤ max_granules) }
+    ensures leaves { IfOk result (λ r. header.now.algs ≢ 0 → r.1.items ≡ leaves_of (history header.now items.now) (first_granule (layout (history header.now items.now)) tiles)) }
     ensures steps { steps.new ≤ steps.old + 2 * length (txns items.now) }
 {
     let granules = group_tiles(alloc, header, eras, items, tiles)?;
@@ -88,15 +79,9 @@ impl Plan {
     {
         let eras = Eras::of(header, items);
         let (links, digests) = hash_txns(alloc, header, &eras, items, tiles, steps)?;
-        let parts = planned_parts(alloc, &eras, tiles, &digests)?;
-        let levels = planned_levels(alloc, &eras, digests)?;
-        Ok(Plan {
-            scope: Scope::new(header, eras, items, tiles),
-            header_digest: header_digest(header),
-            links,
-            parts,
-            levels,
-        })
+        let told = tell(items);
+        let folded = fold(alloc, header, &told, tiles, &links, &digests)?;
+        Ok(Plan { tiles: folded })
     }
 
     /// The header that the plan was made for.
@@ -104,14 +89,14 @@ impl Plan {
         ensures value { result.now ≡ self.now.history.header }
         ensures fits { FitsHeader result.now }
     {
-        self.scope.header()
+        self.tiles.header()
     }
 
     /// Where the tiles lie.
     pub fn eras(&self) -> &Eras
         ensures value { result.now ≡ policy_of self.now.history }
     {
-        self.scope.eras()
+        self.tiles.eras()
     }
 
     /// How many tiles are planned.
@@ -119,14 +104,14 @@ impl Plan {
         ensures value { result ≡ self.now.tiles }
         ensures within { first_granule (layout self.now.history) self.now.tiles ≤ max_granules }
     {
-        self.scope.tiles()
+        self.tiles.tiles()
     }
 
     /// The value of the chain at the end of each tile.
     pub fn links(&self) -> &[[u8; 32]]
         ensures value { result.now ≡ map (cum self.now.history) (range_with_len 0 self.now.tiles) }
     {
-        &self.links
+        self.tiles.links()
     }
 
     /// The digest of a name; none exactly where the name isn't planned.
@@ -134,20 +119,15 @@ impl Plan {
         ensures value { IfSome result (λ d. d ≡ digest self.now.history name) }
         ensures planned { IsSome result ↔ Contains (planned (layout self.now.history) self.now.tiles) name }
     {
-        match name {
-            Name::Header => Some(self.header_digest),
-            Name::Cum { tile } => digest_at(&self.links, tile as usize),
-            Name::Tile { tile, part } => part_in(
-                self.parts.as_slice(),
-                self.eras().exponent(tile),
-                tile,
-                part,
-            ),
-            Name::Node { level, index } => {
-                let _tiles = self.tiles();
-                node_in(&self.levels, level, index)
-            }
-            Name::Era { .. } | Name::EraNode { .. } => None,
-        }
+        self.tiles.digest(name)
+    }
+
+    /// The seals of a batch, in their order.
+    pub fn batch(&self, alloc: Global, index: u32) -> Result<Seals, AllocError>
+        requires { index ≤ self.now.tiles }
+        ensures value { IfOk result (λ seals. seals ≡ batch self.now.history index) }
+        ensures fileable { IfOk result IsBatch }
+    {
+        self.tiles.batch(alloc, index)
     }
 }

@@ -15,7 +15,7 @@ use tuple_bytes::Header;
 
 /// A header, the eras of the items behind it, and how many tiles.
 #[derive(Drop)]
-pub(crate) struct Scope {
+pub struct Scope {
     header: Header,
     eras: Eras,
     tiles: u32,
@@ -34,7 +34,8 @@ impl Model for Scope {
 }
 
 impl Scope {
-    pub(crate) fn new(header: &Header, eras: Eras, items: &Spelled, tiles: u32) -> Scope
+    /// These tiles, which lie below granule 1,048,576.
+    pub fn new(header: &Header, eras: Eras, items: &Spelled, tiles: u32) -> Scope
         requires fits { FitsHeader header.now }
         requires eras { eras ≡ policy_of (history header.now items.now) }
         requires within { first_granule (layout (history header.now items.now)) tiles ≤ max_granules }
@@ -48,20 +49,23 @@ impl Scope {
         }
     }
 
-    pub(crate) fn header(&self) -> &Header
+    /// The header of the history.
+    pub fn header(&self) -> &Header
         ensures value { result.now ≡ self.now.history.header }
         ensures fits { FitsHeader result.now }
     {
         &self.header
     }
 
-    pub(crate) fn eras(&self) -> &Eras
+    /// Where the tiles lie.
+    pub fn eras(&self) -> &Eras
         ensures value { result.now ≡ policy_of self.now.history }
     {
         &self.eras
     }
 
-    pub(crate) fn tiles(&self) -> u32
+    /// How many tiles there are.
+    pub fn tiles(&self) -> u32
         ensures value { result ≡ self.now.tiles }
         ensures within { first_granule (layout self.now.history) self.now.tiles ≤ max_granules }
     {

@@ -2,24 +2,24 @@
 
 ghost use Rattle.std.specs.Prelude.{◌≡◌, ◌≤◌, ◌+◌, ◌↔◌, IfOk, IfSome, IsSome, length};
 ghost use Rattle.std.specs.List.{Contains};
-ghost use Rattle.history_model.specs.History.{history, txns};
+ghost use Rattle.history_model.specs.History.{History, history, txns};
 ghost use Rattle.history_model.specs.StoredHistory.{IsHistory};
 ghost use Rattle.digest_model.specs.Layout.{layout, first_granule, max_granules};
 ghost use Rattle.audit_model.specs.Names.{planned, digest};
 ghost use Rattle.notary_link.specs.declared.name.Name.TheVariants.{Tile};
-ghost use Rattle.policy_eras.specs.Policy.{policy_of};
+ghost use Rattle.policy_eras.specs.Policy.{policy_of, layout_by};
 ghost use Rattle.seal_plan.specs.Plan.{planned_of};
-ghost use Rattle.seal_plan.specs.Places.{planned_parts};
+ghost use Rattle.tile_seals.specs.Places.{leaves_of, planned_parts};
 
-use crate::chains::{leaves_below, planned_parts};
-use crate::digests::Digests;
-use crate::lookup::part_in;
+use crate::folding::leaves_of_tile;
+use crate::leaves::leaves_below;
 use crate::scope::Scope;
 use history_model::Spelled;
 use policy_eras::Eras;
 use std::alloc::{AllocError, Global};
 use std::marker::Model;
 use step_count::{Ledger, Steps};
+use tile_seals::{Digests, part_in, with_parts};
 use tuple_bytes::Header;
 
 /// The digests of the whole tiles and of their bit chains.
@@ -32,13 +32,32 @@ pub struct TilePlan {
 impl Model for TilePlan {
     ghost use Rattle.std.specs.Prelude.{◌≡◌};
     ghost use Rattle.seal_plan.specs.Plan.{Planned};
-    ghost use Rattle.seal_plan.specs.Places.{planned_parts};
+    ghost use Rattle.tile_seals.specs.Places.{planned_parts};
 
     ghost Value = { Planned };
 
     ghost view = { λ p. p.scope };
 
     ghost invariant = { λ p. p.parts ≡ planned_parts p.scope.history p.scope.tiles };
+}
+
+/// The parts of the first tiles, where they have tile chains, over the digests of their granules.
+fn parts_over(
+    alloc: Global,
+    eras: &Eras,
+    tiles: u32,
+    granules: &[[u8; 32]],
+) -> Result<Digests, AllocError>
+    requires within { first_granule (layout_by eras.now) tiles ≤ max_granules }
+    requires granules { length granules.now ≡ first_granule (layout_by eras.now) tiles }
+    ensures value { (h : History) → eras.now ≡ policy_of h → granules.now ≡ leaves_of h (first_granule (layout h) tiles) → IfOk result (λ digests. digests ≡ planned_parts h tiles) }
+{
+    let mut parts = Digests::new(alloc);
+    for tile in 0..tiles {
+        let own = leaves_of_tile(eras, granules, tile);
+        parts = with_parts(eras, tile, parts, own)?;
+    }
+    Ok(parts)
 }
 
 /// Hashes the parts of the first tiles, where they have tile chains.
@@ -60,7 +79,7 @@ fn hash_parts<L: Ledger>(
         return Ok(Digests::new(alloc));
     }
     let granules = leaves_below(alloc, header, eras, items, tiles, steps)?;
-    planned_parts(alloc, eras, tiles, &granules)
+    parts_over(alloc, eras, tiles, &granules)
 }
 
 impl TilePlan {

@@ -9,18 +9,16 @@ ghost use Rattle.audit_model.specs.Names.{planned, digest};
 ghost use Rattle.notary_link.specs.declared.name.Name.TheVariants.{Node};
 ghost use Rattle.policy_eras.specs.Policy.{policy_of};
 ghost use Rattle.seal_plan.specs.Plan.{planned_of};
-ghost use Rattle.seal_plan.specs.Places.{planned_levels};
+ghost use Rattle.tile_seals.specs.Places.{planned_levels};
 
-use crate::chains::leaves_below;
-use crate::digests::Digests;
-use crate::lookup::node_in;
+use crate::leaves::leaves_below;
 use crate::scope::Scope;
-use crate::trees::planned_levels;
 use history_model::Spelled;
 use policy_eras::Eras;
 use std::alloc::{AllocError, Global};
 use std::marker::Model;
 use step_count::{Ledger, Steps};
+use tile_seals::{Digests, levels_with, no_nodes, node_in};
 use tuple_bytes::Header;
 
 /// The digests of the nodes of the trees.
@@ -33,7 +31,7 @@ pub struct TreePlan {
 impl Model for TreePlan {
     ghost use Rattle.std.specs.Prelude.{◌≡◌};
     ghost use Rattle.seal_plan.specs.Plan.{Planned};
-    ghost use Rattle.seal_plan.specs.Places.{planned_levels};
+    ghost use Rattle.tile_seals.specs.Places.{planned_levels};
 
     ghost Value = { Planned };
 
@@ -61,7 +59,8 @@ fn hash_nodes<L: Ledger>(
         return Ok(Vec::new(alloc));
     }
     let granules = leaves_below(alloc, header, eras, items, tiles, steps)?;
-    planned_levels(alloc, eras, granules)
+    let levels = no_nodes(alloc)?;
+    levels_with(alloc, levels, &granules)
 }
 
 impl TreePlan {

@@ -1,7 +1,7 @@
 use Rattle.std.proofs.Common.{ap, ◌∙◌}
-use Rattle.seal_plan.specs.Places.{planned_parts}
-use Rattle.seal_plan.specs.Plan.{Planned}
-use Rattle.seal_plan.proofs.Finding.{exponent_is, part_kept}
+use Rattle.tile_seals.specs.Kept.{Planned}
+use Rattle.tile_seals.specs.Places.{planned_parts}
+use Rattle.tile_seals.proofs.Finding.{exponent_is, part_kept}
 use Rattle.seal_plan.proofs.tile_plan.TilePlan.digest.Goals as goal
 
 pub returns : goal.returns

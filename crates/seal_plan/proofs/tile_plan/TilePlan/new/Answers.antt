@@ -1,6 +1,6 @@
 use Rattle.std.proofs.Common.{◌≡◌, sym, subst}
-use Rattle.seal_plan.specs.Places.{planned_parts}
-use Rattle.seal_plan.specs.Plan.{Planned}
+use Rattle.tile_seals.specs.Places.{planned_parts}
+use Rattle.tile_seals.specs.Kept.{Planned}
 use Rattle.seal_plan.proofs.tile_plan.TilePlan.new.Goals as goal
 
 pub invariant_of-result : goal.invariant_of-result

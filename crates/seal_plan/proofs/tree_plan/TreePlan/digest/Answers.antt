@@ -1,7 +1,7 @@
 use Rattle.std.proofs.Common.{ap, ◌∙◌}
-use Rattle.seal_plan.specs.Places.{planned_levels}
-use Rattle.seal_plan.specs.Plan.{Planned}
-use Rattle.seal_plan.proofs.Finding.{node_kept}
+use Rattle.tile_seals.specs.Places.{planned_levels}
+use Rattle.tile_seals.specs.Kept.{Planned}
+use Rattle.tile_seals.proofs.Finding.{node_kept}
 use Rattle.seal_plan.proofs.tree_plan.TreePlan.digest.Goals as goal
 
 pub returns : goal.returns

@@ -1,6 +1,6 @@
 use Rattle.std.proofs.Common.{◌≡◌, sym, subst}
-use Rattle.seal_plan.specs.Places.{planned_levels}
-use Rattle.seal_plan.specs.Plan.{Planned}
+use Rattle.tile_seals.specs.Places.{planned_levels}
+use Rattle.tile_seals.specs.Kept.{Planned}
 use Rattle.seal_plan.proofs.tree_plan.TreePlan.new.Goals as goal
 
 pub invariant_of-result : goal.invariant_of-result
