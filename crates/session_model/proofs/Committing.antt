@@ -27,7 +27,7 @@ use Rattle.session_model.specs.Statements.{say}
 use Rattle.session_model.specs.Steps.{Served, stored, unless_conflict, conflict, in_session, serve, heard, speak}
 use Rattle.session_model.specs.Index.{noted_ops, IsIndex, AreNumbered}
 use Rattle.session_model.specs.Pending.{HasRoom}
-use Rattle.session_model.specs.Standing.{Kept, Machine, kept_at, numbers_at, IsSession, IsIn, NoneKept, StepsIn}
+use Rattle.session_model.specs.Standing.{Kept, Machine, kept_at, numbers_at, IsSession, IsIn, NoneKept, StepsIn, serving}
 use Rattle.session_model.specs.Keeping.{IsLeft, IsNoted, IsBehind, IsHeard, GoesAlong}
 use Rattle.session_model.proofs.Later.{txns_more}
 use Rattle.session_model.proofs.Machines.{notes_keep_index}
@@ -106,7 +106,7 @@ module _ (w : Service) (n now : ℕ) (op : Op) (ops : List Op) (m new_m : Machin
 
   by_none : (result : Result Reply StepFail) → stepping.StepsIn w.store (statements.committed None w.store t) result stand new_stand old new before after
       → IfOk result (λ reply. GoesAlong n (op ∷ ops) reply m new_m) → OnErr result (NoneKept new_m)
-      → StepsIn w (stored w n (op ∷ ops) now None) result m new_m stand new_stand old new before after
+      → StepsIn w (stored w n (op ∷ ops) now None) result (serving m stand) (serving new_m new_stand) old new before after
   by_none (Ok reply) st goes gone = record {
     reply = st.reply;
     stands = behind_is (subst (λ (r : Reply). GoesAlong n (op ∷ ops) r m new_m) st.reply goes) st.stands;
@@ -120,7 +120,7 @@ module _ (w : Service) (n now : ℕ) (op : Op) (ops : List Op) (m new_m : Machin
 
   by_some : (f : StoreFail) (result : Result Reply StepFail) → stepping.StepsIn w.store (statements.committed (Some f) w.store t) result stand new_stand old new before after
       → IfOk result (λ reply. GoesAlong n (op ∷ ops) reply m new_m) → OnErr result (NoneKept new_m)
-      → StepsIn w (stored w n (op ∷ ops) now (Some f)) result m new_m stand new_stand old new before after
+      → StepsIn w (stored w n (op ∷ ops) now (Some f)) result (serving m stand) (serving new_m new_stand) old new before after
   by_some f (Ok reply) st goes gone = record {
     reply = st.reply;
     stands = left_is (left_of n (op ∷ ops) m new_m f (subst (λ (r : Reply). GoesAlong n (op ∷ ops) r m new_m) st.reply goes)) st.stands;
@@ -134,7 +134,7 @@ module _ (w : Service) (n now : ℕ) (op : Op) (ops : List Op) (m new_m : Machin
 
   by_fault : (f : Option StoreFail) (result : Result Reply StepFail) → stepping.StepsIn w.store (statements.committed f w.store t) result stand new_stand old new before after
       → IfOk result (λ reply. GoesAlong n (op ∷ ops) reply m new_m) → OnErr result (NoneKept new_m)
-      → StepsIn w (stored w n (op ∷ ops) now f) result m new_m stand new_stand old new before after
+      → StepsIn w (stored w n (op ∷ ops) now f) result (serving m stand) (serving new_m new_stand) old new before after
   by_fault None = by_none
   by_fault (Some f) = by_some f
 
@@ -148,9 +148,9 @@ pub commits_are_steps : (w : Service) (n now : ℕ) (s : Session) (op : Op) (ops
     → IsIn w m stand before → w.sessions n ≡ Some s → conflict w s ≡ None → s.pending ≡ op ∷ ops
     → stepping.StepsIn w.store (statements.commit w.store (op ∷ ops) now) result stand new_stand old new before after
     → IfOk result (λ reply. GoesAlong n (op ∷ ops) reply m new_m) → OnErr result (NoneKept new_m)
-    → StepsIn w (serve w (lines.InSession n stmts.Commit) now) result m new_m stand new_stand old new before after
+    → StepsIn w (serve w (lines.InSession n stmts.Commit) now) result (serving m stand) (serving new_m new_stand) old new before after
 commits_are_steps w n now s op ops result m new_m stand new_stand old new before after is has free pends st goes gone =
-    subst (λ (next : Served). StepsIn w next result m new_m stand new_stand old new before after) (sym (step_of w n now op ops m new_m stand new_stand old new before after is s has free pends))
+    subst (λ (next : Served). StepsIn w next result (serving m stand) (serving new_m new_stand) old new before after) (sym (step_of w n now op ops m new_m stand new_stand old new before after is s has free pends))
     (by_fault w n now op ops m new_m stand new_stand old new before after is (commit_fault (stores.tail_of_database w.store) false (op ∷ ops) now) result st goes gone)
 
 -- ---- a statement of a session

@@ -94,20 +94,28 @@ of_store next = record { world = next.world.store; reply = reply_of next.answer 
 abbrev pub NoneKept : Machine → Type 0
 NoneKept m = m.sessions ≡ []
 
--- m and new_m are the machine before and after, stand and new_stand the open store, and next what is to be done
-pub record StepsIn (w : Service) (next : Served) (result : Result Reply StepFail) (m new_m : Machine) (stand new_stand : Opened) (old new : State) (before after : List ℕ) : Type 0 where
+-- an open store, with the machine beside it
+pub record Serving : Type 0 where
+  pub machine : Machine
+  pub store : Opened
+
+abbrev pub serving : Machine → Opened → Serving
+serving m store = record { machine = m; store = store }
+
+-- from and to are what serves before and after, and next what is to be done
+pub record StepsIn (w : Service) (next : Served) (result : Result Reply StepFail) (from to : Serving) (old new : State) (before after : List ℕ) : Type 0 where
   pub reply : IfOk result (λ reply. reply ≡ reply_of next.answer)
-  pub stands : OnOk result (IsIn next.world new_m new_stand after)
-  pub dropped : OnErr result (NoneKept new_m)
+  pub stands : OnOk result (IsIn next.world to.machine to.store after)
+  pub dropped : OnErr result (NoneKept to.machine)
   pub settled : Only before old → OnOk result (Only after new)
   pub images : Only before old → EveryImage old new (stores.StoresEither w.store next.world.store)
   pub kept : Only before old → stores.StoresEither w.store next.world.store after
-  pub trace : stepping.MakesFor w.store (of_store next) result stand old new
+  pub trace : stepping.MakesFor w.store (of_store next) result from.store old new
 
--- whatever world they stand for, a line does this to it
-abbrev pub StepsTo : Line → ℕ → Result Reply StepFail → Machine → Machine → Opened → Opened → State → State → List ℕ → List ℕ → Type 0
-StepsTo line now result m new_m stand new_stand old new before after =
-    (w : Service) → IsIn w m stand before → StepsIn w (serve w line now) result m new_m stand new_stand old new before after
+-- whatever world it stands for, a line does this to it
+abbrev pub StepsTo : Line → ℕ → Result Reply StepFail → Serving → Serving → State → State → List ℕ → List ℕ → Type 0
+StepsTo line now result from to old new before after =
+    (w : Service) → IsIn w from.machine from.store before → StepsIn w (serve w line now) result from to old new before after
 
 -- ---- the conditions of a step, and what it leaves
 

@@ -1,6 +1,5 @@
 -- A database as statements see it: a stored history, and the place of the gate behind it.
 use Rattle.std.specs.Prelude.{◌≡◌, ◌⊎◌, ℕ, List, ◌++◌, ◌∷◌, [], length, Option, Some, None}
-use Rattle.byte_grammar.specs.Gated.{end_behind}
 use Rattle.tuple_bytes.specs.declared.header.Header.{Header}
 use Rattle.tuple_bytes.specs.declared.item.Item.{Item}
 use Rattle.tuple_bytes.specs.declared.item.Item.TheVariants as items
@@ -8,6 +7,7 @@ use Rattle.tuple_bytes.specs.declared.item.Txn.{Txn}
 use Rattle.tuple_bytes.specs.Spelling.{spell_txn, spell_frontier}
 use Rattle.history_model.specs.History.{txns, last_moment}
 use Rattle.history_model.specs.State.{State, state}
+use Rattle.history_model.specs.Placing.{gate_behind}
 use Rattle.store_engine.specs.Opened.{Opened, Stores, IsOpenOn}
 use Rattle.store_engine.specs.Refusals.{Tail}
 
@@ -24,11 +24,11 @@ tail_of_database w = record { header = w.header; count = length (txns w.items); 
 
 -- with one transaction more
 abbrev pub with_txn : Database → Txn → Database
-with_txn w t = record w { items = w.items ++ items.Txn t ∷ []; end = end_behind w.end (length (spell_txn t)) }
+with_txn w t = record w { items = w.items ++ items.Txn t ∷ []; end = gate_behind w.end (length (spell_txn t)) }
 
 -- with a Frontier more
 abbrev pub with_frontier : Database → ℕ → Database
-with_frontier w moment = record w { items = w.items ++ items.Frontier moment ∷ []; end = end_behind w.end (length (spell_frontier moment)) }
+with_frontier w moment = record w { items = w.items ++ items.Frontier moment ∷ []; end = gate_behind w.end (length (spell_frontier moment)) }
 
 -- the tables of now
 abbrev pub tables_now : Database → State

@@ -1,82 +1,70 @@
 -- What an append leaves of a store, by its bytes alone.
-use Rattle.std.proofs.Common.{◌≡◌, ℕ, ◌<◌, eqb, false, List, [], ◌∷◌, ◌++◌, length, get_or, Some, refl, sym, ap, subst, ◌∙◌, arith}
+use Rattle.std.proofs.Common.{◌≡◌, ℕ, ◌+◌, ◌<◌, Bool, false, List, [], ◌∷◌, ◌++◌, length, Some, refl, subst, arith}
 use Rattle.std.proofs.lemmas.Bool.Decides.{nat_tests}
 use Rattle.disk_model.specs.Moments.{written_all, AllWithin, CutShort}
-use Rattle.byte_grammar.specs.Gated.{FitsRecord, end_behind}
+use Rattle.byte_grammar.specs.Gated.{FitsRecord}
 use Rattle.tuple_bytes.specs.declared.header.Header.{Header}
 use Rattle.tuple_bytes.specs.declared.item.Item.{Item}
+use Rattle.tuple_bytes.specs.Items.{item_of}
 use Rattle.tuple_bytes.specs.Spelling.{spell_item}
 use Rattle.tuple_bytes.proofs.ItemLaws.{whole_again, spelled_some}
-use Rattle.history_model.specs.declared.stored.Stored.{Stored}
-use Rattle.history_model.specs.Stored.{stored, store_shape, max_file}
-use Rattle.txn_journal.specs.Held.{Held, held_by, with_payload}
-use Rattle.txn_journal.specs.Append.{addition, KeepsFront}
-use Rattle.txn_journal.proofs.InFile.{HasParts, parts_of, end_inside}
-use Rattle.txn_journal.proofs.Added.{within_any, each_any, added_any, front_stays}
-use Rattle.txn_journal.proofs.Replaced.{all_appended}
+use Rattle.history_model.specs.Stored.{store_shape, max_file, stored}
+use Rattle.txn_journal.specs.Append.{KeepsFront}
+use Rattle.segment_file.specs.Append as segments
+use Rattle.segment_file.specs.Append.{Standing, StandsIn}
+use Rattle.history_model.specs.Placing.{gate_behind}
+use Rattle.segment_file.proofs.Appended.{gate_within, front_at, within_at, each_at, added_at}
 use Rattle.store_engine.specs.Opened.{Stores, StoresOldOrNew}
 use Rattle.store_engine.specs.Refusals.{is_full}
-use Rattle.store_engine.specs.Appended.{item_writes, with_record, Takes, CutAppendLeavesOldOrNew, AppendAddsItem, AppendIsWithin, CutAppendLeavesFront, AppendPutsRecord}
-use Rattle.store_engine.proofs.StoredFiles.{is_header, HasHeld, held_of_stored, stored_of_held, stores_new, stores_either}
+use Rattle.store_engine.specs.Appended.{standing, item_writes, with_record, Takes, CutAppendLeavesOldOrNew, AppendAddsItem, AppendIsWithin, CutAppendLeavesFront, AppendPutsRecord}
+use Rattle.store_engine.proofs.StoredFiles.{stores_new, stores_either}
+use Rattle.store_engine.proofs.Placed.{all_placed}
 
 -- where there is room, the next gate stays below the limit
-pub has_room : (end size : ℕ) → is_full end size ≡ false → end_behind end size < max_file
+pub has_room : (end size : ℕ) → is_full end size ≡ false → end + 5 + size < max_file
 has_room end size room = grind (arith, nat_tests, room)
 
 module _ (h : Header) (items : List Item) (item : Item) (x : List ℕ) (stores : Stores h items x) where
-  held_has : (held : Held) × HasHeld x h held
-  held_has = held_of_stored x h stores.header_is
-
-  abbrev held : Held
-  held = held_has.0
-
-  has : HasHeld x h held
-  has = held_has.1
-
   abbrev payload : List ℕ
   payload = spell_item item
 
-  p : HasParts is_header store_shape held x
-  p = parts_of is_header store_shape held x has.holds
+  abbrev at : Standing
+  at = standing (stored x).end x
+
+  stands : StandsIn (standing (stored x).end x) x
+  stands = record { format = stores.format; end = refl; length_is = refl; gate = refl }
 
   -- the gate behind all items stands within the bytes
   pub gate_inside : (stored x).end < length x
-  gate_inside = (let inside = end_inside is_header store_shape held x p in let end = has.end in omega (arith, inside, end))
-
-  abbrev writes : List (ℕ × List ℕ)
-  writes = addition (eqb (get_or x held.end 0) 0xA7) held.end payload
-
-  writes_are : item_writes item x ≡ writes
-  writes_are = ap (λ (e : ℕ). addition (eqb (get_or x e 0) 0xA7) e payload) (sym has.end)
+  gate_inside = gate_within at x stands
 
   front : (c : List ℕ) → CutShort (item_writes item x) x c → KeepsFront (stored x).end x c
-  front c cut = front_stays (eqb (get_or x (stored x).end 0) 0xA7) (stored x).end payload x c (omega (arith, gate_inside)) cut
+  front c cut = front_at at payload x stands c cut
 
   module _ (takes : Takes x item) where
-    fits : FitsRecord store_shape payload
+    fits : FitsRecord store_shape (spell_item item)
     fits = record { accepted = spelled_some payload item (takes.storable.fits, refl); short = takes.storable.short }
 
-    in_file : end_behind held.end (length payload) < store_shape.max_file
-    in_file = (let room = has_room (stored x).end (length payload) takes.room in let end = has.end in omega (arith, room, end))
+    room : (stored x).end + 5 + length (spell_item item) < max_file
+    room = has_room (stored x).end (length payload) takes.room
+
+    spelled : item_of (spell_item item) ≡ Some item
+    spelled = whole_again payload item (takes.storable.fits, refl)
 
     old_or_new : (c : List ℕ) → CutShort (item_writes item x) x c → StoresOldOrNew h items item c
-    old_or_new c cut = stores_either h x items stores held has payload item (whole_again payload item (takes.storable.fits, refl)) c
-        (each_any is_header store_shape held payload (omega arith) fits in_file x p (eqb (get_or x held.end 0) 0xA7) refl c (subst (λ (ws : List (ℕ × List ℕ)). CutShort ws x c) writes_are cut))
+    old_or_new c cut = stores_either h x items stores payload item spelled c (each_at at payload fits room x stands c cut)
 
     abbrev all : List ℕ
     all = written_all (item_writes item x) x
 
-    holds : held_by is_header store_shape all ≡ Some (with_payload held payload)
-    holds = (added_any is_header store_shape held payload (omega arith) fits in_file x p (eqb (get_or x held.end 0) 0xA7) refl all (ap (λ (ws : List (ℕ × List ℕ)). written_all ws x) writes_are)).0
+    added : segments.StoresNew (standing (stored x).end x) x (spell_item item) (written_all (item_writes item x) x)
+    added = added_at at payload fits room x stands all refl
 
-    adds : Stores h (items ++ item ∷ []) all × ((stored all).end ≡ end_behind (stored x).end (length payload))
-    adds = (
-      stores_new h x items stores held has payload item (whole_again payload item (takes.storable.fits, refl)) all holds,
-      ap (λ (s : Stored). s.end) (stored_of_held all (with_payload held payload) h holds has.header) ∙ ap (λ (e : ℕ). end_behind e (length payload)) has.end,
-    )
+    adds : Stores h (items ++ item ∷ []) (written_all (item_writes item x) x) × ((stored (written_all (item_writes item x) x)).end ≡ gate_behind (stored x).end (length (spell_item item)))
+    adds = (stores_new h x items stores payload item spelled all at added, added.stands.end)
 
     is_within : AllWithin (item_writes item x) x
-    is_within = subst (λ (ws : List (ℕ × List ℕ)). AllWithin ws x) (sym writes_are) (within_any is_header store_shape held payload (omega arith) fits in_file x p (eqb (get_or x held.end 0) 0xA7) refl)
+    is_within = within_at at payload fits room x stands
 
 pub cut_append_leaves : CutAppendLeavesOldOrNew
 cut_append_leaves h items item x c stores takes cut = old_or_new h items item x stores takes c cut
@@ -91,7 +79,7 @@ pub cut_append_front : CutAppendLeavesFront
 cut_append_front h items item x c stores cut = front h items item x stores c cut
 
 pub append_puts : AppendPutsRecord
-append_puts h items item x stores = all_appended (stored x).end (spell_item item) x (gate_inside h items item x stores)
+append_puts h items item x stores = all_placed (stored x).end (spell_item item) x (gate_inside h items item x stores)
 
 -- the bytes with the record store one item more
 pub stores_record : (h : Header) (items : List Item) (item : Item) (x : List ℕ) → Stores h items x → Takes x item → Stores h (items ++ item ∷ []) (with_record (stored x).end item x)

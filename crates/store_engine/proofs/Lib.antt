@@ -1,6 +1,11 @@
 pub mod StoredFiles
 pub mod Adding
+pub mod Placed
 pub mod Appended
 pub mod Reordering
 pub mod Telling
+pub mod Taken
+pub mod Counting
+pub mod Standing
 pub mod Replaying
+pub mod Fronts

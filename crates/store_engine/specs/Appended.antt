@@ -1,16 +1,21 @@
 -- What an append leaves of a store, by its bytes alone: over the list of its writes, whole and cut short.
-use Rattle.std.specs.Prelude.{◌≡◌, ℕ, false, List, [], ◌∷◌, ◌++◌, length}
+use Rattle.std.specs.Prelude.{◌≡◌, ◌==◌, ℕ, false, List, [], ◌∷◌, ◌++◌, length, slice_index}
 use Rattle.disk_model.specs.Moments.{written_all, AllWithin, CutShort}
-use Rattle.byte_grammar.specs.Gated.{end_behind}
+use Rattle.byte_grammar.specs.Gated.{open_gate}
 use Rattle.tuple_bytes.specs.declared.header.Header.{Header}
 use Rattle.tuple_bytes.specs.declared.item.Item.{Item}
 use Rattle.tuple_bytes.specs.Spelling.{spell_item}
-use Rattle.history_model.specs.Stored.{stored, IsStorable}
-use Rattle.txn_journal.specs.Held.{standing}
-use Rattle.txn_journal.specs.Append.{append_writes, KeepsFront}
+use Rattle.history_model.specs.Stored.{IsStorable, stored}
+use Rattle.txn_journal.specs.Append.{KeepsFront}
+use Rattle.segment_file.specs.Append.{Standing, append_writes}
+use Rattle.history_model.specs.Placing.{gate_behind}
 use Rattle.store_engine.specs.Opened.{Stores, StoresOldOrNew}
 use Rattle.store_engine.specs.Refusals.{is_full}
 pub use Rattle.store_engine.specs.Record.{with_record}
+
+-- a file of these bytes is opened, where the gate behind all items stands at this place
+abbrev pub standing : ℕ → List ℕ → Standing
+standing end bytes = record { end = end; length = length bytes; gate_is_open = slice_index bytes end == open_gate; is_closed = false }
 
 -- the writes that append an item to the store that these bytes hold
 abbrev pub item_writes : Item → List ℕ → List (ℕ × List ℕ)
@@ -31,7 +36,7 @@ CutAppendLeavesOldOrNew = (header : Header) (items : List Item) (item : Item) (x
 abbrev pub AppendAddsItem : Type 0
 AppendAddsItem = (header : Header) (items : List Item) (item : Item) (x : List ℕ) → Stores header items x → Takes x item
     → Stores header (items ++ item ∷ []) (written_all (item_writes item x) x)
-    × ((stored (written_all (item_writes item x) x)).end ≡ end_behind (stored x).end (length (spell_item item)))
+    × ((stored (written_all (item_writes item x) x)).end ≡ gate_behind (stored x).end (length (spell_item item)))
 
 -- Each begins within the file.
 abbrev pub AppendIsWithin : Type 0
@@ -44,7 +49,7 @@ CutAppendLeavesFront = (header : Header) (items : List Item) (item : Item) (x c 
     → CutShort (item_writes item x) x c
     → KeepsFront (stored x).end x c
 
--- All of them put the record at the gate, and change nothing else.
+-- All of them put the record where it goes, and change nothing but what is said there.
 abbrev pub AppendPutsRecord : Type 0
 AppendPutsRecord = (header : Header) (items : List Item) (item : Item) (x : List ℕ) → Stores header items x
     → written_all (item_writes item x) x ≡ with_record (stored x).end item x

@@ -1,5 +1,6 @@
 -- An item is stored behind all others.
 use Rattle.std.specs.Prelude.{◌≡◌, ◌⊎◌, ℕ, ◌+◌, nat_le, if◌then◌else◌, List, ◌++◌, ◌∷◌, [], Result, Ok, Err, OnOk}
+use Rattle.std.specs.Option.{option_map}
 use Rattle.disk_words.specs.declared.DiskFail.TheVariants.{Failed, NoMemory}
 use Rattle.disk_words.specs.Disk.{Call, State, Only, Unchanged}
 use Rattle.disk_model.specs.Moments.{EveryImage, MakesCalls}
@@ -9,8 +10,9 @@ use Rattle.tuple_bytes.specs.declared.item.Txn.{Txn}
 use Rattle.tuple_bytes.specs.Spelling.{spell_txn, spell_policy, spell_item}
 use Rattle.tt_table.specs.Versions.{applied}
 use Rattle.tt_table.specs.Tables.{TablesVersions}
-use Rattle.txn_journal.specs.Held.{behind, closed}
-use Rattle.txn_journal.specs.Append.{append_calls, KeepsFront}
+use Rattle.txn_journal.specs.Append.{KeepsFront}
+use Rattle.segment_file.specs.Append.{behind, closed, append_calls}
+use Rattle.chain_state.specs.Chained.{with_chained}
 use Rattle.store_engine.specs.declared.fail.StoreFail.{StoreFail}
 use Rattle.store_engine.specs.declared.fail.StoreFail.TheVariants as fails
 use Rattle.store_engine.specs.Opened.{Opened, IsOpenOn, StoresOldOrNew}
@@ -24,6 +26,7 @@ with_txn s t = record s {
   count = s.count + 1;
   last = t.moment;
   tables = applied t.moment t.ops s.tables;
+  chains = option_map (with_chained t) s.chains;
   at = behind s.at (spell_txn t);
 }
 
@@ -51,6 +54,7 @@ StandsAfter (Ok done) old with_item new = new ≡ with_item
 StandsAfter (Err fails.DiskFault) old with_item new = new ≡ shut old
 StandsAfter (Err fails.NoMemory) old with_item new = IsCutShort old with_item new
 StandsAfter (Err fails.NotAStore) old with_item new = ⊥
+StandsAfter (Err fails.OldFormat) old with_item new = ⊥
 StandsAfter (Err (fails.ClockBack last)) old with_item new = new ≡ old
 StandsAfter (Err fails.TooLate) old with_item new = new ≡ old
 StandsAfter (Err fails.TooManyOps) old with_item new = new ≡ old
@@ -66,6 +70,7 @@ MakesOf calls (Ok done) old new = MakesCalls calls (Ok tt) old new
 MakesOf calls (Err fails.DiskFault) old new = MakesCalls calls (Err Failed) old new
 MakesOf calls (Err fails.NoMemory) old new = MakesCalls calls (Ok tt) old new ⊎ MakesCalls calls (Err NoMemory) old new
 MakesOf calls (Err fails.NotAStore) old new = ⊥
+MakesOf calls (Err fails.OldFormat) old new = ⊥
 MakesOf calls (Err (fails.ClockBack last)) old new = Unchanged old new
 MakesOf calls (Err fails.TooLate) old new = Unchanged old new
 MakesOf calls (Err fails.TooManyOps) old new = Unchanged old new

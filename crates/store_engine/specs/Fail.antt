@@ -1,20 +1,27 @@
 -- Refusals of the layers below, as they are called here.
 use Rattle.std.specs.Prelude.{Bool, true, false}
+use Rattle.disk_words.specs.declared.DiskFail.{DiskFail}
+use Rattle.disk_words.specs.declared.DiskFail.TheVariants as disks
 use Rattle.tuple_bytes.specs.declared.writing.EncodeFail.{EncodeFail}
 use Rattle.tuple_bytes.specs.declared.writing.EncodeFail.TheVariants as encoding
-use Rattle.txn_journal.specs.declared.fail.JournalFail.{JournalFail}
-use Rattle.txn_journal.specs.declared.fail.JournalFail.TheVariants as journals
+use Rattle.segment_file.specs.declared.fail.SegmentFail.{SegmentFail}
+use Rattle.segment_file.specs.declared.fail.SegmentFail.TheVariants as segments
 use Rattle.store_engine.specs.declared.fail.StoreFail.{StoreFail}
 use Rattle.store_engine.specs.declared.fail.StoreFail.TheVariants as fails
 
+abbrev pub fail_of_disk : DiskFail → StoreFail
+fail_of_disk disks.Failed = fails.DiskFault
+fail_of_disk disks.NoMemory = fails.NoMemory
+
 -- nothing is made here, so no device is found taken
-abbrev pub fail_of_journal : JournalFail → StoreFail
-fail_of_journal journals.AlreadyThere = fails.NotAStore
-fail_of_journal journals.NotAStore = fails.NotAStore
-fail_of_journal journals.DiskFault = fails.DiskFault
-fail_of_journal journals.StoreFull = fails.StoreFull
-fail_of_journal journals.Closed = fails.Closed
-fail_of_journal journals.NoMemory = fails.NoMemory
+abbrev pub fail_of_file : SegmentFail → StoreFail
+fail_of_file segments.AlreadyThere = fails.NotAStore
+fail_of_file segments.NotAStore = fails.NotAStore
+fail_of_file segments.OldFormat = fails.OldFormat
+fail_of_file segments.DiskFault = fails.DiskFault
+fail_of_file segments.StoreFull = fails.StoreFull
+fail_of_file segments.Closed = fails.Closed
+fail_of_file segments.NoMemory = fails.NoMemory
 
 abbrev pub fail_of_encoding : EncodeFail → StoreFail
 fail_of_encoding encoding.TooManyOps = fails.TooManyOps
@@ -26,6 +33,7 @@ abbrev pub closes : StoreFail → Bool
 closes fails.DiskFault = true
 closes fails.NoMemory = true
 closes fails.NotAStore = false
+closes fails.OldFormat = false
 closes (fails.ClockBack last) = false
 closes fails.TooLate = false
 closes fails.TooManyOps = false

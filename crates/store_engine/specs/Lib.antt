@@ -1,6 +1,8 @@
+pub mod Chaining
 pub mod Opened
 pub mod Refusals
 pub mod Commits
+pub mod Adding
 pub mod Appended
 pub mod Contents
 pub mod Replay

@@ -7,9 +7,10 @@ use Rattle.tuple_bytes.specs.declared.item.Txn.{Txn}
 use Rattle.tuple_bytes.specs.declared.op.Op.{Op}
 use Rattle.tuple_bytes.specs.Limits.{max_ops, max_payload, max_granules}
 use Rattle.tuple_bytes.specs.Spelling.{spell_item, spell_frontier}
-use Rattle.byte_grammar.specs.Gated.{end_behind}
 use Rattle.history_model.specs.History.{granule_of}
-use Rattle.history_model.specs.Stored.{max_file}
+use Rattle.history_model.specs.declared.format.Format.{Format}
+use Rattle.history_model.specs.declared.format.Format.TheVariants.{One}
+pub use Rattle.history_model.specs.Placing.{is_full}
 use Rattle.store_engine.specs.declared.fail.StoreFail.{StoreFail}
 use Rattle.store_engine.specs.declared.fail.StoreFail.TheVariants as fails
 use Rattle.store_engine.specs.Opened.{Opened}
@@ -36,10 +37,6 @@ is_back t now = nat_lt now (t.header.epoch + t.last)
 -- there is no granule of that number
 abbrev pub is_late : Tail → ℕ → Bool
 is_late t now = nat_le max_granules (granule_of t.header.width (moment_at t.header now))
-
--- the gate behind a record of so many bytes, which begins at this place, would reach the limit of the file
-abbrev pub is_full : ℕ → ℕ → Bool
-is_full end size = nat_le max_file (end_behind end size)
 
 -- the transaction that these operations become
 abbrev pub next_txn : Tail → List Op → ℕ → Txn
@@ -90,6 +87,7 @@ IsRefusedBy fault (Ok done) = fault ≡ None
 IsRefusedBy fault (Err fails.DiskFault) = fault ≡ None
 IsRefusedBy fault (Err fails.NoMemory) = Unit {0}
 IsRefusedBy fault (Err fails.NotAStore) = ⊥
+IsRefusedBy fault (Err fails.OldFormat) = ⊥
 IsRefusedBy fault (Err (fails.ClockBack last)) = fault ≡ Some (fails.ClockBack last)
 IsRefusedBy fault (Err fails.TooLate) = fault ≡ Some fails.TooLate
 IsRefusedBy fault (Err fails.TooManyOps) = fault ≡ Some fails.TooManyOps
@@ -97,9 +95,10 @@ IsRefusedBy fault (Err fails.TooLong) = fault ≡ Some fails.TooLong
 IsRefusedBy fault (Err fails.StoreFull) = fault ≡ Some fails.StoreFull
 IsRefusedBy fault (Err fails.Closed) = fault ≡ Some fails.Closed
 
--- the refusals of opening: of the bytes where there is no header of this id, of the disk, of memory
+-- the refusals of opening: of the bytes where there is no header of this id, or one of the first format, of the disk, of memory
 abbrev pub IsOfOpening : StoreFail → Type 0
 IsOfOpening fails.NotAStore = Unit {0}
+IsOfOpening fails.OldFormat = Unit {0}
 IsOfOpening fails.DiskFault = Unit {0}
 IsOfOpening fails.NoMemory = Unit {0}
 IsOfOpening (fails.ClockBack last) = ⊥
@@ -114,14 +113,21 @@ abbrev pub IsOfAnother : ℕ → Option Header → Type 0
 IsOfAnother id None = Unit {0}
 IsOfAnother id (Some header) = header.id ≡ id → ⊥
 
--- bytes are refused as no store exactly where they have no header of this id
-abbrev pub IsNoStore : ℕ → Option Header → StoreFail → Type 0
-IsNoStore id header fails.NotAStore = IsOfAnother id header
-IsNoStore id header fails.DiskFault = Unit {0}
-IsNoStore id header fails.NoMemory = Unit {0}
-IsNoStore id header (fails.ClockBack last) = ⊥
-IsNoStore id header fails.TooLate = ⊥
-IsNoStore id header fails.TooManyOps = ⊥
-IsNoStore id header fails.TooLong = ⊥
-IsNoStore id header fails.StoreFull = ⊥
-IsNoStore id header fails.Closed = ⊥
+-- there is a header of this id
+abbrev pub IsOfThis : ℕ → Option Header → Type 0
+IsOfThis id None = ⊥
+IsOfThis id (Some header) = header.id ≡ id
+
+-- Bytes are refused as no store exactly where they have no header of this id, and as old exactly where they have one, of the
+-- first format.
+abbrev pub IsNoStore : ℕ → Option Header → Option Format → StoreFail → Type 0
+IsNoStore id header format fails.NotAStore = IsOfAnother id header
+IsNoStore id header format fails.OldFormat = IsOfThis id header × (format ≡ Some One)
+IsNoStore id header format fails.DiskFault = Unit {0}
+IsNoStore id header format fails.NoMemory = Unit {0}
+IsNoStore id header format (fails.ClockBack last) = ⊥
+IsNoStore id header format fails.TooLate = ⊥
+IsNoStore id header format fails.TooManyOps = ⊥
+IsNoStore id header format fails.TooLong = ⊥
+IsNoStore id header format fails.StoreFull = ⊥
+IsNoStore id header format fails.Closed = ⊥

@@ -1,32 +1,38 @@
 -- What is read of a file, in file order or in the order of the moments.
-use Rattle.std.specs.Prelude.{◌≡◌, ◌==◌, ℕ, Bool, List, slice_index, is_some}
+use Rattle.std.specs.Prelude.{◌≡◌, ◌==◌, ℕ, List, length, slice_index, Option, Some}
 use Rattle.byte_grammar.specs.Gated.{open_gate}
-use Rattle.tuple_bytes.specs.HeaderBytes.{header_of}
+use Rattle.tuple_bytes.specs.declared.header.Header.{Header}
 use Rattle.tuple_bytes.specs.declared.item.Item.{Item}
 use Rattle.tuple_bytes.specs.declared.item.Txn.{Txn}
 use Rattle.history_model.specs.History.{txns, last_moment}
 use Rattle.history_model.specs.State.{at_moment}
-use Rattle.history_model.specs.Stored.{store_shape, header_length, items_of}
-use Rattle.txn_journal.specs.Held.{Standing}
-use Rattle.txn_journal.specs.Reading.{left}
+use Rattle.history_model.specs.Stored.{items_of, front_header, format_of, found_behind}
+use Rattle.history_model.specs.declared.format.Format.TheVariants.{Two}
+use Rattle.segment_file.specs.Append.{Standing}
+use Rattle.chain_state.specs.Chained.{Chained}
 use Rattle.store_engine.specs.declared.contents.Contents.{Contents}
 use Rattle.store_engine.specs.declared.replay.Gathered.{Gathered}
+use Rattle.store_engine.specs.Chaining.{AreChainsOf}
 use Rattle.store_engine.specs.Contents.{Tells, IsInTime}
-
--- whether these bytes spell a header
-abbrev pub is_header : List ℕ → Bool
-is_header bytes = is_some (header_of bytes)
 
 -- this is what the items say that the payloads spell
 pub record IsRead (payloads : List (List ℕ)) (c : Contents) : Type 0 where
   pub tells : Tells c (items_of payloads)
   pub in_time : IsInTime c
 
--- The records behind the head of these bytes say this, and a journal stands behind them.
-pub record Replays (c : Contents) (at : Standing) (bytes : List ℕ) : Type 0 where
-  pub tells : Tells c (items_of (left store_shape header_length bytes).0)
-  pub end : (left store_shape header_length bytes).1 ≡ at.end
+-- The records behind the head of these bytes say this, and a file stands behind them.
+pub record Replays (header : Header) (c : Contents) (chains : Option Chained) (at : Standing) (bytes : List ℕ) : Type 0 where
+  pub tells : Tells c (items_of (found_behind bytes).0)
+  pub chained : AreChainsOf header (items_of (found_behind bytes).0) chains
+  pub end : (found_behind bytes).1 ≡ at.end
+  pub length_is : length bytes ≡ at.length
   pub gate : at.gate_is_open ≡ (slice_index bytes at.end == open_gate)
+
+-- the bytes have this header, of a file in segments, and their records say this
+pub record OpensAs (header : Header) (c : Contents) (chains : Option Chained) (at : Standing) (bytes : List ℕ) : Type 0 where
+  pub header_is : front_header bytes ≡ Some header
+  pub format_is : format_of bytes ≡ Some Two
+  pub replays : Replays header c chains at bytes
 
 -- the transactions of these items, and their last moment
 pub record IsGathered (g : Gathered) (items : List Item) : Type 0 where

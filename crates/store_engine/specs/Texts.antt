@@ -7,6 +7,7 @@ use Rattle.store_engine.specs.declared.fail.StoreFail.TheVariants as fails
 -- the name of a refusal, and its detail
 unfoldable pub refusal_text : StoreFail → List ℕ
 refusal_text fails.NotAStore = codes "NotAStore"
+refusal_text fails.OldFormat = codes "OldFormat"
 refusal_text (fails.ClockBack last) = numbered (codes "ClockBack ") last
 refusal_text fails.TooLate = codes "TooLate"
 refusal_text fails.TooManyOps = codes "TooManyOps"

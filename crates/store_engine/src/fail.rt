@@ -2,18 +2,22 @@
 
 ghost use Rattle.std.specs.Prelude.{◌≡◌};
 ghost use Rattle.store_engine.specs.declared.fail.StoreFail.TheVariants.{NoMemory};
-ghost use Rattle.store_engine.specs.Fail.{fail_of_journal, fail_of_encoding, closes};
+ghost use Rattle.store_engine.specs.Fail.{fail_of_disk, fail_of_file, fail_of_encoding, closes};
 
+use disk_model::DiskFail;
+use segment_file::SegmentFail;
 use std::alloc::AllocError;
 use thiserror::Error;
 use tuple_bytes::EncodeFail;
-use txn_journal::JournalFail;
 
 /// A refusal of a store.
 #[derive(Clone, Copy, Debug, PartialEq, Eq, Error)]
 pub enum StoreFail {
     #[error("the device has no header of this id")]
     NotAStore,
+    /// Its records stand in one run.
+    #[error("the device has a store of this id in the first format")]
+    OldFormat,
     #[error("the clock stands before the last moment, {last}, or before the store's first second")]
     ClockBack { last: u64 },
     /// The moment's granule is 1,048,576 or more.
@@ -45,16 +49,28 @@ impl StoreFail {
     }
 }
 
-impl From<JournalFail> for StoreFail {
-    ghost from_gives = { λ j e. e ≡ fail_of_journal j };
+impl From<DiskFail> for StoreFail {
+    ghost from_gives = { λ d e. e ≡ fail_of_disk d };
 
-    fn from(fail: JournalFail) -> Self {
+    fn from(fail: DiskFail) -> Self {
         match fail {
-            JournalFail::AlreadyThere | JournalFail::NotAStore => StoreFail::NotAStore,
-            JournalFail::DiskFault => StoreFail::DiskFault,
-            JournalFail::StoreFull => StoreFail::StoreFull,
-            JournalFail::Closed => StoreFail::Closed,
-            JournalFail::NoMemory => StoreFail::NoMemory,
+            DiskFail::Failed => StoreFail::DiskFault,
+            DiskFail::NoMemory => StoreFail::NoMemory,
+        }
+    }
+}
+
+impl From<SegmentFail> for StoreFail {
+    ghost from_gives = { λ s e. e ≡ fail_of_file s };
+
+    fn from(fail: SegmentFail) -> Self {
+        match fail {
+            SegmentFail::AlreadyThere | SegmentFail::NotAStore => StoreFail::NotAStore,
+            SegmentFail::OldFormat => StoreFail::OldFormat,
+            SegmentFail::DiskFault => StoreFail::DiskFault,
+            SegmentFail::StoreFull => StoreFail::StoreFull,
+            SegmentFail::Closed => StoreFail::Closed,
+            SegmentFail::NoMemory => StoreFail::NoMemory,
         }
     }
 }

@@ -6,6 +6,9 @@
 //! `IsOpenOn`. Then items are added, each behind all others: it is written, and only once it is durable
 //! do the tables know of it.
 //!
+//! The file is in segments (`segment_file`). One of the first format, whose records stand in one run, is
+//! refused as `OldFormat`: nothing is added to it.
+//!
 //! Tables take transactions in the order of their moments, and those of one moment in file order. In a
 //! file that was written here the two orders are one, so each transaction is applied as it is read. In
 //! any other file moments may fall: then the transactions are sorted first, in a stable way.
@@ -25,7 +28,7 @@
 //!
 //! | The layer above may rely on | Clause |
 //! |---|---|
-//! | what is opened stands for the bytes, and bytes are refused exactly where they have no header of the id | `value`, `id` of `open_store` |
+//! | what is opened stands for the bytes; bytes are refused exactly where they have no header of the id, and then where they are of the first format | `value`, `id` of `open_store` |
 //! | a refusal comes exactly where it has a cause, by the first cause; want of memory may come before | `refused` |
 //! | where there is a cause, the disk is untouched, also where want of memory comes before | `same` of `commit`, `unstored` of `frontier` |
 //! | the number is that of the transactions before and one more | `number` of `commit` |
@@ -52,6 +55,8 @@
 //! ```
 #![tactic(auto)]
 
+mod appending;
+mod chaining;
 mod contents;
 mod fail;
 mod laws;

@@ -2,84 +2,92 @@
 
 ghost use Rattle.std.specs.Prelude.{◌≡◌, ◌<◌, Some, false, IfOk, IfErr, IfSome, MatchResult};
 ghost use Rattle.outside_words.specs.Faults.{HasCause, HidesNoFault};
+ghost use Rattle.disk_words.specs.declared.DiskFail.TheVariants.{Failed};
 ghost use Rattle.disk_words.specs.Disk.{Unchanged, GoesOn};
 ghost use Rattle.tuple_bytes.specs.Spelling.{FitsHeader};
-ghost use Rattle.history_model.specs.Stored.{stored, front_header, max_file};
-ghost use Rattle.txn_journal.specs.declared.fail.JournalFail.TheVariants.{DiskFault};
-ghost use Rattle.txn_journal.specs.Reading.{IsSeenIn, IsAtFirst};
-ghost use Rattle.txn_journal.specs.Opening.{IsOfDisk, IsOfOpening, IsNoFile};
-ghost use Rattle.store_engine.specs.Refusals.{IsNoStore};
-ghost use Rattle.store_engine.specs.Fail.{fail_of_journal};
+ghost use Rattle.history_model.specs.declared.format.Format.TheVariants.{Two};
+ghost use Rattle.history_model.specs.Stored.{stored, format_of, found_behind};
+ghost use Rattle.segment_file.specs.Walk.{StandsBefore};
+ghost use Rattle.store_engine.specs.declared.fail.StoreFail.TheVariants.{DiskFault};
+ghost use Rattle.store_engine.specs.Refusals.{IsNoStore, IsOfOpening};
 ghost use Rattle.store_engine.specs.Contents.{IsInTime};
-ghost use Rattle.store_engine.specs.Replay.{is_header, Replays};
+ghost use Rattle.store_engine.specs.Chaining.{HaveReached};
+ghost use Rattle.store_engine.specs.Replay.{OpensAs, Replays};
 
+use crate::StoreFail;
+use crate::chaining::{no_chained, take_next};
 use crate::contents::Contents;
-use crate::replay::{in_order_of_moments, read_next};
-use disk_model::Disk;
+use crate::replay::{Gathered, read_next};
+use chain_state::Chains;
+use disk_model::{Disk, DiskFail};
+use history_model::Format;
+use segment_file::{SegmentFile, SegmentRecords, read_front};
 use std::alloc::Global;
-use tuple_bytes::{Header, decode_header};
-use txn_journal::{Journal, JournalFail, Records, StoreShape, open_journal};
+use tuple_bytes::Header;
 
-/// What the records of a file say, and the journal that stands behind them.
+/// What the records of a file say, and the file that stands behind them.
 #[derive(Drop)]
 pub(crate) struct Replayed {
     pub contents: Contents,
-    pub journal: Journal<StoreShape>,
-    ghost few: { contents.count < journal.end },
-    ghost within: { journal.end < max_file },
+    pub chains: Option<Chains>,
+    pub file: SegmentFile,
+    ghost few: { contents.count < file.end },
     ghost in_time: { IsInTime contents },
-    ghost fresh: { journal.is_closed ≡ false },
+    ghost fresh: { file.is_closed ≡ false },
 }
 
-/// Opens the file of the store of this id. Its records are read only if the header is the store's.
+/// Opens the file of the store of this id. Its records are read only if the header is the store's, and
+/// the file is in segments.
 pub(crate) fn open_file<D: Disk>(
     alloc: Global,
     disk: &mut D,
     id: u64,
-) -> Result<(Header, Replayed), JournalFail>
+) -> Result<(Header, Replayed), StoreFail>
     ensures value { IfSome (D.state disk.old).reads (λ bytes. MatchResult result
-        (λ o. (front_header bytes ≡ Some o.0) × Replays o.1.contents o.1.journal bytes)
-        (λ fail. IsNoStore id (stored bytes).header (fail_of_journal fail))) }
+        (λ o. OpensAs o.0 o.1.contents o.1.chains o.1.file bytes)
+        (IsNoStore id (stored bytes).header (format_of bytes))) }
     ensures id { IfOk result (λ o. o.0.id ≡ id) }
     ensures header { IfOk result (λ o. FitsHeader o.0) }
+    ensures chained { IfOk result (λ o. HaveReached o.0 o.1.contents.last o.1.chains) }
     ensures none_other { IfErr result IsOfOpening }
     ensures same { Unchanged (D.state disk.old) (D.state disk.new) }
     ensures frame { GoesOn (D.state disk.old) (D.state disk.new) }
     ensures cause { HasCause DiskFault (D.state disk.old).faults (D.state disk.new).faults result }
     ensures counted { HidesNoFault (D.state disk.old).faults (D.state disk.new).faults result }
 {
-    let mut records = Records::<StoreShape>::at_first(alloc)?;
-    let Some(head) = records.read_head(disk)? else {
-        return Err(JournalFail::NotAStore);
+    let Some(front) = read_front(disk)? else {
+        return Err(StoreFail::NotAStore);
     };
-    let Some(header) = decode_header(&head) else {
-        return Err(JournalFail::NotAStore);
-    };
-    if header.id != id {
-        return Err(JournalFail::NotAStore);
+    if front.header.id != id {
+        return Err(StoreFail::NotAStore);
     }
-    let replayed = replay(alloc, disk, records)?;
-    Ok((header, replayed))
+    match front.format {
+        Format::One => Err(StoreFail::OldFormat),
+        Format::Two => {
+            let replayed = replay(alloc, disk, &front.header)?;
+            Ok((front.header, replayed))
+        }
+    }
 }
 
 /// Reads the records in file order. Where a moment falls, the file is read anew, in the order of the moments.
-fn replay<D: Disk>(
-    alloc: Global,
-    disk: &mut D,
-    records: Records<StoreShape>,
-) -> Result<Replayed, JournalFail>
-    requires begins { IsAtFirst max_file records }
-    ensures value { IfSome (D.state disk.old).reads (λ bytes. IsSeenIn bytes records
-        → MatchResult result (λ o. Replays o.contents o.journal bytes) (IsNoFile is_header bytes)) }
-    ensures none_other { IfErr result IsOfOpening }
+fn replay<D: Disk>(alloc: Global, disk: &mut D, header: &Header) -> Result<Replayed, DiskFail>
+    requires header { FitsHeader header.now }
+    ensures value { IfSome (D.state disk.old).reads (λ bytes. format_of bytes ≡ Some Two
+        → IfOk result (λ o. Replays header.now o.contents o.chains o.file bytes)) }
+    ensures chained { IfOk result (λ o. HaveReached header.now o.contents.last o.chains) }
     ensures same { Unchanged (D.state disk.old) (D.state disk.new) }
     ensures frame { GoesOn (D.state disk.old) (D.state disk.new) }
-    ensures cause { HasCause DiskFault (D.state disk.old).faults (D.state disk.new).faults result }
+    ensures cause { HasCause Failed (D.state disk.old).faults (D.state disk.new).faults result }
     ensures counted { HidesNoFault (D.state disk.old).faults (D.state disk.new).faults result }
 {
-    match read_in_file_order(alloc, disk, records)? {
+    let records = SegmentRecords::at_first(alloc, disk, Format::Two)?;
+    match read_in_file_order(alloc, disk, header, records)? {
         Some(replayed) => Ok(replayed),
-        None => read_in_order_of_moments(alloc, disk),
+        None => {
+            let records = SegmentRecords::at_first(alloc, disk, Format::Two)?;
+            read_in_order_of_moments(alloc, disk, header, records)
+        }
     }
 }
 
@@ -87,44 +95,67 @@ fn replay<D: Disk>(
 fn read_in_file_order<D: Disk>(
     alloc: Global,
     disk: &mut D,
-    mut records: Records<StoreShape>,
-) -> Result<Option<Replayed>, JournalFail>
-    requires begins { IsAtFirst max_file records }
-    ensures value { IfSome (D.state disk.old).reads (λ bytes. IsSeenIn bytes records
-        → IfOk result (λ found. IfSome found (λ o. Replays o.contents o.journal bytes))) }
-    ensures none_other { IfErr result IsOfDisk }
+    header: &Header,
+    mut records: SegmentRecords,
+) -> Result<Option<Replayed>, DiskFail>
+    requires begins { records.reading.place ≡ 64 }
+    requires header { FitsHeader header.now }
+    ensures value { IfSome (D.state disk.old).reads (λ bytes. StandsBefore bytes (found_behind bytes) records
+        → IfOk result (λ found. IfSome found (λ o. Replays header.now o.contents o.chains o.file bytes))) }
+    ensures chained { IfOk result (λ found. IfSome found
+        (λ o. HaveReached header.now o.contents.last o.chains)) }
     ensures same { Unchanged (D.state disk.old) (D.state disk.new) }
     ensures frame { GoesOn (D.state disk.old) (D.state disk.new) }
-    ensures cause { HasCause DiskFault (D.state disk.old).faults (D.state disk.new).faults result }
+    ensures cause { HasCause Failed (D.state disk.old).faults (D.state disk.new).faults result }
     ensures counted { HidesNoFault (D.state disk.old).faults (D.state disk.new).faults result }
 {
     let mut contents = Contents::new(alloc);
+    let mut chains = no_chained(alloc, header)?;
     'records: while records.advance(disk)? {
         let follows = read_next(alloc, &mut contents, records.payload())?;
         if !follows {
             return Ok(None);
         }
+        take_next(&mut chains, records.payload())?;
     }
+    let file = records.file(disk)?;
     Ok(Some(Replayed {
         contents,
-        journal: records.journal(),
+        chains,
+        file,
     }))
 }
 
-/// Opens the file with all its payloads, and adds their transactions in the order of the moments.
-fn read_in_order_of_moments<D: Disk>(alloc: Global, disk: &mut D) -> Result<Replayed, JournalFail>
-    ensures value { IfSome (D.state disk.old).reads (λ bytes. MatchResult result
-        (λ o. Replays o.contents o.journal bytes) (IsNoFile is_header bytes)) }
-    ensures none_other { IfErr result IsOfOpening }
+/// Gathers the transactions of all records, and adds them in the order of the moments. The chains take
+/// them as they are read.
+fn read_in_order_of_moments<D: Disk>(
+    alloc: Global,
+    disk: &mut D,
+    header: &Header,
+    mut records: SegmentRecords,
+) -> Result<Replayed, DiskFail>
+    requires begins { records.reading.place ≡ 64 }
+    requires header { FitsHeader header.now }
+    ensures value { IfSome (D.state disk.old).reads (λ bytes. StandsBefore bytes (found_behind bytes) records
+        → IfOk result (λ o. Replays header.now o.contents o.chains o.file bytes)) }
+    ensures chained { IfOk result (λ o. HaveReached header.now o.contents.last o.chains) }
     ensures same { Unchanged (D.state disk.old) (D.state disk.new) }
     ensures frame { GoesOn (D.state disk.old) (D.state disk.new) }
-    ensures cause { HasCause DiskFault (D.state disk.old).faults (D.state disk.new).faults result }
+    ensures cause { HasCause Failed (D.state disk.old).faults (D.state disk.new).faults result }
     ensures counted { HidesNoFault (D.state disk.old).faults (D.state disk.new).faults result }
 {
-    let opened = open_journal::<D, StoreShape>(alloc, disk)?;
-    let contents = in_order_of_moments(alloc, opened.payloads.as_slice())?;
+    let mut gathered = Gathered::new(alloc);
+    let mut chains = no_chained(alloc, header)?;
+    'records: while records.advance(disk)? {
+        let payload = records.payload();
+        gathered.add(alloc, payload)?;
+        take_next(&mut chains, payload)?;
+    }
+    let file = records.file(disk)?;
+    let contents = gathered.in_order_of_moments(alloc)?;
     Ok(Replayed {
         contents,
-        journal: opened.journal,
+        chains,
+        file,
     })
 }

@@ -14,6 +14,7 @@ pub fn put_refusal(alloc: Global, out: &mut Vec<u8>, fail: StoreFail) -> Result<
 {
     match fail {
         StoreFail::NotAStore => out.extend_from_slice(b"NotAStore")?,
+        StoreFail::OldFormat => out.extend_from_slice(b"OldFormat")?,
         StoreFail::ClockBack { last } => put_numbered(alloc, out, b"ClockBack ", last)?,
         StoreFail::TooLate => out.extend_from_slice(b"TooLate")?,
         StoreFail::TooManyOps => out.extend_from_slice(b"TooManyOps")?,

@@ -18,7 +18,7 @@ use crate::contents::Contents;
 use crate::next_item::NextItem;
 use std::alloc::{AllocError, Global};
 use tt_table::Tables;
-use tuple_bytes::{Blob, Item, Txn, decode_item};
+use tuple_bytes::{Item, Txn, decode_item};
 
 /// Adds an item, and answers whether it may come next.
 fn add_next(alloc: Global, contents: &mut Contents, item: &NextItem<'_>) -> Result<bool, AllocError>
@@ -65,45 +65,26 @@ pub(crate) fn read_next(
     }
 }
 
-/// What the items say that the payloads spell, whatever their moments are.
-pub(crate) fn in_order_of_moments(alloc: Global, payloads: &[Blob]) -> Result<Contents, AllocError>
-    requires few { length payloads.now + 1 < 2 ^ 32 }
-    ensures value { IfOk result (IsRead payloads.now) }
-{
-    let mut gathered = gather(alloc, payloads)?;
-    sort_by_moment(&mut gathered.txns)?;
-    let tables = apply_all(alloc, &gathered.txns)?;
-    Ok(Contents {
-        count: gathered.txns.len() as u32,
-        last: gathered.last,
-        tables,
-    })
-}
-
-/// The transactions in file order, and the greatest moment of an item.
+/// The transactions in file order, and the greatest moment of an item, whatever their moments are.
 #[derive(Drop)]
-struct Gathered {
+pub(crate) struct Gathered {
     txns: Vec<Txn>,
     last: u64,
 }
 
-/// Those of all payloads.
-fn gather(alloc: Global, payloads: &[Blob]) -> Result<Gathered, AllocError>
-    ensures value { IfOk result (λ g. IsGathered g (items_of payloads.now)) }
-{
-    let mut gathered = Gathered {
-        txns: Vec::new(alloc),
-        last: 0,
-    };
-    for payload in payloads {
-        gathered.add(alloc, payload.as_slice())?;
-    }
-    Ok(gathered)
-}
-
 impl Gathered {
+    /// Those of no item.
+    pub fn new(alloc: Global) -> Gathered
+        ensures value { IsGathered result [] }
+    {
+        Gathered {
+            txns: Vec::new(alloc),
+            last: 0,
+        }
+    }
+
     /// Adds the item that a payload spells.
-    fn add(&mut self, alloc: Global, payload: &[u8]) -> Result<(), AllocError>
+    pub fn add(&mut self, alloc: Global, payload: &[u8]) -> Result<(), AllocError>
         ensures value { OnOk result ((payloads : List (List ℕ)) → IsGathered self.old (items_of payloads)
             → IsGathered self.new (items_of (payloads ++ payload.now ∷ []))) }
     {
@@ -120,6 +101,20 @@ impl Gathered {
             Some(Item::Policy { .. }) => Ok(()),
             None => Ok(()),
         }
+    }
+
+    /// What the items say of which these are gathered.
+    pub fn in_order_of_moments(mut self, alloc: Global) -> Result<Contents, AllocError>
+        requires few { length self.txns.items < 2 ^ 32 }
+        ensures value { IfOk result (λ contents. (payloads : List (List ℕ)) → IsGathered self (items_of payloads) → IsRead payloads contents) }
+    {
+        sort_by_moment(&mut self.txns)?;
+        let tables = apply_all(alloc, &self.txns)?;
+        Ok(Contents {
+            count: self.txns.len() as u32,
+            last: self.last,
+            tables,
+        })
     }
 }
 

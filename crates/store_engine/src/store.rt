@@ -10,26 +10,32 @@ ghost use Rattle.tuple_bytes.specs.declared.item.Item.TheVariants as items;
 ghost use Rattle.tuple_bytes.specs.Writing.{IsCounted, IsCountedOp, op_count_of};
 ghost use Rattle.tuple_bytes.specs.Limits.{max_ops, max_payload};
 ghost use Rattle.tuple_bytes.specs.Spelling.{FitsHeader, Spells, spell_frontier};
-ghost use Rattle.history_model.specs.Stored.{stored, max_file};
-ghost use Rattle.history_model.specs.History.{MayFollow};
-ghost use Rattle.txn_journal.specs.Append.{append_calls};
+ghost use Rattle.history_model.specs.Stored.{max_file, stored, format_of};
+ghost use Rattle.history_model.specs.History.{MayFollow, txn_in};
+ghost use Rattle.segment_file.specs.Append.{append_calls};
 ghost use Rattle.store_engine.specs.declared.fail.StoreFail.TheVariants.{Closed, DiskFault, StoreFull};
 ghost use Rattle.store_engine.specs.Opened.{IsOpenOn};
 ghost use Rattle.store_engine.specs.Fail.{closes};
+ghost use Rattle.store_engine.specs.Chaining.{HaveReached};
 ghost use Rattle.store_engine.specs.Refusals.{tail_of, next_txn, commit_fault, frontier_fault, item_fault, is_back, is_full, where_true, IsNextMoment, IsRefusedBy, IsOfOpening, IsNoStore};
 ghost use Rattle.store_engine.specs.Contents.{lent_item};
 ghost use Rattle.store_engine.specs.Commits.{with_txn, with_item, frontier_at, StandsAfter, Adds};
 
+mod chained;
+
 use crate::StoreFail;
+use crate::appending::append;
 use crate::contents::Contents;
 use crate::next_item::NextItem;
 use crate::opening::open_file;
+use chain_state::Chains;
 use disk_model::Disk;
+use segment_file::SegmentFile;
 use std::alloc::{AllocError, Global};
 use std::marker::Model;
+use step_count::{Ledger, Steps};
 use tt_table::Tables;
 use tuple_bytes::{EncodeFail, Header, MAX_FILE, MAX_GRANULES, MAX_OPS, Ops, granule};
-use txn_journal::{Journal, StoreShape};
 
 /// A store that is open: what its file holds, as tables, and where the next record goes. Each call on
 /// it is lent the disk, whose bytes have to be as the last call left them.
@@ -37,16 +43,19 @@ use txn_journal::{Journal, StoreShape};
 pub struct Store {
     header: Header,
     contents: Contents,
-    journal: Journal<StoreShape>,
+    chains: Option<Chains>,
+    file: SegmentFile,
     is_closed: bool,
     ghost header_fits: { FitsHeader header },
-    ghost few: { contents.count < journal.end },
-    ghost within: { journal.end < max_file },
+    ghost few: { contents.count < file.end },
     ghost in_time: { contents.tables.last ≤ contents.last },
-    ghost closed_too: { journal.is_closed ≡ true → is_closed ≡ true },
+    ghost chained: { HaveReached header contents.last chains },
+    ghost closed_too: { file.is_closed ≡ true → is_closed ≡ true },
 }
 
 impl Model for Store {
+    ghost use Rattle.std.specs.Option.{option_map};
+    ghost use Rattle.chain_state.specs.Chained.{without_room};
     ghost use Rattle.store_engine.specs.Opened.{Opened};
 
     ghost Value = { Opened };
@@ -56,7 +65,8 @@ impl Model for Store {
       count = s.contents.count;
       last = s.contents.last;
       tables = s.contents.tables;
-      at = record { end = s.journal.end; gate_is_open = s.journal.gate_is_open; is_closed = s.is_closed };
+      chains = option_map without_room s.chains;
+      at = record s.file { is_closed = s.is_closed };
     } };
 }
 
@@ -65,7 +75,7 @@ impl Store {
     pub fn open_store<D: Disk>(alloc: Global, disk: &mut D, id: u64) -> Result<Store, StoreFail>
         ensures value { IfSome (D.state disk.old).reads (λ bytes. MatchResult result
             (λ s. IsOpenOn s (stored bytes).items bytes)
-            (IsNoStore id (stored bytes).header)) }
+            (IsNoStore id (stored bytes).header (format_of bytes))) }
         ensures fresh { IfOk result (λ s. s.at.is_closed ≡ false) }
         ensures id { IfOk result (λ s. s.header.id ≡ id) }
         ensures none_other { IfErr result IsOfOpening }
@@ -78,22 +88,24 @@ impl Store {
             Ok((header, replayed)) => Ok(Store {
                 header,
                 contents: replayed.contents,
-                journal: replayed.journal,
+                chains: replayed.chains,
+                file: replayed.file,
                 is_closed: false,
             }),
-            Err(fail) => Err(StoreFail::from(fail)),
+            Err(fail) => Err(fail),
         }
     }
 
     /// Stores these operations as one transaction of these clock seconds, and answers its number.
     /// The refusals come in the order of `commit_fault`; a fault of the disk and want of memory close
-    /// the store until it is opened anew.
-    pub fn commit<D: Disk>(
+    /// the store until it is opened anew. The transaction is hashed twice, for the chains, and no other is.
+    pub fn commit<D: Disk, L: Ledger>(
         &mut self,
         alloc: Global,
         disk: &mut D,
         ops: &Ops,
         now: u64,
+        steps: &mut Steps<L>,
     ) -> Result<u32, StoreFail>
         requires some { 0 < length ops.now }
         requires counted { All IsCountedOp ops.now }
@@ -107,6 +119,7 @@ impl Store {
         ensures told { WhereTold (D.state disk.old).reads (D.state disk.new).reads
             (Adds (items.Txn (next_txn (tail_of self.old) ops.now now)) result
             self.old self.new (D.state disk.old) (D.state disk.new)) }
+        ensures steps { steps.new ≤ steps.old + 2 }
         ensures frame { GoesOn (D.state disk.old) (D.state disk.new) }
         ensures cause { HasCause DiskFault (D.state disk.old).faults (D.state disk.new).faults result }
         ensures counted { ShowsFaults closes (D.state disk.old).faults (D.state disk.new).faults result }
@@ -121,13 +134,13 @@ impl Store {
         if ops.as_slice().len() > usize::from(MAX_OPS) {
             return Err(StoreFail::TooManyOps);
         }
-        let number = self.contents.count + 1;
+        let number = self.txn_count() + 1;
         let txn = NextItem::Txn {
             number,
             moment,
             ops,
         };
-        match self.store_item(alloc, disk, &txn) {
+        match self.store_txn(alloc, disk, &txn, moment, steps) {
             Ok(()) => Ok(number),
             Err(fail) => Err(fail),
         }
@@ -156,7 +169,7 @@ impl Store {
         if ops.as_slice().len() > usize::from(MAX_OPS) {
             return Ok(Some(StoreFail::TooManyOps));
         }
-        let number = self.contents.count + 1;
+        let number = self.txn_count() + 1;
         let txn = NextItem::Txn {
             number,
             moment,
@@ -192,7 +205,7 @@ impl Store {
         if self.is_closed {
             return Some(StoreFail::Closed);
         }
-        if self.journal.end() + 5 + bytes as u64 >= MAX_FILE as u64 {
+        if self.file.end() + 5 + bytes as u64 >= MAX_FILE as u64 {
             return Some(StoreFail::StoreFull);
         }
         None
@@ -238,7 +251,7 @@ impl Store {
         Some(moment)
     }
 
-    /// Stores an item that isn't before the last one.
+    /// Stores an item that isn't before the last one, and is no transaction.
     fn store_item<D: Disk>(
         &mut self,
         alloc: Global,
@@ -248,6 +261,7 @@ impl Store {
         requires counted { IsCounted (lent_item item.now) }
         requires few_ops { op_count_of (lent_item item.now) ≤ max_ops }
         requires follows { MayFollow self.old.last (lent_item item.now) }
+        requires other { txn_in (lent_item item.now) ≡ None }
         ensures refused { IsRefusedBy
             (item_fault (tail_of self.old) self.old.at.is_closed (lent_item item.now)) result }
         ensures stands { StandsAfter result self.old (with_item self.old (lent_item item.now)) self.new }
@@ -280,6 +294,7 @@ impl Store {
         requires spelled { Spells (lent_item item.now) payload.now }
         requires short { length payload.now ≤ max_payload }
         requires follows { MayFollow self.old.last (lent_item item.now) }
+        requires other { txn_in (lent_item item.now) ≡ None }
         ensures refused { IsRefusedBy
             (item_fault (tail_of self.old) self.old.at.is_closed (lent_item item.now)) result }
         ensures stands { StandsAfter result self.old (with_item self.old (lent_item item.now)) self.new }
@@ -291,12 +306,7 @@ impl Store {
         ensures cause { HasCause DiskFault (D.state disk.old).faults (D.state disk.new).faults result }
         ensures counted { ShowsFaults closes (D.state disk.old).faults (D.state disk.new).faults result }
     {
-        if self.is_closed {
-            return Err(StoreFail::Closed);
-        }
-        if let Err(fail) = self.journal.append(alloc, disk, payload) {
-            let fail = StoreFail::from(fail);
-            self.is_closed = fail.closes();
+        if let Err(fail) = append(alloc, disk, &mut self.file, &mut self.is_closed, payload) {
             return Err(fail);
         }
         match self.contents.add(alloc, item) {
@@ -331,6 +341,7 @@ impl Store {
         ensures value { result ≡ self.now.count }
         ensures few { result < max_file }
     {
+        let _end = self.file.end();
         self.contents.count
     }
 
@@ -350,10 +361,9 @@ impl Store {
 
     /// How many changing calls the append of a Frontier makes that is carried out.
     pub fn frontier_calls(&self) -> u8
-        ensures value { result ≡ (if self.now.at.gate_is_open then 6 else 4) }
         ensures each { (moment : ℕ)
             → result ≡ length (append_calls self.now.at (spell_frontier moment)) }
     {
-        self.journal.calls()
+        self.file.calls(9)
     }
 }

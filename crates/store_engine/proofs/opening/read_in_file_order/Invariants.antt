@@ -4,7 +4,7 @@ use Rattle.store_engine.proofs.Replaying.{IsReplaying}
 use Rattle.store_engine.proofs.opening.read_in_file_order.Given as goal
 
 abbrev pub invariant-records : goal.invariant-records
-invariant-records g l = IsReplaying (g.D.Disk.state l.initial.disk) (g.D.Disk.state l.disk) l.initial.records l.records l.contents
+invariant-records g l = IsReplaying (g.D.Disk.state l.initial.disk) (g.D.Disk.state l.disk) l.initial.records l.records l.header l.contents l.chains
 
 abbrev pub decreases-records : goal.decreases-records
-decreases-records g l = max_file - l.records.place
+decreases-records g l = max_file - l.records.reading.place

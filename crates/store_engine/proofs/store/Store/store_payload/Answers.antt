@@ -1,33 +1,40 @@
-use Rattle.std.proofs.Common.{◌≡◌, inl, Bool, true, Ok, Err, refl, sym, ap, subst}
+use Rattle.std.proofs.Common.{◌≡◌, true, Ok, Err, refl, ap, subst}
+use Rattle.std.specs.Option.{option_map}
 use Rattle.outside_words.specs.Told.{WhereTold}
-use Rattle.outside_words.proofs.Told.{told_map}
-use Rattle.disk_words.specs.Disk.{Unchanged}
 use Rattle.disk_words.proofs.Frame.{goes_on_same}
-use Rattle.tuple_bytes.specs.declared.header.Header.{Header}
-use Rattle.tuple_bytes.proofs.ItemLaws.{whole_again, spelled_some}
-use Rattle.txn_journal.specs.Held.{Standing}
-use Rattle.tuple_bytes.specs.Spelling.{spell_item}
-use Rattle.history_model.specs.Stored.{store_shape}
-use Rattle.txn_journal.specs.Append.{append_calls, Appends}
+use Rattle.tuple_bytes.proofs.ItemLaws.{spelled_some}
+use Rattle.chain_state.specs.Chained.{without_room}
 use Rattle.store_engine.specs.declared.fail.StoreFail.TheVariants as fails
-use Rattle.store_engine.specs.declared.contents.Contents.{Contents}
-use Rattle.store_engine.specs.Fail.{fail_of_journal}
 use Rattle.store_engine.specs.Opened.{Opened}
-use Rattle.store_engine.specs.Contents.{lent_item}
+use Rattle.store_engine.specs.Contents.{lent_item, with_tables}
 use Rattle.store_engine.specs.Commits.{Adds}
-use Rattle.store_engine.proofs.StoredFiles.{is_header}
-use Rattle.store_engine.proofs.Adding.{IsBehind, makes_failed, unchanged_same, adds_done, adds_failed}
+use Rattle.store_engine.specs.Adding.{stands_at}
+use Rattle.store_engine.proofs.Adding.{told_failed, told_done, told_unknown}
+use Rattle.store_engine.proofs.Counting.{few_behind, last_behind, reached_later}
+use Rattle.store_engine.proofs.Standing.{opened_as, behind_other}
 use Rattle.store_engine.proofs.store.Store.store_payload.Goals as goal
 
--- the open store of a header, of what is known of its file, and of its journal
-abbrev opened_as : Header → Contents → Standing → Bool → Opened
-opened_as header known at is_closed = record { header = header; count = known.count; last = known.last; tables = known.tables; at = record at { is_closed = is_closed } }
+pub invariant_of-self-inside-in-Ok : goal.invariant_of-self-inside-in-Ok
+invariant_of-self-inside-in-Ok g c =
+    let s = c.self.inside in
+    let item = lent_item c.args.item.now in
+    let more = c.add.new.self in
+    let few = few_behind s.contents more item more.tables s.file c.append.new.file s.is_closed c.append.new.is_closed c.args.payload.now s.few (ap (with_tables more.tables) c.in-Ok.ensures.ok) c.in_default.ensures.stands in
+    let later = reached_later s.header s.contents.last more.last s.chains s.chained (last_behind s.contents more item more.tables (ap (with_tables more.tables) c.in-Ok.ensures.ok)) in
+    (s.header_fits, (few, (c.add.ensures.in_time s.in_time, (later, (c.append.ensures.closed_too, tt)))))
 
-pub returns-then-self-clause-frame : goal.returns-then-self-clause-frame
-returns-then-self-clause-frame g c = goes_on_same _
+pub invariant_of-self-inside-in-Err-add : goal.invariant_of-self-inside-in-Err-add
+invariant_of-self-inside-in-Err-add g c =
+    let s = c.self.inside in
+    let item = lent_item c.args.item.now in
+    let more = c.add.new.self in
+    let is = c.in-Err-add.ensures.err in
+    let few = few_behind s.contents more item is.0 s.file c.append.new.file s.is_closed c.append.new.is_closed c.args.payload.now s.few is.1 c.in_default.ensures.stands in
+    let later = reached_later s.header s.contents.last more.last s.chains s.chained (last_behind s.contents more item is.0 is.1) in
+    (s.header_fits, (few, (c.add.ensures.in_time s.in_time, (later, ((λ _. refl), tt)))))
 
-pub append-requires : goal.append-requires
-append-requires g c = record { fits = record { accepted = spelled_some c.args.payload.now (lent_item c.args.item.now) c.requires.spelled; short = c.requires.short } }
+pub append-requires-clause-fits : goal.append-requires-clause-fits
+append-requires-clause-fits g c = record { accepted = spelled_some c.args.payload.now (lent_item c.args.item.now) c.requires.spelled; short = c.requires.short }
 
 pub returns-in-Err-clause-told : goal.returns-in-Err-clause-told
 returns-in-Err-clause-told g c =
@@ -35,20 +42,13 @@ returns-in-Err-clause-told g c =
     let old = S c.args.disk.now in
     let new = S c.append.new.disk in
     let item = lent_item c.args.item.now in
-    let payload = c.args.payload.now in
-    let is : payload ≡ spell_item item = c.requires.spelled.1 in
-    let spelled = whole_again payload item c.requires.spelled in
-    let at = c.self.inside.journal in
+    let at = stands_at c.self.inside.file c.self.inside.is_closed in
     let known = c.self.inside.contents in
-    let stand : Opened = opened_as c.self.inside.header known at c.self.inside.is_closed in
-    let fail = c.in-Err.fail in
-    let now = c.append.new.self in
-    let new_stand : Opened = opened_as c.self.inside.header known now c.closes-self-inside.result in
-    let same = λ (e : now ≡ at). subst (λ d. Unchanged old (S d)) (sym (c.in-Err.ensures.kept e)) (unchanged_same old) in
-    let all = told_map old.reads new.reads (Appends is_header store_shape at payload (Err fail) old new) (Adds {A = Unit {0}} item (Err (fail_of_journal fail)) stand new_stand old new) c.in-Err.ensures.told
-    (λ b a appends. adds_failed item payload is spelled at old new stand refl refl b a (Err fail) appends new_stand (fail_of_journal fail)
-    (makes_failed (Unit {0}) fail payload at now (append_calls at payload) old new c.in-Err.ensures.moves same appends.trace)) in
-    rw c.from-fail.ensures (subst (λ (s : Opened). WhereTold old.reads new.reads (Adds {A = Unit {0}} item (Err (fail_of_journal fail)) s new_stand old new)) c.self.view_is all)
+    let shown = option_map without_room c.self.inside.chains in
+    let stand : Opened = opened_as c.self.inside.header c.self.inside.contents (option_map without_room c.self.inside.chains) (stands_at c.self.inside.file c.self.inside.is_closed) in
+    let later : Opened = opened_as c.self.inside.header c.self.inside.contents (option_map without_room c.self.inside.chains) (stands_at c.append.new.file c.append.new.is_closed) in
+    subst (λ (s : Opened). WhereTold old.reads new.reads (Adds {A = Unit {0}} item (Err c.in-Err.fail) s later old new)) c.self.view_is
+    (told_failed item c.args.payload.now c.requires.spelled at old new stand later refl c.in-Err.fail c.in-Err.ensures.told)
 
 pub returns-in-Ok-clause-told : goal.returns-in-Ok-clause-told
 returns-in-Ok-clause-told g c =
@@ -56,24 +56,16 @@ returns-in-Ok-clause-told g c =
     let old = S c.args.disk.now in
     let new = S c.append.new.disk in
     let item = lent_item c.args.item.now in
-    let payload = c.args.payload.now in
-    let is : payload ≡ spell_item item = c.requires.spelled.1 in
-    let spelled = whole_again payload item c.requires.spelled in
-    let at = c.self.inside.journal in
+    let at = stands_at c.self.inside.file c.self.inside.is_closed in
+    let now = stands_at c.append.new.file c.append.new.is_closed in
     let known = c.self.inside.contents in
-    let stand : Opened = opened_as c.self.inside.header known at c.self.inside.is_closed in
-    let now = c.append.new.self in
-    let more = c.add.new.self in
-    let new_stand : Opened = opened_as c.self.inside.header more now c.self.inside.is_closed in
-    let behind_item : IsBehind item payload stand new_stand = record {
-      header = refl;
-      end = ap (λ (s : Standing). s.end) c.in_default.ensures.moves;
-      gate = ap (λ (s : Standing). s.gate_is_open) c.in_default.ensures.moves;
-      knows = λ items k. let t = c.in-Ok.ensures.tells items (record { count = k.count; last = k.last; tables = k.tables }) in record { count = t.count; last = t.last; tables = t.tables };
-    } in
-    let all = told_map old.reads new.reads (Appends is_header store_shape at payload (Ok tt) old new) (Adds {A = Unit {0}} item (Ok tt) stand new_stand old new) c.in_default.ensures.told
-    (λ b a appends. adds_done item payload is spelled at old new stand refl refl b a appends new_stand behind_item) in
-    subst (λ (s : Opened). WhereTold old.reads new.reads (Adds {A = Unit {0}} item (Ok tt) s new_stand old new)) c.self.view_is all
+    let shown = option_map without_room c.self.inside.chains in
+    let stand : Opened = opened_as c.self.inside.header c.self.inside.contents (option_map without_room c.self.inside.chains) (stands_at c.self.inside.file c.self.inside.is_closed) in
+    let later : Opened = opened_as c.self.inside.header c.add.new.self (option_map without_room c.self.inside.chains) (stands_at c.append.new.file c.append.new.is_closed) in
+    subst (λ (s : Opened). WhereTold old.reads new.reads (Adds {A = Unit {0}} item (Ok tt) s later old new)) c.self.view_is
+    (told_done item c.args.payload.now c.requires.spelled at old new stand later refl
+    (behind_other c.self.inside.header known c.add.new.self shown at now item c.args.payload.now c.requires.spelled.1 c.in_default.ensures.stands c.requires.other c.in-Ok.ensures.tells)
+    c.in_default.ensures.told)
 
 pub returns-in-Err-add-clause-told : goal.returns-in-Err-add-clause-told
 returns-in-Err-add-clause-told g c =
@@ -81,15 +73,8 @@ returns-in-Err-add-clause-told g c =
     let old = S c.args.disk.now in
     let new = S c.append.new.disk in
     let item = lent_item c.args.item.now in
-    let payload = c.args.payload.now in
-    let is : payload ≡ spell_item item = c.requires.spelled.1 in
-    let spelled = whole_again payload item c.requires.spelled in
-    let at = c.self.inside.journal in
-    let known = c.self.inside.contents in
-    let stand : Opened = opened_as c.self.inside.header known at c.self.inside.is_closed in
-    let now = c.append.new.self in
-    let more = c.add.new.self in
-    let new_stand : Opened = opened_as c.self.inside.header more now true in
-    let all = told_map old.reads new.reads (Appends is_header store_shape at payload (Ok tt) old new) (Adds {A = Unit {0}} item (Err fails.NoMemory) stand new_stand old new) c.in_default.ensures.told
-    (λ b a appends. adds_failed item payload is spelled at old new stand refl refl b a (Ok tt) appends new_stand fails.NoMemory (inl appends.trace)) in
-    subst (λ (s : Opened). WhereTold old.reads new.reads (Adds {A = Unit {0}} item (Err fails.NoMemory) s new_stand old new)) c.self.view_is all
+    let at = stands_at c.self.inside.file c.self.inside.is_closed in
+    let stand : Opened = opened_as c.self.inside.header c.self.inside.contents (option_map without_room c.self.inside.chains) (stands_at c.self.inside.file c.self.inside.is_closed) in
+    let later : Opened = opened_as c.self.inside.header c.add.new.self (option_map without_room c.self.inside.chains) (stands_at c.append.new.file true) in
+    subst (λ (s : Opened). WhereTold old.reads new.reads (Adds {A = Unit {0}} item (Err fails.NoMemory) s later old new)) c.self.view_is
+    (told_unknown item c.args.payload.now c.requires.spelled at old new stand later refl c.in_default.ensures.told)

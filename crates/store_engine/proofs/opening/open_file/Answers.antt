@@ -1,5 +1,0 @@
-use Rattle.disk_words.proofs.Frame.{goes_on_same}
-use Rattle.store_engine.proofs.opening.open_file.Goals as goal
-
-pub returns-in_err-records-clause-frame : goal.returns-in_err-records-clause-frame
-returns-in_err-records-clause-frame g c = goes_on_same _
