@@ -5,6 +5,8 @@ use Rattle.outside_words.specs.Told.{WhereTold}
 use Rattle.tuple_bytes.specs.declared.header.Header.{Header}
 use Rattle.history_model.specs.declared.stored.Stored.{Stored}
 use Rattle.history_model.specs.History.{history}
+use Rattle.segment_file.specs.declared.reading.StoredAny.{StoredAny}
+use Rattle.segment_file.specs.Reading.{as_stored, IsRead}
 use Rattle.history_model.specs.Stored.{stored}
 use Rattle.history_model.specs.StoredHistory.{IsHistory}
 use Rattle.notary_link.specs.Batches.{Batch}
@@ -17,6 +19,10 @@ use Rattle.forensic_report.proofs.Counted.{as_read}
 history_under : (s : Stored) (o : Option Header) → IfSome o (λ header. IsHistory (history header s.items)) → IfSome (option_map (λ (header : Header). history header s.items) o) IsHistory
 history_under s None is = tt
 history_under s (Some header) is = is
+
+pub value_read : (told : Option (List ℕ)) (s : StoredAny) → IfSome told (λ bytes. IsRead bytes s) → IfSome told (λ bytes. as_stored s ≡ stored bytes)
+value_read None s read = tt
+value_read (Some bytes) s read = read.value
 
 -- what is stored, where it was read
 pub history_read : {A E : Type 0} (r : Result A E) (s : Stored) (reads : Option (List ℕ)) → IfSome reads (λ bytes. s ≡ stored bytes) → IfSome s.header (λ header. IsHistory (history header s.items))

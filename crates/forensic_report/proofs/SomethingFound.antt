@@ -6,14 +6,13 @@ use Rattle.notary_link.specs.declared.answer.Answer.{Answer}
 use Rattle.notary_link.specs.declared.answer.Answer.TheVariants.{Same, Differs, Absent}
 use Rattle.notary_link.specs.declared.name.Name.TheVariants as names
 use Rattle.notary_link.specs.Batches.{Batch}
-use Rattle.audit_model.specs.Notary.{header_answer}
+use Rattle.audit_model.specs.Notary.{header_answer, cums}
 use Rattle.a3d_forensics.specs.Descent.{tree_told}
 use Rattle.validator.specs.declared.verdict.Verdict.{Verdict}
 use Rattle.validator.specs.declared.verdict.Verdict.TheVariants as verdicts
 use Rattle.validator.specs.declared.fail.AuditFail.{AuditFail}
 use Rattle.validator.specs.declared.fail.AuditFail.TheVariants as audits
 use Rattle.policy_eras.specs.Policy.{first_past}
-use Rattle.audit_model.specs.Notary.{cums}
 use Rattle.validator.specs.Verdicts as verdicts_found
 use Rattle.validator.proofs.SomethingFound.{something_is_found}
 use Rattle.forensic_report.specs.declared.algorithm.Algorithm.{Algorithm}

@@ -3,8 +3,7 @@ use Rattle.std.specs.Prelude.{◌≡◌, ◌⊎◌, ◌↔◌, ◌≤◌, ℕ, t
 use Rattle.notary_link.specs.Batches.{Batch}
 use Rattle.history_model.specs.History.{History}
 use Rattle.digest_model.specs.Layout.{Layout, layout, first_granule, exponent, tile_of}
-use Rattle.audit_model.specs.Altered.{HasPlacesOf, HasOtherHeader, IsAltered, HashClash}
-use Rattle.audit_model.specs.Altered.{HasAltered, IsAlteredSet}
+use Rattle.audit_model.specs.Altered.{HasPlacesOf, HasOtherHeader, IsAltered, HashClash, HasAltered, IsAlteredSet}
 use Rattle.audit_model.specs.Mono.{IfSomeOrNever}
 use Rattle.audit_model.specs.Tiled.{IsCandidate, IsCandidateAmong}
 use Rattle.tiled_forensics.specs.Target.{parts}

@@ -9,10 +9,9 @@ ghost use Rattle.corruption_diagram.specs.Diagram.{diagram};
 ghost use Rattle.forensic_report.specs.declared.fail.AnalyseFail.TheVariants.{NotaryFault};
 ghost use Rattle.forensic_report.specs.Fails.{notary_in_doubt};
 ghost use Rattle.forensic_report.specs.Analysis.{bad_tiles};
-ghost use Rattle.forensic_report.specs.Values.{findings_of, FitsExamined};
+ghost use Rattle.forensic_report.specs.Values.{findings_of, FitsExamined, IsOfWriting};
 ghost use Rattle.forensic_report.specs.Texts.{kept_of, first_line, bad_row, diagram_text};
 ghost use Rattle.forensic_report.specs.Reporting.{Begins};
-ghost use Rattle.forensic_report.specs.Values.{IsOfWriting};
 
 use crate::algorithm::Request;
 use crate::bad::bad_row;

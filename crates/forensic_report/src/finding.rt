@@ -12,7 +12,7 @@ ghost use Rattle.history_model.specs.Stored.{stored};
 ghost use Rattle.history_model.specs.StoredHistory.{IsHistory};
 ghost use Rattle.digest_model.specs.Layout.{layout, first_granule, max_granules};
 ghost use Rattle.policy_eras.specs.Policy.{policy_of};
-ghost use Rattle.validator.specs.Reading.{as_stored};
+ghost use Rattle.segment_file.specs.Reading.{as_stored};
 ghost use Rattle.audit_model.specs.Altered.{history_in, history_with};
 ghost use Rattle.forensic_report.specs.declared.fail.AnalyseFail.TheVariants.{DiskFault, NotaryFault};
 ghost use Rattle.forensic_report.specs.declared.found.Analysis.TheVariants as analyses;
@@ -32,11 +32,11 @@ use disk_model::Disk;
 use history_model::Spelled;
 use notary_link::{Answer, Name, Notary};
 use policy_eras::Eras;
+use segment_file::{StoredAny, read_any};
 use std::alloc::Global;
 use std::marker::Brand;
 use step_count::{Blank, Ledger, Steps};
 use tuple_bytes::Header;
-use validator::{SpelledStore, read_spelled};
 
 /// What the notary's answers show of what is stored under the id. Where nothing was filed, nothing is read.
 pub(crate) fn find<D: Disk, N: Notary>(
@@ -93,14 +93,14 @@ fn find_stored<D: Disk, N: Notary>(
     ensures cause { HasCause NotaryFault (N.state notary.old).faults (N.state notary.new).faults result }
     ensures counted { IsCounted notary_in_doubt (N.state notary.old) (N.state notary.new) result }
 {
-    let stored = read_spelled(alloc, disk)?;
+    let stored = read_any(alloc, disk)?;
     find_in(alloc, &stored, notary, id, algorithm, tiles)
 }
 
 /// The same in what is stored. Another header, or none, is altered without a question.
 fn find_in<N: Notary>(
     alloc: Global,
-    stored: &SpelledStore,
+    stored: &StoredAny,
     notary: &mut N,
     id: u64,
     algorithm: Algorithm,

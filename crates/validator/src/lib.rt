@@ -24,8 +24,10 @@
 //!
 //! [`notarize`] reads the store anew, and holds what is filed already against it. Where a batch is to be filed
 //! and the last moment has not reached the end of the last tile that has ended, it stores a Frontier, and only
-//! then files the batches up to it, one after another. It may be called again after every refusal. Each transaction is hashed at most
-//! twice, and where no batch is to be filed once, for the chain alone (`hold_filed`: `steps`, `few`).
+//! then files the batches up to it, one after another. It may be called again after every refusal.
+//! The batches are those of the chains that the store keeps. Where it keeps none, a plan has them. Then
+//! each transaction is hashed at most twice. Else it is hashed once, for the chain that is asked for
+//! (`hold_filed`: `steps`, `linked`). Where no batch is to be filed that is all (`few`).
 //!
 //! | The layer above may rely on | Clause of `notarize` |
 //! |---|---|
@@ -36,7 +38,7 @@
 //! | Ok tells how many tiles are sealed then: at least the number of tiles that have ended; where it is more, nothing is stored | `value` there |
 //! | a Frontier that is stored is the end of the last tile that has ended by the clock. It lies past the last moment, and there is room for it | `stands`, `images` there, by `frontier_for` |
 //! | a crash leaves the items, or those and the Frontier | `images`, `kept` there |
-//! | after these the store is as it was, has reached the end of the last tile, or is closed | `stands` there |
+//! | after these the store is as it was, has reached the end of the last tile, or is closed. Besides, granules of its chains may be closed then | `stands` there |
 //! | no batch is filed before all changing calls of the disk | `order` there |
 //! | where lists are told: the batches of the tiles that have ended are filed, of the clock's moment; after `Full` as many as there is room for, and as many calls are done; none where there is a cause against it | `free`, `files`, `calls` of `Files` |
 //! | no batch is filed before the store has reached the end of its tile on a settled disk | `ordered` there |
@@ -48,13 +50,6 @@
 //!
 //! [`frontier_ahead`] tells before which Frontier that will be (`value`), or which of its early refusals comes
 //! (`early`). So a caller knows how many changing calls of the disk come before the first batch.
-//!
-//! [`read_spelled`] reads all that a store holds, once, and keeps each item as its payload in the file.
-//!
-//! | The layer above may rely on | Clause of `read_spelled` |
-//! |---|---|
-//! | what is read is what the bytes store, and, also over a disk that tells nothing, a history that a file can hold | `value`, `fits` |
-//! | the disk is only read; a fault has its cause, and behind Ok it counted none | `same`, `frame`, `cause`, `counted` |
 //!
 //! | A law | Says |
 //! |---|---|
@@ -80,9 +75,9 @@ mod finding;
 mod holding;
 mod laws;
 mod marking;
+mod next;
 mod notarizing;
 mod printing;
-mod reading;
 mod validating;
 mod verdict;
 
@@ -91,6 +86,5 @@ pub use fail::AuditFail;
 pub use laws::{broken_is_altered, missing_is_clash, sound_is_clean, sound_is_not_refused};
 pub use notarizing::notarize;
 pub use printing::{put_refusal, put_verdict};
-pub use reading::{SpelledStore, read_spelled};
 pub use validating::validate;
 pub use verdict::Verdict;
