@@ -13,7 +13,7 @@ use Rattle.outside_words.specs.Shown.{ShowsFaults}
 use Rattle.disk_words.specs.Disk as disks
 use Rattle.store_engine.specs.Opened.{Opened}
 use Rattle.store_engine.specs.Refusals.{Tail, tail_of}
-use Rattle.txn_journal.specs.Held.{standing}
+use Rattle.store_engine.specs.Appended.{standing}
 use Rattle.statement_core.specs.Database as statements
 use Rattle.stmt_text.specs.declared.line.Line.{Line}
 use Rattle.stmt_text.specs.declared.line.Line.TheVariants as lines
@@ -155,7 +155,7 @@ module _ (w : World) (now : ℕ) (found : Found) (bytes : List ℕ) where
   of_other : (line : Line) → (line ≡ notarize → ⊥) → notary_calls w line now found ≢ [] → 0 ≡ length (disk_calls w (world_steps.step w line now found) bytes)
   unfolding notary_calls world_steps.step
   of_other (lines.Plain stmts.Notarize) other some = absurd (other refl)
-  of_other (lines.Plain stmts.Validate) other some = nothing_stored (validated w now found.verdict found.refusal) (with_validated w now found.verdict found.refusal).store
+  of_other (lines.Plain stmts.Validate) other some = nothing_stored (validated w now found.verdict found.refusal) (with_validated w now found.verdict found.refusal).same.store
   of_other line other some = absurd (some refl)
 
 pub none_before : (t : Scene) (id : Option ℕ) (line : Line) → (line ≡ notarize → ⊥) → ComeBefore 0 t id line

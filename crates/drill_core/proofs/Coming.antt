@@ -6,9 +6,12 @@ use Rattle.stmt_text.specs.declared.error.ParseFail.{ParseFail}
 use Rattle.stmt_text.specs.declared.error.ParseFail.TheVariants as parse_fails
 use Rattle.stmt_text.specs.Lines.{IsAnswer}
 use Rattle.stmt_text.specs.declared.event.Event.{Event}
+use Rattle.stmt_text.specs.declared.stmt.Stmt.{Stmt}
 use Rattle.stmt_text.specs.declared.stmt.Stmt.TheVariants as stmts
 use Rattle.stmt_text.specs.declared.line.Line.{Line}
 use Rattle.stmt_text.specs.declared.line.Line.TheVariants as lines
+use Rattle.stmt_text.specs.declared.kind.LineKind.TheVariants as kinds
+use Rattle.stmt_text.specs.Kinds.{stmt_kind, line_kind}
 use Rattle.validator.specs.declared.verdict.Verdict.TheVariants as verdicts
 use Rattle.forensic_report.specs.Analysis.{Unsealed}
 use Rattle.store_world.specs.declared.answered.Answered.{Answered}
@@ -105,6 +108,16 @@ module _ (crash : Option Crash) (t : Scene) (answered : Answered) (d later : Dri
   -- an event without a changing call
   pub quiet_brought : (event : Event) (next : Next) → brings t event ≡ quiet next → Follows IsAt next answered d later → Follows (IsBehind crash) (under crash t (brings t event)) answered d later
   quiet_brought event next is f = next_on answered d later (IsBehind crash) (under crash t (quiet next)) (under crash t (brings t event)) (ap (under crash t) is) (quiet_follows answered d later crash t next f)
+
+-- ---- a line that sets the moment is that one
+
+moment_stmt : (stmt : Stmt) (moment : ℕ) → stmt_kind stmt ≡ kinds.SetsMoment moment → lines.Plain stmt ≡ lines.Plain (stmts.Now moment)
+moment_stmt (stmts.Now n) moment is = cc
+moment_stmt stmt moment is = cc
+
+pub moment_line : (line : Line) (moment : ℕ) → line_kind line ≡ kinds.SetsMoment moment → line ≡ lines.Plain (stmts.Now moment)
+moment_line (lines.Plain stmt) moment is = moment_stmt stmt moment is
+moment_line line moment is = cc
 
 -- ---- the store is entered anew
 

@@ -1,6 +1,6 @@
 -- A store that is made, or not, over devices that may stop.
 use Rattle.std.proofs.Common.{arith, ◌≡◌, ◌⊎◌, inl, inr, ℕ, ◌<◌, ◌≤◌, ◌+◌, ◌-◌, Bool, true, false, List, [], ◌∷◌, ◌++◌, length, take, Option, Some, None, Result, Ok, Err, refl, sym, ap, subst, ◌∙◌, ◌==◌}
-use Rattle.std.specs.Prelude.{nat_le, nat_lt, slice_index, IsTrue, ◌&&◌, not, codes, is_some}
+use Rattle.std.specs.Prelude.{nat_le, nat_lt, slice_index, ◌&&◌, not, codes}
 use Rattle.std.specs.Fmt.{decimal}
 use Rattle.std.specs.List.{count_by}
 use Rattle.std.proofs.lemmas.Bool.{le-leb, cases_lt, cases_eq, eq-eqb}
@@ -17,15 +17,16 @@ use Rattle.disk_model.specs.Moments.{is_done, has_failed, calls_of, MakesCalls}
 use Rattle.disk_model.specs.declared.memory.MemDisk.{MemDisk}
 use Rattle.disk_model.specs.Memory as disk_memory
 use Rattle.disk_model.proofs.Planned as disk_plans
-use Rattle.byte_grammar.specs.Gated.{Shape, open_gate}
+use Rattle.byte_grammar.specs.Gated.{open_gate}
 use Rattle.notary_link.specs.Notary as notaries
 use Rattle.tuple_bytes.specs.declared.header.Header.{Header}
 use Rattle.tuple_bytes.specs.Limits.{max_moment}
-use Rattle.tuple_bytes.specs.HeaderBytes.{header_of}
-use Rattle.tuple_bytes.specs.Spelling.{FitsHeader, spell_header}
-use Rattle.tuple_bytes.proofs.HeaderLaws.{header_again}
-use Rattle.txn_journal.specs.declared.fail.JournalFail.{JournalFail}
-use Rattle.txn_journal.specs.declared.fail.JournalFail.TheVariants as fails
+use Rattle.history_model.specs.Heads.{spell_head, is_segment_head}
+use Rattle.history_model.specs.Stored.{store_shape}
+use Rattle.txn_journal.specs.declared.fail.JournalFail.TheVariants as journals
+use Rattle.segment_file.specs.declared.fail.SegmentFail.{SegmentFail}
+use Rattle.segment_file.specs.declared.fail.SegmentFail.TheVariants as fails
+use Rattle.segment_file.specs.Creation.{as_journal}
 use Rattle.txn_journal.specs.Append.{closed_gate}
 use Rattle.txn_journal.specs.Create.{IsFree, IsTaken, creation, Creates, is_free}
 use Rattle.txn_journal.proofs.Free.{free_is}
@@ -76,10 +77,6 @@ free_making t h free = rw free refl
 taken_making : (t : Scene) (h : Header) → is_free t.bytes ≡ false → making t h ≡ quiet (refuses t (codes "AlreadyThere"))
 taken_making t h taken = rw taken refl
 
--- its head is one
-pub is_head : (h : Header) (bytes : List ℕ) → FitsHeader h → bytes ≡ spell_header h → IsTrue (is_some (header_of bytes))
-is_head h bytes fits is = ap (λ (o : Option Header). is_some o) (header_again bytes h (fits, is))
-
 -- the disk's record is one of all its calls
 sure_by : (crash : Option Crash) (d : Drill) → StopsBy crash 0 d → (disk_memory.state_of d.disk).sure ≡ true
 sure_by None d none = none.disk_sure
@@ -90,8 +87,8 @@ whole_under : (crash : Option Crash) (t : Scene) (a : Act) → without_sessions 
 whole_under None t a bare fits = refl
 whole_under (Some crash) t a bare fits = under_whole t crash a (le-leb (calls_in a) crash.after (fits crash refl)) ∙ ap (λ (s : Scene). record a.next { scene = s }) bare
 
-module _ (head_is : List ℕ → Bool) (shape : Shape) (h : Header) (d : Drill) (crash : Option Crash) (stopping : StopsBy crash 0 d) (few : HasFewFaults d) (disk : MemDisk) (on : disks.GoesOn (disk_memory.state_of d.disk) (disk_memory.state_of disk)) (head : List ℕ) (spelled : head ≡ spell_header h)
-    (result : Result (Unit {0}) JournalFail) (creates : Creates head_is shape head result (disk_memory.state_of d.disk) (disk_memory.state_of disk) d.disk.bytes.items disk.bytes.items) (cause : HasCause fails.DiskFault d.disk.faults disk.faults result) (answered : Answered) (u : Drill) where
+module _ (h : Header) (d : Drill) (crash : Option Crash) (stopping : StopsBy crash 0 d) (few : HasFewFaults d) (disk : MemDisk) (on : disks.GoesOn (disk_memory.state_of d.disk) (disk_memory.state_of disk))
+    (result : Result (Unit {0}) SegmentFail) (creates : Creates is_segment_head store_shape (spell_head h) (as_journal result) (disk_memory.state_of d.disk) (disk_memory.state_of disk) d.disk.bytes.items disk.bytes.items) (cause : HasCause fails.DiskFault d.disk.faults disk.faults result) (answered : Answered) (u : Drill) where
   abbrev t : Scene
   t = bare_of d
 
@@ -105,13 +102,13 @@ module _ (head_is : List ℕ → Bool) (shape : Shape) (h : Header) (d : Drill) 
   new = disk_memory.state_of disk
 
   abbrev calls : List disks.Call
-  calls = calls_of (creation head)
+  calls = calls_of (creation (spell_head h))
 
   abbrev IsMade : Option Crash → Type 0
   IsMade c = Follows IsLeft (under c t (making t h)) answered d u
 
-  created : (r : Result (Unit {0}) JournalFail) → result ≡ r → Creates head_is shape head r old new d.disk.bytes.items disk.bytes.items
-  created r is = subst (λ (x : Result (Unit {0}) JournalFail). Creates head_is shape head x old new d.disk.bytes.items disk.bytes.items) is creates
+  created : (r : Result (Unit {0}) SegmentFail) → result ≡ r → Creates is_segment_head store_shape (spell_head h) (as_journal r) old new d.disk.bytes.items disk.bytes.items
+  created r is = subst (λ (x : Result (Unit {0}) SegmentFail). Creates is_segment_head store_shape (spell_head h) (as_journal x) old new d.disk.bytes.items disk.bytes.items) is creates
 
   -- by what is made, and what comes of it
   by_act : (c : Option Crash) (a : Act) (next : Next) → making t h ≡ a → under c t a ≡ next → Follows IsLeft next answered d u → IsMade c
@@ -126,7 +123,7 @@ module _ (head_is : List ℕ → Bool) (shape : Shape) (h : Header) (d : Drill) 
       (disk_plans.stops_where_listed 0 by.after ((by.after + 1) ∷ []) calls (Ok tt) old new s.disk (ap length s.trace) refl on c.trace).0))
       (record {
         at = record {
-          fields = sym (pass.fields ∙ ap (λ (b : List ℕ). record t { bytes = b }) (c.made ∙ ap (λ (b : List ℕ). b ++ closed_gate ∷ []) spelled));
+          fields = sym (pass.fields ∙ ap (λ (b : List ℕ). record t { bytes = b }) c.made);
           none_fails = pass.none_fails;
         };
         text = ap (λ (x : Answered). x.text) reply;
@@ -134,9 +131,9 @@ module _ (head_is : List ℕ → Bool) (shape : Shape) (h : Header) (d : Drill) 
         faults = (let f = pass.faults in omega (arith, f, of_disk));
       })
 
-  pub was_taken : (fail : JournalFail) → result ≡ Err fail → fail ≡ fails.AlreadyThere → WillPass later u → answered ≡ refusal (codes "AlreadyThere") → IsMade crash
+  pub was_taken : (fail : SegmentFail) → result ≡ Err fail → fail ≡ fails.AlreadyThere → WillPass later u → answered ≡ refusal (codes "AlreadyThere") → IsMade crash
   was_taken fail is taken pass reply =
-      let c = created (Err fails.AlreadyThere) (is ∙ ap (λ (f : JournalFail). Err f) taken) in
+      let c = created (Err fails.AlreadyThere) (is ∙ ap (λ (f : SegmentFail). Err f) taken) in
       let same = c.kept c.refused in
       let of_disk : disk.faults ≡ d.disk.faults = disk_quiet.no_change old new on (sure_by crash d stopping) same.trace in
       by_act crash (quiet (refuses t (codes "AlreadyThere"))) (refuses t (codes "AlreadyThere")) (taken_making t h (taken_is d.disk.bytes.items c.refused)) (whole_under crash t (quiet (refuses t (codes "AlreadyThere"))) refl (λ by some. omega arith))
@@ -151,7 +148,7 @@ module _ (head_is : List ℕ → Bool) (shape : Shape) (h : Header) (d : Drill) 
       })
 
   module _ (is : result ≡ Err fails.DiskFault) (by : Crash) (s : IsStopping by.after 0 d) (restarted : IsRestarted by.choice later u) (reply : answered ≡ said (codes "crashed")) where
-    c : Creates head_is shape head (Err fails.DiskFault) old new d.disk.bytes.items disk.bytes.items
+    c : Creates is_segment_head store_shape (spell_head h) (Err journals.DiskFault) old new d.disk.bytes.items disk.bytes.items
     c = created (Err fails.DiskFault) is
 
     moved : new.trace ≡ old.trace → ⊥
@@ -168,7 +165,7 @@ module _ (head_is : List ℕ → Bool) (shape : Shape) (h : Header) (d : Drill) 
     one = one_of c.trace
 
     abbrev made_calls : List disks.Call
-    made_calls = take by.after (calls_of (creation (spell_header h)))
+    made_calls = take by.after calls
 
     origin_is : disk_memory.origin_of disk ≡ d.disk.bytes.items
     origin_is = same_Some (disk_memory.origin_of disk) (disk_memory.origin_of d.disk) on.origin ∙ sym (d.disk.replayed ∙ ap (bytes_after (disk_memory.origin_of d.disk)) s.trace)
@@ -178,7 +175,6 @@ module _ (head_is : List ℕ → Bool) (shape : Shape) (h : Header) (d : Drill) 
         ap (λ (f : List ℕ). image_of by.choice f new.trace) origin_is
         ∙ ap (image_of by.choice t.bytes) (one.is ∙ ap (λ (l : List (disks.Call × Bool)). has_failed one.call ∷ after_calls is_done (take by.after calls) l) s.trace)
         ∙ failed_nothing by.choice t.bytes one.call (after_calls is_done (take by.after calls) [])
-        ∙ ap (λ (b : List ℕ). image_of by.choice t.bytes (after_calls is_done (take by.after (calls_of (creation b))) [])) spelled
 
     stopped_fields : bare_of u ≡ stopped t by (makes t h)
     stopped_fields =
@@ -203,12 +199,12 @@ module _ (head_is : List ℕ → Bool) (shape : Shape) (h : Header) (d : Drill) 
           faults = (let f = restarted.faults in omega (arith, f, count, rises));
         })
 
-  pub was_stopped : (fail : JournalFail) → result ≡ Err fail → fail ≡ fails.DiskFault → IsRestartedBy crash later u → answered ≡ said (codes "crashed") → IsMade crash
+  pub was_stopped : (fail : SegmentFail) → result ≡ Err fail → fail ≡ fails.DiskFault → IsRestartedBy crash later u → answered ≡ said (codes "crashed") → IsMade crash
   was_stopped fail is of_disk restarted reply = by crash stopping restarted
     where
       by : (c : Option Crash) → StopsBy c 0 d → IsRestartedBy c later u → IsMade c
       by None none restarted_by = absurd restarted_by
-      by (Some c) s restarted_by = was_stopped_by (is ∙ ap (λ (f : JournalFail). Err f) of_disk) c s restarted_by reply
+      by (Some c) s restarted_by = was_stopped_by (is ∙ ap (λ (f : SegmentFail). Err f) of_disk) c s restarted_by reply
 
 -- ---- an `init` line
 

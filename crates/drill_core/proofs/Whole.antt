@@ -9,12 +9,9 @@ use Rattle.disk_model.specs.Moments.{is_done}
 use Rattle.disk_model.specs.declared.memory.MemDisk.{MemDisk}
 use Rattle.disk_model.specs.Calls as disk_traces
 use Rattle.disk_model.specs.Memory as disk_memory
-use Rattle.tuple_bytes.specs.declared.header.Header.{Header}
 use Rattle.tuple_bytes.specs.declared.item.Item.{Item}
 use Rattle.tuple_bytes.specs.declared.item.Item.TheVariants as items
-use Rattle.history_model.specs.Stored.{stored, store_shape}
-use Rattle.txn_journal.specs.Held.{standing}
-use Rattle.txn_journal.proofs.InFile.{parts_of, end_inside}
+use Rattle.history_model.specs.History.{History}
 use Rattle.notary_link.specs.declared.notary.NotaryLimits.{NotaryLimits}
 use Rattle.notary_link.specs.Notary as notaries
 use Rattle.notary_link.specs.declared.memory.MemNotary.{MemNotary}
@@ -22,7 +19,8 @@ use Rattle.notary_link.specs.Calls.{lists_of}
 use Rattle.notary_link.specs.Memory as notary_memory
 use Rattle.stmt_text.specs.declared.line.Line.{Line}
 use Rattle.stmt_text.specs.Fits.{FitsParts}
-use Rattle.store_engine.proofs.StoredFiles.{is_header, held_of_stored}
+use Rattle.store_engine.specs.Appended.{standing}
+use Rattle.store_engine.proofs.Appended.{gate_inside}
 use Rattle.statement_core.specs.Database as statements
 use Rattle.session_model.specs.Service.{Session}
 use Rattle.validator.specs.Desk.{Desk, desk}
@@ -30,7 +28,7 @@ use Rattle.store_world.specs.declared.answered.Answered.{Answered}
 use Rattle.store_world.specs.declared.fail.LineFail.{LineFail}
 use Rattle.store_world.specs.Answers.{refusal}
 use Rattle.store_world.specs.Found.{Found}
-use Rattle.store_world.specs.World.{World}
+use Rattle.store_world.specs.World.{World, old_under}
 use Rattle.store_world.specs.Standing.{OpenWorld, IsIn, StoreIsIn}
 use Rattle.store_world.specs.Lists.{IsBeside}
 use Rattle.store_world.specs.Steps as world_steps
@@ -54,13 +52,6 @@ use Rattle.drill_core.proofs.Coming.{any_found, next_on, quiet_follows, refused_
 
 -- ---- the bytes
 
--- a store ends before its bytes do
-room_in : (h : Header) (x : List ℕ) → (stored x).header ≡ Some h → (stored x).end < length x
-room_in h x is =
-    let found = held_of_stored x h is in
-    let inside = end_inside is_header store_shape found.0 x (parts_of is_header store_shape found.0 x found.1.holds) in
-    omega (arith, sym found.1.end, inside)
-
 module _ (first : List ℕ) (trace : List (disks.Call × Bool)) where
   abbrev written_by : List Item → ℕ → List ℕ → Type 0
   written_by its place x = bytes_after first (after_calls is_done (appends (standing place x) its) trace) ≡ with_items place its x
@@ -82,7 +73,7 @@ module _ (first : List ℕ) (trace : List (disks.Call × Bool)) where
     unfolding world_of
     store_room store some =
         let facts = store_is id t.bytes store some in
-        let room = room_in store.header t.bytes facts.header in
+        let room = gate_inside store.header store.items (items.Frontier 0) t.bytes (record { header_is = facts.header; items_are = facts.items; format = facts.format }) in
         let place : end_of_store before.store ≡ store.end = ap end_of_store some in
         omega (arith, room, place, facts.end)
 
@@ -185,13 +176,16 @@ module _ (d : Drill) (begun : ℕ → Option Session) (stands : StandsUnder d.id
     unfolding world_of
     world_then =
         let under = step_under w line d.clock steps.found fits in
-        let store : store_in id (stored next.scene.bytes) ≡ s.world.store =
-        ap (λ (b : List ℕ). store_in id (stored b)) (sym bytes_are)
+        let store : store_in id next.scene.bytes ≡ s.world.store =
+        ap (store_in id) (sym bytes_are)
         ∙ world_is id s.world.store s.world.sessions world.opened disk.bytes.items (subst (λ (n : ℕ). StoreIsIn n s.world.store s.world.sessions world.opened disk.bytes.items) under.id steps.goes.stands.store) in
-        ap (λ (o : Option statements.Database). record { id = id; store = o; sessions = sessions_over o s.world.sessions; lists = s.world.lists; limits = t.limits }) store
-        ∙ ap (λ (b : ℕ → Option Session). record { id = id; store = s.world.store; sessions = b; lists = s.world.lists; limits = t.limits }) (under.over (world_over t id))
-        ∙ ap (λ (n : ℕ). record { id = n; store = s.world.store; sessions = s.world.sessions; lists = s.world.lists; limits = t.limits }) (sym under.id)
-        ∙ ap (λ (l : NotaryLimits). record { id = s.world.id; store = s.world.store; sessions = s.world.sessions; lists = s.world.lists; limits = l }) (sym under.limits)
+        let old : old_under id next.scene.bytes ≡ s.world.old_history =
+        ap (old_under id) (sym bytes_are) ∙ ap (λ (n : ℕ). old_under n disk.bytes.items) (sym under.id) ∙ sym steps.goes.stands.old in
+        ap (λ (o : Option statements.Database). record { id = id; store = o; old_history = old_under id next.scene.bytes; sessions = sessions_over o s.world.sessions; lists = s.world.lists; limits = t.limits }) store
+        ∙ ap (λ (h : Option History). record { id = id; store = s.world.store; old_history = h; sessions = sessions_over s.world.store s.world.sessions; lists = s.world.lists; limits = t.limits }) old
+        ∙ ap (λ (b : ℕ → Option Session). record { id = id; store = s.world.store; old_history = s.world.old_history; sessions = b; lists = s.world.lists; limits = t.limits }) (under.over (world_over t id))
+        ∙ ap (λ (n : ℕ). record { id = n; store = s.world.store; old_history = s.world.old_history; sessions = s.world.sessions; lists = s.world.lists; limits = t.limits }) (sym under.id)
+        ∙ ap (λ (l : NotaryLimits). record { id = s.world.id; store = s.world.store; old_history = s.world.old_history; sessions = s.world.sessions; lists = s.world.lists; limits = l }) (sym under.limits)
 
     pub stands_then : StandsUnder next.scene.id next.scene world
     stands_then = subst (λ (o : Option ℕ). StandsUnder o next.scene world) (sym own)

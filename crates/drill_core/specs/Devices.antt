@@ -3,6 +3,8 @@ use Rattle.std.specs.Prelude.{◌≡◌, ℕ, ◌+◌, ◌-◌, ◌≤◌, nat_l
 use Rattle.outside_words.specs.Listed.{listed_from}
 use Rattle.disk_model.specs.Memory as disks
 use Rattle.notary_link.specs.Memory as notaries
+use Rattle.store_engine.specs.declared.fail.StoreFail.{StoreFail}
+use Rattle.store_engine.specs.declared.fail.StoreFail.TheVariants as fails
 use Rattle.timeline_model.specs.Scene.{Crash}
 use Rattle.drill_core.specs.declared.machine.Drill.{Drill}
 use Rattle.drill_core.specs.Drills.{bare_of, NoneFails, IsAt, faults_of}
@@ -59,6 +61,12 @@ pub record Holds (bytes : List ℕ) (d later : Drill) : Type 0 where
   pub fields : bare_of later ≡ record (bare_of d) { bytes = bytes }
   pub at : IsAt (bare_of later) later
   pub faults : faults_of later ≤ faults_of d
+
+-- why no store is open: there is none of the id, or an old one
+abbrev pub LeavesNone : StoreFail → Type 0
+LeavesNone fails.NotAStore = Unit {0}
+LeavesNone fails.OldFormat = Unit {0}
+LeavesNone fail = ⊥
 
 -- the store stands that the bytes have under the id, without any session
 abbrev pub EntersAnew : Drill → Drill → Type 0

@@ -10,7 +10,7 @@ ghost use Rattle.drill_core.specs.Taken.{FromScene, IsActed};
 use crate::machine::{Crash, Drill};
 use crate::saying::{refuse, refuse_reading};
 use std::alloc::AllocError;
-use stmt_text::{Line, ParseFail, Stmt};
+use stmt_text::{Line, LineKind, ParseFail};
 use store_world::Answered;
 
 impl Drill {
@@ -41,10 +41,10 @@ impl Drill {
     {
         match line {
             Line::Drill { event } => self.bring(event, crash),
-            Line::Plain {
-                stmt: Stmt::Now { moment },
-            } => self.set_clock(*moment),
-            _ => self.act_in_store(line, crash),
+            _ => match line.kind() {
+                LineKind::SetsMoment { moment } => self.set_clock(moment),
+                _ => self.act_in_store(line, crash),
+            },
         }
     }
 

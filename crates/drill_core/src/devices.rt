@@ -1,10 +1,9 @@
 //! What a crash does to the devices.
 
 ghost use Rattle.std.specs.Prelude.{◌≡◌, ◌≢◌, ◌∷◌, [], OnOk, IfOk, codes};
-ghost use Rattle.store_engine.specs.declared.fail.StoreFail.TheVariants as store_fails;
 ghost use Rattle.store_world.specs.Answers.{said};
 ghost use Rattle.drill_core.specs.Drills.{crash_of, NoneFails};
-ghost use Rattle.drill_core.specs.Devices.{listed_filings, WillStop, WillPass, EntersAnew, IsRestartedBy};
+ghost use Rattle.drill_core.specs.Devices.{listed_filings, LeavesNone, WillStop, WillPass, EntersAnew, IsRestartedBy};
 
 use crate::machine::{Crash, Drill};
 use crate::saying::say;
@@ -33,12 +32,12 @@ fn filings_to_fail(alloc: Global, after: u32, before: u64) -> Result<Vec<u64>, A
     }
 }
 
-/// A machine stands also where there is no store.
+/// A machine stands also where there is no store, or an old one.
 fn entered(fail: StoreFail) -> Result<(), AllocError>
-    ensures value { OnOk result (fail ≡ store_fails.NotAStore) }
+    ensures value { OnOk result (LeavesNone fail) }
 {
     match fail {
-        StoreFail::NotAStore => Ok(()),
+        StoreFail::NotAStore | StoreFail::OldFormat => Ok(()),
         _ => Err(AllocError),
     }
 }
@@ -70,7 +69,7 @@ impl Drill {
             .failing(Vec::new(self.alloc), Vec::new(self.alloc));
     }
 
-    /// Enters the store of the drill's id anew, if there is one, without any session.
+    /// Enters the store of the drill's id anew, if there is one that lines go over, without any session.
     pub(crate) fn enter_anew(&mut self) -> Result<(), AllocError>
         ensures value { OnOk result (NoneFails self.old → EntersAnew self.old self.new) }
     {

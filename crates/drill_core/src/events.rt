@@ -14,11 +14,11 @@ ghost use Rattle.drill_core.specs.Taken.{FromScene, Follows, making};
 use crate::machine::{Crash, Drill};
 use crate::saying::{refuse, say, say_ready};
 use disk_model::MemDisk;
+use segment_file::{SegmentFail, create_segmented};
 use std::alloc::{AllocError, Global};
 use stmt_text::Event;
 use store_world::Answered;
-use tuple_bytes::{Blob, Header, MAX_MOMENT, encode_header};
-use txn_journal::{JournalFail, StoreShape, create};
+use tuple_bytes::{Blob, Header, MAX_MOMENT};
 
 /// The bytes with a range replaced.
 fn with_range(alloc: Global, old: &[u8], place: usize, bytes: &[u8]) -> Result<Vec<u8>, AllocError>
@@ -159,17 +159,16 @@ impl Drill {
         ensures value { StopsBy (crash_of crash) 0 self.old → HasFewFaults self.old → IfOk result (λ answered. let t = bare_of self.old in
             Follows IsLeft (under (crash_of crash) t (making t header.now)) answered self.old self.new) }
     {
-        let head = encode_header(header);
-        match create::<MemDisk, StoreShape>(&mut self.disk, &head) {
+        match create_segmented(&mut self.disk, header) {
             Ok(()) => {
                 self.let_pass();
                 say_ready(self.alloc, header.id)
             }
-            Err(JournalFail::AlreadyThere) => {
+            Err(SegmentFail::AlreadyThere) => {
                 self.let_pass();
                 refuse(self.alloc, b"AlreadyThere")
             }
-            Err(JournalFail::DiskFault) => self.restart(crash),
+            Err(SegmentFail::DiskFault) => self.restart(crash),
             Err(_) => Err(AllocError),
         }
     }

@@ -7,7 +7,7 @@ use Rattle.std.proofs.lemmas.List.Elements.{filter_map-append}
 use Rattle.tuple_bytes.specs.declared.item.Item.{Item}
 use Rattle.tuple_bytes.specs.declared.item.Txn.{Txn}
 use Rattle.history_model.specs.Stored.{stored}
-use Rattle.history_model.specs.History.{txns, txn_in}
+use Rattle.history_model.specs.History.{History, txns, txn_in}
 use Rattle.stmt_text.specs.declared.error.ParseFail.{ParseFail}
 use Rattle.stmt_text.specs.declared.error.ParseFail.TheVariants as parses
 use Rattle.stmt_text.specs.declared.line.Line.{Line}
@@ -142,17 +142,17 @@ acknowledged_stored scripted begin timed digits r =
 
 -- ---- in bytes
 
-pub stored_in : (id : ℕ) (digits : List ℕ) (o : Option statements.Database) (c : List ℕ) → IsStored digits o → StoresOf id o c → HasTxn digits (stored c).items
-stored_in id digits None c has is = absurd has
-stored_in id digits (Some w) c has is = subst (HasTxn digits) (sym is.items_are) has
+pub stored_in : (id : ℕ) (digits : List ℕ) (o : Option statements.Database) (old : Option History) (c : List ℕ) → IsStored digits o → StoresOf id o old c → HasTxn digits (stored c).items
+stored_in id digits None old c has is = absurd has
+stored_in id digits (Some w) old c has is = subst (HasTxn digits) (sym is.items_are) has
 
-pub more_in : (id : ℕ) (first : statements.Database) (o : Option statements.Database) (c : List ℕ) → OnlyAppends (Some first) o → StoresOf id o c → StoresMore first.items c
-more_in id first None c more is = absurd more
-more_in id first (Some w) c more is = record { more = more.more; all = is.items_are ∙ more.items }
+pub more_in : (id : ℕ) (first : statements.Database) (o : Option statements.Database) (old : Option History) (c : List ℕ) → OnlyAppends (Some first) o → StoresOf id o old c → StoresMore first.items c
+more_in id first None old c more is = absurd more
+more_in id first (Some w) old c more is = record { more = more.more; all = is.items_are ∙ more.items }
 
 -- bytes that store what the world has after lines of which one was replied so
 pub acknowledged_in : (scripted : Bool) (begin : Running) (timed : List Timed) (digits c : List ℕ) → IsReplied (ok_text digits) scripted begin timed → StoresWorld (carried scripted begin timed).world c → HasTxn digits (stored c).items
-acknowledged_in scripted begin timed digits c r is = let w = (carried scripted begin timed).world in stored_in w.id digits w.store c (acknowledged_stored scripted begin timed digits r) is
+acknowledged_in scripted begin timed digits c r is = let w = (carried scripted begin timed).world in stored_in w.id digits w.store w.old_history c (acknowledged_stored scripted begin timed digits r) is
 
 -- a line more takes no reply back
 pub replied_more : (text : List ℕ) (scripted : Bool) (begin : Running) (timed more : List Timed) → IsReplied text scripted begin timed → IsReplied text scripted begin (timed ++ more)
@@ -168,4 +168,4 @@ replied_more text scripted begin timed more r = record {
 pub appended_in : (scripted : Bool) (begin : Running) (first : statements.Database) (timed : List Timed) (c : List ℕ) → begin.world.store ≡ Some first → StoresWorld (carried scripted begin timed).world c → StoresMore first.items c
 appended_in scripted begin first timed c is stores =
     let w = (carried scripted begin timed).world in
-    more_in w.id first w.store c (subst (λ (o : Option statements.Database). OnlyAppends o w.store) is (runs_append scripted begin timed)) stores
+    more_in w.id first w.store w.old_history c (subst (λ (o : Option statements.Database). OnlyAppends o w.store) is (runs_append scripted begin timed)) stores

@@ -199,7 +199,7 @@ ran_opened id runner first old new ready is same result image le runs = opened_o
     let r = both.1 in
     let h : Header = r.header in (
       h,
-      (r.is, r.id ∙ is),
+      record { header_is = r.is; id_is = r.id ∙ is; format_is = r.format },
       runs_store runner.is_scripted h result first old new before after same le both.0 r.is r.fits (from (opened h old before) (r.at (lists_of old.desk.notary.lists) old.desk.notary.limits) refl),
     ))))
 

@@ -192,7 +192,7 @@ made_opened id seed count runner first old new ready is same result image le (in
     let limits = old.desk.notary.limits in
     let at = r.at lists limits in (
       h,
-      (r.is, r.id ∙ is),
+      record { header_is = r.is; id_is = r.id ∙ is; format_is = r.format },
       makes_store seed count h result first old new before after same le both.0 r.is r.fits
           (subst (λ (text : List ℕ). Makes count (opened h old before) text result old new before after) (script_here seed count runner h before limits lists at) (from (opened h old before) at)),
     ))))

@@ -8,14 +8,17 @@ use Rattle.disk_words.specs.Disk as disks
 use Rattle.disk_model.specs.Moments.{EveryImage}
 use Rattle.outside_io.specs.Sink as sinks
 use Rattle.tuple_bytes.specs.declared.header.Header.{Header}
-use Rattle.history_model.specs.Stored.{stored}
+use Rattle.history_model.specs.declared.format.Format.{Format}
+use Rattle.history_model.specs.declared.format.Format.TheVariants.{One, Two}
+use Rattle.history_model.specs.Stored.{stored, format_of}
+use Rattle.store_engine.specs.declared.fail.StoreFail.{StoreFail}
 use Rattle.store_engine.specs.declared.fail.StoreFail.TheVariants as stores
 use Rattle.store_engine.specs.Refusals.{IsNoStore}
 use Rattle.line_runs.specs.declared.status.Status.{Status}
 use Rattle.line_runs.specs.declared.status.Status.TheVariants as statuses
 use Rattle.line_runs.specs.Outcome.{Said, refused}
 use Rattle.line_runs.specs.Devices.{Devices, Effect, AllIsLeft, devices}
-use Rattle.line_runs.specs.OnStore.{OnHeader, OnStore}
+use Rattle.line_runs.specs.OnStore.{OnFormat, OnHeader, OnStore}
 
 -- ---- what is told
 
@@ -53,13 +56,17 @@ at_disk disk d = devices disk d.desk.notary d.clock d.input d.out
 
 -- ---- by how the store was opened
 
-abbrev pub IsHeaderOf : ℕ → List ℕ → Header → Type 0
-IsHeaderOf id bytes header = ((stored bytes).header ≡ Some header) × (header.id ≡ id)
+-- the bytes have this header, of the id, and are a file in segments
+pub record IsHeaderOf (id : ℕ) (bytes : List ℕ) (header : Header) : Type 0 where
+  pub header_is : (stored bytes).header ≡ Some header
+  pub id_is : header.id ≡ id
+  pub format_is : format_of bytes ≡ Some Two
 
 pub opened_on : (id : ℕ) (Then : Header → Effect) (result : Status) (old new : Devices)
     → WhereTold old.desk.disk.reads new.desk.disk.reads (λ before after. (header : Header) × IsHeaderOf id before header × Then header result old new) → OnStore id Then result old new
 opened_on id Then result old new told = inr (inr (told_map old.desk.disk.reads new.desk.disk.reads _ _ told (λ before after h.
-    subst (λ (o : Option Header). OnHeader id o Then result old new) (sym h.1.0) ((λ e. h.2), (λ ne. absurd (ne h.1.1))))))
+    subst (λ (o : Option Header). OnHeader id o (format_of before) Then result old new) (sym h.1.header_is)
+    ((λ e. subst (λ (f : Option Format). OnFormat f (Then h.0) result old new) (sym h.1.format_is) h.2), (λ ne. absurd (ne h.1.id_is))))))
 
 -- what is said of the bytes that the header stands in is said wherever they are told
 pub telling : (o n : Option (List ℕ)) (H : List ℕ → Header → Type 0) (P : Header → List ℕ → List ℕ → Type 0) → WhereTold o n (λ before after. (header : Header) × H before header × P header before after) → WhereTold o n (λ before after. (header : Header) × H before header × WhereTold o n (P header))
@@ -67,13 +74,25 @@ telling (Some b) (Some a) H P h = h
 telling (Some b) None H P h = tt
 telling None n H P h = tt
 
+-- a refusal of the opening, by its name
+pub is_none_by : (id : ℕ) (o : Option (List ℕ)) (fail named : StoreFail) → fail ≡ named
+    → IfSome o (λ bytes. IsNoStore id (stored bytes).header (format_of bytes) fail) → IfSome o (λ bytes. IsNoStore id (stored bytes).header (format_of bytes) named)
+is_none_by id o fail named is none = subst (λ (f : StoreFail). IfSome o (λ bytes. IsNoStore id (stored bytes).header (format_of bytes) f)) is none
+
 module _ (id : ℕ) (Then : Header → Effect) (result : Status) (old new : Devices) (left : AllIsLeft old new) where
-  pub nowhere : IfSome old.desk.disk.reads (λ bytes. IsNoStore id (stored bytes).header stores.NotAStore) → Said (refused statuses.NotAStore) result old.out new.out → OnStore id Then result old new
-  nowhere none said = inr (inr (told_of old.desk.disk.reads new.desk.disk.reads _ _ none (λ before after other. by (stored before).header other)))
+  pub nowhere : IfSome old.desk.disk.reads (λ bytes. IsNoStore id (stored bytes).header (format_of bytes) stores.NotAStore) → Said (refused statuses.NotAStore) result old.out new.out → OnStore id Then result old new
+  nowhere none said = inr (inr (told_of old.desk.disk.reads new.desk.disk.reads _ _ none (λ before after other. by (stored before).header (format_of before) other)))
     where
-      by : (header : Option Header) → IsNoStore id header stores.NotAStore → OnHeader id header Then result old new
-      by None other = record { said = said; left = left }
-      by (Some header) other = ((λ e. absurd (other e)), (λ ne. record { said = said; left = left }))
+      by : (header : Option Header) (format : Option Format) → IsNoStore id header format stores.NotAStore → OnHeader id header format Then result old new
+      by None format other = record { said = said; left = left }
+      by (Some header) format other = ((λ e. absurd (other e)), (λ ne. record { said = said; left = left }))
+
+  pub old_format : IfSome old.desk.disk.reads (λ bytes. IsNoStore id (stored bytes).header (format_of bytes) stores.OldFormat) → Said (refused statuses.OldFormat) result old.out new.out → OnStore id Then result old new
+  old_format is_old said = inr (inr (told_of old.desk.disk.reads new.desk.disk.reads _ _ is_old (λ before after one. by (stored before).header (format_of before) one)))
+    where
+      by : (header : Option Header) (format : Option Format) → IsNoStore id header format stores.OldFormat → OnHeader id header format Then result old new
+      by None format one = absurd one.0
+      by (Some header) format one = ((λ e. subst (λ (f : Option Format). OnFormat f (Then header) result old new) (sym one.1) (record { said = said; left = left })), (λ ne. absurd (ne one.0)))
 
   pub unopened : Rose old.desk.disk.faults new.desk.disk.faults → Said (refused statuses.DiskFault) result old.out new.out → OnStore id Then result old new
   unopened rose said = inl (rose, record { said = said; left = left })

@@ -14,7 +14,8 @@ use Rattle.line_input.specs.declared.fail.InputFail.TheVariants as inputs
 use Rattle.line_input.specs.Front.{AreFirst}
 use Rattle.tuple_bytes.specs.declared.header.Header.{Header}
 use Rattle.tuple_bytes.specs.Spelling.{FitsHeader}
-use Rattle.history_model.specs.Stored.{stored}
+use Rattle.history_model.specs.declared.format.Format.TheVariants.{Two}
+use Rattle.history_model.specs.Stored.{stored, format_of}
 use Rattle.stmt_text.specs.declared.line.Line.{Line}
 use Rattle.store_world.specs.Found.{Found}
 use Rattle.store_world.specs.declared.fail.LineFail.{LineFail}
@@ -81,10 +82,11 @@ pub record IsAt (r : Running) (runner : Runner) (bytes : List ℕ) : Type 0 wher
   pub moment : runner.moment ≡ r.moment
   pub refused : runner.refused ≡ r.refused
 
--- just opened: where a run begins over a header with the world's id, whatever the notary holds
+-- just opened: where a run begins over a file in segments, with a header of the world's id, whatever the notary holds
 pub record IsReady (runner : Runner) (bytes : List ℕ) : Type 0 where
   pub header : Header
   pub is : (stored bytes).header ≡ Some header
+  pub format : format_of bytes ≡ Some Two
   pub id : header.id ≡ runner.world.id
   pub fits : FitsHeader header
   pub at : (lists : Lists) (limits : NotaryLimits) → IsAt (start (world_of header bytes) lists limits) runner bytes

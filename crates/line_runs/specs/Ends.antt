@@ -33,8 +33,8 @@ pub record Ends (kinds : List Status) (result : Status) (old new : sinks.State) 
 
 -- how a run may end of its own
 abbrev pub run_ends : List Status
-run_ends = statuses.Ok ∷ statuses.Refused ∷ statuses.NotAStore ∷ statuses.InputLimit ∷ statuses.DiskFault ∷ statuses.NotaryFault ∷ statuses.ReadFault ∷ []
+run_ends = statuses.Ok ∷ statuses.Refused ∷ statuses.NotAStore ∷ statuses.OldFormat ∷ statuses.InputLimit ∷ statuses.DiskFault ∷ statuses.NotaryFault ∷ statuses.ReadFault ∷ []
 
 -- and `make`, which reads no input
 abbrev pub make_ends : List Status
-make_ends = statuses.Ok ∷ statuses.Refused ∷ statuses.NotAStore ∷ statuses.DiskFault ∷ statuses.NotaryFault ∷ []
+make_ends = statuses.Ok ∷ statuses.Refused ∷ statuses.NotAStore ∷ statuses.OldFormat ∷ statuses.DiskFault ∷ statuses.NotaryFault ∷ []

@@ -1,5 +1,5 @@
 -- What a script does, line by line.
-use Rattle.std.specs.Prelude.{◌≡◌, ◌<◌, ℕ, ◌+◌, length, slice_index, min, Bool, true, false, List, [], ◌∷◌, ◌++◌, fold, filter, not, map, codes, Some, Result, Ok, Err}
+use Rattle.std.specs.Prelude.{◌≡◌, ◌<◌, ℕ, ◌+◌, length, slice_index, min, Bool, true, false, List, [], ◌∷◌, ◌++◌, fold, filter, not, map, codes, Some, None, Result, Ok, Err}
 use Rattle.outside_words.specs.Told.{WhereTold}
 use Rattle.outside_io.specs.Clock as clocks
 use Rattle.history_model.specs.Stored.{stored}
@@ -41,7 +41,7 @@ world_of header bytes = record { header = header; items = (stored bytes).items; 
 -- before the first line, over a store without sessions and what a notary holds: a scripted run begins at the last moment
 abbrev pub start : statements.Database → Lists → NotaryLimits → Running
 start store lists limits = record {
-  world = record { id = store.header.id; store = Some store; sessions = no_sessions; lists = lists; limits = limits };
+  world = record { id = store.header.id; store = Some store; old_history = None; sessions = no_sessions; lists = lists; limits = limits };
   epoch = store.header.epoch;
   moment = last_moment store.items;
   text = [];

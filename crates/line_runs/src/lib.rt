@@ -19,7 +19,7 @@
 //!
 //! | Sentence | Field of `Runs` |
 //! |---|---|
-//! | `NotAStore` comes exactly where the bytes have no header of this id. A fault of the disk while the store is opened, and want of memory then, end a run before its first line | `OnStore` |
+//! | `NotAStore` comes exactly where the bytes have no header of this id, and `OldFormat` exactly where they have one and their records stand in one run. A fault of the disk while the store is opened, and want of memory then, end a run before its first line | `OnStore` |
 //! | after `Ok` and `Refused` all lines of the input were carried out, and exactly their replies are out; it is `Refused` exactly where one of them is a refusal | `read`, `said` |
 //! | where the output fails or memory is wanting at most the last reply is cut short, and then no line was begun behind it; or all are out, and perhaps a front of a fault line that has its cause | `said` |
 //! | at a fault of the disk or the notary the line under way is the next of the input | `under_way` of `read` |

@@ -239,6 +239,7 @@ pub fn run_make<D: Disk, N: Notary, C: Clock, O: Sink>(
     match Runner::open(alloc, disk, id, true) {
         Ok(mut runner) => make_opened(alloc, &mut runner, seed, count, disk, notary, clock, out),
         Err(StoreFail::NotAStore) => refuse(out, Status::NotAStore),
+        Err(StoreFail::OldFormat) => refuse(out, Status::OldFormat),
         Err(StoreFail::DiskFault) => refuse(out, Status::DiskFault),
         Err(_) => Status::NoMemory,
     }

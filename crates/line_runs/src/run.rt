@@ -116,6 +116,7 @@ pub fn run_lines<D: Disk, N: Notary, C: Clock, I: Source, O: Sink>(
     match Runner::open(alloc, disk, id, is_scripted) {
         Ok(mut runner) => run_opened(alloc, &mut runner, disk, notary, clock, input, out),
         Err(StoreFail::NotAStore) => refuse(out, Status::NotAStore),
+        Err(StoreFail::OldFormat) => refuse(out, Status::OldFormat),
         Err(StoreFail::DiskFault) => refuse(out, Status::DiskFault),
         Err(_) => Status::NoMemory,
     }

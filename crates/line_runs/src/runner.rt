@@ -5,7 +5,7 @@ ghost use Rattle.outside_words.specs.Faults.{HasCause};
 ghost use Rattle.disk_words.specs.Disk as disks;
 ghost use Rattle.notary_link.specs.Notary as notaries;
 ghost use Rattle.outside_io.specs.Clock as clocks;
-ghost use Rattle.history_model.specs.Stored.{stored};
+ghost use Rattle.history_model.specs.Stored.{stored, format_of};
 ghost use Rattle.stmt_text.specs.Fits.{FitsParts};
 ghost use Rattle.store_engine.specs.declared.fail.StoreFail.TheVariants as stores;
 ghost use Rattle.store_engine.specs.Refusals.{IsOfOpening, IsNoStore};
@@ -44,7 +44,7 @@ impl Runner {
     ) -> Result<Runner, StoreFail>
         ensures value { IfSome (D.state disk.old).reads (λ bytes. MatchResult result
             (λ r. IsReady r bytes)
-            (IsNoStore id (stored bytes).header)) }
+            (IsNoStore id (stored bytes).header (format_of bytes))) }
         ensures id { IfOk result (λ r. r.world.id ≡ id) }
         ensures store { IfOk result (λ r. IsSome r.world.opened) }
         ensures scripted { IfOk result (λ r. r.is_scripted ≡ is_scripted) }

@@ -57,6 +57,7 @@ fn fault_text(status: Status) -> &'static str
         Status::Full => "fault Full\n",
         Status::InputLimit => "fault InputLimit\n",
         Status::NotSealedSo => "fault NotSealedSo\n",
+        Status::OldFormat => "fault OldFormat\n",
         Status::SealMissing { .. }
         | Status::OutOfTurn { .. }
         | Status::ClockBack { .. }

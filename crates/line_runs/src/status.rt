@@ -42,6 +42,8 @@ pub enum Status {
     NotSealedSo,
     /// What the notary holds of this node isn't made of what it holds below.
     NotaryInconsistent { era: u32, level: u8, index: u32 },
+    /// The records of the store stand in one run, and nothing is added to those any more.
+    OldFormat,
 }
 
 impl Status {
@@ -70,6 +72,7 @@ impl Status {
             Status::InputLimit => 17,
             Status::NotSealedSo => 18,
             Status::NotaryInconsistent { .. } => 19,
+            Status::OldFormat => 20,
         }
     }
 }

@@ -2,6 +2,7 @@
 use Rattle.std.proofs.Common.{◌≡◌, ◌∙◌, inl, inr, ℕ, List, [], ◌∷◌, ◌++◌, Option, Some, None, Result, Ok, Err, refl, sym, ap, subst}
 use Rattle.std.specs.Prelude.{codes}
 use Rattle.std.specs.Fmt.{decimal}
+use Rattle.std.specs.Option.{is_some}
 use Rattle.std.proofs.lemmas.List.{append-nil, append_cancel_left, append_cancel_right}
 use Rattle.tuple_bytes.specs.declared.item.Item.TheVariants as items
 use Rattle.history_model.specs.History.{txns}
@@ -27,7 +28,7 @@ use Rattle.validator.specs.Texts.{verdict_text}
 use Rattle.store_world.specs.World.{World}
 use Rattle.store_world.specs.Found.{Found}
 use Rattle.validator.specs.Notarizing.{Heard}
-use Rattle.store_world.specs.Steps.{Step, step, on_tables, intent_in, notarized, unless, carried_out, validated, analysed, algorithm_of, marked, reached}
+use Rattle.store_world.specs.Steps.{Step, step, on_tables, intent_in, notarized, unless, carried_out, validated, analysed, algorithm_of, marked, reached, why_none}
 use Rattle.store_world.specs.Acknowledged.{HasTxn, IsStored, Extends, OnlyAppends, StepsAcknowledge, StepsOnlyAppend, ok_text}
 use Rattle.store_world.proofs.Texts.{SaysOk, says_ok, reply_ok, refusal_no, notarized_no, validated_no, analysed_no}
 use Rattle.store_world.proofs.Adding.{Adds, step_adds}
@@ -137,7 +138,7 @@ module _ (w : World) (digits : List ℕ) where
   says_else s never is = absurd (never (subst SaysOk (sym is) (says_ok digits)))
 
   pub tables_acknowledge : (o : Option statements.Database) (line : Line) (now : ℕ) → Acknowledges digits (on_tables w o line now)
-  tables_acknowledge None line now = says_else (on_tables w None line now) (refusal_no w (codes "NotAStore"))
+  tables_acknowledge None line now = says_else (on_tables w None line now) (refusal_no w (why_none (is_some w.old_history)))
   tables_acknowledge (Some store) line now = statement_acknowledges (record { store = store; sessions = w.sessions }) line now digits
 
 pub steps_acknowledge : StepsAcknowledge

@@ -22,7 +22,6 @@ use Rattle.forensic_report.specs.declared.fail.AnalyseFail.TheVariants as fails
 use Rattle.forensic_report.specs.declared.report.Report.{Report}
 use Rattle.forensic_report.specs.Analysis.{Analysis, Unsealed, HeaderAltered, IsWithoutStore}
 use Rattle.std.proofs.lemmas.List.{append_cancel_left}
-use Rattle.statement_core.specs.Database as statements
 use Rattle.forensic_report.specs.Fails.{refusal_text}
 use Rattle.forensic_report.specs.Finding.{IsAnalysisIn, IsAnalysis, IsOfAnalysis}
 use Rattle.forensic_report.specs.Held.{HoldsFiled}
@@ -35,22 +34,22 @@ use Rattle.forensic_report.proofs.SomethingFound.{something_is_analysed}
 use Rattle.store_world.specs.declared.answered.Answered.{Answered}
 use Rattle.store_world.specs.declared.fail.LineFail.{LineFail}
 use Rattle.store_world.specs.declared.fail.LineFail.TheVariants as line_fails
-use Rattle.store_world.specs.World.{World}
+use Rattle.store_world.specs.World.{World, history_of}
 use Rattle.store_world.specs.Standing.{OpenWorld, IsIn}
 use Rattle.store_world.specs.Lists.{IsBeside, ListsGo}
 use Rattle.store_world.specs.Finding.{MayTell, MayFind}
 use Rattle.store_world.specs.Answers.{refusal, reported, Replies, IsReported}
 use Rattle.store_world.specs.Parts.{StepsWithout}
-use Rattle.store_world.specs.Steps.{Step, analysed, algorithm_of, filed_for, history_of}
+use Rattle.store_world.specs.Steps.{Step, analysed, algorithm_of, filed_for}
 use Rattle.store_world.specs.CallsMade.{MakesLineCalls}
 use Rattle.store_world.specs.Stepping.{IsReply, Goes, Steps}
 use Rattle.store_world.proofs.Between.{keeps_then}
-use Rattle.store_world.proofs.Left.{given, left, files_still, beside_by, beside_told}
+use Rattle.store_world.proofs.Left.{given, same_world, left, files_still, beside_by, beside_told}
 use Rattle.store_world.proofs.CallsTold.{calls_none}
 use Rattle.store_world.proofs.Faults.{ends_anyhow, ends_any_time}
 use Rattle.store_world.proofs.LineKinds.{shown, analyse_step, analyse_none}
 use Rattle.store_world.proofs.Replies.{replied}
-use Rattle.store_world.proofs.Validating.{history_is, none_stored, told_put, replies_as, told_unchanged}
+use Rattle.store_world.proofs.Validating.{world_history, none_stored, told_put, replies_as, told_unchanged}
 
 pub analysed_stays : (w : World) (algorithm : Algorithm) (found : Result Analysis AnalyseFail) (body : List ℕ) → (analysed w algorithm found body).world ≡ w
 analysed_stays w algorithm (Ok a) body = refl
@@ -137,7 +136,7 @@ module _ (algorithm : LineAlgorithm) (now : ℕ) (old new : State) (same : Uncha
           may = may;
           turn = given result tt;
           goes = subst (λ (x : Step). Goes w x result held old new bytes bytes) (sym is)
-              (left w held old new bytes i same only_now (analysed w (algorithm_of algorithm) f report) result (ap (λ (x : World). x.id) stays) (ap (λ (x : World). x.store) stays) (ap (λ (x : World). x.sessions) stays) reply);
+              (left w held old new bytes i same only_now (analysed w (algorithm_of algorithm) f report) result (same_world w _ stays) reply);
           only = ends_anyhow result;
           timely = ends_any_time None refl result;
           finds = finds;
@@ -148,15 +147,15 @@ module _ (algorithm : LineAlgorithm) (now : ℕ) (old new : State) (same : Uncha
               (calls_none w line now (shown f report) (analysed w (algorithm_of algorithm) f report) (ap (λ (x : World). x.store) stays) bytes result old new same.trace filed filed_later (analyse_none w now algorithm f report) unchanged.trace));
         }
 
-    found_in : (lists : Lists) → IsBeside w filed.limits lists → (f : Result Analysis AnalyseFail) → IsAnalysis (algorithm_of algorithm) w.id (lists.batches w.id) (stored bytes) f → IsAnalysisIn (algorithm_of algorithm) (filed_for w) (history_of w.store) f
-    found_in lists beside f is = subst (λ (b : List Batch). IsAnalysisIn (algorithm_of algorithm) b (history_of w.store) f) (beside.lists.batches w.id)
-        (subst (λ (h : Option History). IsAnalysisIn (algorithm_of algorithm) (lists.batches w.id) h f) (history_is w.id w.store w.sessions held.opened bytes i.store) is)
+    found_in : (lists : Lists) → IsBeside w filed.limits lists → (f : Result Analysis AnalyseFail) → IsAnalysis (algorithm_of algorithm) w.id (lists.batches w.id) (stored bytes) f → IsAnalysisIn (algorithm_of algorithm) (filed_for w) (history_of w) f
+    found_in lists beside f is = subst (λ (b : List Batch). IsAnalysisIn (algorithm_of algorithm) b (history_of w) f) (beside.lists.batches w.id)
+        (subst (λ (h : Option History). IsAnalysisIn (algorithm_of algorithm) (lists.batches w.id) h f) (world_history w held bytes i) is)
 
     -- a failure
     tells_none : (result : Result Answered LineFail) → OnOk result ⊥ → Steps line now w result held (desk old filed) (desk new filed_later) bytes bytes
     tells_none (Ok answered) never = absurd never
     tells_none (Err fail) never =
-        let some = something_is_analysed (algorithm_of algorithm) (filed_for w) (history_of w.store) in
+        let some = something_is_analysed (algorithm_of algorithm) (filed_for w) (history_of w) in
         tells (Err fail) some.0 (body_by (algorithm_of algorithm) (kept_of w.lists w.id now) some.0) tt tt (told_all filed.lists filed_later.lists _ (λ lists later beside. (some.1, text_of some.0)))
       where
         text_of : (f : Result Analysis AnalyseFail) → IfOk f (λ a. body_by (algorithm_of algorithm) (kept_of w.lists w.id now) f ≡ body_text (algorithm_of algorithm) (kept_of w.lists w.id now) a)
@@ -168,7 +167,7 @@ module _ (algorithm : LineAlgorithm) (now : ℕ) (old new : State) (same : Uncha
     ToldBy report a lists later = IsAnalysis (algorithm_of algorithm) w.id (lists.batches w.id) (stored bytes) (Ok a) × (report.text ≡ report_text (algorithm_of algorithm) w.id (kept_of lists w.id now) a)
 
     tells_so : (result : Result Answered LineFail) (report : Report) (a : Analysis) → Replies (reported report) result → (begins : Begins (head_line (algorithm_of algorithm) w.id a) report.text)
-        → (w.store ≡ None → IsWithoutStore a) → WhereTold filed.lists filed_later.lists (ToldBy report a) → Steps line now w result held (desk old filed) (desk new filed_later) bytes bytes
+        → (history_of w ≡ None → IsWithoutStore a) → WhereTold filed.lists filed_later.lists (ToldBy report a) → Steps line now w result held (desk old filed) (desk new filed_later) bytes bytes
     tells_so result report a reply begins nowhere told = tells result (Ok a) begins.rest (given result (tt, nowhere))
         (replies_as (analysed w (algorithm_of algorithm) (Ok a) begins.rest) (reported report) result begins.is refl (replied (reported report) result reply))
         (told_map filed.lists filed_later.lists (ToldBy report a) _ told (λ lists later both beside. (
@@ -177,7 +176,7 @@ module _ (algorithm : LineAlgorithm) (now : ℕ) (old new : State) (same : Uncha
               (both.1 ∙ ap (λ (k : Kept). report_text (algorithm_of algorithm) w.id k a) (same_kept w.lists lists w.id now beside.lists)) begins.is,
         )))
 
-    without_store : (result : Result Answered LineFail) (report : Report) (a : Analysis) → Replies (reported report) result → Begins (head_line (algorithm_of algorithm) w.id a) report.text → w.store ≡ None
+    without_store : (result : Result Answered LineFail) (report : Report) (a : Analysis) → Replies (reported report) result → Begins (head_line (algorithm_of algorithm) w.id a) report.text → history_of w ≡ None
         → ReportsNone (algorithm_of algorithm) w.id (Ok report) → (o n : Option Lists) → filed.lists ≡ o → filed_later.lists ≡ n → WhereTold o n (ToldBy report a) → Steps line now w result held (desk old filed) (desk new filed_later) bytes bytes
     without_store result report a reply begins none says (Some lists) (Some later) was is both = tells_so result report a reply begins
         (λ none. none_shown (algorithm_of algorithm) (lists.batches w.id) (history_with w.id (stored bytes)) a (none_stored w held bytes w.id i.id i none) both.0)
@@ -186,12 +185,12 @@ module _ (algorithm : LineAlgorithm) (now : ℕ) (old new : State) (same : Uncha
     without_store result report a reply begins none says None n was is told = tells_so result report says.0 reply says.2 (λ none. says.1) (told_put None n filed.lists filed_later.lists (ToldBy report says.0) was is tt)
 
     tells_report : (result : Result Answered LineFail) (report : Report) (a : Analysis) → Replies (reported report) result → Begins (head_line (algorithm_of algorithm) w.id a) report.text
-        → (w.store ≡ None → ReportsNone (algorithm_of algorithm) w.id (Ok report)) → WhereTold filed.lists filed_later.lists (ToldBy report a) → Steps line now w result held (desk old filed) (desk new filed_later) bytes bytes
-    tells_report result report a reply begins nowhere told = by w.store refl
+        → (history_of w ≡ None → ReportsNone (algorithm_of algorithm) w.id (Ok report)) → WhereTold filed.lists filed_later.lists (ToldBy report a) → Steps line now w result held (desk old filed) (desk new filed_later) bytes bytes
+    tells_report result report a reply begins nowhere told = by (history_of w) refl
       where
-        by : (o : Option statements.Database) → w.store ≡ o → Steps line now w result held (desk old filed) (desk new filed_later) bytes bytes
+        by : (o : Option History) → history_of w ≡ o → Steps line now w result held (desk old filed) (desk new filed_later) bytes bytes
         by None none = without_store result report a reply begins none (nowhere none) filed.lists filed_later.lists refl refl told
-        by (Some ws) some = tells_so result report a reply begins (λ none. let no : Some ws ≡ None = sym some ∙ none in absurd cc) told
+        by (Some h) some = tells_so result report a reply begins (λ none. let no : Some h ≡ None = sym some ∙ none in absurd cc) told
 
     -- a refusal
     tells_refusal : (result : Result Answered LineFail) (fail : AnalyseFail) → Replies (refusal (refusal_text fail)) result → MayTell w line (shown (Err fail) [])
@@ -202,7 +201,7 @@ module _ (algorithm : LineAlgorithm) (now : ℕ) (old new : State) (same : Uncha
         (told_map filed.lists filed_later.lists _ _ told (λ lists later is beside. (found_in lists beside (Err fail) is, tt)))
 
     -- by what it came to
-    came : (result : Result Answered LineFail) (answer : Result Report AnalyseFail) → IsReported answer result → CameAt answer w.id bytes → IfErr answer (IsOfAnalysis (algorithm_of algorithm)) → (w.store ≡ None → ReportsNone (algorithm_of algorithm) w.id answer)
+    came : (result : Result Answered LineFail) (answer : Result Report AnalyseFail) → IsReported answer result → CameAt answer w.id bytes → IfErr answer (IsOfAnalysis (algorithm_of algorithm)) → (history_of w ≡ None → ReportsNone (algorithm_of algorithm) w.id answer)
         → Steps line now w result held (desk old filed) (desk new filed_later) bytes bytes
     came result (Ok report) reply (a, found, is) only nowhere = tells_report result report a reply is.begins nowhere (told_both filed.lists filed_later.lists _ _ found is.text)
     came result (Err (fails.SealMissing name)) reply is only nowhere = tells_refusal result (fails.SealMissing name) reply (only, λ none. nowhere none) is

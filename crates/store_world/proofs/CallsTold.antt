@@ -12,13 +12,14 @@ use Rattle.disk_model.specs.Moments.{calls_of, MakesCalls}
 use Rattle.tuple_bytes.specs.declared.item.Item.{Item}
 use Rattle.tuple_bytes.specs.declared.item.Item.TheVariants as items
 use Rattle.tuple_bytes.specs.Spelling.{spell_item, spell_txn}
-use Rattle.txn_journal.specs.Append.{append_calls, addition}
-use Rattle.txn_journal.specs.Held.{standing}
+use Rattle.segment_file.specs.Append.{append_calls}
+use Rattle.segment_file.specs.Writes.{segment_writes}
 use Rattle.notary_link.specs.declared.fail.NotaryFail.TheVariants as notary_fails
 use Rattle.notary_link.specs.Notary as notaries
 use Rattle.notary_link.specs.Notary.{Call, Entry}
 use Rattle.notary_link.specs.Runs as runs
 use Rattle.store_engine.specs.Opened.{Opened}
+use Rattle.store_engine.specs.Appended.{standing}
 use Rattle.stmt_text.specs.declared.line.Line.{Line}
 use Rattle.statement_core.specs.declared.reply.Reply.{Reply}
 use Rattle.statement_core.specs.declared.reply.Reply.TheVariants as replies
@@ -31,7 +32,7 @@ use Rattle.statement_core.specs.Promises.{KeepsPromise, IsPromised}
 use Rattle.session_model.specs.Service as sessions
 use Rattle.session_model.specs.Service.{Session}
 use Rattle.session_model.specs.Steps as session_steps
-use Rattle.session_model.specs.Standing.{Machine, of_store, StepsIn}
+use Rattle.session_model.specs.Standing.{Machine, of_store, StepsIn, serving}
 use Rattle.validator.specs.Desk.{Desk, desk}
 use Rattle.validator.specs.declared.fail.AuditFail.{AuditFail}
 use Rattle.validator.specs.declared.fail.AuditFail.TheVariants as audits
@@ -92,8 +93,9 @@ module _ (w : statements.Database) (s : Opened) (before : List ℕ) (i : stateme
   -- the store stands where a journal over these bytes does
   same_calls : (payload : List ℕ) → append_calls s.at payload ≡ append_calls (standing w.end before) payload
   same_calls payload =
-      ap (λ (gate : Bool). calls_of (addition gate s.at.end payload)) i.open_on.gate
-      ∙ ap (λ (end : ℕ). calls_of (addition (slice_index before end == open_gate) end payload)) i.end
+      ap (λ (gate : Bool). calls_of (segment_writes gate s.at.length s.at.end payload)) i.open_on.gate
+      ∙ ap (λ (long : ℕ). calls_of (segment_writes (slice_index before s.at.end == open_gate) long s.at.end payload)) (sym i.open_on.length_is)
+      ∙ ap (λ (end : ℕ). calls_of (segment_writes (slice_index before end == open_gate) (length before) end payload)) i.end
 
   one_item : (item : Item) → append_calls s.at (spell_item item) ≡ appends (standing w.end before) (item ∷ [])
   one_item item = same_calls (spell_item item) ∙ sym (append-nil (append_calls (standing w.end before) (spell_item item)))
@@ -137,7 +139,7 @@ module _ (w : statements.Database) (s : Opened) (before : List ℕ) (i : stateme
     wanted (inr same) = untouched made_calls old new same
 
     -- the calls of the disk, by what the statement came to
-    pub statement_calls : (r : Result Reply StepFail) (result : Result Answered LineFail) → IsReplied r result → KeepsPromise w here → StepsIn from next r m later_m s later old new before after → MakesOfDisk made_calls result old new
+    pub statement_calls : (r : Result Reply StepFail) (result : Result Answered LineFail) → IsReplied r result → KeepsPromise w here → StepsIn from next r (serving m s) (serving later_m later) old new before after → MakesOfDisk made_calls result old new
     statement_calls (Ok reply) result answer promised told = told_calls reply result answer (subst (λ (x : Reply). IsPromised w x next.world.store) (sym told.reply) promised) told.trace
     statement_calls (Err steps.DiskFault) result answer promised told = subst (λ (x : Result Answered LineFail). MakesOfDisk made_calls x old new) (sym answer)
         (inr (subst (λ (cs : List disks.Call). MakesCalls cs (Err disk_fails.Failed) old new) (txn_calls (Err steps.DiskFault) told.trace) told.trace.makes))

@@ -1,8 +1,10 @@
 -- A line that leaves the store and its disk as they were.
-use Rattle.std.proofs.Common.{◌≡◌, ℕ, List, Option, Some, None, Result, Ok, Err, OnOk, IfOk, inl, sym, subst, ◌∙◌}
+use Rattle.std.proofs.Common.{◌≡◌, ℕ, List, Option, Some, None, Result, Ok, Err, OnOk, IfOk, inl, refl, sym, ap, subst, ◌∙◌}
+use Rattle.std.specs.Option.{is_some}
 use Rattle.disk_words.specs.Disk.{State, turn, Only, Unchanged}
 use Rattle.disk_model.specs.Moments.{EveryImage}
 use Rattle.disk_model.proofs.Moments.{started, stays}
+use Rattle.history_model.specs.History.{History}
 use Rattle.notary_link.specs.Notary.{Lists, Keeps}
 use Rattle.store_engine.specs.Opened.{Stores}
 use Rattle.statement_core.specs.Database as statements
@@ -14,7 +16,7 @@ use Rattle.validator.specs.Desk.{Desk}
 use Rattle.validator.proofs.Telling.{told_by}
 use Rattle.store_world.specs.declared.answered.Answered.{Answered}
 use Rattle.store_world.specs.declared.fail.LineFail.{LineFail}
-use Rattle.store_world.specs.World.{World, StoresOf, StoresWorld, StoresEither}
+use Rattle.store_world.specs.World.{World, old_under, StoresOf, StoresWorld, StoresEither}
 use Rattle.store_world.specs.Standing.{OpenWorld, IsIn, StoreIsIn}
 use Rattle.store_world.specs.Lists.{IsBeside, AreBetween, ListsGo, WhereBeside}
 use Rattle.store_world.specs.Steps.{Step}
@@ -25,14 +27,27 @@ pub given : {P : Type 0} (result : Result Answered LineFail) → P → OnOk resu
 given (Ok answered) p = p
 given (Err fail) p = tt
 
-pub stores_of : (id : ℕ) (o : Option statements.Database) (begun : ℕ → Option Session) (s : Option OpenStore) (bytes : List ℕ) → StoreIsIn id o begun s bytes → StoresOf id o bytes
-stores_of id (Some w) begun (Some s) bytes i = subst (λ h. Stores h w.items bytes) i.0.store.header i.0.store.open_on.stores
-stores_of id None begun None bytes i = i.0
-stores_of id (Some w) begun None bytes i = absurd i
-stores_of id None begun (Some s) bytes i = absurd i
+pub stores_of : (id : ℕ) (o : Option statements.Database) (old : Option History) (begun : ℕ → Option Session) (s : Option OpenStore) (bytes : List ℕ) → old ≡ old_under id bytes → StoreIsIn id o begun s bytes → StoresOf id o old bytes
+stores_of id (Some w) old begun (Some s) bytes is i = subst (λ h. Stores h w.items bytes) i.0.store.header i.0.store.open_on.stores
+stores_of id None old begun None bytes is i = (i.0, is)
+stores_of id (Some w) old begun None bytes is i = absurd i
+stores_of id None old begun (Some s) bytes is i = absurd i
+
+-- all but the lists is the same
+pub record StaysSame (w next : World) : Type 0 where
+  pub id : next.id ≡ w.id
+  pub store : next.store ≡ w.store
+  pub old : next.old_history ≡ w.old_history
+  pub sessions : next.sessions ≡ w.sessions
+
+pub stays_same : (w : World) → StaysSame w w
+stays_same w = record { id = refl; store = refl; old = refl; sessions = refl }
+
+pub same_world : (w next : World) → next ≡ w → StaysSame w next
+same_world w next is = subst (StaysSame w) (sym is) (stays_same w)
 
 pub stores_world : (w : World) (held : OpenWorld) (bytes : List ℕ) → IsIn w held bytes → StoresWorld w bytes
-stores_world w held bytes i = stores_of w.id w.store w.sessions held.opened bytes i.store
+stores_world w held bytes i = stores_of w.id w.store w.old_history w.sessions held.opened bytes i.old i.store
 
 module _ (w : World) (held : OpenWorld) (old new : State) (bytes : List ℕ) (i : IsIn w held bytes)
     (same : Unchanged old new) (only_now : (c : List ℕ) → old.was_image (turn old) c → old.is_image c) where
@@ -41,41 +56,43 @@ module _ (w : World) (held : OpenWorld) (old new : State) (bytes : List ℕ) (i 
       (started old (StoresEither w next) only_now (λ c now. inl (subst (λ b. StoresWorld w b) (sym (only c now)) (stores_world w held bytes i)))) same
 
   -- the bytes store what they stored
-  still_stores : (next : World) → next.id ≡ w.id → next.store ≡ w.store → StoresWorld next bytes
-  still_stores next id_stays store = subst (λ (o : Option statements.Database). StoresOf next.id o bytes) (sym store)
-      (subst (λ (n : ℕ). StoresOf n w.store bytes) (sym id_stays) (stores_world w held bytes i))
+  still_stores : (next : World) → StaysSame w next → StoresWorld next bytes
+  still_stores next stays = subst (λ (o : Option History). StoresOf next.id next.store o bytes) (sym stays.old)
+      (subst (λ (o : Option statements.Database). StoresOf next.id o w.old_history bytes) (sym stays.store)
+      (subst (λ (n : ℕ). StoresOf n w.store w.old_history bytes) (sym stays.id) (stores_world w held bytes i)))
 
-  pub left : (next : Step) (result : Result Answered LineFail) → next.world.id ≡ w.id → next.world.store ≡ w.store → next.world.sessions ≡ w.sessions
-      → IfOk result (IsReply next) → Goes w next result held old new bytes bytes
-  left next (Ok answered) id_stays store begun reply = record {
+  pub left : (next : Step) (result : Result Answered LineFail) → StaysSame w next.world → IfOk result (IsReply next) → Goes w next result held old new bytes bytes
+  left next (Ok answered) stays reply = record {
     reply = reply;
     stands = record {
-      id = i.id ∙ sym id_stays;
-      store = subst (λ (f : ℕ → Option Session). StoreIsIn next.world.id next.world.store f held.opened bytes) (sym begun)
-          (subst (λ (o : Option statements.Database). StoreIsIn next.world.id o w.sessions held.opened bytes) (sym store)
-          (subst (λ (n : ℕ). StoreIsIn n w.store w.sessions held.opened bytes) (sym id_stays) i.store));
+      id = i.id ∙ sym stays.id;
+      store = subst (λ (f : ℕ → Option Session). StoreIsIn next.world.id next.world.store f held.opened bytes) (sym stays.sessions)
+          (subst (λ (o : Option statements.Database). StoreIsIn next.world.id o w.sessions held.opened bytes) (sym stays.store)
+          (subst (λ (n : ℕ). StoreIsIn n w.store w.sessions held.opened bytes) (sym stays.id) i.store));
+      old = stays.old ∙ i.old ∙ ap (λ (n : ℕ). old_under n bytes) (sym stays.id);
+      is_old = i.is_old ∙ ap (λ (o : Option History). is_some o) (sym stays.old);
     };
     settled = λ only c now. only c ((same.images c).0 now);
     images = same_images next.world;
     kept = λ only. inl (stores_world w held bytes i);
-    same = λ stays. same.trace;
+    same = λ same_store. same.trace;
   }
-  left next (Err fail) id_stays store begun reply = record {
+  left next (Err fail) stays reply = record {
     reply = tt;
     stands = tt;
     settled = λ only. tt;
     images = same_images next.world;
     kept = λ only. inl (stores_world w held bytes i);
-    same = λ stays. tt;
+    same = λ same_store. tt;
   }
 
   -- the lists may have changed
-  pub files_left : (next : World) (Done : Type 0) (later : Lists) → next.id ≡ w.id → next.store ≡ w.store → (Done → Keeps next.lists later) → AreBetween w.lists next.lists later
+  pub files_left : (next : World) (Done : Type 0) (later : Lists) → StaysSame w next → (Done → Keeps next.lists later) → AreBetween w.lists next.lists later
       → ListsGo w next Done old new bytes bytes later
-  files_left next Done later id_stays store keeps between = record {
+  files_left next Done later stays_so keeps between = record {
     keeps = keeps;
     between = between;
-    ordered = λ id more only. (λ c now. only c ((same.images c).0 now), still_stores next id_stays store);
+    ordered = λ id more only. (λ c now. only c ((same.images c).0 now), still_stores next stays_so);
   }
 
 -- the lists stand, and no step adds to them

@@ -12,7 +12,8 @@ use Rattle.tuple_bytes.specs.declared.header.Header.{Header}
 use Rattle.tuple_bytes.specs.declared.item.Item.{Item}
 use Rattle.tuple_bytes.specs.declared.item.Item.TheVariants as items
 use Rattle.tuple_bytes.specs.Spelling.{spell_frontier}
-use Rattle.history_model.specs.History.{txns}
+use Rattle.history_model.specs.History.{txns, history}
+use Rattle.history_model.specs.Placing.{gate_behind}
 use Rattle.notary_link.specs.declared.notary.NotaryLimits.{NotaryLimits}
 use Rattle.notary_link.specs.Batches.{Batch}
 use Rattle.notary_link.specs.Filing.{fitting, room_in, FilesAll}
@@ -30,7 +31,6 @@ use Rattle.validator.specs.Desk.{desk}
 use Rattle.validator.specs.declared.fail.AuditFail.{AuditFail}
 use Rattle.validator.specs.declared.fail.AuditFail.TheVariants as fails
 use Rattle.validator.specs.Texts.{refusal_text}
-use Rattle.history_model.specs.History.{history}
 use Rattle.validator.specs.Notarizing.{Heard, heard_of, Intent, early_fault, IsEarly, IsRefusedBy}
 use Rattle.validator.specs.Filing.{FilesFor, HasFiledMore, TellsCount, Files as AuditFiles}
 use Rattle.validator.proofs.Telling.{told_here}
@@ -57,10 +57,10 @@ use Rattle.store_world.proofs.LineKinds.{heard_so, notarize_step}
 use Rattle.store_world.proofs.LineItems.{carried_world}
 use Rattle.store_world.proofs.Intents.{does_in, early_in}
 use Rattle.store_world.proofs.Faults.{ends_anyhow, ends_timely}
-use Rattle.store_world.proofs.Left.{given, left, files_still, beside_by}
+use Rattle.store_world.proofs.Left.{given, stays_same, left, files_still, beside_by}
 use Rattle.store_world.proofs.NotaryCalls.{notarization_makes}
 use Rattle.store_world.proofs.Sessions.{stands_still}
-use Rattle.store_world.proofs.Tables.{HasStore, has_store, never_longer, items_stay}
+use Rattle.store_world.proofs.Tables.{HasStore, has_store, none_old, never_longer, items_stay}
 use Rattle.store_world.proofs.Validating.{replies_as}
 
 -- after a failure it is no matter where the store stands
@@ -179,7 +179,7 @@ module _ (now : ℕ) (s later_s : Opened) (old new : State) (before after : List
 
     stay : (result : Result Answered LineFail) → IfOk result (λ answered. answered ≡ refusal (refusal_text fail)) → Goes w next result (alone kept_sessions s) old new before after
     stay result reply = subst (λ (a : List ℕ). Goes w next result (alone kept_sessions s) old new before a) (sym (reads same))
-        (left w (alone kept_sessions s) old new before i same only_now next result refl refl refl (replies_as next (refusal (refusal_text fail)) result refl refl reply))
+        (left w (alone kept_sessions s) old new before i same only_now next result (stays_same w) (replies_as next (refusal (refusal_text fail)) result refl refl reply))
 
     faulty : (result : Result Answered LineFail) → OnOk result ⊥ → To next result
     faulty (Ok answered) never = absurd never
@@ -213,10 +213,10 @@ module _ (now : ℕ) (s later_s : Opened) (old new : State) (before after : List
   abbrev Around : List ℕ → Type 0
   Around c = StoresAround s.header ws.items need c
 
-  of_ws : (c : List ℕ) → Stores s.header ws.items c → StoresOf w.id w.store c
-  of_ws c stores = subst (λ (o : Option statements.Database). StoresOf w.id o c) (sym has.is) (subst (λ (h : Header). Stores h ws.items c) has.stands.header stores)
+  of_ws : (c : List ℕ) → Stores s.header ws.items c → StoresOf w.id w.store w.old_history c
+  of_ws c stores = subst (λ (o : Option statements.Database). StoresOf w.id o w.old_history c) (sym has.is) (subst (λ (h : Header). Stores h ws.items c) has.stands.header stores)
 
-  pub either_of : (o : Option ℕ) (c : List ℕ) → StoresAround s.header ws.items o c → StoresOf w.id w.store c ⊎ StoresOf w.id (Some (reached o ws)) c
+  pub either_of : (o : Option ℕ) (c : List ℕ) → StoresAround s.header ws.items o c → StoresOf w.id w.store w.old_history c ⊎ StoresOf w.id (Some (reached o ws)) w.old_history c
   either_of None c stores = inl (of_ws c stores)
   either_of (Some moment) c (inl stores) = inl (of_ws c stores)
   either_of (Some moment) c (inr stores) = inr (subst (λ (h : Header). Stores h (reached (Some moment) ws).items c) has.stands.header stores)
@@ -229,13 +229,13 @@ module _ (now : ℕ) (s later_s : Opened) (old new : State) (before after : List
   stands_in (Some moment) r = (
     stands_with (Some moment) (txns_no_more ws.items moment) (record {
       header = header ∙ has.stands.header;
-      end = ap (λ (x : Opened). x.at.end) r.store_is ∙ ap (λ (e : ℕ). e + 5 + length (spell_frontier moment)) has.stands.end;
+      end = ap (λ (x : Opened). x.at.end) r.store_is ∙ ap (λ (e : ℕ). gate_behind e (length (spell_frontier moment))) has.stands.end;
       open_on = r.open_on;
     }),
     has.own,
   )
 
-  reached_stores : (o : Option ℕ) → IsReached o s later_s ws.items old new before after → StoresOf w.id (Some (reached o ws)) after
+  reached_stores : (o : Option ℕ) → IsReached o s later_s ws.items old new before after → StoresOf w.id (Some (reached o ws)) w.old_history after
   reached_stores None r = subst (λ (h : Header). Stores h ws.items after) (header ∙ has.stands.header) r.open_on.stores
   reached_stores (Some moment) r = subst (λ (h : Header). Stores h (reached (Some moment) ws).items after) (header ∙ has.stands.header) r.open_on.stores
 
@@ -257,7 +257,12 @@ module _ (now : ℕ) (s later_s : Opened) (old new : State) (before after : List
         → To (record { world = new_world; text = text; is_refused = is_refused }) result
     go text is_refused (Ok answered) done reply = record {
       reply = record { text = ap (λ (x : Answered). x.text) reply; refused = ap (λ (x : Answered). x.refused) reply };
-      stands = record { id = ap (λ (h : Header). h.id) header ∙ i.id; store = stands_in need done.0 };
+      stands = record {
+        id = ap (λ (h : Header). h.id) header ∙ i.id;
+        store = stands_in need done.0;
+        old = has.none_old ∙ sym (none_old w.id after done.0.open_on.stores.format);
+        is_old = i.is_old;
+      };
       settled = done.0.settled;
       images = λ only. weaker (images only) (either_of need);
       kept = λ only. either_of need after (kept only);

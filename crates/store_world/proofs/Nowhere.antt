@@ -1,5 +1,6 @@
 -- A line where there is no store.
-use Rattle.std.proofs.Common.{◌≡◌, ◌≢◌, ℕ, List, [], codes, Option, Some, None, Result, IfOk, IfErr, IfSome, IsOk, refl, sym, ap, subst, ◌∙◌}
+use Rattle.std.proofs.Common.{◌≡◌, ◌≢◌, ℕ, Bool, List, [], Option, Some, None, Result, IfOk, IfErr, IfSome, IsOk, refl, sym, ap, subst, ◌∙◌}
+use Rattle.std.specs.Option.{is_some}
 use Rattle.outside_words.proofs.Told.{told_same}
 use Rattle.disk_words.specs.Disk.{State, turn}
 use Rattle.notary_link.specs.Notary as notaries
@@ -8,6 +9,7 @@ use Rattle.stmt_text.specs.declared.stmt.Stmt.TheVariants as stmts
 use Rattle.stmt_text.specs.declared.line.Line.{Line}
 use Rattle.stmt_text.specs.declared.line.Line.TheVariants as lines
 use Rattle.stmt_text.specs.Kinds.{line_kind}
+use Rattle.session_model.specs.Standing.{IsStatementLine}
 use Rattle.statement_core.specs.Database as statements
 use Rattle.statement_core.proofs.Untouched.{unchanged_same}
 use Rattle.validator.specs.Desk.{desk}
@@ -22,18 +24,18 @@ use Rattle.store_world.specs.Finding.{MayTell, MayFile, MayFind}
 use Rattle.store_world.specs.Faults.{early_of}
 use Rattle.store_world.specs.Parts.{no_store}
 use Rattle.store_world.specs.ByBytes.{NeedsStore}
-use Rattle.store_world.specs.Steps.{Step, step, has_no_store, on_tables, notarized}
+use Rattle.store_world.specs.Steps.{Step, step, why_none, has_no_store, on_tables, notarized}
 use Rattle.store_world.specs.LineCalls.{notary_calls}
 use Rattle.store_world.specs.CallsMade.{MakesLineCalls}
 use Rattle.store_world.specs.Stepping.{Goes, StepsFor}
 use Rattle.store_world.proofs.CallsTold.{calls_none}
 use Rattle.store_world.proofs.Faults.{ends_wanting, ends_wanting_early}
 use Rattle.store_world.proofs.LineKinds.{none_found, GoesToTables, goes_to_tables, notarize_step, notarize_none}
-use Rattle.store_world.proofs.Left.{given, left, files_still, beside_by, beside_same}
+use Rattle.store_world.proofs.Left.{given, stays_same, left, files_still, beside_by, beside_same}
 use Rattle.store_world.proofs.Validating.{replies_as}
 
-has_none : (w : World) (id : ℕ) (bytes : List ℕ) → IsIn w (no_store id) bytes → w.store ≡ None
-has_none w id bytes i = by w.store refl i.store
+has_none : (w : World) (id : ℕ) (is_old : Bool) (bytes : List ℕ) → IsIn w (no_store id is_old) bytes → w.store ≡ None
+has_none w id is_old bytes i = by w.store refl i.store
   where
     by : (o : Option statements.Database) → w.store ≡ o → StoreIsIn w.id o w.sessions None bytes → w.store ≡ None
     by None is none = is
@@ -76,19 +78,36 @@ module _ (w : World) (now : ℕ) (none : w.store ≡ None) where
   refuses (lines.InSession session stmt) needs = on_no_tables (lines.InSession session stmt) (goes_to_tables (lines.InSession session stmt) tt)
   refuses (lines.Drill event) needs = absurd needs
 
-pub nowhere : (line : Line) → NeedsStore line → (id now : ℕ) (old : State) → ((c : List ℕ) → old.was_image (turn old) c → old.is_image c) → (filed : notaries.State) (result : Result Answered LineFail)
-    → IfOk result (λ answered. answered ≡ refusal (codes "NotAStore")) → IfErr result (λ fail. fail ≡ fails.NoMemory) → StepsFor line now result (no_store id) (no_store id) (desk old filed) (desk old filed)
-nowhere line needs id now old only_now filed result reply only_memory =
+stmt_needs : (stmt : Stmt) → IsStatementLine (lines.Plain stmt) → NeedsStore (lines.Plain stmt)
+stmt_needs stmts.Notarize on = absurd on
+stmt_needs stmts.Validate on = absurd on
+stmt_needs (stmts.Analyse algorithm) on = absurd on
+stmt_needs stmts.Begin on = absurd on
+stmt_needs stmts.Commit on = absurd on
+stmt_needs stmts.Abort on = absurd on
+stmt_needs (stmts.Now moment) on = absurd on
+stmt_needs stmt on = tt
+
+pub statement_needs : (line : Line) → IsStatementLine line → NeedsStore line
+statement_needs (lines.Plain stmt) on = stmt_needs stmt on
+statement_needs lines.Blank on = absurd on
+statement_needs (lines.InSession session stmt) on = tt
+statement_needs (lines.Drill event) on = absurd on
+
+pub nowhere : (line : Line) → NeedsStore line → (id : ℕ) (is_old : Bool) (now : ℕ) (old : State) → ((c : List ℕ) → old.was_image (turn old) c → old.is_image c) → (filed : notaries.State) (result : Result Answered LineFail)
+    → IfOk result (λ answered. answered ≡ refusal (why_none is_old)) → IfErr result (λ fail. fail ≡ fails.NoMemory) → StepsFor line now result (no_store id is_old) (no_store id is_old) (desk old filed) (desk old filed)
+nowhere line needs id is_old now old only_now filed result reply only_memory =
     told_same old.reads old.reads _ refl
     (λ bytes w i.
-    let r = refuses w now (has_none w id bytes i) line needs in
+    let r = refuses w now (has_none w id is_old bytes i) line needs in
     record {
       found = none_found;
       may = given result r.tells;
       turn = given result tt;
-      goes = subst (λ (x : Step). Goes w x result (no_store id) old old bytes bytes) (sym r.step_is)
-          (left w (no_store id) old old bytes i (unchanged_same old) only_now (has_no_store w) result refl refl refl
-          (replies_as (has_no_store w) (refusal (codes "NotAStore")) result refl refl reply));
+      goes = subst (λ (x : Step). Goes w x result (no_store id is_old) old old bytes bytes) (sym r.step_is)
+          (left w (no_store id is_old) old old bytes i (unchanged_same old) only_now (has_no_store w) result (stays_same w)
+          (replies_as (has_no_store w) (refusal (why_none (is_some w.old_history))) result refl refl
+          (subst (λ (b : Bool). IfOk result (λ answered. answered ≡ refusal (why_none b))) i.is_old reply)));
       only = ends_wanting ((step w line now none_found).world.store ≢ w.store) (line_kind line) result only_memory;
       timely = ends_wanting_early (early_of w line now) result only_memory;
       finds = beside_by w (desk old filed) (desk old filed) _ (λ lists later was is beside. r.may);

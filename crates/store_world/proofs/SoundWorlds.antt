@@ -34,9 +34,9 @@ use Rattle.forensic_report.specs.declared.fail.AnalyseFail.{AnalyseFail}
 use Rattle.forensic_report.specs.Analysis.{Analysis, Unsealed}
 use Rattle.forensic_report.specs.Finding.{IsAnalysisIn, IsSoundAnalysis}
 use Rattle.forensic_report.proofs.Sound.{sound_in}
-use Rattle.store_world.specs.World.{World, with_store}
+use Rattle.store_world.specs.World.{World, with_store, history_or, history_of}
 use Rattle.store_world.specs.Found.{Found}
-use Rattle.store_world.specs.Steps.{Step, step, filed, filed_for, reached, carried_out, intent_in, unless, notarized, marked, validated, analysed, algorithm_of, on_tables, history_of}
+use Rattle.store_world.specs.Steps.{Step, step, filed, filed_for, reached, carried_out, intent_in, unless, notarized, marked, validated, analysed, algorithm_of, on_tables}
 use Rattle.store_world.specs.Finding.{MayFile, MayFind}
 use Rattle.store_world.specs.Laws.{HoldsFiled, IsSoundWorld, HasFitHeader, IsSoundVerdict, TellsNoAlteration, SoundWorldsStaySound}
 use Rattle.store_world.proofs.Adding.{Adds, step_adds}
@@ -54,7 +54,7 @@ module _ (w : World) (fits : HasFitHeader w) (sound : IsSoundWorld w) where
     fit = subst (λ (o : Option statements.Database). IfSome o (λ store. FitsHeader store.header × (store.header.id ≡ w.id))) is fits
 
     holds : HoldsFiled (filed_for w) w.id (Some (history ws.header ws.items))
-    holds = subst (λ (o : Option statements.Database). HoldsFiled (filed_for w) w.id (history_of o)) is sound
+    holds = subst (λ (o : Option statements.Database). HoldsFiled (filed_for w) w.id (history_or o w.old_history)) is sound
 
     with_added : (new : statements.Database) → Adds ws new → IsSoundAndFit (with_store w new)
     with_added new (inl same) = subst (λ (x : statements.Database). IsSoundAndFit (with_store w x)) (sym same) (holds, fit)
@@ -75,8 +75,8 @@ module _ (w : World) (fits : HasFitHeader w) (sound : IsSoundWorld w) where
 
   -- ---- a notarization
 
-  not_refused : IfSome (history_of w.store) (λ held. filed_fault (filed_for w) held ≡ None)
-  not_refused = by (history_of w.store) sound
+  not_refused : IfSome (history_of w) (λ held. filed_fault (filed_for w) held ≡ None)
+  not_refused = by (history_of w) sound
     where
       by : (o : Option History) → HoldsFiled (filed_for w) w.id o → IfSome o (λ held. filed_fault (filed_for w) held ≡ None)
       by None held = tt
@@ -113,7 +113,7 @@ module _ (w : World) (fits : HasFitHeader w) (sound : IsSoundWorld w) where
         by_back false back = by_late (is_late t now) refl back
         by_back true back = let fault = rw back at free in absurd cc
 
-    reached_is : (o : Option ℕ) → history_of (Some (reached o ws)) ≡ Some (history ws.header (with_frontier_for o ws.items))
+    reached_is : (o : Option ℕ) → history_or (Some (reached o ws)) w.old_history ≡ Some (history ws.header (with_frontier_for o ws.items))
     reached_is None = refl
     reached_is (Some moment) = refl
 
@@ -158,7 +158,7 @@ module _ (w : World) (fits : HasFitHeader w) (sound : IsSoundWorld w) where
 
     new_sound : is_late t now ≡ false → IsSoundAndFit new_world
     new_sound early = (
-      subst (λ (bs : List Batch). HoldsFiled bs w.id (history_of (Some (reached need ws)))) (sym filed_is)
+      subst (λ (bs : List Batch). HoldsFiled bs w.id (history_or (Some (reached need ws)) w.old_history)) (sym filed_is)
           (subst (λ (o : Option History). HoldsFiled later w.id o) (sym (reached_is need)) (more early)),
       reached_fit need,
     )
@@ -222,10 +222,10 @@ module _ (w : World) (fits : HasFitHeader w) (sound : IsSoundWorld w) where
     of_stmt : (stmt : Stmt) → Stays (lines.Plain stmt)
     unfolding step
     of_stmt stmts.Notarize may = let both = of_notarization now found.heard found.refusal (filed_heard w.store found now may) in (both.0, both.1, not_refused)
-    of_stmt stmts.Validate may = let both = of_validation now found.verdict found.refusal in (both.0, both.1, clean_by (history_of w.store) (filed_for w) found.verdict sound may.0)
+    of_stmt stmts.Validate may = let both = of_validation now found.verdict found.refusal in (both.0, both.1, clean_by (history_of w) (filed_for w) found.verdict sound may.0)
     of_stmt (stmts.Analyse algorithm) may =
         let both = of_analysis (algorithm_of algorithm) found.analysis found.body in
-        (both.0, both.1, none_by (algorithm_of algorithm) (history_of w.store) (filed_for w) found.analysis sound may.0)
+        (both.0, both.1, none_by (algorithm_of algorithm) (history_of w) (filed_for w) found.analysis sound may.0)
     of_stmt stmt may = beside (of_tables (lines.Plain stmt) now)
 
     of_line : (line : Line) → Stays line

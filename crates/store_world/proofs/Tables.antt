@@ -5,8 +5,13 @@ use Rattle.outside_words.proofs.Told.{told_map, told_same}
 use Rattle.disk_words.specs.Disk as disks
 use Rattle.disk_model.proofs.Moments.{weaker}
 use Rattle.tuple_bytes.specs.declared.header.Header.{Header}
+use Rattle.history_model.specs.declared.format.Format.{Format}
+use Rattle.history_model.specs.declared.format.Format.TheVariants.{Two}
+use Rattle.history_model.specs.Stored.{stored, format_of}
 use Rattle.notary_link.specs.Notary as notaries
+use Rattle.audit_model.specs.Altered.{history_with}
 use Rattle.store_engine.specs.Opened.{Opened}
+use Rattle.store_engine.specs.Appended.{standing}
 use Rattle.stmt_text.specs.declared.line.Line.{Line}
 use Rattle.stmt_text.specs.Kinds.{line_kind}
 use Rattle.statement_core.specs.declared.reply.Reply.{Reply}
@@ -17,21 +22,20 @@ use Rattle.statement_core.specs.Database as statements
 use Rattle.statement_core.specs.Steps as statement_steps
 use Rattle.statement_core.specs.Stepping.{MakesFor}
 use Rattle.statement_core.specs.Promises as statement_promises
-use Rattle.txn_journal.specs.Held as journals
 use Rattle.session_model.specs.Service as sessions
 use Rattle.session_model.specs.Steps as session_steps
 use Rattle.session_model.specs.Steps.{Answer, Replied, Stopped, reply_of}
 use Rattle.session_model.specs.Promises as promises
 use Rattle.session_model.proofs.Promising.{steps_keep_promises}
-use Rattle.session_model.specs.Standing.{Machine, IsStatementLine, StepsIn, StepsTo, of_store}
-use Rattle.session_model.specs.Standing as standing
+use Rattle.session_model.specs.Standing.{Machine, IsStatementLine, StepsIn, StepsTo, of_store, serving}
+use Rattle.session_model.specs.Standing as machines
 use Rattle.statement_core.specs.declared.reply.Reply.TheVariants as replies
 use Rattle.tuple_bytes.specs.declared.item.Item.{Item}
 use Rattle.tuple_bytes.specs.declared.item.Item.TheVariants as items
 use Rattle.validator.specs.Desk.{desk}
 use Rattle.store_world.specs.declared.answered.Answered.{Answered}
 use Rattle.store_world.specs.declared.fail.LineFail.{LineFail}
-use Rattle.store_world.specs.World.{World, StoresOf, StoresEither}
+use Rattle.store_world.specs.World.{World, old_in, old_under, StoresOf, StoresEither}
 use Rattle.store_world.specs.Standing.{IsIn, StoreIsIn}
 use Rattle.store_world.specs.declared.fail.LineFail.TheVariants as fails
 use Rattle.store_world.specs.Answers.{replied, fault_of, IsReplied}
@@ -51,15 +55,20 @@ use Rattle.store_world.proofs.LineKinds.{none_found, goes_to_tables}
 pub record HasStore (w : World) (kept : Machine) (s : Opened) (bytes : List ℕ) : Type 0 where
   pub world : statements.Database
   pub is : w.store ≡ Some world
-  pub with_sessions : standing.IsIn (record { store = world; sessions = w.sessions }) kept s bytes
+  pub with_sessions : machines.IsIn (record { store = world; sessions = w.sessions }) kept s bytes
   pub stands : statements.IsIn world s bytes
   pub own : world.header.id ≡ w.id
+  pub none_old : w.old_history ≡ None
+
+-- bytes in the second format hold nothing in the first
+pub none_old : (id : ℕ) (bytes : List ℕ) → format_of bytes ≡ Some Two → old_under id bytes ≡ None
+none_old id bytes new = ap (λ (o : Option Format). old_in o (history_with id (stored bytes))) new
 
 pub has_store : (w : World) (kept : Machine) (s : Opened) (bytes : List ℕ) → IsIn w (alone kept s) bytes → HasStore w kept s bytes
 has_store w kept s bytes i = by w.store refl i.store
   where
     by : (o : Option statements.Database) → w.store ≡ o → StoreIsIn w.id o w.sessions (Some (record { store = s; sessions = kept })) bytes → HasStore w kept s bytes
-    by (Some world) is stands = record { world = world; is = is; with_sessions = stands.0; stands = stands.0.store; own = stands.1 }
+    by (Some world) is stands = record { world = world; is = is; with_sessions = stands.0; stands = stands.0.store; own = stands.1; none_old = i.old ∙ none_old w.id bytes stands.0.store.open_on.stores.format }
     by None is stands = absurd stands
 
 pub answered_as : (refused : Bool) (text : List ℕ) (reply : Reply) → refused ≡ is_refusal reply → text ≡ reply_text reply → IsReplied (Ok reply) (Ok (record { refused = refused; text = text }))
@@ -98,16 +107,18 @@ module _ (kept later_kept : Machine) (s later : Opened) (header : later.header �
     own = record { store = has.world; sessions = w.sessions }
 
     either : (next : session_steps.Served) (c : List ℕ) → statements.StoresEither has.world next.world.store c → StoresEither w (after_statement w next).world c
-    either next c (inl stores) = inl (subst (λ (o : Option statements.Database). StoresOf w.id o c) (sym has.is) stores)
+    either next c (inl stores) = inl (subst (λ (o : Option statements.Database). StoresOf w.id o w.old_history c) (sym has.is) stores)
     either next c (inr stores) = inr stores
 
-    goes : (next : session_steps.Served) (r : Result Reply StepFail) (result : Result Answered LineFail) → StepsIn own next r kept later_kept s later old new b a → IsReplied r result
+    goes : (next : session_steps.Served) (r : Result Reply StepFail) (result : Result Answered LineFail) → StepsIn own next r (serving kept s) (serving later_kept later) old new b a → IsReplied r result
         → Goes w (after_statement w next) result (alone later_kept later) old new b a
     goes next (Ok reply) (Ok answered) steps is = record {
       reply = record { text = ap (λ (x : Answered). x.text) is ∙ ap (λ (x : Reply). (replied x).text) steps.reply; refused = ap (λ (x : Answered). x.refused) is ∙ ap (λ (x : Reply). (replied x).refused) steps.reply };
       stands = record {
         id = ap (λ (h : Header). h.id) header ∙ i.id;
         store = (steps.stands, ap (λ (h : Header). h.id) (sym steps.stands.store.header ∙ header) ∙ i.id);
+        old = has.none_old ∙ sym (none_old w.id a steps.stands.store.open_on.stores.format);
+        is_old = i.is_old;
       };
       settled = steps.settled;
       images = λ only. weaker (steps.images only) (either next);
@@ -125,7 +136,7 @@ module _ (kept later_kept : Machine) (s later : Opened) (header : later.header �
     goes next (Err fail) (Ok answered) steps is = absurd cc
 
     -- in a fault of the disk, only where it stores
-    only : (next : session_steps.Served) (r : Result Reply StepFail) (result : Result Answered LineFail) → StepsIn own next r kept later_kept s later old new b a → IsReplied r result → IfErr result (IsOfStoring (Some next.world.store ≢ w.store))
+    only : (next : session_steps.Served) (r : Result Reply StepFail) (result : Result Answered LineFail) → StepsIn own next r (serving kept s) (serving later_kept later) old new b a → IsReplied r result → IfErr result (IsOfStoring (Some next.world.store ≢ w.store))
     only next r (Ok answered) steps is = tt
     only next (Ok reply) (Err fails.NoMemory) steps is = tt
     only next (Ok reply) (Err fails.DiskFault) steps is = absurd is
@@ -136,16 +147,16 @@ module _ (kept later_kept : Machine) (s later : Opened) (header : later.header �
 
     -- the calls that store what it stores, and none of the notary
     makes : (line : Line) (now : ℕ) (found : Found) (next : session_steps.Served) (r : Result Reply StepFail) (result : Result Answered LineFail) (filed : notaries.State) → notary_calls w line now found ≡ [] → statement_promises.KeepsPromise has.world (of_store next)
-        → StepsIn own next r kept later_kept s later old new b a → IsReplied r result → MakesLineCalls w line now found (after_statement w next) result (desk old filed) (desk new filed) b
+        → StepsIn own next r (serving kept s) (serving later_kept later) old new b a → IsReplied r result → MakesLineCalls w line now found (after_statement w next) result (desk old filed) (desk new filed) b
     makes line now found next r result filed none promised steps is = record {
-      disk = subst (λ (o : Option statements.Database). MakesOfDisk (appends (journals.standing (end_of_store o) b) (items_added o (Some next.world.store))) result old new) (sym has.is)
+      disk = subst (λ (o : Option statements.Database). MakesOfDisk (appends (standing (end_of_store o) b) (items_added o (Some next.world.store))) result old new) (sym has.is)
           (statement_calls has.world s b has.stands w.sessions next kept later_kept later old new a r result is promised steps);
       notary = subst (λ (cs : List notaries.Call). WhereTold filed.trace filed.trace (MakesOfNotary cs result)) (sym none) (told_same filed.trace filed.trace _ refl (λ was. none_made result was was refl));
       order = told_same filed.trace filed.trace _ refl (λ was. inl refl);
     }
 
   module _ (line : Line) (now : ℕ) (on : IsStatementLine line) (r : Result Reply StepFail) (result : Result Answered LineFail) (answers : IsReplied r result) where
-    steps : (filed : notaries.State) (w : World) (b a : List ℕ) → IsIn w (alone kept s) b → StepsTo line now r kept later_kept s later old new b a → Steps line now w result (alone later_kept later) (desk old filed) (desk new filed) b a
+    steps : (filed : notaries.State) (w : World) (b a : List ℕ) → IsIn w (alone kept s) b → StepsTo line now r (serving kept s) (serving later_kept later) old new b a → Steps line now w result (alone later_kept later) (desk old filed) (desk new filed) b a
     steps filed w b a i does =
         let has = has_store w kept s b i in
         let goes_on = goes_to_tables line on in
@@ -166,5 +177,5 @@ module _ (kept later_kept : Machine) (s later : Opened) (header : later.header �
               (makes w b a i has line now none_found next r result filed (goes_on.calls w now none_found) (of_answer has.world next.world.store next.answer (steps_keep_promises before line now).store) done answers));
         }
 
-    pub beside : WhereTold old.reads new.reads (StepsTo line now r kept later_kept s later old new) → StepsBeside line now result (alone kept s) (alone later_kept later) old new
+    pub beside : WhereTold old.reads new.reads (StepsTo line now r (serving kept s) (serving later_kept later) old new) → StepsBeside line now result (alone kept s) (alone later_kept later) old new
     beside told filed = told_map old.reads new.reads _ _ told (λ b a does w i. steps filed w b a i does)

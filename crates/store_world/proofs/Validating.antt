@@ -10,7 +10,9 @@ use Rattle.tuple_bytes.specs.declared.header.Header.{Header}
 use Rattle.tuple_bytes.specs.declared.item.Item.{Item}
 use Rattle.history_model.specs.declared.stored.Stored.{Stored}
 use Rattle.history_model.specs.History.{History, history}
-use Rattle.history_model.specs.Stored.{stored}
+use Rattle.history_model.specs.declared.format.Format.{Format}
+use Rattle.history_model.specs.declared.format.Format.TheVariants.{One, Two}
+use Rattle.history_model.specs.Stored.{stored, format_of}
 use Rattle.notary_link.specs.declared.mark.Mark.{Mark}
 use Rattle.notary_link.specs.declared.notary.NotaryLimits.{NotaryLimits}
 use Rattle.notary_link.specs.Batches.{Batch}
@@ -40,7 +42,7 @@ use Rattle.validator.proofs.Telling.{if_both}
 use Rattle.validator.specs.Verdicts.{IsFound, IsFoundIn, IsFoundBy, IsFoundWithin, IsFoundAt, IsOfValidation, ValidatesNone, mark_of, IsMarked, IsNotMarked, MayBeMarked, MakesNone, MakesMark, Validates}
 use Rattle.store_world.specs.declared.answered.Answered.{Answered}
 use Rattle.store_world.specs.declared.fail.LineFail.{LineFail}
-use Rattle.store_world.specs.World.{World}
+use Rattle.store_world.specs.World.{World, HasNoStore, history_or, history_of, old_in, old_under}
 use Rattle.store_world.specs.Standing.{OpenWorld, IsIn, StoreIsIn}
 use Rattle.store_world.specs.Lists.{IsBeside, ListsGo}
 use Rattle.store_world.specs.Finding.{full_unless, MayJudge, MayRefuseMark, MayMark}
@@ -49,7 +51,7 @@ use Rattle.store_world.specs.Answers.{said, refusal, Replies, IsAnswer}
 use Rattle.store_world.specs.LineCalls.{noting, validate_calls}
 use Rattle.store_world.specs.CallsMade.{IsAnswered, MakesOfNotary, MakesLineCalls}
 use Rattle.store_world.specs.Parts.{StepsWithout}
-use Rattle.store_world.specs.Steps.{Step, says, refuses, marked, validated, filed_for, history_of}
+use Rattle.store_world.specs.Steps.{Step, says, refuses, marked, validated, filed_for}
 use Rattle.store_world.specs.Stepping.{IsReply, Goes, Steps}
 use Rattle.store_world.proofs.Between.{keeps_then, noted_keeps, noted_between, unmarked_yet}
 use Rattle.validator.proofs.SomethingFound.{something_is_found}
@@ -58,7 +60,7 @@ use Rattle.store_world.proofs.Replies.{replied}
 use Rattle.store_world.proofs.CallsTold.{none_made, all_replied, some_made, calls_beside}
 use Rattle.store_world.proofs.MarkCalls.{was_marked, found_no_room, has_failed}
 use Rattle.store_world.proofs.Faults.{ends_anyhow, ends_any_time}
-use Rattle.store_world.proofs.Left.{given, left, files_left, files_still, beside_told}
+use Rattle.store_world.proofs.Left.{given, StaysSame, stays_same, left, files_left, files_still, beside_told}
 
 pub replies_as : (next : Step) (x : Answered) (result : Result Answered LineFail) → x.text ≡ next.text → x.refused ≡ next.is_refused → IfOk result (λ answered. answered ≡ x) → IfOk result (IsReply next)
 replies_as next x (Ok answered) text refused is = record { text = ap (λ (y : Answered). y.text) is ∙ text; refused = ap (λ (y : Answered). y.refused) is ∙ refused }
@@ -92,30 +94,43 @@ module _ (id : ℕ) where
   none_of None s other = refl
   none_of (Some header) s other = ap (λ (b : Bool). if b then Some (history header s.items) else None) (ne_eqb header.id id other)
 
-  pub history_is : (o : Option statements.Database) (begun : ℕ → Option Session) (s : Option OpenStore) (bytes : List ℕ) → StoreIsIn id o begun s bytes → history_with id (stored bytes) ≡ history_of o
-  history_is (Some ws) begun (Some o) bytes i =
+  -- without a store there is a history in the first format, or none
+  old_is : (bytes : List ℕ) → HasNoStore id bytes → history_with id (stored bytes) ≡ old_under id bytes
+  old_is bytes (inl other) = let none = none_of (stored bytes).header (stored bytes) other in none ∙ by (format_of bytes) ∙ ap (old_in (format_of bytes)) (sym none)
+    where
+      by : (o : Option Format) → None ≡ old_in o None
+      by None = refl
+      by (Some One) = refl
+      by (Some Two) = refl
+  old_is bytes (inr old) = ap (λ (o : Option Format). old_in o (history_with id (stored bytes))) (sym old)
+
+  pub history_is : (o : Option statements.Database) (old : Option History) (begun : ℕ → Option Session) (s : Option OpenStore) (bytes : List ℕ) → old ≡ old_under id bytes → StoreIsIn id o begun s bytes
+      → history_with id (stored bytes) ≡ history_or o old
+  history_is (Some ws) old begun (Some o) bytes is i =
       let s = i.0.store in
       of_header o.store.header ws.items bytes s.open_on.stores.header_is s.open_on.stores.items_are (ap (λ (h : Header). h.id) s.header ∙ i.1)
       ∙ ap (λ (h : Header). Some (history h ws.items)) s.header
-  history_is None begun None bytes i = none_of (stored bytes).header (stored bytes) i.0
-  history_is (Some ws) begun None bytes i = absurd i
-  history_is None begun (Some o) bytes i = absurd i
+  history_is None old begun None bytes is i = old_is bytes i.0 ∙ sym is
+  history_is (Some ws) old begun None bytes is i = absurd i
+  history_is None old begun (Some o) bytes is i = absurd i
 
--- bytes over which a machine stands for a world without a store have no history of its id
-pub none_stored : (w : World) (held : OpenWorld) (bytes : List ℕ) (id : ℕ) → held.id ≡ id → IsIn w held bytes → w.store ≡ None → history_with id (stored bytes) ≡ None
-none_stored w held bytes id own i none = subst (λ (n : ℕ). history_with n (stored bytes) ≡ None) (sym i.id ∙ own) (history_is w.id w.store w.sessions held.opened bytes i.store ∙ ap history_of none)
+-- the history of a world that a machine stands for over bytes
+pub world_history : (w : World) (held : OpenWorld) (bytes : List ℕ) → IsIn w held bytes → history_with w.id (stored bytes) ≡ history_of w
+world_history w held bytes i = history_is w.id w.store w.old_history w.sessions held.opened bytes i.old i.store
+
+-- bytes over which a machine stands for a world without a history have none of its id
+pub none_stored : (w : World) (held : OpenWorld) (bytes : List ℕ) (id : ℕ) → held.id ≡ id → IsIn w held bytes → history_of w ≡ None → history_with id (stored bytes) ≡ None
+none_stored w held bytes id own i none = subst (λ (n : ℕ). history_with n (stored bytes) ≡ None) (sym i.id ∙ own) (world_history w held bytes i ∙ none)
 
 -- ---- the next world
 
 -- all but the lists stays, and the batches stay
 pub record LeavesStore (w next : World) : Type 0 where
-  pub id : next.id ≡ w.id
-  pub store : next.store ≡ w.store
-  pub sessions : next.sessions ≡ w.sessions
+  pub same : StaysSame w next
   pub batches : (id : ℕ) → next.lists.batches id ≡ w.lists.batches id
 
 same_store : (w : World) → LeavesStore w w
-same_store w = record { id = refl; store = refl; sessions = refl; batches = λ id. refl }
+same_store w = record { same = stays_same w; batches = λ id. refl }
 
 pub with_validated : (w : World) (now : ℕ) (found : Result Verdict AuditFail) (refusal : Option AuditFail) → LeavesStore w (validated w now found refusal).world
 with_validated w now (Err fail) refusal = same_store w
@@ -123,7 +138,7 @@ with_validated w now (Ok verdict) refusal = by (mark_of verdict now) refusal
   where
     by : (m : Option Mark) (refusal : Option AuditFail) → LeavesStore w (marked w m refusal (verdict_text verdict)).world
     by None refusal = same_store w
-    by (Some mark) None = record { id = refl; store = refl; sessions = refl; batches = λ id. refl }
+    by (Some mark) None = record { same = record { id = refl; store = refl; old = refl; sessions = refl }; batches = λ id. refl }
     by (Some mark) (Some fail) = same_store w
 
 -- ---- what is found may be told
@@ -178,7 +193,7 @@ module _ (now : ℕ) (w : World) (held : OpenWorld) (old new : State) (bytes : L
 
   -- what the lists add
   pub record Adds (f : Result Verdict AuditFail) (refusal : Option AuditFail) (result : Result Answered LineFail) (later : Lists) : Type 0 where
-    pub found : IsFoundIn (filed_for w) (history_of w.store) f
+    pub found : IsFoundIn (filed_for w) (history_of w) f
     pub mark : IfOk f (λ verdict. MayMark w (mark_of verdict now) refusal)
     pub files : ListsGo w (validated w now f refusal).world (IsOk result) old new bytes bytes later
     pub makes : Makes (validate_calls w now f) result
@@ -190,7 +205,7 @@ module _ (now : ℕ) (w : World) (held : OpenWorld) (old new : State) (bytes : L
   pub record Judges (result : Result Answered LineFail) : Type 0 where
     pub verdict : Result Verdict AuditFail
     pub refusal : Option AuditFail
-    pub may : MayJudge verdict × MayRefuseMark refusal × (w.store ≡ None → ValidatesNone verdict)
+    pub may : MayJudge verdict × MayRefuseMark refusal × (history_of w ≡ None → ValidatesNone verdict)
     pub reply : IfOk result (IsReply (validated w now verdict refusal))
     pub adds : WhereTold filed.lists filed_later.lists (AddsWhere verdict refusal result)
 
@@ -206,23 +221,23 @@ module _ (now : ℕ) (w : World) (held : OpenWorld) (old new : State) (bytes : L
         found = judged j.verdict j.refusal;
         may = given result j.may;
         turn = given result (mark_turn j.refusal filed_later j.may.1);
-        goes = subst (λ (x : Step). Goes w x result held old new bytes bytes) (sym is) (left w held old new bytes i same only_now next result leaves.id leaves.store leaves.sessions j.reply);
+        goes = subst (λ (x : Step). Goes w x result held old new bytes bytes) (sym is) (left w held old new bytes i same only_now next result leaves.same j.reply);
         only = ends_anyhow result;
         timely = ends_any_time None refl result;
         finds = beside_told w (desk old filed) (desk new filed_later) _ _ j.adds (λ lists later beside adds. ((adds beside).found, (adds beside).mark));
         files = beside_told w (desk old filed) (desk new filed_later) _ _ j.adds (λ lists later beside adds. subst (λ (x : Step). ListsGo w x.world (IsOk result) old new bytes bytes later) (sym is) (adds beside).files);
         makes = beside_told w (desk old filed) (desk new filed_later) _ _ j.adds (λ lists later beside adds.
             subst (λ (x : Step). MakesLineCalls w line now (judged j.verdict j.refusal) x result (desk old filed) (desk new filed_later) bytes) (sym is)
-            (calls_beside w line now (judged j.verdict j.refusal) next leaves.store bytes result old new same.trace filed filed_later
+            (calls_beside w line now (judged j.verdict j.refusal) next leaves.same.store bytes result old new same.trace filed filed_later
             (subst (λ (cs : List Call). Makes cs result) (sym (validate_notes w now j.verdict j.refusal)) (adds beside).makes)));
       }
 
   -- ---- beside a notary that tells its lists
 
   module _ (lists later : Lists) (beside : IsBeside w filed.limits lists) where
-    found_in : (f : Result Verdict AuditFail) → IsFound w.id (lists.batches w.id) (stored bytes) f → IsFoundIn (filed_for w) (history_of w.store) f
-    found_in f is = subst (λ (b : List Batch). IsFoundIn b (history_of w.store) f) (beside.lists.batches w.id)
-        (subst (λ (h : Option History). IsFoundIn (lists.batches w.id) h f) (history_is w.id w.store w.sessions held.opened bytes i.store) is)
+    found_in : (f : Result Verdict AuditFail) → IsFound w.id (lists.batches w.id) (stored bytes) f → IsFoundIn (filed_for w) (history_of w) f
+    found_in f is = subst (λ (b : List Batch). IsFoundIn b (history_of w) f) (beside.lists.batches w.id)
+        (subst (λ (h : Option History). IsFoundIn (lists.batches w.id) h f) (world_history w held bytes i) is)
 
     as_many : marks_in_all lists ≡ marks_in_all w.lists
     as_many = kept_marks w.lists lists beside.lists
@@ -251,14 +266,14 @@ module _ (now : ℕ) (w : World) (held : OpenWorld) (old new : State) (bytes : L
               absurd (none (omega (arith, less, as_many, ap (λ (l : NotaryLimits). l.marks) beside.limits)))
 
       one_marked : (result : Result Answered LineFail) → Notes w.id mark lists later → To (after_mark None).world result
-      one_marked result notes = files_left w held old new bytes i same only_now (after_mark None).world (IsOk result) later refl refl
+      one_marked result notes = files_left w held old new bytes i same only_now (after_mark None).world (IsOk result) later (record { id = refl; store = refl; old = refl; sessions = refl })
           (λ ok. noted_keeps w.id w.lists lists later beside.lists mark notes) (noted_between w.id w.lists lists later beside.lists mark notes)
 
       -- it may be there
       may_be : (fail : LineFail) → MayBeMarked (Some mark) w.id filed.limits lists later → (b : Bool) → has_room ≡ b → To (after_mark (full_unless b)).world (Err fail)
       may_be fail (inl adds) true room = one_marked (Err fail) adds.2
       may_be fail (inl adds) false room = let yes = fits adds.1 in absurd cc
-      may_be fail (inr keeps) true room = files_left w held old new bytes i same only_now (after_mark None).world (IsOk {T = Answered} {E = LineFail} (Err fail)) later refl refl
+      may_be fail (inr keeps) true room = files_left w held old new bytes i same only_now (after_mark None).world (IsOk {T = Answered} {E = LineFail} (Err fail)) later (record { id = refl; store = refl; old = refl; sessions = refl })
           (λ ok. absurd (never ok)) (unmarked_yet w.id w.lists lists later beside.lists mark keeps)
         where
           never : IsOk {T = Answered} {E = LineFail} (Err fail) → ⊥
@@ -282,7 +297,7 @@ module _ (now : ℕ) (w : World) (held : OpenWorld) (old new : State) (bytes : L
     keeps_may None keeps = keeps
     keeps_may (Some mark) keeps = inr keeps
 
-    fails_so : (f : Result Verdict AuditFail) (fail : LineFail) → IsFoundIn (filed_for w) (history_of w.store) f → Keeps lists later → Makes (validate_calls w now f) (Err fail) → Adds f (full_unless has_room) (Err fail) later
+    fails_so : (f : Result Verdict AuditFail) (fail : LineFail) → IsFoundIn (filed_for w) (history_of w) f → Keeps lists later → Makes (validate_calls w now f) (Err fail) → Adds f (full_unless has_room) (Err fail) later
     fails_so (Ok verdict) fail is keeps makes =
         let both = may_be_marked (mark_of verdict now) (verdict_text verdict) fail (keeps_may (mark_of verdict now) keeps) in
         record { found = is; mark = both.0; files = both.1; makes = makes }
@@ -293,9 +308,6 @@ module _ (now : ℕ) (w : World) (held : OpenWorld) (old new : State) (bytes : L
   full_mark : (b : Bool) → MayRefuseMark (full_unless b)
   full_mark true = tt
   full_mark false = tt
-
-  none_history : w.store ≡ None → history_of w.store ≡ None
-  none_history none = ap history_of none
 
   told_calls : (answer : Answered) (result : Result Answered LineFail) (calls : List Call) → Replies answer result → WhereTold filed.trace filed_later.trace (IsAnswered calls) → Makes calls result
   told_calls answer result calls reply made = told_map filed.trace filed_later.trace _ _ made (λ b a m. all_replied a calls b answer result reply m)
@@ -328,18 +340,18 @@ module _ (now : ℕ) (w : World) (held : OpenWorld) (old new : State) (bytes : L
     -- what was found before a failure
     before_found : (fail : LineFail) (lists later : Lists) → filed.lists ≡ Some lists → filed_later.lists ≡ Some later → Keeps lists later → ((calls : List Call) → Makes calls (Err fail)) → Judges (Err fail)
     before_found fail lists later was is keeps makes =
-        let some = something_is_found (filed_for w) (history_of w.store) in
+        let some = something_is_found (filed_for w) (history_of w) in
         record {
           verdict = some.0;
           refusal = full_unless has_room;
-          may = (found_judges (filed_for w) (history_of w.store) some.0 some.1, full_mark has_room, λ none. found_nowhere (filed_for w) (history_of w.store) some.0 (none_history none) some.1);
+          may = (found_judges (filed_for w) (history_of w) some.0 some.1, full_mark has_room, λ none. found_nowhere (filed_for w) (history_of w) some.0 none some.1);
           reply = tt;
           adds = told_put (Some lists) (Some later) filed.lists filed_later.lists (AddsWhere some.0 (full_unless has_room) (Err fail)) was is
               (λ beside. fails_so lists later beside some.0 fail some.1 keeps (makes (validate_calls w now some.0)));
         }
 
     -- without a store
-    none_found_so : (batches : List Batch) (verdict : Verdict) → IsFound w.id batches (stored bytes) (Ok verdict) → w.store ≡ None → ValidatesNone (Ok verdict)
+    none_found_so : (batches : List Batch) (verdict : Verdict) → IsFound w.id batches (stored bytes) (Ok verdict) → history_of w ≡ None → ValidatesNone (Ok verdict)
     none_found_so batches verdict is none = found_nowhere batches (history_with w.id (stored bytes)) (Ok verdict) (none_stored w held bytes w.id i.id i none) is
 
     -- and behind it
@@ -410,7 +422,7 @@ module _ (now : ℕ) (w : World) (held : OpenWorld) (old new : State) (bytes : L
   by_answer result other is does = subst Judges (sym is) does
 
   judges : (v : Result Verdict AuditFail) (result : Result Answered LineFail) → IsAnswer verdict_text v result → WhereTold filed.trace filed_later.trace (MakesMark w.id now v)
-      → WhereTold filed.lists filed_later.lists (Told v) → IfErr v IsOfValidation → (w.store ≡ None → ValidatesNone v) → Judges result
+      → WhereTold filed.lists filed_later.lists (Told v) → IfErr v IsOfValidation → (history_of w ≡ None → ValidatesNone v) → Judges result
   judges (Ok verdict) result answer made told only nowhere = record {
     verdict = Ok verdict;
     refusal = None;

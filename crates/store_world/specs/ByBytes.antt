@@ -1,5 +1,5 @@
 -- What a line does whatever world it is, also after a failure, where no store is held.
-use Rattle.std.specs.Prelude.{◌≡◌, ℕ, codes, Result, IfOk, IfErr}
+use Rattle.std.specs.Prelude.{◌≡◌, ℕ, Bool, Result, IfOk, IfErr}
 use Rattle.stmt_text.specs.declared.stmt.Stmt.TheVariants as stmts
 use Rattle.stmt_text.specs.declared.line.Line.{Line}
 use Rattle.stmt_text.specs.declared.line.Line.TheVariants as lines
@@ -15,7 +15,7 @@ use Rattle.store_world.specs.declared.fail.LineFail.{LineFail}
 use Rattle.store_world.specs.declared.fail.LineFail.TheVariants as fails
 use Rattle.store_world.specs.Answers.{refusal, IsAnswer, IsReported}
 use Rattle.store_world.specs.AtDesk.{Judges, Reports}
-use Rattle.store_world.specs.Steps.{IsWorldLine, algorithm_of}
+use Rattle.store_world.specs.Steps.{IsWorldLine, algorithm_of, why_none}
 
 -- all lines of a world but `validate` and `analyse`
 abbrev pub NeedsStore : Line → Type 0
@@ -23,9 +23,9 @@ NeedsStore (lines.Plain stmts.Validate) = ⊥
 NeedsStore (lines.Plain (stmts.Analyse algorithm)) = ⊥
 NeedsStore line = IsWorldLine line
 
--- a line that needs a store is told that there is none, or memory wants; neither the disk nor the notary is called
-pub record IsToldNone (result : Result Answered LineFail) (old new : Desk) : Type 0 where
-  pub reply : IfOk result (λ answered. answered ≡ refusal (codes "NotAStore"))
+-- a line that needs a store is told why there is none, or memory wants; neither the disk nor the notary is called
+pub record IsToldNone (is_old : Bool) (result : Result Answered LineFail) (old new : Desk) : Type 0 where
+  pub reply : IfOk result (λ answered. answered ≡ refusal (why_none is_old))
   pub only_memory : IfErr result (λ fail. fail ≡ fails.NoMemory)
   pub left : DeskIsLeft old new
 

@@ -21,8 +21,8 @@ use Rattle.forensic_report.specs.Analysis.{Analysis, IsWithoutStore}
 use Rattle.forensic_report.specs.Finding.{IsAnalysisIn, IsOfAnalysis}
 use Rattle.forensic_report.specs.Texts.{body_text, kept_of}
 use Rattle.store_world.specs.Found.{Found}
-use Rattle.store_world.specs.World.{World}
-use Rattle.store_world.specs.Steps.{filed_for, history_of, intent_in, algorithm_of}
+use Rattle.store_world.specs.World.{World, history_of}
+use Rattle.store_world.specs.Steps.{filed_for, intent_in, algorithm_of}
 
 -- ---- whatever the notary tells
 
@@ -53,7 +53,7 @@ MayAnalyse algorithm (Err analyses.NotaryFault) = ⊥
 MayAnalyse algorithm (Err analyses.NoMemory) = ⊥
 MayAnalyse algorithm (Err fail) = IsOfAnalysis algorithm fail
 
--- without a store one of nothing filed, or of an altered header
+-- without a history one of nothing filed, or of an altered header
 abbrev pub AnalysesNone : Result Analysis AnalyseFail → Type 0
 AnalysesNone (Ok a) = IsWithoutStore a
 AnalysesNone (Err fail) = ⊥
@@ -61,8 +61,8 @@ AnalysesNone (Err fail) = ⊥
 -- What any notary allows a line to find.
 abbrev pub MayTell : World → Line → Found → Type 0
 MayTell w (lines.Plain stmts.Notarize) found = MaySpeak found.heard.against × MayRefuse found.refusal
-MayTell w (lines.Plain stmts.Validate) found = MayJudge found.verdict × MayRefuseMark found.refusal × (w.store ≡ None → ValidatesNone found.verdict)
-MayTell w (lines.Plain (stmts.Analyse algorithm)) found = MayAnalyse (algorithm_of algorithm) found.analysis × (w.store ≡ None → AnalysesNone found.analysis)
+MayTell w (lines.Plain stmts.Validate) found = MayJudge found.verdict × MayRefuseMark found.refusal × (history_of w ≡ None → ValidatesNone found.verdict)
+MayTell w (lines.Plain (stmts.Analyse algorithm)) found = MayAnalyse (algorithm_of algorithm) found.analysis × (history_of w ≡ None → AnalysesNone found.analysis)
 MayTell w line found = Unit {0}
 
 -- ---- where it holds the lists of the world
@@ -89,7 +89,7 @@ MayMark w (Some mark) refusal = refusal ≡ full_unless (nat_lt (marks_in_all w.
 -- What a line may find there.
 abbrev pub MayFind : World → Line → ℕ → Found → Type 0
 MayFind w (lines.Plain stmts.Notarize) now found = IfSome w.store (MayFile w now found)
-MayFind w (lines.Plain stmts.Validate) now found = IsFoundIn (filed_for w) (history_of w.store) found.verdict × IfOk found.verdict (λ verdict. MayMark w (mark_of verdict now) found.refusal)
-MayFind w (lines.Plain (stmts.Analyse algorithm)) now found = IsAnalysisIn (algorithm_of algorithm) (filed_for w) (history_of w.store) found.analysis
+MayFind w (lines.Plain stmts.Validate) now found = IsFoundIn (filed_for w) (history_of w) found.verdict × IfOk found.verdict (λ verdict. MayMark w (mark_of verdict now) found.refusal)
+MayFind w (lines.Plain (stmts.Analyse algorithm)) now found = IsAnalysisIn (algorithm_of algorithm) (filed_for w) (history_of w) found.analysis
     × IfOk found.analysis (λ a. found.body ≡ body_text (algorithm_of algorithm) (kept_of w.lists w.id now) a)
 MayFind w line now found = Unit {0}

@@ -12,9 +12,9 @@ use Rattle.validator.specs.declared.verdict.Verdict.TheVariants as verdicts
 use Rattle.validator.specs.declared.fail.AuditFail.{AuditFail}
 use Rattle.validator.specs.Notarizing.{filed_fault}
 use Rattle.forensic_report.specs.Finding.{IsSoundAnalysis}
-use Rattle.store_world.specs.World.{World}
+use Rattle.store_world.specs.World.{World, history_of}
 use Rattle.store_world.specs.Found.{Found}
-use Rattle.store_world.specs.Steps.{step, filed_for, history_of}
+use Rattle.store_world.specs.Steps.{step, filed_for}
 use Rattle.store_world.specs.Finding.{MayFind}
 
 -- these batches are none, or those of a history with n sealed tiles, which has reached their end
@@ -23,7 +23,7 @@ HoldsFiled batches id held = (batches ≡ []) ⊎ ((n : ℕ) × (length batches 
 
 -- nothing is filed for the world's store, or what is filed is what it has
 abbrev pub IsSoundWorld : World → Type 0
-IsSoundWorld w = HoldsFiled (filed_for w) w.id (history_of w.store)
+IsSoundWorld w = HoldsFiled (filed_for w) w.id (history_of w)
 
 -- a header that a file may have, of the world's id
 abbrev pub HasFitHeader : World → Type 0
@@ -38,7 +38,7 @@ IsSoundVerdict found = (found ≡ Ok verdicts.Unsealed) ⊎ ((n : ℕ) × (found
 abbrev pub TellsNoAlteration : World → Line → Found → Type 0
 TellsNoAlteration w (lines.Plain stmts.Validate) found = IsSoundVerdict found.verdict
 TellsNoAlteration w (lines.Plain (stmts.Analyse algorithm)) found = IsSoundAnalysis found.analysis
-TellsNoAlteration w (lines.Plain stmts.Notarize) found = IfSome (history_of w.store) (λ held. filed_fault (filed_for w) held ≡ None)
+TellsNoAlteration w (lines.Plain stmts.Notarize) found = IfSome (history_of w) (λ held. filed_fault (filed_for w) held ≡ None)
 TellsNoAlteration w line found = Unit {0}
 
 -- A sound world stays sound at every line, and no line tells of an alteration.

@@ -1,11 +1,10 @@
 -- The changing calls of a line, in order: those that store its items, and those that file its batches or note its mark.
 use Rattle.std.specs.Prelude.{ℕ, suc, List, [], ◌∷◌, ◌++◌, length, take, drop, Option, Some, None, Result, Ok, Err}
 use Rattle.disk_words.specs.Disk as disks
-use Rattle.byte_grammar.specs.Gated.{end_behind}
 use Rattle.tuple_bytes.specs.declared.item.Item.{Item}
 use Rattle.tuple_bytes.specs.Spelling.{spell_item}
-use Rattle.txn_journal.specs.Held.{Standing, behind, standing}
-use Rattle.txn_journal.specs.Append.{append_calls}
+use Rattle.segment_file.specs.Append.{Standing, behind, append_calls}
+use Rattle.history_model.specs.Placing.{gate_behind}
 use Rattle.notary_link.specs.declared.mark.Mark.{Mark}
 use Rattle.notary_link.specs.Batches.{Batch}
 use Rattle.notary_link.specs.Notary.{Call, note}
@@ -13,7 +12,7 @@ use Rattle.notary_link.specs.Filing.{filings, fitting, room_in}
 use Rattle.stmt_text.specs.declared.stmt.Stmt.TheVariants as stmts
 use Rattle.stmt_text.specs.declared.line.Line.{Line}
 use Rattle.stmt_text.specs.declared.line.Line.TheVariants as lines
-use Rattle.store_engine.specs.Record.{with_record}
+use Rattle.store_engine.specs.Appended.{standing, with_record}
 use Rattle.statement_core.specs.Database as statements
 use Rattle.validator.specs.declared.verdict.Verdict.{Verdict}
 use Rattle.validator.specs.declared.fail.AuditFail.{AuditFail}
@@ -30,10 +29,10 @@ abbrev pub items_added : Option statements.Database → Option statements.Databa
 items_added (Some old) (Some new) = drop (length old.items) new.items
 items_added old new = []
 
--- Each item replaces the bytes from the gate on by an open gate, its record, and a closed gate; the bytes behind these stay.
+-- Each item replaces the bytes from the gate on, or from the next segment's start, by an open gate, its record, and a closed gate.
 abbrev pub with_items : ℕ → List Item → List ℕ → List ℕ
 with_items end [] bytes = bytes
-with_items end (item ∷ items) bytes = with_items (end_behind end (length (spell_item item))) items (with_record end item bytes)
+with_items end (item ∷ items) bytes = with_items (gate_behind end (length (spell_item item))) items (with_record end item bytes)
 
 -- the calls that do that: those of an append for each item
 abbrev pub appends : Standing → List Item → List disks.Call

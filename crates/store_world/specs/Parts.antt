@@ -1,10 +1,14 @@
 -- What the parts of a line do.
-use Rattle.std.specs.Prelude.{◌≡◌, ℕ, Some, None, Result}
+use Rattle.std.specs.Prelude.{◌≡◌, ℕ, Bool, false, Some, None, Result}
 use Rattle.disk_words.specs.Disk as disks
 use Rattle.notary_link.specs.Notary as notaries
 use Rattle.store_engine.specs.Opened.{Opened}
 use Rattle.session_model.specs.Standing.{Machine}
+use Rattle.stmt_text.specs.declared.stmt.Stmt.TheVariants as stmts
 use Rattle.stmt_text.specs.declared.line.Line.{Line}
+use Rattle.stmt_text.specs.declared.line.Line.TheVariants as lines
+use Rattle.stmt_text.specs.declared.kind.NotaryLine.{NotaryLine}
+use Rattle.stmt_text.specs.declared.kind.NotaryLine.TheVariants as asked
 use Rattle.validator.specs.Desk.{KeepsSound, desk}
 use Rattle.store_world.specs.declared.answered.Answered.{Answered}
 use Rattle.store_world.specs.declared.fail.LineFail.{LineFail}
@@ -13,11 +17,11 @@ use Rattle.store_world.specs.Stepping.{StepsFor}
 
 -- an open store and its id, with what is kept of its sessions
 abbrev pub alone : Machine → Opened → OpenWorld
-alone kept s = record { id = s.header.id; opened = Some (record { store = s; sessions = kept }) }
+alone kept s = record { id = s.header.id; opened = Some (record { store = s; sessions = kept }); is_old = false }
 
--- an id without a store
-abbrev pub no_store : ℕ → OpenWorld
-no_store id = record { id = id; opened = None }
+-- an id without a store, and whether the file is of the first format
+abbrev pub no_store : ℕ → Bool → OpenWorld
+no_store id is_old = record { id = id; opened = None; is_old = is_old }
 
 -- whatever the notary is, which is not called
 abbrev pub StepsBeside : Line → ℕ → Result Answered LineFail → OpenWorld → OpenWorld → disks.State → disks.State → Type 0
@@ -30,3 +34,9 @@ StaysSound held old new = (filed : notaries.State) → KeepsSound (StandsOver he
 -- whatever store there is, which is not called
 abbrev pub StepsWithout : Line → ℕ → Result Answered LineFail → ℕ → disks.State → disks.State → notaries.State → notaries.State → Type 0
 StepsWithout line now result id old new filed later = (held : OpenWorld) → held.id ≡ id → StepsFor line now result held held (desk old filed) (desk new later)
+
+-- the line that asks this of the notary
+abbrev pub asking : NotaryLine → Line
+asking asked.Notarize = lines.Plain stmts.Notarize
+asking asked.Validate = lines.Plain stmts.Validate
+asking (asked.Analyse algorithm) = lines.Plain (stmts.Analyse algorithm)

@@ -1,6 +1,6 @@
 -- What a line does to a world, and the text of its reply.
 use Rattle.std.specs.Prelude.{ℕ, false, true, Bool, List, ◌++◌, ◌∷◌, [], take, codes, Option, Some, None, Result, Ok, Err}
-use Rattle.history_model.specs.History.{History, history}
+use Rattle.std.specs.Option.{is_some}
 use Rattle.notary_link.specs.declared.mark.Mark.{Mark}
 use Rattle.notary_link.specs.Batches.{Batch}
 use Rattle.notary_link.specs.Filing.{fitting, room_in}
@@ -46,9 +46,14 @@ says w words = record { world = w; text = words ++ 10 ∷ []; is_refused = false
 abbrev pub refuses : World → List ℕ → Step
 refuses w name = record { world = w; text = codes "refused " ++ name ++ 10 ∷ []; is_refused = true }
 
--- without a store
+-- why no line goes over a store: there is none, or it is in the first format
+abbrev pub why_none : Bool → List ℕ
+why_none false = codes "NotAStore"
+why_none true = codes "OldFormat"
+
+-- without a store that lines go over
 abbrev pub has_no_store : World → Step
-has_no_store w = refuses w (codes "NotAStore")
+has_no_store w = refuses w (why_none (is_some w.old_history))
 
 -- ---- a statement on tables, or a line of a session
 
@@ -115,11 +120,6 @@ marked w (Some mark) refusal text = unless refusal w (says (with_lists w (with_m
 abbrev pub validated : World → ℕ → Result Verdict AuditFail → Option AuditFail → Step
 validated w now (Ok verdict) refusal = marked w (mark_of verdict now) refusal (verdict_text verdict)
 validated w now (Err fail) refusal = refuses w (refusal_text fail)
-
--- the history of a world
-abbrev pub history_of : Option statements.Database → Option History
-history_of None = None
-history_of (Some store) = Some (history store.header store.items)
 
 -- ---- an analysis
 

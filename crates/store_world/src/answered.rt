@@ -5,6 +5,7 @@ ghost use Rattle.byte_grammar.specs.Numbered.{numbered};
 ghost use Rattle.validator.specs.Texts.{verdict_text, refusal_text};
 ghost use Rattle.forensic_report.specs.Fails as reports;
 ghost use Rattle.store_world.specs.Answers.{said, refusal, reported};
+ghost use Rattle.store_world.specs.Steps.{why_none};
 
 use forensic_report::{AnalyseFail, Report};
 use std::alloc::{AllocError, Global};
@@ -86,11 +87,15 @@ pub(crate) fn not_reported(alloc: Global, fail: AnalyseFail) -> Result<Answered,
     })
 }
 
-/// There is no store.
-pub(crate) fn not_a_store(alloc: Global) -> Result<Answered, AllocError>
-    ensures value { IfOk result (λ answered. answered ≡ refusal (codes "NotAStore")) }
+/// There is no store that lines go over: none at all, or one of the first format.
+pub(crate) fn no_open_store(alloc: Global, is_old: bool) -> Result<Answered, AllocError>
+    ensures value { IfOk result (λ answered. answered ≡ refusal (why_none is_old)) }
 {
-    let words = b"refused NotAStore".to_vec(alloc)?;
+    let words = if is_old {
+        b"refused OldFormat".to_vec(alloc)?
+    } else {
+        b"refused NotAStore".to_vec(alloc)?
+    };
     Ok(Answered {
         refused: true,
         text: line_of(words)?,

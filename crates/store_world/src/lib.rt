@@ -13,7 +13,8 @@
 //! | `analyse` | as before | the report of `forensic_report` |
 //! | any other that is refused | as before; after `Full` with what there was room for | `refused NAME` |
 //!
-//! Without a store all but `validate` and `analyse` are `refused NotAStore`. What a line has from the notary is no
+//! Without a store all but `validate` and `analyse` are `refused NotAStore`. Those two read either format; over a file of
+//! the first one all others are `refused OldFormat`. What a line has from the notary is no
 //! function of the world; so `step` is given what was found. `MayTell` says what any notary allows, and `MayFind`
 //! what one that holds the world's lists does.
 //!
@@ -33,13 +34,13 @@
 //! | where nothing is stored, no call changes the disk | `same` of `Goes` |
 //! | the changing calls are those that store what the line adds, and then those that file its batches or note its mark | `makes` of `Steps`, by `MakesLineCalls` |
 //! | a statement on tables and a line of a session leave the notary | `unasked` of `World::line` |
-//! | where no store is held, whatever is told, all but `validate` and `analyse` are refused and call nothing | `none` of `World::line` |
+//! | where no store is held, whatever is told, all but `validate` and `analyse` are refused, by what opening came to, and call nothing | `none` of `World::line`, `is_old` of `World::enter` |
 //! | a validation goes by the stored bytes and what is filed alone, and leaves the disk | `bytes` of `World::line`, by `Judges` |
 //! | so does an analysis, which leaves the notary, too; its report shows what is altered of each history that was filed so | `bytes` of `World::line`, by `Reports` |
 //! | a failure is a fault of the disk or of the notary, or want of memory; behind a reply, a refusal too, the disk counted no fault, nor a notary that shows its faults | `disk_cause` and `notary_cause`, `disk_counted` and `notary_counted` |
 //! | only a line that the notary answers ends in a fault of the notary; only such a line, or one that stores, in one of the disk | `only` of `World::line` and of `told`, by `MayEndIn` |
 //! | where the clock speaks against a notarization before anything is asked, it ends in no fault | `timely` of `told`, by `EndsTimely` |
-//! | any notary allows `notarize` the refusals `Broken`, `SealMissing`, `Full` and `OutOfTurn`; `validate` a verdict, `SealMissing` and `Full`; `analyse` an analysis or a refusal of its algorithm. Without a store the last two tell only that nothing was filed or that the header is altered, or `Full` | `MayTell` |
+//! | any notary allows `notarize` the refusals `Broken`, `SealMissing`, `Full` and `OutOfTurn`; `validate` a verdict, `SealMissing` and `Full`; `analyse` an analysis or a refusal of its algorithm. Without a history the last two tell only that nothing was filed or that the header is altered, or `Full` | `MayTell` |
 //! | the store of the id is opened, or there is none | `value` of `World::enter` |
 //! | a world whose store is what was filed stays so at every line, and no line tells of an alteration | [`sound_worlds_stay_sound`] |
 //! | a line that is replied `ok N` leaves a store that has the transaction N, and no line takes an item away | [`steps_acknowledge`], [`steps_only_append`] |

@@ -1,6 +1,6 @@
 //! Lines, with a store and without one.
 
-ghost use Rattle.std.specs.Prelude.{◌≡◌, ◌↔◌, ⊤, false, IsTrue, IfErr, IfOk, OnOk, codes};
+ghost use Rattle.std.specs.Prelude.{◌≡◌, ◌↔◌, ⊤, false, IsTrue, IsNone, IfSome, IfErr, IfOk, OnOk};
 ghost use Rattle.outside_words.specs.Faults.{HasCause, HidesNoFault};
 ghost use Rattle.disk_words.specs.Disk as disks;
 ghost use Rattle.notary_link.specs.Notary as notaries;
@@ -12,13 +12,13 @@ ghost use Rattle.store_world.specs.declared.fail.LineFail.TheVariants.{DiskFault
 ghost use Rattle.store_world.specs.Answers.{refusal};
 ghost use Rattle.store_world.specs.Faults.{HidesNone, MayEndIn};
 ghost use Rattle.store_world.specs.Standing.{StandsOver};
-ghost use Rattle.store_world.specs.Steps.{IsWorldLine};
+ghost use Rattle.store_world.specs.Steps.{IsWorldLine, why_none};
 ghost use Rattle.store_world.specs.Stepping.{StepsFor};
-ghost use Rattle.store_world.specs.Parts.{alone, no_store};
+ghost use Rattle.store_world.specs.Parts.{alone, no_store, asking};
 ghost use Rattle.store_world.specs.ByBytes.{NeedsStore, IsToldNone, GoesByBytes};
 
 use crate::analyses::answer_analysis;
-use crate::answered::{Answered, not_a_store};
+use crate::answered::{Answered, no_open_store};
 use crate::audits::{answer_notarization, answer_validation};
 use crate::fail::LineFail;
 use crate::statements::answer_statement;
@@ -26,8 +26,21 @@ use disk_model::Disk;
 use notary_link::Notary;
 use session_core::Sessions;
 use std::alloc::Global;
-use stmt_text::{Line, LineKind, Stmt};
+use stmt_text::{Line, LineKind, NotaryLine, WorldPart};
 use store_engine::Store;
+
+/// What a line asks of the notary, if it does.
+fn asked_of_notary(line: &Line) -> Option<NotaryLine>
+    ensures asked { IfSome result (λ asks. line.now ≡ asking asks) }
+    ensures none { IsNone result → IsWorldLine line.now → IsStatementLine line.now }
+{
+    match line.kind() {
+        LineKind::InWorld {
+            part: WorldPart::Notary { asks },
+        } => Some(asks),
+        _ => None,
+    }
+}
 
 /// Carries out a line over an open store, at these clock seconds.
 pub(crate) fn answer_with_store<D: Disk, N: Notary>(
@@ -59,32 +72,26 @@ pub(crate) fn answer_with_store<D: Disk, N: Notary>(
     ensures notary_cause { HasCause NotaryFault (N.state notary.old).faults (N.state notary.new).faults result }
     ensures notary_counted { HidesNone (N.state notary.old) (N.state notary.new) result }
 {
-    match line {
-        Line::Plain {
-            stmt: Stmt::Notarize,
-        } => answer_notarization(alloc, store, disk, notary, now),
-        Line::Plain {
-            stmt: Stmt::Validate,
-        } => {
+    match asked_of_notary(line) {
+        Some(NotaryLine::Notarize) => answer_notarization(alloc, store, disk, notary, now),
+        Some(NotaryLine::Validate) => {
             let id = store.header().id;
             answer_validation(alloc, disk, notary, id, now)
         }
-        Line::Plain {
-            stmt: Stmt::Analyse { algorithm },
-        } => {
+        Some(NotaryLine::Analyse { algorithm }) => {
             let id = store.header().id;
-            answer_analysis(alloc, disk, notary, id, *algorithm, now)
+            answer_analysis(alloc, disk, notary, id, algorithm, now)
         }
-        _ => answer_statement(alloc, sessions, store, disk, line, now),
+        None => answer_statement(alloc, sessions, store, disk, line, now),
     }
 }
 
-/// What is told where a store is needed, and there is none.
-fn no_answer(alloc: Global) -> Result<Answered, LineFail>
-    ensures value { IfOk result (λ answered. answered ≡ refusal (codes "NotAStore")) }
+/// What is told where a store is needed, and there is none that lines go over.
+fn no_answer(alloc: Global, is_old: bool) -> Result<Answered, LineFail>
+    ensures value { IfOk result (λ answered. answered ≡ refusal (why_none is_old)) }
     ensures only_memory { IfErr result (λ fail. fail ≡ NoMemory) }
 {
-    Ok(not_a_store(alloc)?)
+    Ok(no_open_store(alloc, is_old)?)
 }
 
 /// Carries out a line where there is no store of this id.
@@ -93,16 +100,17 @@ pub(crate) fn answer_without_store<D: Disk, N: Notary>(
     disk: &mut D,
     notary: &mut N,
     id: u64,
+    is_old: bool,
     line: &Line,
     now: u64,
 ) -> Result<Answered, LineFail>
     requires is_line { IsWorldLine line.now }
-    ensures none { NeedsStore line.now → IsToldNone result
+    ensures none { NeedsStore line.now → IsToldNone is_old result
         (desk (D.state disk.old) (N.state notary.old)) (desk (D.state disk.new) (N.state notary.new)) }
     ensures bytes { GoesByBytes line.now id now result
         (desk (D.state disk.old) (N.state notary.old)) (desk (D.state disk.new) (N.state notary.new)) }
     ensures only { IfErr result (MayEndIn (line_kind line.now) ⊤) }
-    ensures told { StepsFor line.now now result (no_store id) (no_store id)
+    ensures told { StepsFor line.now now result (no_store id is_old) (no_store id is_old)
         (desk (D.state disk.old) (N.state notary.old)) (desk (D.state disk.new) (N.state notary.new)) }
     ensures sound { KeepsSound (λ before. ⊤)
         (desk (D.state disk.old) (N.state notary.old)) (desk (D.state disk.new) (N.state notary.new)) }
@@ -113,14 +121,12 @@ pub(crate) fn answer_without_store<D: Disk, N: Notary>(
     ensures notary_cause { HasCause NotaryFault (N.state notary.old).faults (N.state notary.new).faults result }
     ensures notary_counted { HidesNone (N.state notary.old) (N.state notary.new) result }
 {
-    match line {
-        Line::Plain {
-            stmt: Stmt::Validate,
-        } => answer_validation(alloc, disk, notary, id, now),
-        Line::Plain {
-            stmt: Stmt::Analyse { algorithm },
-        } => answer_analysis(alloc, disk, notary, id, *algorithm, now),
-        _ => no_answer(alloc),
+    match asked_of_notary(line) {
+        Some(NotaryLine::Validate) => answer_validation(alloc, disk, notary, id, now),
+        Some(NotaryLine::Analyse { algorithm }) => {
+            answer_analysis(alloc, disk, notary, id, algorithm, now)
+        }
+        Some(NotaryLine::Notarize) | None => no_answer(alloc, is_old),
     }
 }
 

@@ -13,7 +13,7 @@ ghost use Rattle.store_engine.specs.declared.fail.StoreFail.TheVariants as store
 ghost use Rattle.store_engine.specs.Refusals.{IsOfOpening};
 ghost use Rattle.validator.specs.Desk.{KeepsSound, desk};
 ghost use Rattle.store_world.specs.declared.fail.LineFail.TheVariants.{DiskFault, NotaryFault};
-ghost use Rattle.store_world.specs.Standing.{StandsOver, IsEntered};
+ghost use Rattle.store_world.specs.Standing.{StandsOver, IsEntered, is_refused_old};
 ghost use Rattle.store_world.specs.Faults.{HidesNone, MayEndIn};
 ghost use Rattle.store_world.specs.Steps.{IsWorldLine};
 ghost use Rattle.store_world.specs.Stepping.{StepsFor, KeepsStore};
@@ -37,6 +37,9 @@ use store_engine::{Store, StoreFail};
 pub struct World {
     id: u64,
     opened: Option<OpenStore>,
+    // whether the file was refused as one of the first format
+    is_old: bool,
+    ghost not_old: { IfSome opened (λ o. is_old ≡ false) } by { Prim.hlevel props },
     ghost unclosed: { IfSome opened (λ o. o.store.at.is_closed ≡ false) } by { Prim.hlevel props },
     ghost own: { IfSome opened (λ o. o.store.header.id ≡ id) } by { Prim.hlevel props },
 }
@@ -46,7 +49,7 @@ impl Model for World {
 
     ghost Value = { OpenWorld };
 
-    ghost view = { λ w. record { id = w.id; opened = w.opened } };
+    ghost view = { λ w. record { id = w.id; opened = w.opened; is_old = w.is_old } };
 }
 
 impl World {
@@ -55,10 +58,15 @@ impl World {
         ensures id { result.id ≡ id }
         ensures value { result.opened ≡ None }
     {
-        World { id, opened: None }
+        World {
+            id,
+            opened: None,
+            is_old: false,
+        }
     }
 
-    /// Opens the store of the id anew, without any session. After a refusal there is no store.
+    /// Opens the store of the id anew, without any session. After a refusal there is no store; lines are
+    /// told whether the file was refused as one of the first format.
     pub fn enter<D: Disk>(&mut self, alloc: Global, disk: &mut D) -> Result<(), StoreFail>
         ensures id { self.new.id ≡ self.old.id }
         ensures value { IfSome (D.state disk.old).reads (λ bytes. IsEntered self.old.id bytes result self.new.opened) }
@@ -67,17 +75,27 @@ impl World {
         ensures own { IfSome self.new.opened (λ o. o.store.header.id ≡ self.old.id) }
         ensures sessions { IfSome self.new.opened (λ o. NoneKept o.sessions) }
         ensures none { OnErr result (self.new.opened ≡ None) }
+        ensures is_old { self.new.is_old ≡ is_refused_old result }
         ensures none_other { IfErr result IsOfOpening }
         ensures same { disks.Unchanged (D.state disk.old) (D.state disk.new) }
         ensures frame { disks.GoesOn (D.state disk.old) (D.state disk.new) }
         ensures cause { HasCause stores.DiskFault (D.state disk.old).faults (D.state disk.new).faults result }
     {
         self.opened = None;
-        self.opened = Some(OpenStore {
-            store: Store::open_store(alloc, disk, self.id)?,
-            sessions: Sessions::new(alloc),
-        });
-        Ok(())
+        self.is_old = false;
+        match Store::open_store(alloc, disk, self.id) {
+            Ok(store) => {
+                self.opened = Some(OpenStore {
+                    store,
+                    sessions: Sessions::new(alloc),
+                });
+                Ok(())
+            }
+            Err(fail) => {
+                self.is_old = matches!(fail, StoreFail::OldFormat);
+                Err(fail)
+            }
+        }
     }
 
     /// Carries out a line at these clock seconds. After a failure there is no store, and no session.
@@ -92,10 +110,11 @@ impl World {
         requires is_line { IsWorldLine line.now }
         requires fits { FitsParts line.now }
         ensures id { self.new.id ≡ self.old.id }
+        ensures is_old { self.new.is_old ≡ self.old.is_old }
         ensures store { KeepsStore result self.old self.new }
         ensures open { IfSome self.new.opened (λ o. o.store.at.is_closed ≡ false) }
         ensures own { IfSome self.new.opened (λ o. o.store.header.id ≡ self.old.id) }
-        ensures none { self.old.opened ≡ None → NeedsStore line.now → IsToldNone result
+        ensures none { self.old.opened ≡ None → NeedsStore line.now → IsToldNone self.old.is_old result
             (desk (D.state disk.old) (N.state notary.old)) (desk (D.state disk.new) (N.state notary.new)) }
         ensures bytes { GoesByBytes line.now self.old.id now result
             (desk (D.state disk.old) (N.state notary.old)) (desk (D.state disk.new) (N.state notary.new)) }
@@ -126,7 +145,7 @@ impl World {
                 self.opened = Some(open);
                 Ok(answered)
             }
-            None => answer_without_store(alloc, disk, notary, self.id, line, now),
+            None => answer_without_store(alloc, disk, notary, self.id, self.is_old, line, now),
         }
     }
 

@@ -2,6 +2,7 @@
 use Rattle.std.proofs.Common.{◌≡◌, inl, inr, ℕ, ◌+◌, ◌<◌, ◌≤◌, ◌^◌, Bool, true, false, List, [], ◌∷◌, ◌++◌, length, Option, Some, None, Result, Ok, Err, refl, sym, ap, subst, ◌∙◌, append_assoc, arith}
 use Rattle.std.specs.Prelude.{nat_le, nat_lt, if◌then◌else◌, codes}
 use Rattle.std.specs.Fmt.{decimal}
+use Rattle.std.specs.Option.{is_some}
 use Rattle.std.specs.List.{AllByRecursion}
 use Rattle.std.proofs.lemmas.Fmt.{decimal_injective}
 use Rattle.std.proofs.lemmas.List.{append_cancel_left, append_cancel_right}
@@ -33,11 +34,11 @@ use Rattle.session_model.proofs.Promising.{steps_keep_promises}
 use Rattle.session_model.proofs.Storing.{StoresOrNot, stores_or_not}
 use Rattle.store_world.specs.Found.{Found}
 use Rattle.store_world.specs.World as worlds
-use Rattle.store_world.specs.World.{no_sessions}
+use Rattle.store_world.specs.World.{no_sessions, old_under}
 use Rattle.store_world.specs.Steps as world_steps
 use Rattle.store_world.proofs.Acknowledging.{promised}
-use Rattle.store_world.proofs.Texts.{SaysOk, says_ok, reply_ok, notarized_no, validated_no, analysed_no}
-use Rattle.store_world.specs.Steps.{on_tables, notarized, validated, algorithm_of, marked}
+use Rattle.store_world.proofs.Texts.{SaysOk, says_ok, reply_ok, refusal_no, notarized_no, validated_no, analysed_no}
+use Rattle.store_world.specs.Steps.{why_none, on_tables, notarized, validated, algorithm_of, marked}
 use Rattle.txn_journal.specs.Create.{is_free}
 use Rattle.timeline_model.specs.Scene.{Scene, Crash, nothing_yet, store_in, world_with, world_of, held}
 use Rattle.store_world.specs.LineCalls.{notary_calls, items_added}
@@ -89,7 +90,7 @@ IfOk more t next = SaysOk next.text → Acknowledges more t next
 refusal_not : (more : List Item) (t was : Scene) (name : List ℕ) → IfOk more was (refuses t name)
 refusal_not more t was name ok = absurd (no_refusal t name ok)
 
-module _ (i : ℕ) (t : Scene) (line : Line) (found : Found) (store : statements.Database) (is : store_in i (stored t.bytes) ≡ Some store)
+module _ (i : ℕ) (t : Scene) (line : Line) (found : Found) (store : statements.Database) (is : store_in i t.bytes ≡ Some store)
     (bytes_before : IsBytes t.bytes) (no_calls : notary_calls (world_with t i (Some store)) line t.clock found ≡ []) where
   abbrev w : worlds.World
   w = world_with t i (Some store)
@@ -132,7 +133,7 @@ module _ (i : ℕ) (t : Scene) (line : Line) (found : Found) (store : statements
         txn = txn;
         one = one_stored i t line found store is bytes_before no_calls s ops some fit free store_same;
         before = history store.header store.items;
-        held_before = stored_held store.header store.items t (record { header_is = facts.header; items_are = facts.items });
+        held_before = stored_held store.header store.items t (record { header_is = facts.header; items_are = facts.items; format = facts.format });
         held_now = stored_held store.header (store.items ++ items.Txn txn ∷ []) (over_world t w line found s).next.scene
             (stores_whole i t line found store is bytes_before no_calls s ops some fit free store_same);
         counted = refl;
@@ -147,17 +148,16 @@ module _ (i : ℕ) (t : Scene) (line : Line) (found : Found) (store : statements
         by (inl same) = absurd (not_same same ok)
         by (inr one) = acknowledges one.ops one.some (asked_fit (with_begun w store) line one.ops one.asked fits begun) one.free one.store one.answer
 
-tables_acks : (i : ℕ) (t : Scene) (line : Line) → FitsParts line → (found : Found) → IsFit t → (o : Option statements.Database) → store_in i (stored t.bytes) ≡ o
+tables_acks : (i : ℕ) (t : Scene) (line : Line) → FitsParts line → (found : Found) → IsFit t → (o : Option statements.Database) → store_in i t.bytes ≡ o
     → (s : world_steps.Step) → s ≡ on_tables (world_with t i o) o line t.clock → notary_calls (world_with t i o) line t.clock found ≡ [] → IfOk (items_added o s.world.store) t (over_world t (world_with t i o) line found s).next
 tables_acks i t line parts found fits (Some store) is s s_is no_calls ok = statement_acks i t line found store is fits.bytes no_calls s s_is parts fits.sessions ok
 tables_acks i t line parts found fits None is s s_is no_calls ok =
-    let text : s.text ≡ (refuses t (codes "NotAStore")).text = ap (λ (x : world_steps.Step). x.text) s_is in
-    absurd (no_refusal t (codes "NotAStore") (subst SaysOk text ok))
+    absurd (refusal_no (world_with t i None) (why_none (is_some (old_under i t.bytes))) (subst SaysOk (ap (λ (x : world_steps.Step). x.text) s_is) ok))
 
 over_tables : (t : Scene) (o : Option ℕ) (line : Line) → FitsParts line → (found : Found) → IsFit t → GoesToTables line → IfOk (stored_by o t (Ok line) found) t (over_store t o line found).next
 unfolding world_of
 over_tables t None line parts found fits is = refusal_not [] t t (codes "NotAStore")
-over_tables t (Some i) line parts found fits is = tables_acks i t line parts found fits (store_in i (stored t.bytes)) refl
+over_tables t (Some i) line parts found fits is = tables_acks i t line parts found fits (store_in i t.bytes) refl
     (world_steps.step (world_of t i) line t.clock found) (is.steps (world_of t i) t.clock found) (is.calls (world_of t i) t.clock found)
 
 -- ---- other lines say something else

@@ -8,8 +8,10 @@ use Rattle.std.proofs.lemmas.Bool.Decides.{nat_tests}
 use Rattle.byte_grammar.specs.Reading.{IsBytes}
 use Rattle.tuple_bytes.specs.declared.header.Header.{Header}
 use Rattle.tuple_bytes.specs.declared.item.Item.{Item}
+use Rattle.history_model.specs.declared.format.Format.{Format}
+use Rattle.history_model.specs.declared.format.Format.TheVariants.{One, Two}
 use Rattle.history_model.specs.declared.stored.Stored.{Stored}
-use Rattle.history_model.specs.Stored.{stored}
+use Rattle.history_model.specs.Stored.{stored, format_of}
 use Rattle.history_model.specs.History.{History, history}
 use Rattle.history_model.proofs.Stores.{stored_history}
 use Rattle.disk_words.specs.Disk.{written}
@@ -32,14 +34,14 @@ use Rattle.validator.specs.Verdicts.{IsFoundIn, mark_of}
 use Rattle.validator.specs.Texts.{verdict_text, refusal_text}
 use Rattle.store_world.specs.Found.{Found}
 use Rattle.store_world.specs.World as worlds
-use Rattle.store_world.specs.World.{no_sessions, with_mark}
+use Rattle.store_world.specs.World.{no_sessions, with_mark, history_or, is_new, old_under}
 use Rattle.store_world.specs.Steps as world_steps
-use Rattle.store_world.specs.Steps.{on_tables, notarized, validated, algorithm_of, marked, history_of}
+use Rattle.store_world.specs.Steps.{on_tables, notarized, validated, algorithm_of, marked}
 use Rattle.store_world.proofs.Analysing.{analysed_stays}
 use Rattle.store_world.proofs.LineKinds.{GoesToTables}
 use Rattle.txn_journal.specs.Create.{is_free}
-use Rattle.timeline_model.specs.Scene.{Scene, Crash, store_under, store_in, world_with, world_of, batches_of}
-use Rattle.txn_journal.specs.Held.{standing}
+use Rattle.timeline_model.specs.Scene.{Scene, Crash, store_under, store_as, store_in, world_with, world_of, batches_of}
+use Rattle.store_engine.specs.Appended.{standing}
 use Rattle.store_world.specs.LineCalls.{items_added, with_items, appends, end_of_store, notary_calls, validate_calls, noting}
 use Rattle.timeline_model.specs.Lines.{Act, quiet, says, refuses, over_world, over_store, header_at, makes, inits, altered, shortened, brings}
 use Rattle.timeline_model.specs.Timeline.{with_calls, calls_in, stopped, crashed, crashed_behind, under, MayBeFound}
@@ -99,10 +101,11 @@ pub record StoreIs (i : ℕ) (bytes : List ℕ) (store : statements.Database) : 
   pub items : (stored bytes).items ≡ store.items
   pub end : (stored bytes).end ≡ store.end
   pub own : store.header.id ≡ i
+  pub format : format_of bytes ≡ Some Two
 
-store_by : (i : ℕ) (bytes : List ℕ) (o : Option Header) (store : statements.Database) → (stored bytes).header ≡ o → store_under i o (stored bytes) ≡ Some store → StoreIs i bytes store
-store_by i bytes None store is e = absurd cc
-store_by i bytes (Some h) store is e = by (h.id == i) refl e
+store_by : (i : ℕ) (bytes : List ℕ) (o : Option Header) (store : statements.Database) → format_of bytes ≡ Some Two → (stored bytes).header ≡ o → store_under i o (stored bytes) ≡ Some store → StoreIs i bytes store
+store_by i bytes None store new is e = absurd cc
+store_by i bytes (Some h) store new is e = by (h.id == i) refl e
   where
     by : (b : Bool) → (h.id == i) ≡ b → (if b then Some (record { header = h; items = (stored bytes).items; end = (stored bytes).end }) else None) ≡ Some store → StoreIs i bytes store
     by true own e =
@@ -112,19 +115,32 @@ store_by i bytes (Some h) store is e = by (h.id == i) refl e
           items = ap (λ (w : statements.Database). w.items) same;
           end = ap (λ (w : statements.Database). w.end) same;
           own = sym (ap (λ (w : statements.Database). w.header.id) same) ∙ eqb-true h.id i own;
+          format = new;
         }
     by false other e = absurd cc
 
-pub store_is : (i : ℕ) (bytes : List ℕ) (store : statements.Database) → store_in i (stored bytes) ≡ Some store → StoreIs i bytes store
-store_is i bytes store e = store_by i bytes (stored bytes).header store refl e
-
--- its history is what is stored under the id
-pub history_same : (i : ℕ) (header : Option Header) (s : Stored) → history_of (store_under i header s) ≡ under_id i header s
-history_same i None s = refl
-history_same i (Some h) s = by (h.id == i)
+pub store_is : (i : ℕ) (bytes : List ℕ) (store : statements.Database) → store_in i bytes ≡ Some store → StoreIs i bytes store
+store_is i bytes store e = by (format_of bytes) refl e
   where
-    by : (b : Bool) → history_of (if b then Some (record { header = h; items = s.items; end = s.end }) else None) ≡ (if b then Some (history h s.items) else None)
+    by : (o : Option Format) → format_of bytes ≡ o → store_as o (store_under i (stored bytes).header (stored bytes)) ≡ Some store → StoreIs i bytes store
+    by None is e = absurd cc
+    by (Some One) is e = absurd cc
+    by (Some Two) is e = store_by i bytes (stored bytes).header store is refl e
+
+under_same : (i : ℕ) (header : Option Header) (s : Stored) (old : Option History) → old ≡ None → history_or (store_under i header s) old ≡ under_id i header s
+under_same i None s old none = none
+under_same i (Some h) s old none = by (h.id == i)
+  where
+    by : (b : Bool) → history_or (if b then Some (record { header = h; items = s.items; end = s.end }) else None) old ≡ (if b then Some (history h s.items) else None)
     by true = refl
+    by false = none
+
+-- its history, or an old one, is what is stored under the id
+pub history_same : (i : ℕ) (bytes : List ℕ) → history_or (store_in i bytes) (old_under i bytes) ≡ history_with i (stored bytes)
+history_same i bytes = by (is_new (format_of bytes))
+  where
+    by : (b : Bool) → history_or (if b then store_under i (stored bytes).header (stored bytes) else None) (if b then None else history_with i (stored bytes)) ≡ history_with i (stored bytes)
+    by true = under_same i (stored bytes).header (stored bytes) None refl
     by false = refl
 
 -- ---- lines on tables
@@ -137,7 +153,7 @@ pub tables : (id : ℕ) (t : Scene) (o : Option ℕ) (line : Line) (found : Foun
 unfolding world_of
 tables id t None line found is = without_notary id t (over_store t None line found) refl refl
 tables id t (Some i) line found is = without_notary id t (over_store t (Some i) line found) (is.calls (world_of t i) t.clock found)
-    (ap (λ (s : world_steps.Step). s.world.lists) (is.steps (world_of t i) t.clock found) ∙ tables_lists (world_of t i) (store_in i (stored t.bytes)) line t.clock)
+    (ap (λ (s : world_steps.Step). s.world.lists) (is.steps (world_of t i) t.clock found) ∙ tables_lists (world_of t i) (store_in i t.bytes) line t.clock)
 
 -- ---- the lines that a drill has besides
 
@@ -182,15 +198,15 @@ module _ (id i : ℕ) (t : Scene) (found : Found) where
   bytes_stay : (o : Option statements.Database) (lists : Lists) (end : ℕ) → with_items end (items_added o o) t.bytes ≡ t.bytes
   bytes_stay o lists end = ap (λ (is : List Item). with_items end is t.bytes) (none_added o)
 
-  module _ (o : Option statements.Database) (is : store_in i (stored t.bytes) ≡ o) (may : IsFoundIn (batches_of t i) (history_of o) found.verdict) where
+  module _ (o : Option statements.Database) (is : store_in i t.bytes ≡ o) (may : IsFoundIn (batches_of t i) (history_or o (old_under i t.bytes)) found.verdict) where
     abbrev w : worlds.World
     w = world_with t i o
 
     abbrev a : Act
     a = over_world t w line found (validated w t.clock found.verdict found.refusal)
 
-    history_is : history_of o ≡ history_with i (stored t.bytes)
-    history_is = ap history_of (sym is) ∙ history_same i (stored t.bytes).header (stored t.bytes)
+    history_is : history_or o (old_under i t.bytes) ≡ history_with i (stored t.bytes)
+    history_is = ap (λ (x : Option statements.Database). history_or x (old_under i t.bytes)) (sym is) ∙ history_same i t.bytes
 
     marks_here : (verdict : Verdict) (mark : Mark) (after : Scene) → found.verdict ≡ Ok verdict → mark_of verdict t.clock ≡ Some mark → after.bytes ≡ t.bytes → after.clock ≡ t.clock → after.lists ≡ with_mark i mark t.lists → ActsOn id t after
     marks_here verdict mark after found_is mark_is bytes_same clock_same lists_are bytes = by (cases_eq id i)
@@ -204,7 +220,7 @@ module _ (id i : ℕ) (t : Scene) (found : Found) where
           is_mark = mark_is;
           found =
               let there : IsFoundIn (batches_of t i) (history_with i (stored t.bytes)) (Ok verdict) =
-              subst (λ (x : Option History). IsFoundIn (batches_of t i) x (Ok verdict)) history_is (subst (λ (r : Result Verdict AuditFail). IsFoundIn (batches_of t i) (history_of o) r) found_is may) in
+              subst (λ (x : Option History). IsFoundIn (batches_of t i) x (Ok verdict)) history_is (subst (λ (r : Result Verdict AuditFail). IsFoundIn (batches_of t i) (history_or o (old_under i t.bytes)) r) found_is may) in
               subst (λ (x : ℕ). IsFoundIn (batches_of t x) (history_with x (stored after.bytes)) (Ok verdict)) (sym own)
               (subst (λ (x : List ℕ). IsFoundIn (batches_of t i) (history_with i (stored x)) (Ok verdict)) (sym bytes_same) there);
           spelled = λ s held_is. spelled_of after.bytes s bytes held_is;
@@ -274,7 +290,7 @@ module _ (id i : ℕ) (t : Scene) (found : Found) where
 pub validate_acts : (id : ℕ) (t : Scene) (o : Option ℕ) (found : Found) → MayBeFound o t (Ok (lines.Plain stmts.Validate)) found → ActsEither id t (over_store t o (lines.Plain stmts.Validate) found)
 unfolding world_of world_steps.step
 validate_acts id t None found may = without_notary id t (over_store t None (lines.Plain stmts.Validate) found) refl refl
-validate_acts id t (Some i) found may = validates id i t found (store_in i (stored t.bytes)) refl may.0
+validate_acts id t (Some i) found may = validates id i t found (store_in i t.bytes) refl may.0
 
 -- ---- an analysis
 

@@ -45,9 +45,9 @@ use Rattle.stmt_text.specs.declared.stmt.LineAlgorithm.{LineAlgorithm}
 use Rattle.stmt_text.specs.declared.stmt.Stmt.TheVariants as stmts
 use Rattle.stmt_text.specs.declared.line.Line.TheVariants as lines
 use Rattle.store_world.specs.Found.{Found as FoundOf}
-use Rattle.store_world.specs.World.{World}
+use Rattle.store_world.specs.World.{World, history_or, old_under}
 use Rattle.store_world.specs.Steps as world_steps
-use Rattle.store_world.specs.Steps.{history_of, algorithm_of, intent_in, unless, carried_out, notarized, marked, validated, analysed}
+use Rattle.store_world.specs.Steps.{algorithm_of, intent_in, unless, carried_out, notarized, marked, validated, analysed}
 use Rattle.store_world.specs.Finding.{MayFile, MayMark, MayFind, full_unless}
 use Rattle.timeline_model.specs.Scene.{Scene, nothing_yet, store_in, world_of, held, batches_of}
 use Rattle.timeline_model.specs.Timeline.{Event, after, IsTimeline}
@@ -222,8 +222,8 @@ module _ (limits : NotaryLimits) (es : List Event) (id : ℕ) (is_timeline : IsT
   bytes : IsBytes now.bytes
   bytes = (fit_after t es (nothing_fit limits) is_timeline).bytes
 
-  file_is : history_of (store_in id (stored now.bytes)) ≡ file
-  file_is = history_same id (stored now.bytes).header (stored now.bytes)
+  file_is : history_or (store_in id now.bytes) (old_under id now.bytes) ≡ file
+  file_is = history_same id now.bytes
 
   module _ (h : History) (n : ℕ) (over : IsFiledOver t es id h n) where
     filed_clash : HasClash t es h n → HasFiledClash t es id

@@ -36,7 +36,7 @@ use Rattle.timeline_model.proofs.Sealing as sealing
 use Rattle.timeline_model.proofs.Events.{fit_after, nothing_fit}
 
 -- over the store of a scene
-module _ (i : ℕ) (t : Scene) (store : statements.Database) (is : store_in i (stored t.bytes) ≡ Some store) (bytes_before : IsBytes t.bytes)
+module _ (i : ℕ) (t : Scene) (store : statements.Database) (is : store_in i t.bytes ≡ Some store) (bytes_before : IsBytes t.bytes)
     (ops : List Op) (some : 1 ≤ length ops) (fit : AllByRecursion IsFitOp ops) (free : commit_fault (statements.tail_of_database store) false ops t.clock ≡ None) where
   facts : StoreIs i t.bytes store
   facts = store_is i t.bytes store is

@@ -32,7 +32,8 @@ use Rattle.forensic_report.proofs.Showing.{shows}
 use Rattle.store_world.specs.Found.{Found as FoundOf}
 use Rattle.store_world.specs.World as worlds
 use Rattle.store_world.specs.Steps as world_steps
-use Rattle.store_world.specs.Steps.{history_of, algorithm_of, analysed}
+use Rattle.store_world.specs.World.{history_or, old_under}
+use Rattle.store_world.specs.Steps.{algorithm_of, analysed}
 use Rattle.store_world.proofs.Analysing.{analysed_stays}
 use Rattle.store_world.specs.LineCalls.{notary_calls}
 use Rattle.timeline_model.specs.Scene.{Scene, Crash, nothing_yet, store_in, world_of, held, batches_of}
@@ -128,13 +129,13 @@ module _ (limits : NotaryLimits) (e : Event) (es : List Event) (id : ℕ) (state
   may = subst (λ (o : Option ℕ). MayBeFound o now (Ok asked) e.found) reported.own
       (subst (λ (l : Result Line ParseFail). MayBeFound now.id now l e.found) reported.line is_timeline.1.found)
 
-  found_in_world : IsAnalysisIn algorithm batches (history_of (store_in id (stored now.bytes))) e.found.analysis
+  found_in_world : IsAnalysisIn algorithm batches (history_or (store_in id now.bytes) (old_under id now.bytes)) e.found.analysis
   unfolding world_of
   found_in_world = may.0
 
   found : IsAnalysisIn algorithm batches file (Ok a)
-  found = subst (λ (o : Option History). IsAnalysisIn algorithm batches o (Ok a)) (history_same id (stored now.bytes).header (stored now.bytes))
-      (subst (λ (r : Result Analysis AnalyseFail). IsAnalysisIn algorithm batches (history_of (store_in id (stored now.bytes))) r) reported.found found_in_world)
+  found = subst (λ (o : Option History). IsAnalysisIn algorithm batches o (Ok a)) (history_same id now.bytes)
+      (subst (λ (r : Result Analysis AnalyseFail). IsAnalysisIn algorithm batches (history_or (store_in id now.bytes) (old_under id now.bytes)) r) reported.found found_in_world)
 
   -- ---- the reply
 

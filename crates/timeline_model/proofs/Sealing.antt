@@ -56,8 +56,7 @@ use Rattle.store_world.specs.Steps as world_steps
 use Rattle.store_world.specs.Steps.{notarized, intent_in, carried_out, reached, filed}
 use Rattle.store_world.specs.Finding.{MayFile}
 use Rattle.timeline_model.specs.Scene.{Scene, Crash, store_in, world_with, world_of, held}
-use Rattle.txn_journal.specs.Held.{standing}
-use Rattle.store_engine.specs.Appended.{with_record, Takes}
+use Rattle.store_engine.specs.Appended.{standing, with_record, Takes}
 use Rattle.store_engine.proofs.Appended.{gate_inside, stores_record}
 use Rattle.store_world.specs.LineCalls.{items_added, with_items, appends, notary_calls, filing_calls, unless}
 use Rattle.timeline_model.specs.Lines.{Act, over_world, over_store}
@@ -209,7 +208,7 @@ frontier_items (Some moment) = items.Frontier moment ∷ []
 line : Line
 line = lines.Plain stmts.Notarize
 
-module _ (i : ℕ) (t : Scene) (found : Found) (store : statements.Database) (is : store_in i (stored t.bytes) ≡ Some store) (bytes_before : IsBytes t.bytes) where
+module _ (i : ℕ) (t : Scene) (found : Found) (store : statements.Database) (is : store_in i t.bytes ≡ Some store) (bytes_before : IsBytes t.bytes) where
   abbrev h : History
   h = history store.header store.items
 
@@ -261,7 +260,7 @@ module _ (i : ℕ) (t : Scene) (found : Found) (store : statements.Database) (is
   added_is (Some moment) = drop_at store.items (items.Frontier moment ∷ []) (length store.items) refl
 
   pub stores_before : Stores store.header store.items t.bytes
-  stores_before = record { header_is = facts.header; items_are = facts.items }
+  stores_before = record { header_is = facts.header; items_are = facts.items; format = facts.format }
 
   module _ (free : notarize_fault tail false now store.items found.heard ≡ None) where
     pub early : early_fault tail false now ≡ None
@@ -449,7 +448,7 @@ module _ (i : ℕ) (t : Scene) (found : Found) (store : statements.Database) (is
 
 -- ---- whatever is stored
 
-with_store : (id i : ℕ) (t : Scene) (found : Found) → IsBytes t.bytes → (o : Option statements.Database) → store_in i (stored t.bytes) ≡ o → IfSome o (MayFile (world_with t i o) t.clock found) → ActsEither id t (over_world t (world_with t i o) line found (notarized (world_with t i o) o t.clock found.heard found.refusal))
+with_store : (id i : ℕ) (t : Scene) (found : Found) → IsBytes t.bytes → (o : Option statements.Database) → store_in i t.bytes ≡ o → IfSome o (MayFile (world_with t i o) t.clock found) → ActsEither id t (over_world t (world_with t i o) line found (notarized (world_with t i o) o t.clock found.heard found.refusal))
 unfolding notary_calls line
 with_store id i t found bytes None is may = without_notary id t (over_world t (world_with t i None) line found (notarized (world_with t i None) None t.clock found.heard found.refusal)) refl refl
 with_store id i t found bytes (Some store) is may = store_acts i t found store is bytes may.heard id
@@ -457,4 +456,4 @@ with_store id i t found bytes (Some store) is may = store_acts i t found store i
 pub notarize_acts : (id : ℕ) (t : Scene) (o : Option ℕ) (found : Found) → MayBeFound o t (Ok (lines.Plain stmts.Notarize)) found → IsBytes t.bytes → ActsEither id t (over_store t o (lines.Plain stmts.Notarize) found)
 unfolding world_of world_steps.step line
 notarize_acts id t None found may bytes = without_notary id t (over_store t None (lines.Plain stmts.Notarize) found) refl refl
-notarize_acts id t (Some i) found may bytes = with_store id i t found bytes (store_in i (stored t.bytes)) refl may
+notarize_acts id t (Some i) found may bytes = with_store id i t found bytes (store_in i t.bytes) refl may

@@ -110,7 +110,7 @@ module _ (w : worlds.World) (now : ℕ) (logs : Logs) where
   step_held : (line : Line) (found : Found) → HeldIn (store_of w) logs → HeldIn (store_of (world_steps.step w line now found).world) (told_more logs (store_of w) (Ok line) now)
   step_held line found held = by_line (λ line s. HeldIn (store_of s.world) (told_more logs (store_of w) (Ok line) now)) w line now found (λ line. tables_held w.store refl line held)
       (plain_held stmts.Notarize (notarized w w.store now found.heard found.refusal).world (notarized_held found.heard found.refusal w.store refl held))
-      (plain_held stmts.Validate (validated w now found.verdict found.refusal).world (stays_held (validated w now found.verdict found.refusal).world (with_validated w now found.verdict found.refusal).store (validated_rest w now found.verdict found.refusal).sessions held))
+      (plain_held stmts.Validate (validated w now found.verdict found.refusal).world (stays_held (validated w now found.verdict found.refusal).world (with_validated w now found.verdict found.refusal).same.store (validated_rest w now found.verdict found.refusal).sessions held))
       (λ algorithm. plain_held (stmts.Analyse algorithm) (world_steps.analysed w (algorithm_of algorithm) found.analysis found.body).world
       (subst (λ (x : worlds.World). HeldIn (store_of x) logs) (sym (analysed_stays w (algorithm_of algorithm) found.analysis found.body)) held))
 
@@ -127,7 +127,7 @@ clock_same (Some id) t moment = refl
 
 held_without_sessions : (id : Option ℕ) (t : Scene) (logs : Logs) → HeldIn (begun_under id (without_sessions t)) logs
 held_without_sessions None t logs = tt
-held_without_sessions (Some id) t logs = by (store_in id (stored t.bytes))
+held_without_sessions (Some id) t logs = by (store_in id t.bytes)
   where
     by : (o : Option statements.Database) → HeldIn (option_map (λ store. record { store = store; sessions = no_sessions }) o) logs
     by None = tt
@@ -144,7 +144,7 @@ under_held t a (Some crash) logs held = by (nat_le (calls_in a) crash.after)
 -- the world of a scene
 same_store : (t : Scene) (id : ℕ) → store_of (world_of t id) ≡ begun_under (Some id) t
 unfolding world_of
-same_store t id = by (store_in id (stored t.bytes))
+same_store t id = by (store_in id t.bytes)
   where
     by : (o : Option statements.Database) → option_map {U = sessions.Service} (λ store. record { store = store; sessions = sessions_over o t.sessions }) o ≡ option_map {U = sessions.Service} (λ store. record { store = store; sessions = t.sessions }) o
     by None = refl
@@ -241,7 +241,7 @@ all_held t (e ∷ es) fits held is = event_held (after t es) e (told t es) (fit_
 replied_by : (t : Scene) (id n : ℕ) (stmt : Stmt) (found : Found) (w : sessions.Service) → begun_under (Some id) t ≡ Some w
     → (world_steps.step (world_of t id) (lines.InSession n stmt) t.clock found).text ≡ reply_text (reply_of (session_steps.serve w (lines.InSession n stmt) t.clock).answer)
 unfolding world_of world_steps.step
-replied_by t id n stmt found w is = by (store_in id (stored t.bytes)) is
+replied_by t id n stmt found w is = by (store_in id t.bytes) is
   where
     by : (o : Option statements.Database) → option_map {U = sessions.Service} (λ store. record { store = store; sessions = t.sessions }) o ≡ Some w
         → (on_tables (world_with t id o) o (lines.InSession n stmt) t.clock).text ≡ reply_text (reply_of (session_steps.serve w (lines.InSession n stmt) t.clock).answer)

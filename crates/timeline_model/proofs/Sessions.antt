@@ -86,16 +86,17 @@ asked_fit w (lines.InSession n stmt) ops (s, is, same) fits all =
 asked_fit w lines.Blank ops asked fits all = absurd asked
 asked_fit w (lines.Drill event) ops asked fits all = absurd asked
 
--- ---- an audit keeps the id, the limits, the sessions, and that there is a store
+-- ---- an audit keeps the id, what is old, the limits, the sessions, and that there is a store
 
 pub record KeepsRest (w new : worlds.World) : Type 0 where
   pub id : new.id ≡ w.id
+  pub old : new.old_history ≡ w.old_history
   pub limits : new.limits ≡ w.limits
   pub sessions : new.sessions ≡ w.sessions
   pub store : is_some new.store ≡ is_some w.store
 
 rest_same : (w : worlds.World) → KeepsRest w w
-rest_same w = record { id = refl; limits = refl; sessions = refl; store = refl }
+rest_same w = record { id = refl; old = refl; limits = refl; sessions = refl; store = refl }
 
 unless_rest : (w : worlds.World) (fault : Option AuditFail) (new : worlds.World) (s : Step) → KeepsRest w new → KeepsRest w s.world → KeepsRest w (unless fault new s).world
 unless_rest w (Some fail) new s one other = one
@@ -105,7 +106,7 @@ pub notarized_rest : (w : worlds.World) (o : Option statements.Database) → w.s
 notarized_rest w None is now heard refusal = rest_same w
 notarized_rest w (Some store) is now heard refusal =
     let i = intent_in store now heard in
-    let rest : KeepsRest w (world_steps.filed (worlds.with_store w (world_steps.reached i.frontier store)) i.batches) = record { id = refl; limits = refl; sessions = refl; store = sym (ap is_some is) } in
+    let rest : KeepsRest w (world_steps.filed (worlds.with_store w (world_steps.reached i.frontier store)) i.batches) = record { id = refl; old = refl; limits = refl; sessions = refl; store = sym (ap is_some is) } in
     unless_rest w i.fault w (carried_out w store i refusal) (rest_same w) (unless_rest w refusal _ _ rest rest)
 
 pub validated_rest : (w : worlds.World) (now : ℕ) (found : Result Verdict AuditFail) (refusal : Option AuditFail) → KeepsRest w (validated w now found refusal).world
@@ -114,13 +115,14 @@ validated_rest w now (Ok verdict) refusal = by (mark_of verdict now)
   where
     by : (m : Option Mark) → KeepsRest w (marked w m refusal (verdict_text verdict)).world
     by None = rest_same w
-    by (Some mark) = unless_rest w refusal w _ (rest_same w) (record { id = refl; limits = refl; sessions = refl; store = refl })
+    by (Some mark) = unless_rest w refusal w _ (rest_same w) (record { id = refl; old = refl; limits = refl; sessions = refl; store = refl })
 
 -- ---- a line
 
--- the id and the limits stay; and without a store there is no session, if that was so
+-- the id, what is old and the limits stay; and without a store there is no session, if that was so
 pub record StaysUnder (w new : worlds.World) : Type 0 where
   pub id : new.id ≡ w.id
+  pub old : new.old_history ≡ w.old_history
   pub limits : new.limits ≡ w.limits
   pub over : sessions_over w.store w.sessions ≡ w.sessions → sessions_over new.store new.sessions ≡ new.sessions
   pub fit : AreFit w.sessions → AreFit new.sessions
@@ -133,6 +135,7 @@ over_same None (Some y) begun same over = absurd cc
 stays_under : (w new : worlds.World) → KeepsRest w new → StaysUnder w new
 stays_under w new rest = record {
   id = rest.id;
+  old = rest.old;
   limits = rest.limits;
   over = λ over. subst (λ (begun : ℕ → Option Session). sessions_over new.store begun ≡ begun) (sym rest.sessions) (over_same new.store w.store w.sessions rest.store over);
   fit = subst AreFit (sym rest.sessions);
@@ -140,7 +143,7 @@ stays_under w new rest = record {
 
 tables_under : (w : worlds.World) (o : Option statements.Database) (line : Line) (now : ℕ) → FitsParts line → StaysUnder w (on_tables w o line now).world
 tables_under w None line now fits = stays_under w w (rest_same w)
-tables_under w (Some store) line now fits = record { id = refl; limits = refl; over = λ over. refl; fit = session_fit (with_begun w store) line now fits }
+tables_under w (Some store) line now fits = record { id = refl; old = refl; limits = refl; over = λ over. refl; fit = session_fit (with_begun w store) line now fits }
 
 pub step_under : (w : worlds.World) (line : Line) (now : ℕ) (found : Found) → FitsParts line → StaysUnder w (world_steps.step w line now found).world
 step_under w line now found = by_line (λ line s. FitsParts line → StaysUnder w s.world) w line now found (λ line. tables_under w w.store line now)
@@ -155,7 +158,7 @@ over_fit (Some store) begun all = all
 
 pub world_fit : (t : Scene) (id : ℕ) → AreFit t.sessions → AreFit (world_of t id).sessions
 unfolding world_of
-world_fit t id all = over_fit (store_in id (stored t.bytes)) t.sessions all
+world_fit t id all = over_fit (store_in id t.bytes) t.sessions all
 
 over_over : (o : Option statements.Database) (begun : ℕ → Option Session) → sessions_over o (sessions_over o begun) ≡ sessions_over o begun
 over_over None begun = refl
@@ -168,7 +171,7 @@ none_over (Some store) = refl
 -- what is over its store
 pub world_over : (t : Scene) (id : ℕ) → sessions_over (world_of t id).store (world_of t id).sessions ≡ (world_of t id).sessions
 unfolding world_of
-world_over t id = over_over (store_in id (stored t.bytes)) t.sessions
+world_over t id = over_over (store_in id t.bytes) t.sessions
 
 -- ---- a scene
 

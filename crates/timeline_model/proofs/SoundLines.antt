@@ -47,14 +47,14 @@ use Rattle.store_world.specs.Found.{Found}
 use Rattle.store_world.specs.Laws.{HoldsFiled, TellsNoAlteration}
 use Rattle.store_world.proofs.SoundWorlds.{sound_worlds}
 use Rattle.store_world.specs.World as worlds
-use Rattle.store_world.specs.World.{no_sessions}
+use Rattle.store_world.specs.World.{no_sessions, history_or, old_under}
 use Rattle.store_world.specs.Steps as world_steps
-use Rattle.store_world.specs.Steps.{notarized, intent_in, carried_out, validated, analysed, algorithm_of, marked, reached, history_of}
+use Rattle.store_world.specs.Steps.{notarized, intent_in, carried_out, validated, analysed, algorithm_of, marked, reached}
 use Rattle.store_world.specs.Finding.{MayFile, MayFind}
 use Rattle.store_world.proofs.LineKinds.{goes_to_tables}
 use Rattle.store_world.proofs.Analysing.{analysed_stays}
 use Rattle.timeline_model.specs.Scene.{Scene, Crash, nothing_yet, store_in, world_with, world_of, held, batches_of}
-use Rattle.txn_journal.specs.Held.{standing}
+use Rattle.store_engine.specs.Appended.{standing}
 use Rattle.store_world.specs.LineCalls.{end_of_store, items_added, with_items, appends, notary_calls, validate_calls, noting, filing_calls, unless}
 use Rattle.timeline_model.specs.Lines.{Act, says, refuses, over_world, over_store, header_at, act}
 use Rattle.timeline_model.specs.Timeline.{Event, step, without_crash, act_on, name_of, after, with_calls, calls_in, stopped, IsDrillLine, IsReading, FitsReading, MayBeFound, IsTimeline, MayCome}
@@ -103,12 +103,12 @@ validate_by : (i : ℕ) (t : Scene) (found : Found) → (o : Option statements.D
 unfolding notary_calls
 validate_by i t found o =
     let parts = with_validated (world_with t i o) t.clock found.verdict found.refusal in
-    asked_by i t (lines.Plain stmts.Validate) found o (validated (world_with t i o) t.clock found.verdict found.refusal) parts.store parts.batches (λ n id. validated_batches n (world_with t i o) t.clock found.verdict t.lists id)
+    asked_by i t (lines.Plain stmts.Validate) found o (validated (world_with t i o) t.clock found.verdict found.refusal) parts.same.store parts.batches (λ n id. validated_batches n (world_with t i o) t.clock found.verdict t.lists id)
 
 validate_sound : (t : Scene) (o : Option ℕ) (found : Found) → SoundEither (stored_by o t (Ok (lines.Plain stmts.Validate)) found) t (over_store t o (lines.Plain stmts.Validate) found)
 unfolding world_of world_steps.step
 validate_sound t None found = quiet_sound [] t (refuses t (codes "NotAStore")) refl refl
-validate_sound t (Some i) found = validate_by i t found (store_in i (stored t.bytes))
+validate_sound t (Some i) found = validate_by i t found (store_in i t.bytes)
 
 -- ---- an analysis
 
@@ -123,7 +123,7 @@ analyse_by i t algorithm found o =
 analyse_sound : (t : Scene) (algorithm : LineAlgorithm) (o : Option ℕ) (found : Found) → SoundEither (stored_by o t (Ok (lines.Plain (stmts.Analyse algorithm))) found) t (over_store t o (lines.Plain (stmts.Analyse algorithm)) found)
 unfolding world_of world_steps.step
 analyse_sound t algorithm None found = quiet_sound [] t (refuses t (codes "NotAStore")) refl refl
-analyse_sound t algorithm (Some i) found = analyse_by i t algorithm found (store_in i (stored t.bytes))
+analyse_sound t algorithm (Some i) found = analyse_by i t algorithm found (store_in i t.bytes)
 
 -- ---- a notarization
 
@@ -135,7 +135,7 @@ unfolding frontier_items
 around_is None its = sym (append-nil its)
 around_is (Some moment) its = refl
 
-module _ (i : ℕ) (t : Scene) (found : Found) (store : statements.Database) (is : store_in i (stored t.bytes) ≡ Some store) (bytes_before : IsBytes t.bytes)
+module _ (i : ℕ) (t : Scene) (found : Found) (store : statements.Database) (is : store_in i t.bytes ≡ Some store) (bytes_before : IsBytes t.bytes)
     (hears : found.heard ≡ heard_of (t.lists.batches i) (history store.header store.items)) where
   abbrev h : History
   h = history store.header store.items
@@ -168,7 +168,7 @@ module _ (i : ℕ) (t : Scene) (found : Found) (store : statements.Database) (is
   facts = store_is i t.bytes store is
 
   stores_now : Stores store.header store.items t.bytes
-  stores_now = record { header_is = facts.header; items_are = facts.items }
+  stores_now = record { header_is = facts.header; items_are = facts.items; format = facts.format }
 
   held_now : held t ≡ Some h
   held_now = stored_held store.header store.items t stores_now
@@ -345,7 +345,7 @@ module _ (i : ℕ) (t : Scene) (found : Found) (store : statements.Database) (is
           (ap (λ (fault : Option AuditFail). (world_steps.unless fault w (carried_out w store (intent_in store now found.heard) found.refusal)).world.store) cause)
           (ap (λ (fault : Option AuditFail). (world_steps.unless fault w (carried_out w store (intent_in store now found.heard) found.refusal)).world.lists) cause)
 
-with_store : (i : ℕ) (t : Scene) (found : Found) → IsFit t → (o : Option statements.Database) → store_in i (stored t.bytes) ≡ o → IfSome o (MayFile (world_with t i o) t.clock found)
+with_store : (i : ℕ) (t : Scene) (found : Found) → IsFit t → (o : Option statements.Database) → store_in i t.bytes ≡ o → IfSome o (MayFile (world_with t i o) t.clock found)
     → SoundEither (items_added o (notarized (world_with t i o) o t.clock found.heard found.refusal).world.store) t (over_world t (world_with t i o) line found (notarized (world_with t i o) o t.clock found.heard found.refusal))
 unfolding notary_calls line
 with_store i t found fits None is may = tables_by i t line (tt, refl) found fits None is (notarized (world_with t i None) None t.clock found.heard found.refusal) refl refl
@@ -354,7 +354,7 @@ with_store i t found fits (Some store) is may = store_sound i t found store is f
 notarize_sound : (t : Scene) (o : Option ℕ) (found : Found) → MayBeFound o t (Ok (lines.Plain stmts.Notarize)) found → IsFit t → SoundEither (stored_by o t (Ok (lines.Plain stmts.Notarize)) found) t (over_store t o (lines.Plain stmts.Notarize) found)
 unfolding world_of world_steps.step line
 notarize_sound t None found may fits = quiet_sound [] t (refuses t (codes "NotAStore")) refl refl
-notarize_sound t (Some i) found may fits = with_store i t found fits (store_in i (stored t.bytes)) refl may
+notarize_sound t (Some i) found may fits = with_store i t found fits (store_in i t.bytes) refl may
 
 -- ---- each line
 
@@ -423,16 +423,16 @@ sound_under filed_ones id (Some hd) x (inr known) =
     let test : (hd.id == id) ≡ true = eq-eqb hd.id id known.2.filed.header in
     inr (known.0, known.1, subst (λ (b : Bool). HoldsNotarized filed_ones id known.0 (if b then Some (history hd x.items) else None)) (sym test) known.2)
 
-fit_header : (t : Scene) (id : ℕ) → IsBytes t.bytes → (o : Option statements.Database) → store_in id (stored t.bytes) ≡ o → IfSome o (λ store. FitsHeader store.header × (store.header.id ≡ id))
+fit_header : (t : Scene) (id : ℕ) → IsBytes t.bytes → (o : Option statements.Database) → store_in id t.bytes ≡ o → IfSome o (λ store. FitsHeader store.header × (store.header.id ≡ id))
 fit_header t id bytes None is = tt
 fit_header t id bytes (Some store) is = (let facts = store_is id t.bytes store is in ((stored_history t.bytes store.header bytes facts.header).header, facts.own))
 
 tells : (t : Scene) (id : ℕ) (line : Line) (found : Found) → IsBytes t.bytes → IsSoundScene t → MayFind (world_of t id) line t.clock found → TellsNoAlteration (world_of t id) line found
 unfolding world_of
 tells t id line found bytes sound may =
-    let under : HoldsFiled (batches_of t id) id (history_of (store_in id (stored t.bytes))) =
-    subst (HoldsFiled (batches_of t id) id) (sym (history_same id (stored t.bytes).header (stored t.bytes))) (sound_under (batches_of t id) id (stored t.bytes).header (stored t.bytes) (sound id)) in
-    (sound_worlds (world_of t id) line t.clock found (fit_header t id bytes (store_in id (stored t.bytes)) refl) under may).2
+    let under : HoldsFiled (batches_of t id) id (history_or (store_in id t.bytes) (old_under id t.bytes)) =
+    subst (HoldsFiled (batches_of t id) id) (sym (history_same id t.bytes)) (sound_under (batches_of t id) id (stored t.bytes).header (stored t.bytes) (sound id)) in
+    (sound_worlds (world_of t id) line t.clock found (fit_header t id bytes (store_in id t.bytes) refl) under may).2
 
 pub next_tells : NextLinesTellNoAlteration
 next_tells limits es id line found is inside may = tells (after (nothing_yet limits) es) id line found (fit_after (nothing_yet limits) es (nothing_fit limits) is).bytes (all_sound (nothing_yet limits) es (nothing_fit limits) (λ any. inl refl) is inside) may

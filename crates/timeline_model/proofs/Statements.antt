@@ -102,7 +102,7 @@ module _ (w : worlds.World) (line : Line) (now : ℕ) where
 
 pub step_stores : (w : worlds.World) (line : Line) (now : ℕ) (found : Found) → Stores w line now (world_steps.step w line now found).world.store
 step_stores w line now found = by_line (λ line s. Stores w line now s.world.store) w line now found (λ line. of_tables w line now w.store refl) (of_notarize w (lines.Plain stmts.Notarize) now found.heard found.refusal w.store refl)
-    (inl (with_validated w now found.verdict found.refusal).store) (λ algorithm. inl (ap (λ (x : worlds.World). x.store) (analysed_stays w (algorithm_of algorithm) found.analysis found.body)))
+    (inl (with_validated w now found.verdict found.refusal).same.store) (λ algorithm. inl (ap (λ (x : worlds.World). x.store) (analysed_stays w (algorithm_of algorithm) found.analysis found.body)))
 
 -- the items of that
 module _ (w : worlds.World) (line : Line) (now : ℕ) (new : Option statements.Database) where

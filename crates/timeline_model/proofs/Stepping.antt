@@ -3,13 +3,15 @@ use Rattle.std.proofs.Common.{◌≡◌, inl, inr, ℕ, ◌≤◌, Bool, true, L
 use Rattle.std.specs.Prelude.{nat_le, if◌then◌else◌}
 use Rattle.std.proofs.lemmas.Bool.{eq-eqb, le-leb}
 use Rattle.byte_grammar.specs.Reading.{IsBytes}
-use Rattle.byte_grammar.specs.Gated.{end_behind}
 use Rattle.tuple_bytes.specs.declared.header.Header.{Header}
 use Rattle.tuple_bytes.specs.declared.item.Item.{Item}
 use Rattle.tuple_bytes.specs.declared.item.Item.TheVariants as items
 use Rattle.tuple_bytes.specs.Spelling.{spell_item}
-use Rattle.history_model.specs.declared.stored.Stored.{Stored}
-use Rattle.history_model.specs.Stored.{stored}
+use Rattle.history_model.specs.declared.format.Format.{Format}
+use Rattle.history_model.specs.declared.format.Format.TheVariants.{Two}
+use Rattle.history_model.specs.Stored.{stored, format_of}
+use Rattle.history_model.specs.History.{History}
+use Rattle.history_model.specs.Placing.{gate_behind}
 use Rattle.notary_link.specs.declared.notary.NotaryLimits.{NotaryLimits}
 use Rattle.store_engine.specs.Opened as opened
 use Rattle.stmt_text.specs.declared.error.ParseFail.{ParseFail}
@@ -26,8 +28,10 @@ use Rattle.store_world.specs.Steps as world_steps
 use Rattle.store_world.specs.Steps.{on_tables, notarized, filed, reached, validated, algorithm_of, marked, IsWorldStmt, IsWorldLine}
 use Rattle.store_engine.specs.Appended.{with_record, Takes}
 use Rattle.store_engine.proofs.Appended.{append_adds, append_puts, stores_record}
+use Rattle.store_world.specs.World.{old_under}
 use Rattle.store_world.specs.LineCalls.{items_added, with_items, end_of_store}
-use Rattle.timeline_model.specs.Scene.{Scene, Crash, nothing_yet, sessions_over, store_under, store_in, world_of}
+use Rattle.store_world.proofs.Tables.{none_old}
+use Rattle.timeline_model.specs.Scene.{Scene, Crash, nothing_yet, sessions_over, store_under, store_as, store_in, world_of}
 use Rattle.timeline_model.specs.Lines.{Act, Next, over_world, over_store, act}
 use Rattle.timeline_model.specs.Timeline.{Event, calls_in, crashed_behind, under, without_crash, act_on, step, after, FitsReading}
 use Rattle.timeline_model.specs.Stepping.{IsWhole, left_by, TakesItsStep, LinesTakeTheirStep}
@@ -42,17 +46,19 @@ use Rattle.timeline_model.proofs.Events.{fit_after, nothing_fit}
 -- ---- a store with an item more
 
 -- the world of a store that is read
-pub world_read : (id : ℕ) (header : Header) (s : Stored) → s.header ≡ Some header → header.id ≡ id → store_in id s ≡ Some (record { header = header; items = s.items; end = s.end })
-world_read id header s is own =
-    ap (λ (o : Option Header). store_under id o s) is
-    ∙ ap (λ (b : Bool). if b then Some (record { header = header; items = s.items; end = s.end }) else None) (eq-eqb header.id id own)
+pub world_read : (id : ℕ) (header : Header) (bytes : List ℕ) → (stored bytes).header ≡ Some header → format_of bytes ≡ Some Two → header.id ≡ id
+    → store_in id bytes ≡ Some (record { header = header; items = (stored bytes).items; end = (stored bytes).end })
+world_read id header bytes is new own =
+    ap (λ (o : Option Format). store_as o (store_under id (stored bytes).header (stored bytes))) new
+    ∙ ap (λ (o : Option Header). store_under id o (stored bytes)) is
+    ∙ ap (λ (b : Bool). if b then Some (record { header = header; items = (stored bytes).items; end = (stored bytes).end }) else None) (eq-eqb header.id id own)
 
-module _ (id : ℕ) (t : Scene) (store : statements.Database) (is : store_in id (stored t.bytes) ≡ Some store) (bytes : IsBytes t.bytes) (item : Item) (takes : Takes t.bytes item) where
+module _ (id : ℕ) (t : Scene) (store : statements.Database) (is : store_in id t.bytes ≡ Some store) (bytes : IsBytes t.bytes) (item : Item) (takes : Takes t.bytes item) where
   facts : StoreIs id t.bytes store
   facts = store_is id t.bytes store is
 
   now_stores : opened.Stores store.header store.items t.bytes
-  now_stores = record { header_is = facts.header; items_are = facts.items }
+  now_stores = record { header_is = facts.header; items_are = facts.items; format = facts.format }
 
   abbrev y : List ℕ
   y = with_items store.end (item ∷ []) t.bytes
@@ -61,18 +67,22 @@ module _ (id : ℕ) (t : Scene) (store : statements.Database) (is : store_in id 
   stores = subst (λ (e : ℕ). opened.Stores store.header (store.items ++ item ∷ []) (with_record e item t.bytes)) facts.end
       (stores_record store.header store.items item t.bytes now_stores takes)
 
-  end_is : (stored y).end ≡ end_behind store.end (length (spell_item item))
+  end_is : (stored y).end ≡ gate_behind store.end (length (spell_item item))
   end_is =
       ap (λ (e : ℕ). (stored (with_record e item t.bytes)).end) (sym facts.end)
       ∙ ap (λ (x : List ℕ). (stored x).end) (sym (append_puts store.header store.items item t.bytes now_stores))
       ∙ (append_adds store.header store.items item t.bytes now_stores takes).1
-      ∙ ap (λ (e : ℕ). end_behind e (length (spell_item item))) facts.end
+      ∙ ap (λ (e : ℕ). gate_behind e (length (spell_item item))) facts.end
 
-  read_more : store_in id (stored y) ≡ Some (record { header = store.header; items = store.items ++ item ∷ []; end = end_behind store.end (length (spell_item item)) })
+  read_more : store_in id y ≡ Some (record { header = store.header; items = store.items ++ item ∷ []; end = gate_behind store.end (length (spell_item item)) })
   read_more =
-      world_read id store.header (stored y) stores.header_is facts.own
+      world_read id store.header y stores.header_is stores.format facts.own
       ∙ ap (λ (its : List Item). Some (record { header = store.header; items = its; end = (stored y).end })) stores.items_are
       ∙ ap (λ (e : ℕ). Some (record { header = store.header; items = store.items ++ item ∷ []; end = e })) end_is
+
+  -- before and behind that it is in the second format
+  old_same : old_under id y ≡ old_under id t.bytes
+  old_same = none_old id y stores.format ∙ sym (none_old id t.bytes facts.format)
 
 -- ---- a line
 
@@ -90,19 +100,34 @@ module _ (id : ℕ) (t : Scene) (line : Line) (found : Found) (scene_fits : IsFi
   with_one : (new : Option statements.Database) (store : statements.Database) (item : Item) → w.store ≡ Some store → items_added w.store new ≡ item ∷ [] → bytes_to new ≡ with_items store.end (item ∷ []) t.bytes
   with_one new store item is one = ap (λ (o : Option statements.Database). with_items (end_of_store o) (items_added w.store new) t.bytes) is ∙ ap (λ (its : List Item). with_items store.end its t.bytes) one
 
-  pub read_by : (new : Option statements.Database) → Stores w line t.clock new → store_in id (stored (bytes_to new)) ≡ new
+  pub read_by : (new : Option statements.Database) → Stores w line t.clock new → store_in id (bytes_to new) ≡ new
   unfolding world_of
-  read_by new (inl same) = ap (λ (its : List Item). store_in id (stored (with_items (end_of_store w.store) its t.bytes))) (same_added w line t.clock new same) ∙ sym same
+  read_by new (inl same) = ap (λ (its : List Item). store_in id (with_items (end_of_store w.store) its t.bytes)) (same_added w line t.clock new same) ∙ sym same
   read_by new (inr (inl txn)) =
       let in_file = takes_txn id t txn.store txn.store_is bytes txn.ops txn.some (asked_fit (with_begun w txn.store) line txn.ops txn.asked fits (world_fit t id scene_fits.sessions)) txn.free in
       let item : Item = items.Txn (new_txn txn.store txn.ops t.clock) in
       let y_is : bytes_to new ≡ with_items txn.store.end (item ∷ []) t.bytes = with_one new txn.store item txn.store_is (txn_added w line t.clock new txn) in
-      ap (λ (y : List ℕ). store_in id (stored y)) y_is ∙ read_more id t txn.store txn.store_is bytes item in_file ∙ sym txn.new_is
+      ap (λ (y : List ℕ). store_in id y) y_is ∙ read_more id t txn.store txn.store_is bytes item in_file ∙ sym txn.new_is
   read_by new (inr (inr frontier)) =
       let item : Item = items.Frontier frontier.moment in
       let in_file = sealing.frontier_takes id t (record found { heard = frontier.heard }) frontier.store frontier.store_is bytes frontier.free frontier.moment frontier.need in
       let y_is : bytes_to new ≡ with_items frontier.store.end (item ∷ []) t.bytes = with_one new frontier.store item frontier.store_is (frontier_added w line t.clock new frontier) in
-      ap (λ (y : List ℕ). store_in id (stored y)) y_is ∙ read_more id t frontier.store frontier.store_is bytes item in_file ∙ sym frontier.new_is
+      ap (λ (y : List ℕ). store_in id y) y_is ∙ read_more id t frontier.store frontier.store_is bytes item in_file ∙ sym frontier.new_is
+
+  -- and what is stored in the first format stays
+  old_by : (new : Option statements.Database) → Stores w line t.clock new → old_under id (bytes_to new) ≡ old_under id t.bytes
+  unfolding world_of
+  old_by new (inl same) = ap (λ (its : List Item). old_under id (with_items (end_of_store w.store) its t.bytes)) (same_added w line t.clock new same)
+  old_by new (inr (inl txn)) =
+      let in_file = takes_txn id t txn.store txn.store_is bytes txn.ops txn.some (asked_fit (with_begun w txn.store) line txn.ops txn.asked fits (world_fit t id scene_fits.sessions)) txn.free in
+      let item : Item = items.Txn (new_txn txn.store txn.ops t.clock) in
+      let y_is : bytes_to new ≡ with_items txn.store.end (item ∷ []) t.bytes = with_one new txn.store item txn.store_is (txn_added w line t.clock new txn) in
+      ap (old_under id) y_is ∙ old_same id t txn.store txn.store_is bytes item in_file
+  old_by new (inr (inr frontier)) =
+      let item : Item = items.Frontier frontier.moment in
+      let in_file = sealing.frontier_takes id t (record found { heard = frontier.heard }) frontier.store frontier.store_is bytes frontier.free frontier.moment frontier.need in
+      let y_is : bytes_to new ≡ with_items frontier.store.end (item ∷ []) t.bytes = with_one new frontier.store item frontier.store_is (frontier_added w line t.clock new frontier) in
+      ap (old_under id) y_is ∙ old_same id t frontier.store frontier.store_is bytes item in_file
 
   abbrev s : world_steps.Step
   s = world_steps.step w line t.clock found
@@ -112,12 +137,14 @@ module _ (id : ℕ) (t : Scene) (line : Line) (found : Found) (scene_fits : IsFi
   takes free =
       let under = step_under w line t.clock found fits in
       let store = read_by s.world.store (step_stores w line t.clock found) in
+      let old = old_by s.world.store (step_stores w line t.clock found) ∙ sym under.old in
       record {
         world =
-            ap (λ (o : Option statements.Database). record { id = id; store = o; sessions = sessions_over o s.world.sessions; lists = s.world.lists; limits = t.limits }) store
-            ∙ ap (λ (begun : ℕ → Option Session). record { id = id; store = s.world.store; sessions = begun; lists = s.world.lists; limits = t.limits }) (under.over (world_over t id))
-            ∙ ap (λ (n : ℕ). record { id = n; store = s.world.store; sessions = s.world.sessions; lists = s.world.lists; limits = t.limits }) (sym under.id)
-            ∙ ap (λ (l : NotaryLimits). record { id = s.world.id; store = s.world.store; sessions = s.world.sessions; lists = s.world.lists; limits = l }) (sym under.limits)
+            ap (λ (o : Option statements.Database). record { id = id; store = o; old_history = old_under id (bytes_to s.world.store); sessions = sessions_over o s.world.sessions; lists = s.world.lists; limits = t.limits }) store
+            ∙ ap (λ (h : Option History). record { id = id; store = s.world.store; old_history = h; sessions = sessions_over s.world.store s.world.sessions; lists = s.world.lists; limits = t.limits }) old
+            ∙ ap (λ (begun : ℕ → Option Session). record { id = id; store = s.world.store; old_history = s.world.old_history; sessions = begun; lists = s.world.lists; limits = t.limits }) (under.over (world_over t id))
+            ∙ ap (λ (n : ℕ). record { id = n; store = s.world.store; old_history = s.world.old_history; sessions = s.world.sessions; lists = s.world.lists; limits = t.limits }) (sym under.id)
+            ∙ ap (λ (l : NotaryLimits). record { id = s.world.id; store = s.world.store; old_history = s.world.old_history; sessions = s.world.sessions; lists = s.world.lists; limits = l }) (sym under.limits)
             ∙ ap (λ (crash : Option Crash). left_by crash s.world) (sym free);
         text = refl;
         refused = refl;
@@ -153,7 +180,7 @@ under_whole t a (Some crash) passes = let enough : nat_le (calls_in a) crash.aft
 world_behind : (crash : Option Crash) (next : Next) (id : ℕ) → world_of (behind crash next).scene id ≡ left_by crash (world_of next.scene id)
 unfolding world_of
 world_behind None next id = refl
-world_behind (Some crash) next id = ap (λ (begun : ℕ → Option Session). record { id = id; store = store_in id (stored next.scene.bytes); sessions = begun; lists = next.scene.lists; limits = next.scene.limits }) (none_over (store_in id (stored next.scene.bytes)))
+world_behind (Some crash) next id = ap (λ (begun : ℕ → Option Session). record { id = id; store = store_in id next.scene.bytes; old_history = old_under id next.scene.bytes; sessions = begun; lists = next.scene.lists; limits = next.scene.limits }) (none_over (store_in id next.scene.bytes))
 
 behind_text : (crash : Option Crash) (next : Next) → (behind crash next).text ≡ next.text
 behind_text None next = refl

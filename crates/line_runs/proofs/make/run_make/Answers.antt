@@ -1,8 +1,9 @@
 use Rattle.std.proofs.Common.{None, refl, arith, inr}
+use Rattle.store_engine.specs.declared.fail.StoreFail.TheVariants as stores
 use Rattle.line_runs.specs.declared.status.Status.TheVariants as statuses
 use Rattle.line_runs.specs.Devices.{devices}
 use Rattle.line_runs.specs.Made.{MakesHeader}
-use Rattle.line_runs.proofs.OnStore.{wanting}
+use Rattle.line_runs.proofs.OnStore.{is_none_by, nowhere, old_format, wanting}
 use Rattle.line_runs.proofs.Behaving.{goes_on_opened, causes_opened, goes_on_beside, all_left}
 use Rattle.line_runs.proofs.Ending.{opened_sound}
 use Rattle.line_runs.proofs.MadeEnding.{made_opened}
@@ -31,11 +32,24 @@ returns-in-Ok-clause-goes_on g c = λ input. goes_on_opened (g.D.Disk.state c.ar
 pub returns-in-Err-NotAStore-clause-goes_on : goal.returns-in-Err-NotAStore-clause-goes_on
 returns-in-Err-NotAStore-clause-goes_on g c = λ input. goes_on_beside _ _ _ c.open.ensures.frame c.refuse.ensures.frame
 
+pub returns-in-Err-OldFormat-clause-goes_on : goal.returns-in-Err-OldFormat-clause-goes_on
+returns-in-Err-OldFormat-clause-goes_on g c = λ input. goes_on_beside _ _ _ c.open.ensures.frame c.refuse-in-Err-OldFormat.ensures.frame
+
 pub returns-in-Err-DiskFault-clause-goes_on : goal.returns-in-Err-DiskFault-clause-goes_on
 returns-in-Err-DiskFault-clause-goes_on g c = λ input. goes_on_beside _ _ _ c.open.ensures.frame c.refuse-in-Err-DiskFault.ensures.frame
 
 pub returns-in-Err-clause-goes_on : goal.returns-in-Err-clause-goes_on
 returns-in-Err-clause-goes_on g c = λ input. goes_on_beside _ _ _ c.open.ensures.frame (record { told = refl; faults = omega arith })
+
+pub returns-in-Err-NotAStore-clause-leaves : goal.returns-in-Err-NotAStore-clause-leaves
+returns-in-Err-NotAStore-clause-leaves g c =
+    let none = is_none_by c.args.id (g.D.Disk.state c.args.disk.now).reads c.in-Err-NotAStore.field-0 stores.NotAStore c.in-Err-NotAStore.field-0-is c.in-Err-NotAStore.ensures.value in
+    λ input. nowhere c.args.id (MakesHeader c.args.seed c.args.count) c.refuse.result _ _ (all_left _ _ _ _ _ c.open.ensures.same) none c.refuse.ensures.said
+
+pub returns-in-Err-OldFormat-clause-leaves : goal.returns-in-Err-OldFormat-clause-leaves
+returns-in-Err-OldFormat-clause-leaves g c =
+    let none = is_none_by c.args.id (g.D.Disk.state c.args.disk.now).reads c.in-Err-OldFormat.field-0 stores.OldFormat c.in-Err-OldFormat.field-0-is c.in-Err-OldFormat.ensures.value in
+    λ input. old_format c.args.id (MakesHeader c.args.seed c.args.count) c.refuse-in-Err-OldFormat.result _ _ (all_left _ _ _ _ _ c.open.ensures.same) none c.refuse-in-Err-OldFormat.ensures.said
 
 pub returns-in-Err-clause-leaves : goal.returns-in-Err-clause-leaves
 returns-in-Err-clause-leaves g c = λ input. wanting c.args.id (MakesHeader c.args.seed c.args.count) statuses.NoMemory _ _ (all_left _ _ _ _ _ c.open.ensures.same) refl refl
@@ -45,6 +59,9 @@ returns-in-Ok-clause-ends g c = c.make_opened.ensures.ends
 
 pub returns-in-Err-NotAStore-clause-ends : goal.returns-in-Err-NotAStore-clause-ends
 returns-in-Err-NotAStore-clause-ends g c = ends_refused make_ends c.refuse.result (g.O.Sink.state c.args.out.now) (g.O.Sink.state c.refuse.new.out) statuses.NotAStore refl c.refuse.ensures.said
+
+pub returns-in-Err-OldFormat-clause-ends : goal.returns-in-Err-OldFormat-clause-ends
+returns-in-Err-OldFormat-clause-ends g c = ends_refused make_ends c.refuse-in-Err-OldFormat.result (g.O.Sink.state c.args.out.now) (g.O.Sink.state c.refuse-in-Err-OldFormat.new.out) statuses.OldFormat refl c.refuse-in-Err-OldFormat.ensures.said
 
 pub returns-in-Err-DiskFault-clause-ends : goal.returns-in-Err-DiskFault-clause-ends
 returns-in-Err-DiskFault-clause-ends g c = ends_refused make_ends c.refuse-in-Err-DiskFault.result (g.O.Sink.state c.args.out.now) (g.O.Sink.state c.refuse-in-Err-DiskFault.new.out) statuses.DiskFault refl c.refuse-in-Err-DiskFault.ensures.said

@@ -5,19 +5,21 @@ use Rattle.notary_link.proofs.Frame as notary_frames
 use Rattle.stmt_text.specs.Kinds.{line_kind}
 use Rattle.store_world.specs.ByBytes.{NeedsStore}
 use Rattle.store_world.proofs.Faults.{ends_wanting}
-use Rattle.store_world.proofs.Nowhere.{nowhere}
+use Rattle.store_world.proofs.Nowhere.{nowhere, statement_needs}
 use Rattle.store_world.proofs.lines.answer_without_store.Goals as goal
 
-pub returns-in_default-clause-told : goal.returns-in_default-clause-told
-returns-in_default-clause-told g c =
+-- ---- `notarize`
+
+pub returns-in-Some-Notarize-clause-told : goal.returns-in-Some-Notarize-clause-told
+returns-in-Some-Notarize-clause-told g c =
     let needs : NeedsStore c.args.line.now = search rules in
-    nowhere c.args.line.now needs c.args.id c.args.now (g.D.Disk.state c.args.disk.now) (g.met.D.Disk.only_now c.args.disk.now) (g.N.Notary.state c.args.notary.now) c.no_answer.result c.no_answer.ensures.value c.no_answer.ensures.only_memory
+    nowhere c.args.line.now needs c.args.id c.args.is_old c.args.now (g.D.Disk.state c.args.disk.now) (g.met.D.Disk.only_now c.args.disk.now) (g.N.Notary.state c.args.notary.now) c.no_answer.result c.no_answer.ensures.value c.no_answer.ensures.only_memory
 
-pub returns-in_default-clause-disk_frame : goal.returns-in_default-clause-disk_frame
-returns-in_default-clause-disk_frame g c = goes_on_same _
+pub returns-in-Some-Notarize-clause-disk_frame : goal.returns-in-Some-Notarize-clause-disk_frame
+returns-in-Some-Notarize-clause-disk_frame g c = goes_on_same _
 
-pub returns-in_default-clause-notary_frame : goal.returns-in_default-clause-notary_frame
-returns-in_default-clause-notary_frame g c = notary_frames.goes_on_same _
+pub returns-in-Some-Notarize-clause-notary_frame : goal.returns-in-Some-Notarize-clause-notary_frame
+returns-in-Some-Notarize-clause-notary_frame g c = notary_frames.goes_on_same _
 
-pub returns-in_default-clause-only : goal.returns-in_default-clause-only
-returns-in_default-clause-only g c = ends_wanting ⊤ (line_kind c.args.line.now) c.no_answer.result c.no_answer.ensures.only_memory
+pub returns-in-Some-Notarize-clause-only : goal.returns-in-Some-Notarize-clause-only
+returns-in-Some-Notarize-clause-only g c = ends_wanting ⊤ (line_kind c.args.line.now) c.no_answer.result c.no_answer.ensures.only_memory
