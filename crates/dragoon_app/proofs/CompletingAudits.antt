@@ -236,10 +236,10 @@ notarize_completes id result old new on causes goes n h header held may = ⊎_el
     by : (once : NotarizesHeader header result old new) → ((after : List ℕ) × Notarizes once.now (stored held.bytes).items once.answer once.done.store once.done.later_store old.desk new.desk held.bytes after) → EndsSealed n h held.bytes result
     by once at =
         let lists = lists_told old new held _ may.none_failed goes may.desk (listed.told_both old.desk.notary.lists new.desk.notary.lists _ _ at.1.told at.1.does.told) in
-        let trusted = subst (λ (x : ℕ). IsTrusted (held.lists.batches x) x n h held.bytes) (sym may.is_store.id_is) may.filed.trusted in
+        let trusted = subst (λ (x : ℕ). IsTrusted (held.lists.batches x) x n h held.bytes) (sym may.is_store.has.id_is) may.filed.trusted in
         said_well (EndsSealed n h held.bytes) result (λ e. may.none_failed.out (causes.write e)) tt (notarize_outcome once.answer) old.out new.out
         (λ e. subst (EndsSealed n h held.bytes) (sym e)
-        (notarized n h header held.bytes may.desk.store.are_bytes may.filed.spelled may.is_store.header_is held.lists trusted old.desk.notary.limits once.now (may.room once.now once.taken)
+        (notarized n h header held.bytes may.desk.store.are_bytes may.filed.spelled may.is_store.has.header_is held.lists trusted old.desk.notary.limits once.now (may.room once.now once.taken)
         once.answer once.done.store once.done.later_store old.desk new.desk at.0 lists.0 refl once.done.header_is once.done.is_open
         (if_told old.desk.disk.reads held.bytes _ may.desk.store.told once.done.opened) once.done.early at.1 lists.1.0 lists.1.1
         (λ e. may.none_failed.disk (once.disk_cause e)) (λ e. may.none_failed.notary (once.notary_cause e))))

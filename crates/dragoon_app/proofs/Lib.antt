@@ -13,6 +13,8 @@ pub mod SoundKept
 pub mod Unaltered
 pub mod Analysing
 pub mod Defined
+pub mod Migrating
 pub mod Completing
+pub mod CompletingMoves
 pub mod CompletingAudits
 pub mod Completed

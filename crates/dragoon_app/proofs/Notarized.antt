@@ -110,7 +110,7 @@ notarizes_from now items result s later_s first old new before after filed later
     }
   where
     reached_from : (need : Option ℕ) → IsReached need s later_s items old new before after → IsReached need s later_s items first new before after
-    reached_from need r = record { store_is = r.store_is; open_on = r.open_on; settled = λ only. r.settled (only_before first old before same only) }
+    reached_from need r = record { closed = r.closed; store_is = r.store_is; open_on = r.open_on; settled = λ only. r.settled (only_before first old before same only) }
 
 -- the store stands for its bytes
 pub notarizes_opened : (now : ℕ) (answer : Result ℕ AuditFail) (s later_s : Opened) (old new : Desk) → s.at.is_closed ≡ false → IsEarly (early_fault (tail_of s) s.at.is_closed now) answer
@@ -154,4 +154,4 @@ pub notarized_opened : (id : ℕ) (s : Opened) (result : Status) (first : disks.
 notarized_opened id s result first old new opened is same no_fewer leaves =
     let here : IfSome old.desk.disk.reads (λ bytes. IsOpenOn s (stored bytes).items bytes) = subst (λ (o : Option (List ℕ)). IfSome o (λ bytes. IsOpenOn s (stored bytes).items bytes)) (sym same.reads) opened in
     let over = once_from notarize_outcome (NotarizesStore s.header) result first old new no_fewer (λ now answer n. store_from s.header now answer first old.desk new.desk same n) (leaves here) in
-    opened_on id NotarizesHeader result (at_disk first old) new (told_of first.reads new.desk.disk.reads _ _ opened (λ before after at. (s.header, (at.stores.header_is, is), over)))
+    opened_on id NotarizesHeader result (at_disk first old) new (told_of first.reads new.desk.disk.reads _ _ opened (λ before after at. (s.header, record { header_is = at.stores.header_is; id_is = is; format_is = at.stores.format }, over)))

@@ -110,6 +110,7 @@ else_harmless (Some fail) next is others = is
 store_harmless : (o : Option StoreFail) → IsHarmless (of_store o)
 store_harmless None = tt
 store_harmless (Some stores.NotAStore) = tt
+store_harmless (Some stores.OldFormat) = tt
 store_harmless (Some stores.DiskFault) = tt
 store_harmless (Some stores.NoMemory) = tt
 store_harmless (Some (stores.ClockBack last)) = tt

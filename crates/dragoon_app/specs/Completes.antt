@@ -1,6 +1,6 @@
 -- How a call ends that meets no fault and no limit, where the notary holds what was filed of one history: in one of a few ways,
 -- each with the output that its command defines, or for want of memory.
-use Rattle.std.specs.Prelude.{◌≡◌, ◌⊎◌, ◌<◌, ◌≤◌, ℕ, false, true, List, [], length, Option, Some, None}
+use Rattle.std.specs.Prelude.{◌≡◌, ◌⊎◌, ◌<◌, ◌≤◌, ℕ, false, true, List, [], length, Option, Some, None, IsSome}
 use Rattle.outside_words.specs.Faults.{Rose}
 use Rattle.disk_words.specs.Disk as disks
 use Rattle.outside_io.specs.Source as sources
@@ -10,7 +10,8 @@ use Rattle.line_input.specs.Limits.{input_limit}
 use Rattle.tuple_bytes.specs.declared.header.Header.{Header}
 use Rattle.tuple_bytes.specs.Limits.{max_moment}
 use Rattle.history_model.specs.History.{History, history}
-use Rattle.history_model.specs.Stored.{stored}
+use Rattle.history_model.specs.declared.format.Format.TheVariants.{Two}
+use Rattle.history_model.specs.Stored.{stored, format_of}
 use Rattle.digest_model.specs.Layout.{layout}
 use Rattle.digest_model.specs.Spelled.{HasSpelling}
 use Rattle.notary_link.specs.declared.notary.NotaryLimits.{NotaryLimits}
@@ -20,6 +21,7 @@ use Rattle.notary_link.specs.Filing.{fitting, room_in}
 use Rattle.audit_model.specs.Notary.{NotaryOf}
 use Rattle.audit_model.specs.Altered.{history_in, HasOtherHeader, IsAltered, HashClash}
 use Rattle.txn_journal.specs.Create.{is_free}
+use Rattle.segment_file.specs.LaidOut.{laid_out}
 use Rattle.store_engine.specs.Refusals.{Tail}
 use Rattle.statement_core.specs.Database.{tail_of_database}
 use Rattle.validator.specs.Notarizing.{early_fault, room_fault, frontier_for, next_batches}
@@ -29,7 +31,8 @@ use Rattle.dragoon_app.specs.declared.command.Command.{Command}
 use Rattle.dragoon_app.specs.declared.command.Command.TheVariants as commands
 use Rattle.line_runs.specs.declared.status.Status.{Status}
 use Rattle.line_runs.specs.declared.status.Status.TheVariants as statuses
-use Rattle.line_runs.specs.Devices.{Content, Desk, Devices, Effect}
+use Rattle.line_runs.specs.Devices.{Content, Desk, Devices}
+use Rattle.dragoon_app.specs.AllDevices.{AllDevices}
 use Rattle.line_runs.specs.Running.{world_of}
 
 -- ---- what is supposed of the devices
@@ -62,6 +65,11 @@ pub record HasHeader (id : ℕ) (header : Header) (bytes : List ℕ) : Type 0 wh
   pub header_is : (stored bytes).header ≡ Some header
   pub id_is : header.id ≡ id
 
+-- and they are a file in segments
+pub record HasSegments (id : ℕ) (header : Header) (bytes : List ℕ) : Type 0 where
+  pub has : HasHeader id header bytes
+  pub format_is : format_of bytes ≡ Some Two
+
 -- ---- what is supposed of the notary
 
 -- No batch is held; or the batches are those of h with n sealed tiles, and no two different inputs, one hashed for h and one for
@@ -90,7 +98,7 @@ MayFileAt header held = HasRoomFor (tail_in header held.bytes) (history header (
 
 -- ---- how a command ends
 
--- `link` and `init`
+-- `link`, `init` and `migrate`
 abbrev pub EndsDone : Status → Type 0
 EndsDone statuses.Ok = Unit {0}
 EndsDone statuses.NoMemory = Unit {0}
@@ -136,20 +144,20 @@ pub record MayInit (bytes : List ℕ) (old new : Devices) : Type 0 where
 pub record MayRun (id : ℕ) (header : Header) (held : Content) (old new : Devices) : Type 0 where
   pub none_failed : NoneFailed old new
   pub desk : DeskTells held old.desk
-  pub is_store : HasHeader id header held.bytes
+  pub is_store : HasSegments id header held.bytes
   pub input : EndsInTime old.input
 
 -- there is a header of the id
 pub record MayMake (id : ℕ) (header : Header) (held : Content) (old new : Devices) : Type 0 where
   pub none_failed : NoneFailed old new
   pub desk : DeskTells held old.desk
-  pub is_store : HasHeader id header held.bytes
+  pub is_store : HasSegments id header held.bytes
 
 -- there is a header of the id, the notary is trusted, and at the clock's second no limit is met
 pub record MayNotarize (id n : ℕ) (h : History) (header : Header) (held : Content) (old new : Devices) : Type 0 where
   pub none_failed : NoneFailed old new
   pub desk : DeskTells held old.desk
-  pub is_store : HasHeader id header held.bytes
+  pub is_store : HasSegments id header held.bytes
   pub filed : IsFiled id n h held
   pub room : (now : ℕ) → clocks.Tells now old.clock new.clock → MayFileAt header held old.desk.notary.limits now
 
@@ -167,19 +175,30 @@ pub record MayAnalyse (algorithm : Algorithm) (id n : ℕ) (h : History) (held :
   pub filed : IsFiled id n h held
   pub chains : has_chains algorithm (layout h) n ≡ true
 
+-- there is a header of the id, the target is free, and there is room for what is stored
+pub record MayMigrate (id : ℕ) (header : Header) (bytes there : List ℕ) (old new : AllDevices) : Type 0 where
+  pub none_failed : NoneFailed old.devices new.devices
+  pub target_failed : Rose old.target.faults new.target.faults → ⊥
+  pub store : TellsBytes bytes old.devices.desk.disk
+  pub is_store : HasHeader id header bytes
+  pub target : TellsBytes there old.target
+  pub free : length there ≤ 1
+  pub room : IsSome (laid_out header (stored bytes).items)
+
 -- the input is short
 pub record MayDrill (old new : Devices) : Type 0 where
   pub none_failed : NoneFailed old new
   pub input : EndsInTime old.input
 
 -- what is promised
-abbrev pub Completes : Option Command → Effect
+abbrev pub Completes : Option Command → Status → AllDevices → AllDevices → Type 0
 Completes None result old new = Unit {0}
-Completes (Some commands.Link) result old new = (header : Header) (bytes : List ℕ) → MayLink header bytes old new → EndsDone result
-Completes (Some (commands.Init s)) result old new = (bytes : List ℕ) → MayInit bytes old new → EndsDone result
-Completes (Some (commands.Run id scripted)) result old new = (header : Header) (held : Content) → MayRun id header held old new → EndsReplied result
-Completes (Some (commands.Notarize id)) result old new = (n : ℕ) (h : History) (header : Header) (held : Content) → MayNotarize id n h header held old new → EndsSealed n h held.bytes result
-Completes (Some (commands.Validate id)) result old new = (n : ℕ) (h : History) (held : Content) → MayValidate id n h held old new → EndsJudged result
-Completes (Some (commands.Analyse id algorithm)) result old new = (n : ℕ) (h : History) (held : Content) → MayAnalyse algorithm id n h held old new → EndsJudged result
-Completes (Some (commands.Make id seed count)) result old new = (header : Header) (held : Content) → MayMake id header held old new → EndsReplied result
-Completes (Some commands.Drill) result old new = MayDrill old new → EndsReplied result
+Completes (Some commands.Link) result old new = (header : Header) (bytes : List ℕ) → MayLink header bytes old.devices new.devices → EndsDone result
+Completes (Some (commands.Init s)) result old new = (bytes : List ℕ) → MayInit bytes old.devices new.devices → EndsDone result
+Completes (Some (commands.Run id scripted)) result old new = (header : Header) (held : Content) → MayRun id header held old.devices new.devices → EndsReplied result
+Completes (Some (commands.Notarize id)) result old new = (n : ℕ) (h : History) (header : Header) (held : Content) → MayNotarize id n h header held old.devices new.devices → EndsSealed n h held.bytes result
+Completes (Some (commands.Validate id)) result old new = (n : ℕ) (h : History) (held : Content) → MayValidate id n h held old.devices new.devices → EndsJudged result
+Completes (Some (commands.Analyse id algorithm)) result old new = (n : ℕ) (h : History) (held : Content) → MayAnalyse algorithm id n h held old.devices new.devices → EndsJudged result
+Completes (Some (commands.Make id seed count)) result old new = (header : Header) (held : Content) → MayMake id header held old.devices new.devices → EndsReplied result
+Completes (Some (commands.Migrate id)) result old new = (header : Header) (bytes there : List ℕ) → MayMigrate id header bytes there old new → EndsDone result
+Completes (Some commands.Drill) result old new = MayDrill old.devices new.devices → EndsReplied result

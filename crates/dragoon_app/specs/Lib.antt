@@ -10,6 +10,8 @@ pub mod Audited
 pub mod Parts
 pub mod Analysed
 pub mod Drilled
+pub mod AllDevices
+pub mod Migrated
 pub mod Ends
 pub mod Completes
 pub mod Top

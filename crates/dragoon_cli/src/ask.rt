@@ -11,6 +11,7 @@ pub(crate) enum Ask {
     Notarize,
     Validate,
     Analyse,
+    Migrate,
     Nothing,
 }
 
@@ -27,22 +28,16 @@ impl Ask {
     }
 
     pub(crate) fn uses_notary(self) -> bool {
-        self.uses_store() && self != Ask::Link && self != Ask::Init
+        self.uses_store() && self != Ask::Link && self != Ask::Init && self != Ask::Migrate
+    }
+
+    pub(crate) fn uses_target(self) -> bool {
+        self == Ask::Migrate
     }
 
     /// Whether it writes nothing into an empty file.
     pub(crate) fn only_asks(self) -> bool {
         self == Ask::Link || self == Ask::Validate || self == Ask::Analyse
-    }
-
-    /// Whether it makes a store where none is.
-    pub(crate) fn makes_store(self) -> bool {
-        self == Ask::Init
-    }
-
-    /// Whether it makes a book where none is.
-    pub(crate) fn makes_book(self) -> bool {
-        !self.only_asks()
     }
 
     /// Whether it holds one thing against another, or says what is there.
@@ -77,6 +72,8 @@ fn named(word: &str) -> Ask {
         Ask::Validate
     } else if word == "analyse" {
         Ask::Analyse
+    } else if word == "migrate" {
+        Ask::Migrate
     } else {
         Ask::Nothing
     }

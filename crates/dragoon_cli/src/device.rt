@@ -3,6 +3,7 @@
 ghost use Rattle.std.specs.Prelude.{◌≡◌, [], IsSome, IsNone, IfOk};
 ghost use Rattle.disk_model.specs.Untold.{TellsOnly};
 
+use crate::unmade::Unmade;
 use disk_model::{Disk, DiskFail, FileDisk, MemDisk};
 use std::alloc::AllocError;
 use std::fs::File;
@@ -13,6 +14,7 @@ use std::rt::{Files, Runtime};
 #[derive(Drop)]
 pub enum Device<R: Files<File = File> + Drop> {
     File(FileDisk<R>),
+    Unmade(Unmade<R>),
     Memory(MemDisk),
 }
 
@@ -26,13 +28,26 @@ impl<R: Runtime + Files<File = File> + AllocGlobal + Drop> Device<R> {
     {
         let alloc = rt.alloc();
         match path {
-            Some(path) => Ok(Device::File(FileDisk::new(
-                rt.clone()?,
-                String::from_str(alloc, path)?,
-            ))),
+            Some(path) => Ok(Device::File(file_of(rt, path)?)),
             None => Ok(Device::Memory(MemDisk::new(alloc))),
         }
     }
+
+    /// The file of this path, which is missing.
+    pub fn missing(rt: &R, path: &str) -> Result<Device<R>, AllocError>
+        ensures file { IfOk result (λ device. TellsOnly 0 (⟦<Device<R> as Disk>⟧.state device)) }
+    {
+        Ok(Device::Unmade(Unmade::new(file_of(rt, path)?)))
+    }
+}
+
+fn file_of<R: Runtime + Files<File = File> + AllocGlobal + Drop>(
+    rt: &R,
+    path: &str,
+) -> Result<FileDisk<R>, AllocError>
+    ensures fresh { IfOk result (λ file. TellsOnly 0 (⟦<FileDisk<R> as Disk>⟧.state file)) }
+{
+    Ok(FileDisk::new(rt.clone()?, String::from_str(rt.alloc(), path)?))
 }
 
 impl<R: Files<File = File> + Drop> Device<R> {
@@ -40,7 +55,16 @@ impl<R: Files<File = File> + Drop> Device<R> {
     pub(crate) fn error(&self) -> Option<io::Error> {
         match self {
             Device::File(file) => file.error(),
+            Device::Unmade(file) => file.error(),
             Device::Memory(_) => None,
+        }
+    }
+
+    /// Whether it was missing, and was made.
+    pub(crate) fn was_made(&self) -> bool {
+        match self {
+            Device::Unmade(file) => file.is_made(),
+            _ => false,
         }
     }
 }
@@ -48,7 +72,7 @@ impl<R: Files<File = File> + Drop> Device<R> {
 impl<R: Files<File = File> + Drop> Disk for Device<R> {
     ghost use Rattle.std.proofs.Common.{ap};
     ghost use Rattle.std.specs.Prelude.{Some, true};
-    ghost use Rattle.dragoon_cli.specs.declared.device.Device.TheVariants.{File, Memory};
+    ghost use Rattle.dragoon_cli.specs.declared.device.Device.TheVariants.{File, Unmade, Memory};
     ghost use Rattle.disk_model.specs.Calls.{first_of, trace_of};
     ghost use Rattle.disk_model.specs.Memory.{state_of};
     ghost use Rattle.disk_words.proofs.Images.{reads_image_at};
@@ -57,6 +81,7 @@ impl<R: Files<File = File> + Drop> Disk for Device<R> {
 
     ghost state = { elim [
       | File file ↦ ⟦<FileDisk<R> as Disk>⟧.state file
+      | Unmade file ↦ ⟦<Unmade<R> as Disk>⟧.state file
       | Memory memory ↦ state_of memory
     ] };
 
@@ -64,23 +89,27 @@ impl<R: Files<File = File> + Drop> Disk for Device<R> {
 
     ghost replayed = { elim [
       | File file ↦ tt
+      | Unmade file ↦ tt
       | Memory memory ↦ ap Some memory.replayed
     ] };
 
     ghost reads_image = { elim [
       | File file ↦ tt
+      | Unmade file ↦ tt
       | Memory memory ↦ reads_image_at (first_of memory.first memory.bytes.items)
           (trace_of memory.made.items) memory.bytes.items memory.replayed
     ] };
 
     ghost counts_now = { elim [
       | File file ↦ λ t c le now. tt
+      | Unmade file ↦ λ t c le now. tt
       | Memory memory ↦ λ t c le now. counts_now_of
           (first_of memory.first memory.bytes.items) (trace_of memory.made.items) t c now
     ] };
 
     ghost only_now = { elim [
       | File file ↦ λ c was. tt
+      | Unmade file ↦ λ c was. tt
       | Memory memory ↦ λ c was. only_now_of
           (first_of memory.first memory.bytes.items) (trace_of memory.made.items) c was
     ] };
@@ -88,6 +117,7 @@ impl<R: Files<File = File> + Drop> Disk for Device<R> {
     fn length(&mut self) -> Result<u64, DiskFail> {
         match self {
             Device::File(file) => file.length(),
+            Device::Unmade(file) => file.length(),
             Device::Memory(memory) => memory.length(),
         }
     }
@@ -95,6 +125,7 @@ impl<R: Files<File = File> + Drop> Disk for Device<R> {
     fn read_at(&mut self, place: u64, into: &mut [u8]) -> Result<usize, DiskFail> {
         match self {
             Device::File(file) => file.read_at(place, into),
+            Device::Unmade(file) => file.read_at(place, into),
             Device::Memory(memory) => memory.read_at(place, into),
         }
     }
@@ -102,6 +133,7 @@ impl<R: Files<File = File> + Drop> Disk for Device<R> {
     fn write_at(&mut self, place: u64, bytes: &[u8]) -> Result<(), DiskFail> {
         match self {
             Device::File(file) => file.write_at(place, bytes),
+            Device::Unmade(file) => file.write_at(place, bytes),
             Device::Memory(memory) => memory.write_at(place, bytes),
         }
     }
@@ -109,6 +141,7 @@ impl<R: Files<File = File> + Drop> Disk for Device<R> {
     fn cut(&mut self, length: u64) -> Result<(), DiskFail> {
         match self {
             Device::File(file) => file.cut(length),
+            Device::Unmade(file) => file.cut(length),
             Device::Memory(memory) => memory.cut(length),
         }
     }
@@ -116,6 +149,7 @@ impl<R: Files<File = File> + Drop> Disk for Device<R> {
     fn sync(&mut self) -> Result<(), DiskFail> {
         match self {
             Device::File(file) => file.sync(),
+            Device::Unmade(file) => file.sync(),
             Device::Memory(memory) => memory.sync(),
         }
     }

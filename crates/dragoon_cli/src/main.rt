@@ -38,6 +38,7 @@ mod shared;
 mod shown;
 mod telling;
 mod tokens;
+mod unmade;
 mod usage;
 mod wanted;
 mod warnings;
@@ -105,6 +106,8 @@ struct Asked<'a> {
     ask: Ask,
     call: &'a [String],
     store: Named<'a>,
+    copy: Named<'a>,
+    target: Named<'a>,
     books: Vec<Named<'a>>,
     ghost some: { 1 ≤ length books.items },
     ghost few: { length books.items ≤ 9 },
@@ -118,11 +121,16 @@ fn asked_by<'a, R: Runtime + Files<File = File> + AllocGlobal>(
     let ask = Ask::of(call);
     let store = path_behind("store=", names);
     let store = named_by(rt, Called::Store, store, ask.uses_store());
+    let copy = named_by(rt, Called::Copy, path_behind("copy=", names), false);
+    let target = path_behind("target=", names);
+    let target = named_by(rt, Called::Target, target, ask.uses_target());
     let books = books_of(rt, ask, path_behind("notary=", names))?;
     Ok(Asked {
         ask,
         call,
         store,
+        copy,
+        target,
         books,
     })
 }
@@ -177,6 +185,8 @@ fn called_among(place: usize, of: usize) -> Called {
 #[derive(Drop)]
 struct Devices<'a, R: Runtime + Files<File = File> + AllocGlobal + Drop> {
     store: WatchedDisk<'a, Device<R>, R>,
+    copy: WatchedDisk<'a, Device<R>, R>,
+    target: WatchedDisk<'a, Device<R>, R>,
     books: Vec<WatchedDisk<'a, Device<R>, R>>,
     clock: SystemClock<R>,
     input: WatchedSource<'a, StdSource<R>, R>,
@@ -185,21 +195,23 @@ struct Devices<'a, R: Runtime + Files<File = File> + AllocGlobal + Drop> {
     ghost few: { length books.items ≤ 9 },
 }
 
-/// Where a file is missing that a command doesn't make, the command takes an empty device in its place, and leaves no file
-/// behind. It does so only where a file could be made there: else the call ends with the fault of it, as for every command.
-fn path_of<'a, R: Runtime + Files<File = File> + AllocGlobal>(
+/// A file that is missing is made by the first change. A command that only asks takes an empty device in its place, and
+/// leaves no file behind. Where no file can be made, the call ends with the fault of it.
+fn device_of<R: Runtime + Files<File = File> + AllocGlobal + Drop>(
     rt: &R,
     ask: Ask,
-    device: &Named<'a>,
-) -> Option<&'a str> {
-    let makes = match device.called {
-        Called::Store => ask.makes_store(),
-        Called::Book | Called::Member { .. } => ask.makes_book(),
-    };
-    let is_missing = matches!(&device.found, Found::Missing) && !makes;
-    device
-        .path
-        .filter(|path| !(is_missing && may_be_made(rt, path)))
+    device: &Named<'_>,
+) -> Result<Device<R>, AllocError> {
+    match device.path {
+        Some(path) if matches!(&device.found, Found::Missing) && may_be_made(rt, path) => {
+            if ask.only_asks() {
+                Device::named(rt, None)
+            } else {
+                Device::missing(rt, path)
+            }
+        }
+        path => Device::named(rt, path),
+    }
 }
 
 /// Whether a file can be made beside this path. It is removed again.
@@ -222,10 +234,12 @@ fn disk_of<'a, R: Runtime + Files<File = File> + AllocGlobal + Drop>(
 ) -> Result<WatchedDisk<'a, Device<R>, R>, AllocError> {
     let name = match device.called {
         Called::Store => "store",
+        Called::Copy => "copy",
+        Called::Target => "target",
         Called::Book | Called::Member { .. } => "notary's book",
     };
     let progress = Progress::new(rt, shared, name, terminals.error)?;
-    Ok(WatchedDisk::new(Device::named(rt, path_of(rt, ask, device))?, progress))
+    Ok(WatchedDisk::new(device_of(rt, ask, device)?, progress))
 }
 
 fn disks_of<'a, R: Runtime + Files<File = File> + AllocGlobal + Drop>(
@@ -285,9 +299,13 @@ fn devices_of<'a, R: Runtime + Files<File = File> + AllocGlobal + Drop>(
     let input = input_of(rt, shared, ask, terminals)?;
     let out = output_of(rt, shared, terminals)?;
     let store = disk_of(rt, shared, ask, &asked.store, terminals)?;
+    let copy = disk_of(rt, shared, ask, &asked.copy, terminals)?;
+    let target = disk_of(rt, shared, ask, &asked.target, terminals)?;
     let books = disks_of(rt, shared, ask, asked.books.as_slice(), terminals)?;
     Ok(Devices {
         store,
+        copy,
+        target,
         books,
         clock,
         input,
@@ -306,10 +324,14 @@ fn carry_out<'a, R: Runtime + Files<File = File> + AllocGlobal + Drop>(
         ask,
         call,
         store: mut named_store,
+        copy: _,
+        target: mut named_target,
         books: mut named_books,
     } = asked;
     let Devices {
         mut store,
+        mut copy,
+        mut target,
         books,
         mut clock,
         mut input,
@@ -320,24 +342,30 @@ fn carry_out<'a, R: Runtime + Files<File = File> + AllocGlobal + Drop>(
         rt.alloc(),
         call,
         &mut store,
+        &mut copy,
+        &mut target,
         &mut notary,
         &mut clock,
         &mut input,
         &mut out,
     );
     named_store.error = store.below().error();
+    named_target.error = target.below().error();
     for (place, (named, member)) in named_books
         .iter_mut()
         .zip(notary.into_members())
         .enumerate()
     {
-        named.error = member.into_below().into_disk().below().error();
+        let disk = member.into_below().into_disk();
+        named.error = disk.below().error();
+        named.was_made = disk.below().was_made();
         named.odd = shared.ballot.odd(place);
     }
     let ending = Ending {
         ask,
         status,
         store: named_store,
+        target: named_target,
         notaries: Notaries(named_books),
         input: input.below().error(),
         output: out.below().error(),

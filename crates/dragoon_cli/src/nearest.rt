@@ -27,7 +27,7 @@ struct Form {
     more: &'static [Slot],
 }
 
-const FORMS: [Form; 8] = [
+const FORMS: [Form; 9] = [
     Form {
         word: "link",
         needed: &[],
@@ -67,6 +67,11 @@ const FORMS: [Form; 8] = [
         word: "analyse",
         needed: &[Slot::Id, Slot::Algorithm],
         more: &[Slot::Kappa],
+    },
+    Form {
+        word: "migrate",
+        needed: &[Slot::Id],
+        more: &[],
     },
 ];
 
@@ -209,7 +214,7 @@ fn wrong_of(alloc: Global, call: &[String]) -> Wrong<'_> {
     if names_device(word) {
         return wrong_device(word);
     }
-    if word.as_bytes().contains(&b'=') || word == "store" || word == "notary" {
+    if word.as_bytes().contains(&b'=') || DEVICES.contains(&word) {
         return Wrong::Almost { word };
     }
     if STATEMENTS.iter().any(|statement| *statement == word) {
@@ -224,8 +229,14 @@ fn wrong_of(alloc: Global, call: &[String]) -> Wrong<'_> {
     }
 }
 
+/// What names a device, in front of a `=`.
+const DEVICES: [&str; 4] = ["store", "copy", "target", "notary"];
+
 fn names_device(word: &str) -> bool {
-    word.starts_with("store=") || word.starts_with("notary=")
+    match word.split_once('=') {
+        Some((device, _)) => DEVICES.contains(&device),
+        None => false,
+    }
 }
 
 fn wrong_device(word: &str) -> Wrong<'_> {
@@ -287,7 +298,7 @@ const STATEMENTS: [&str; 8] = [
     "create", "insert", "update", "delete", "get", "scan", "history", "over",
 ];
 
-const COMMANDS: &str = "link, init, run, make, drill, notarize, validate and analyse";
+const COMMANDS: &str = "link, init, run, make, drill, notarize, validate, analyse and migrate";
 
 /// The command that is nearest, where two changes of a letter lead to it. Without memory it is none.
 fn nearest(alloc: Global, word: &str) -> Option<&'static str> {
@@ -328,14 +339,14 @@ impl fmt::Display for Wrong<'_> {
                 let word = Shown(word);
                 write!(
                     f,
-                    "`{word}` is no command, and names no device: store=FILE does, and notary=FILE, in lower case"
+                    "`{word}` is no command, and names no device: store=FILE does, and notary=FILE, and target=FILE, in lower case"
                 )
             }
             Wrong::Device { word } => {
                 let word = Shown(word);
                 write!(
                     f,
-                    "`{word}` names a device, which is done once, and before the command: [store=FILE] [notary=FILE,..] COMMAND"
+                    "`{word}` names a device, which is done once, and before the command: [store=FILE] [notary=FILE,..] [target=FILE] COMMAND"
                 )
             }
             Wrong::Books { word } => {

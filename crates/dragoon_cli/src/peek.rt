@@ -7,12 +7,14 @@ ghost use Rattle.disk_words.specs.declared.DiskFail.TheVariants.{Failed, NoMemor
 ghost use Rattle.disk_model.specs.Untold.{untold_state};
 
 use disk_model::{Disk, DiskFail};
+use history_model::Format;
 use notary_book::BookShape;
+use segment_file::{SegmentRecords, read_front};
 use std::alloc::Global;
 use std::fs::{self, File, OpenFile};
 use std::io::{self, ErrorKind, Read, Seek, SeekFrom};
 use std::rt::Files;
-use tuple_bytes::{Header, decode_header};
+use tuple_bytes::Header;
 use txn_journal::{Records, Shape, StoreShape, is_free};
 
 /// What was found where a device was named.
@@ -155,14 +157,13 @@ fn look_into(alloc: Global, disk: &mut Peek) -> Result<Found, DiskFail> {
     let mut head = [0; 64];
     disk.read_at(0, &mut head)?;
     if length > 64 && BookShape::head(&head) {
-        let (filed, behind) = walk::<BookShape>(alloc, disk, length, true)?;
+        let (filed, behind) = walk_book(alloc, disk, length)?;
         return Ok(Found::Book { filed, behind });
     }
-    if length > 64 {
-        if let Some(header) = decode_header(&head) {
-            let (_, behind) = walk::<StoreShape>(alloc, disk, length, false)?;
-            return Ok(Found::Store { header, behind });
-        }
+    if let Some(front) = read_front(disk)? {
+        let header = front.header;
+        let behind = walk_store(alloc, disk, length, front.format)?;
+        return Ok(Found::Store { header, behind });
     }
     if is_free(disk)? {
         Ok(Found::Empty)
@@ -172,29 +173,70 @@ fn look_into(alloc: Global, disk: &mut Peek) -> Result<Found, DiskFail> {
 }
 
 /// Goes over all records: when the last batch of a book was filed, and what stands behind the last closed gate.
-fn walk<S: Shape>(
+fn walk_book(
     alloc: Global,
     disk: &mut Peek,
     length: u64,
-    is_book: bool,
 ) -> Result<(Option<u64>, Option<Behind>), DiskFail> {
-    let mut records = Records::<S>::at_first(alloc)?;
+    let mut records = Records::<BookShape>::at_first(alloc)?;
     records.read_head(disk)?;
     let mut filed = None;
     for _ in 0..u64::MAX {
         if !records.advance(disk)? {
             break;
         }
-        if is_book {
-            filed = filed_at(records.payload()).or(filed);
+        filed = filed_at(records.payload()).or(filed);
+    }
+    Ok((
+        filed,
+        behind_gate::<BookShape>(alloc, disk, records.place(), length)?,
+    ))
+}
+
+/// Goes over all records of a store, in any of its segments: what stands behind the last closed gate.
+fn walk_store(
+    alloc: Global,
+    disk: &mut Peek,
+    length: u64,
+    format: Format,
+) -> Result<Option<Behind>, DiskFail> {
+    let mut records = SegmentRecords::at_first(alloc, disk, format)?;
+    for _ in 0..u64::MAX {
+        if !records.advance(disk)? {
+            break;
         }
     }
-    let end = records.place().saturating_add(1);
+    behind_gate::<StoreShape>(alloc, disk, records.place(), length)
+}
+
+fn behind_gate<S: Shape>(
+    alloc: Global,
+    disk: &mut Peek,
+    gate: u64,
+    length: u64,
+) -> Result<Option<Behind>, DiskFail> {
+    let end = gate.saturating_add(1);
     let bytes = length.saturating_sub(end);
-    if bytes == 0 || is_cut_append::<S>(alloc, disk, records.place(), bytes)? {
-        return Ok((filed, None));
+    if bytes == 0
+        || is_cut_append::<S>(alloc, disk, gate, bytes)?
+        || is_filled(alloc, disk, end, bytes)?
+    {
+        return Ok(None);
     }
-    Ok((filed, Some(Behind { end, bytes })))
+    Ok(Some(Behind { end, bytes }))
+}
+
+/// As many bytes as a segment has.
+const SEGMENT: u64 = 65_536;
+
+/// Whether these bytes are the zeros with which a segment is left.
+fn is_filled(alloc: Global, disk: &mut Peek, place: u64, bytes: u64) -> Result<bool, DiskFail> {
+    if bytes > SEGMENT {
+        return Ok(false);
+    }
+    let mut read = vec![in alloc; 1; bytes as usize]?;
+    disk.read_at(place, &mut read)?;
+    Ok(read.iter().all(|byte| *byte == 0))
 }
 
 /// The second of a batch: behind `01`, an id of eight bytes and an index of four.

@@ -18,19 +18,25 @@ use std::{fmt, io};
 #[derive(Clone, Copy)]
 pub(crate) enum Called {
     Store,
+    /// A copy of the store.
+    Copy,
+    /// Where a store is to be made.
+    Target,
     Book,
     /// The book of a notary among others, counted from 1.
     Member { number: usize, of: usize },
 }
 
 /// A device as whoever runs the program knows it: what it is called, its file where one was named, what was found there
-/// before the call, why its last call that failed did so, and how a notary stood out among others.
+/// before the call, why its last call that failed did so, whether it was missing and was made, and how a notary stood out
+/// among others.
 #[derive(Clone, Copy)]
 pub(crate) struct Named<'a> {
     pub(crate) called: Called,
     pub(crate) path: Option<&'a str>,
     pub(crate) found: Found,
     pub(crate) error: Option<io::Error>,
+    pub(crate) was_made: bool,
     pub(crate) odd: Odd,
 }
 
@@ -41,6 +47,7 @@ impl<'a> Named<'a> {
             path,
             found,
             error: None,
+            was_made: false,
             odd: Odd::No,
         }
     }
@@ -63,6 +70,7 @@ pub(crate) struct Ending<'a, 'w> {
     pub(crate) ask: Ask,
     pub(crate) status: Status,
     pub(crate) store: Named<'w>,
+    pub(crate) target: Named<'w>,
     pub(crate) notaries: Notaries<'w>,
     pub(crate) input: Option<io::Error>,
     pub(crate) output: Option<io::Error>,
@@ -80,7 +88,9 @@ pub(crate) fn tell<R: Eprint + AllocGlobal>(
 ) -> io::Result<()> {
     match ending.status {
         Status::Usage => {
-            let is_device_named = ending.store.path.is_some() || !ending.notaries.are_in_memory();
+            let is_device_named = ending.store.path.is_some()
+                || ending.target.path.is_some()
+                || !ending.notaries.are_in_memory();
             return tell_usage(rt, call, is_device_named);
         }
         Status::Ok | Status::Altered | Status::Refused => {}
@@ -93,6 +103,8 @@ impl fmt::Display for Called {
     fn fmt<W: fmt::Write>(&self, f: &mut fmt::Formatter<W>) -> fmt::Result {
         match self {
             Called::Store => write!(f, "the store"),
+            Called::Copy => write!(f, "the copy"),
+            Called::Target => write!(f, "the target"),
             Called::Book => write!(f, "the notary's book"),
             Called::Member { number, of } => write!(f, "notary {number} of {of}"),
         }
@@ -295,7 +307,10 @@ impl fmt::Display for Ending<'_, '_> {
     fn fmt<W: fmt::Write>(&self, f: &mut fmt::Formatter<W>) -> fmt::Result {
         let store = &self.store;
         let notary = &self.notaries;
+        let target = &self.target;
+        let moves = self.ask.uses_target();
         match self.status {
+            Status::DiskFault if target.error.is_some() => tell_failed(target, f),
             Status::DiskFault => tell_failed(store, f),
             Status::NotaryFault => tell_notaries_failed(notary, f),
             Status::ReadFault => {
@@ -324,9 +339,14 @@ impl fmt::Display for Ending<'_, '_> {
             Status::OutOfTurn { .. } => {
                 write!(f, "somebody else filed with {notary}: `notarize` again")
             }
+            Status::AlreadyThere if moves => tell_taken(target, f),
             Status::AlreadyThere => tell_taken(store, f),
             Status::ClockBack { last } => tell_clock_back(store, last, f),
             Status::TooLate => tell_too_late(store, f),
+            Status::Full if moves => write!(
+                f,
+                "{target} has no room for all that {store} holds: keep that one, which is read as before"
+            ),
             Status::Full => write!(
                 f,
                 "{store} or {notary} is full: go on with another store and another book"
@@ -338,6 +358,10 @@ impl fmt::Display for Ending<'_, '_> {
             Status::NotaryInconsistent { .. } => write!(
                 f,
                 "{notary} contradicts itself, as no store's digests do: keep it as it is, and tell whoever keeps it"
+            ),
+            Status::OldFormat => write!(
+                f,
+                "{store} is a file of the first format, to which nothing is added: `target=FILE migrate ID` writes what it holds to a new one"
             ),
             Status::InputLimit => write!(
                 f,

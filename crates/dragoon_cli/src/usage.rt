@@ -1,13 +1,14 @@
 //! The usage page, which goes to standard error.
 
 pub const USAGE: &str = "\
-usage: dragoon [store=FILE] [notary=FILE,..] COMMAND
+usage: dragoon [store=FILE] [notary=FILE,..] [target=FILE] COMMAND
 
   store=FILE        the store; one process at a time uses it
   notary=FILE       the notary's book: keep it where whoever writes the store can't write
                     (a missing file counts as empty, and without these words both stand in memory)
   notary=FILE,FILE,..
                     the books of up to nine notaries: what more than half of them answer counts
+  target=FILE       a new file, which `migrate` makes
 
 Make and fill
   init ID W K ALGS  makes a store that begins now, and prints `ready ID`
@@ -17,6 +18,7 @@ Make and fill
   run ID            carries out standard input, one statement a line, and answers each line in turn
   run ID scripted   does the same at the moments that lines `now M` set, and asks no clock
   make ID SEED N    carries out N generated steps, 1 to 100000, the same for each SEED, and prints a summary
+  migrate ID        writes what the store holds to the target, in segments, and prints `migrated N`
   drill             carries out standard input over a store in memory, with crashes, alterations and cuts
 
 Ask
@@ -37,7 +39,7 @@ It ends with
   3  a line was refused           10  nothing filed: altered    17  the input is too long
   4  no store of this id          11  a digest is missing       18  the store lacks the chains
   5  the store's file failed      12  somebody else filed       19  the notary contradicts itself
-  6  the notary failed            13  the file is taken
+  6  the notary failed            13  the file is taken         20  the store is of the old format
 
 docs/COMMANDS.md  the statements, the replies and the statuses
 docs/CRASHES.md   what a crash leaves, and what a lock covers

@@ -24,8 +24,6 @@ enum Warning<'a> {
     /// The file was missing, or empty.
     Nothing {
         device: &'a Named<'a>,
-        is_missing: bool,
-        is_made: bool,
         /// Whether something was filed later, and compared.
         is_compared: bool,
     },
@@ -120,10 +118,10 @@ fn behind_of<'a>(device: &'a Named<'a>) -> Option<Warning<'a>> {
 }
 
 fn nothing_in<'a>(ending: &'a Ending<'a, 'a>, device: &'a Named<'a>) -> Option<Warning<'a>> {
-    let is_missing = matches!(&device.found, Found::Missing);
-    let is_used = ending.ask != Ask::Run || ending.heard.uses_notary();
     let is_told = device.error.is_some();
-    if !holds_nothing(device) || is_told || !is_done(ending) || !ending.ask.compares() || !is_used {
+    let is_asked = is_done(ending) && ending.ask.compares() && uses_notary(ending);
+    let is_odd = device.odd == Odd::Differs;
+    if !holds_nothing(device) || is_told || !(is_asked || is_odd) {
         return None;
     }
     let is_other_book = ending
@@ -133,11 +131,14 @@ fn nothing_in<'a>(ending: &'a Ending<'a, 'a>, device: &'a Named<'a>) -> Option<W
         .any(|book| matches!(&book.found, Found::Book { .. }));
     Some(Warning::Nothing {
         device,
-        is_missing,
-        is_made: is_missing && ending.ask.makes_book(),
         is_compared: is_later_compared(ending)
             || is_other_book && matches!(device.called, Called::Member { .. }),
     })
+}
+
+/// Whether it made the calls of a notary that the words speak of.
+fn uses_notary(ending: &Ending<'_, '_>) -> bool {
+    ending.ask != Ask::Run || ending.heard.uses_notary()
 }
 
 /// Whether it was missing, or empty.
@@ -153,22 +154,29 @@ fn lost<'a>(ending: &'a Ending<'a, 'a>) -> Option<Warning<'a>> {
         .iter()
         .filter(|book| matches!(&book.found, Found::Book { .. }))
         .count();
-    let is_used = ending.ask != Ask::Run || ending.heard.uses_notary();
-    if is_used && full > 0 && empty > books.len().saturating_sub(empty) {
+    if uses_notary(ending) && full > 0 && empty > books.len().saturating_sub(empty) {
         Some(Warning::Lost)
     } else {
         None
     }
 }
 
-/// A book of which that was told tells so why it differs.
+/// A book of which that was told tells so why it differs, and why the only one that holds something does.
 fn odd_in<'a>(ending: &'a Ending<'a, 'a>, device: &'a Named<'a>) -> Option<Warning<'a>> {
     let is_quorum = matches!(device.called, Called::Member { .. });
-    let is_told = device.odd == Odd::Differs && nothing_in(ending, device).is_some();
+    let is_told = device.odd == Odd::Differs
+        && (nothing_in(ending, device).is_some() || is_left_alone(ending, device));
     if !is_quorum || device.odd == Odd::No || is_told {
         return None;
     }
     Some(Warning::Odd { device })
+}
+
+/// Whether the call failed since all books but this one were missing or empty.
+fn is_left_alone(ending: &Ending<'_, '_>, device: &Named<'_>) -> bool {
+    let books = ending.notaries.0.as_slice();
+    let full = books.iter().filter(|book| !holds_nothing(book)).count();
+    matches!(&ending.status, Status::NotaryFault) && full == 1 && !holds_nothing(device)
 }
 
 fn is_later_compared(ending: &Ending<'_, '_>) -> bool {
@@ -200,6 +208,12 @@ fn gone<'a>(ending: &'a Ending<'a, 'a>) -> Option<Warning<'a>> {
         return Some(Warning::Gone {
             word: "store=FILE",
             what: "the store",
+        });
+    }
+    if ending.ask.uses_target() && ending.target.path.is_none() {
+        return Some(Warning::Gone {
+            word: "target=FILE",
+            what: "what was written",
         });
     }
     let files = ending.ask == Ask::Notarize
@@ -290,17 +304,16 @@ fn refused<'a>(ending: &'a Ending<'a, 'a>) -> Option<Warning<'a>> {
 
 fn tell_nothing<W: fmt::Write>(
     device: &Named<'_>,
-    is_missing: bool,
-    is_made: bool,
     is_compared: bool,
     f: &mut fmt::Formatter<W>,
 ) -> fmt::Result {
+    let is_missing = matches!(&device.found, Found::Missing);
     let was = if is_missing { "missing" } else { "empty" };
     write!(f, "{device} was {was}")?;
     if !is_compared {
         write!(f, ": nothing was compared")?;
     }
-    if is_made {
+    if device.was_made {
         write!(f, ", and it was made anew")
     } else {
         Ok(())
@@ -412,10 +425,8 @@ impl fmt::Display for Warning<'_> {
             Warning::Behind { device, behind } => tell_behind(device, behind, f),
             Warning::Nothing {
                 device,
-                is_missing,
-                is_made,
                 is_compared,
-            } => tell_nothing(device, is_missing, is_made, is_compared, f),
+            } => tell_nothing(device, is_compared, f),
             Warning::Odd { device } => tell_odd(device, f),
             Warning::Lost => write!(
                 f,
