@@ -6,6 +6,7 @@ ghost use Rattle.step_count.specs.Blank.{IsBlankOf};
 ghost use Rattle.history_model.specs.Stored.{IsStorable};
 ghost use Rattle.tuple_bytes.specs.Limits.{max_granules};
 
+use chain_state::Chains;
 use history_model::Spelled;
 use notary_link::Seals;
 use seal_plan::Plan;
@@ -85,6 +86,40 @@ fn last_batch<L: Ledger>(
     Plan::new(alloc, &header, &spelled, tiles, &mut steps)?.batch(alloc, tiles)
 }
 
+/// The seals of the last tile that has ended where a granule begins, of kept chains, where there are any.
+fn kept_batch<L: Ledger>(
+    blank: Blank,
+    alloc: Global,
+    id: u64,
+    k: u8,
+    granule: u32,
+    items: &Items,
+) -> Result<Option<Seals>, AllocError>
+    requires blank { IsBlankOf L.name L.parts blank }
+    requires exponent { k ≤ 10 }
+    requires within { granule ≤ max_granules }
+    requires storable { All IsStorable items.now }
+{
+    let mut steps = Steps::<L>::new(blank);
+    let header = Header {
+        id,
+        epoch: 0,
+        width: 60,
+        k,
+        algs: 3,
+    };
+    let spelled = Spelled::of(alloc, items)?;
+    match Chains::from_items(alloc, &header, &spelled, &mut steps)? {
+        Some(mut chains) => {
+            chains.close_to(alloc, granule)?;
+            let last = chains.tiles();
+            let seals = chains.batch(alloc, last)?;
+            Ok(Some(seals))
+        }
+        None => Ok(None),
+    }
+}
+
 const WORKED: [(u8, u16, u8); 9] = [
     (1, 0, 0),
     (2, 0, 0),
@@ -145,5 +180,21 @@ fn a_batch_has_the_seals_of_another_program(rt: HostRuntime) -> Result<(), Fail>
             assert_eq!(rt; hex::encode(alloc, seal.digest)?.as_str(), *text);
         }
     }
+    Ok(())
+}
+
+#[test]
+fn kept_chains_have_the_seals_of_another_program(rt: HostRuntime) -> Result<(), Fail> {
+    let alloc = rt.alloc();
+    let items = read_all(alloc, &WORKED)?;
+    let kept = kept_batch::<Brand>(Blank::new(1), alloc, 7, 3, 8, &items)?;
+    let seals = kept.unwrap_or(Seals::new(alloc));
+    assert_eq!(rt; seals.as_slice().len(), OF_WORKED.len());
+    for (seal, text) in seals.as_slice().iter().zip(&OF_WORKED) {
+        assert_eq!(rt; hex::encode(alloc, seal.digest)?.as_str(), *text);
+    }
+    let items = read_all(alloc, &FALLING)?;
+    let none = kept_batch::<Brand>(Blank::new(1), alloc, 9, 1, 4, &items)?;
+    assert!(rt; none.is_none());
     Ok(())
 }

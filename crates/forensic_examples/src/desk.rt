@@ -4,11 +4,12 @@ ghost use Rattle.tuple_bytes.specs.Spelling.{FitsHeader};
 
 use disk_model::MemDisk;
 use forensic_report::{Algorithm, AnalyseFail, analyse};
+use history_model::encode_head;
 use notary_link::{Mark, MemNotary, Notary, NotaryLimits, Outcome};
 use std::alloc::{AllocError, Global};
 use std::test::Fail;
 use store_engine::Store;
-use tuple_bytes::{Header, MAX_ALGORITHMS, MAX_EXPONENT, encode_header};
+use tuple_bytes::{Header, MAX_ALGORITHMS, MAX_EXPONENT};
 use validator::notarize;
 
 const ID: u64 = 7;
@@ -46,7 +47,7 @@ fn header_of(k: u8, algs: u8) -> Header
 fn store_of(alloc: Global, header: &Header, rows: &[(u8, u8)]) -> Result<MemDisk, AllocError>
     requires fits { FitsHeader header.now }
 {
-    let head = encode_header(header);
+    let head = encode_head(header);
     let mut bytes = Vec::new(alloc);
     bytes.extend_from_slice(&head)?;
     let mut number = 0u8;

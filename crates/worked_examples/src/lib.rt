@@ -18,6 +18,8 @@ mod limits;
 #[cfg(test)]
 mod makes;
 #[cfg(test)]
+mod migrated;
+#[cfg(test)]
 mod notarized;
 #[cfg(test)]
 mod quorums;

@@ -46,6 +46,16 @@ $ drill = 0
 < init 7 60 0 m; create t k int; now 60; insert t 1; alter 123 02; now 120; notarize; validate
 > ready 7; ok 1; ok; ok 2; ok; ok; sealed 2; clean 2
 
+a store whose granules fall, which no line makes, keeps no chains, and is filed all the same
+$ init 7 60 0 m @ 0 = 0 ready 7
+$ run 7 scripted = 0
+< create t k int; now 60; insert t 1; insert t 2
+> ok 1; ok; ok 2; ok 3
+$ alter 141 00
+$ notarize 7 @ 120 = 0 sealed 2
+$ validate 7 @ 120 = 0 clean 2
+$ holds 3 1
+
 without a batch there is no verdict and no mark
 $ init 7 60 3 ta @ 0 = 0 ready 7
 $ validate 7 @ 9 = 0 unsealed

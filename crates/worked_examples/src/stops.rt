@@ -102,15 +102,15 @@ fn a_notary_that_fails_is_asked_again(rt: HostRuntime) -> Result<(), Fail> {
 
 /// The words of a call over sealed granules, its input, how many reading calls of the disk it makes, and how it ends.
 const READS: [(&str, &str, u64, u8); 9] = [
-    ("link", "", 2, 0),
+    ("link", "", 4, 0),
     ("init 7 60 3 ta", "", 1, 13),
-    ("run 7", "insert t 9 9\n", 2, 0),
+    ("run 7", "insert t 9 9\n", 5, 0),
     ("run 8", "", 1, 4),
-    ("notarize 7", "", 4, 0),
-    ("validate 7", "", 2, 0),
-    ("analyse 7 mono", "", 2, 0),
-    ("analyse 7 tiled", "", 2, 0),
-    ("analyse 7 a3d", "", 2, 0),
+    ("notarize 7", "", 9, 0),
+    ("validate 7", "", 4, 0),
+    ("analyse 7 mono", "", 4, 0),
+    ("analyse 7 tiled", "", 4, 0),
+    ("analyse 7 a3d", "", 4, 0),
 ];
 
 /// A reading call of the disk fails, the store is as it was, and the next call ends as if there had been none before.
@@ -190,7 +190,8 @@ fn a_crash_between_the_store_and_the_book_leaves_both_sound(rt: HostRuntime) -> 
     Ok(())
 }
 
-/// The worked store and its book, against digests of another SHA-256.
+/// The worked store and its book, against digests of another SHA-256. What is filed is that of the chains which
+/// nine commits kept.
 #[test]
 fn the_worked_store_and_its_book_are_these_bytes(rt: HostRuntime) -> Result<(), Fail> {
     let alloc = rt.alloc();
@@ -210,6 +211,6 @@ fn the_worked_store_and_its_book_are_these_bytes(rt: HostRuntime) -> Result<(), 
     Ok(())
 }
 
-const STORE: &str = "13a65c8eb32e72a5db254dbe00abbf8708e45a1825f7baafc8cbbab4a661af26";
+const STORE: &str = "36b5519f097376bd984fa1ccf739f3c4de3b9f8fed5de26649be54807f0cc3dc";
 
 const BOOK: &str = "00fc928e99647354b4fae36b3cfbc87b08c45f1a855a295db221d487e59df44a";

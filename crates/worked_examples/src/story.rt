@@ -17,10 +17,11 @@
 //! | `$ stored HEX`, `$ holds BATCHES MARKS` | the store has these bytes; so many batches are filed under id 7, and so many marks noted |
 //! | `$ notary SEALS MARKS` | the notary is an empty one with so much room |
 //! | `$ stranger` | a seal of another tile is filed under id 7, as batch 1 |
-//! | `$ breaks READ CHANGE`, `$ fails QUESTION CHANGE` | these calls of the disk, or of the notary, fail from now on |
+//! | `$ breaks READ CHANGE`, `$ hinders READ CHANGE`, `$ fails QUESTION CHANGE` | these calls of the disk, of the target, or of the notary, fail from now on |
+//! | `$ target HEX`, `$ moved` | the target has these bytes, and none at first; it is the store from now on, and another one is empty |
 //! | `$ crash CHOICE` | the disk crashes, and leaves the image of this choice |
 
-use crate::desk::{Filling, audit, call, ended, filled, notary, rows, tells, week};
+use crate::desk::{Filling, audit, beside, call, filled, notary, rows, tells, week};
 use disk_model::MemDisk;
 use notary_link::{MemNotary, Name, Notary, NotaryLimits, Seal};
 use outside_io::MemSource;
@@ -35,6 +36,7 @@ pub const NEW: &str = "init 7 60 3 m @ 0 = 0 ready 7";
 #[derive(Drop)]
 struct Scene {
     store: MemDisk,
+    target: MemDisk,
     filed: MemNotary,
     filling: Filling,
     tail: String,
@@ -137,8 +139,10 @@ fn called(rt: &impl Abort, alloc: Global, scene: &mut Scene, step: &str) -> Resu
     let (seconds, failing) = (numbers(alloc, clock)?, numbers(alloc, write)?);
     let lines = behind(alloc, step, "< ", "")?;
     let mut input = MemSource::new(lines.into_bytes(), 3, Vec::new(alloc));
-    let (store, filed) = (&mut scene.store, &mut scene.filed);
-    let told = ended(alloc, &words, store, filed, &seconds, &mut input, &failing)?;
+    let (store, target, filed) = (&mut scene.store, &mut scene.target, &mut scene.filed);
+    let told = beside(
+        alloc, &words, store, target, filed, &seconds, &mut input, &failing,
+    )?;
     let mut wanted = lines_of(alloc, text, "")?;
     wanted.push_str(&behind(alloc, step, "> ", &scene.tail)?)?;
     tells(rt, step, &told, status.parse::<u8>()?, &wanted);
@@ -230,6 +234,7 @@ fn counted(
             scene.filed = MemNotary::new(alloc, limits);
         }
         "breaks" => scene.store.failing(one, other),
+        "hinders" => scene.target.failing(one, other),
         "fails" => scene.filed.failing(one, other),
         _ => {
             assert_eq!(rt; scene.filed.count(7)?, first);
@@ -249,6 +254,15 @@ fn put(alloc: Global, scene: &mut Scene, verb: &str, rest: &str) -> Result<(), F
             fill(alloc, scene, rows(alloc, words, granules, tiles)?)
         }
         "week" => fill(alloc, scene, week(alloc)?),
+        "target" => {
+            scene.target = MemDisk::holding(alloc, bytes_of(alloc, rest)?);
+            Ok(())
+        }
+        "moved" => {
+            scene.store = MemDisk::holding(alloc, scene.target.bytes().to_vec(alloc)?);
+            scene.target = MemDisk::new(alloc);
+            Ok(())
+        }
         _ => {
             scene.store = MemDisk::holding(alloc, bytes_of(alloc, rest)?);
             Ok(())
@@ -260,12 +274,12 @@ fn take(rt: &impl Abort, alloc: Global, scene: &mut Scene, step: &str) -> Result
     let (head, _) = step.split_once('\n').unwrap_or((step, ""));
     let (verb, rest) = head.split_once(' ').unwrap_or((head, ""));
     match verb {
-        "notary" | "breaks" | "fails" | "holds" => {
+        "notary" | "breaks" | "hinders" | "fails" | "holds" => {
             let (first, second) = rest.split_once(' ').ok_or("one number")?;
             let numbers = (first.parse::<u32>()?, second.parse::<u32>()?);
             counted(rt, alloc, scene, verb, numbers)?;
         }
-        "sealed" | "week" | "bytes" => put(alloc, scene, verb, rest)?,
+        "sealed" | "week" | "bytes" | "target" | "moved" => put(alloc, scene, verb, rest)?,
         "alter" | "cut" => scene.store = changed(alloc, &scene.store, head)?,
         "crash" => scene.store.crash(rest.parse::<u64>()?)?,
         "stored" => {
@@ -286,6 +300,7 @@ pub fn tell(rt: &impl Abort, alloc: Global, first: &str, stories: &str) -> Resul
         let (_, steps) = story.split_once("\n$ ").ok_or("no step")?;
         let mut scene = Scene {
             store: MemDisk::new(alloc),
+            target: MemDisk::new(alloc),
             filed: notary(alloc),
             filling: Filling::new(alloc),
             tail: String::new(alloc),
