@@ -36,7 +36,7 @@ def of_store(store):
             for operation in item.operations:
                 counts["misfits"] += tables.apply(operation) is not None
     return {
-        "store": store.path, "bytes": len(store.content), "id": store.id, "first_second": store.epoch, "last_moment": last,
+        "store": store.path, "bytes": len(store.content), "format": store.format, "id": store.id, "first_second": store.epoch, "last_moment": last,
         "granule_seconds": store.width, "granules_in_a_tile": 1 << store.k, "chains": store.chains(),
         "transactions": counts[Transaction], "frontiers": counts[Frontier],
         "policies": counts[Policy], "misfits": counts["misfits"], "granules_with_transactions": len(granules),
@@ -72,7 +72,7 @@ def rows(pairs):
 
 def store_lines(it, date):
     tile = it["granules_in_a_tile"] * it["granule_seconds"]
-    yield "store", f"{plain(it['store'])}, {counted(it['bytes'], 'byte')}"
+    yield "store", f"{plain(it['store'])}, {counted(it['bytes'], 'byte')}, format {it['format']}"
     yield "id", it["id"]
     in_a_tile = counted(it["granules_in_a_tile"], "granule")
     yield "granules", f"{moments.length(it['granule_seconds'])} each, {in_a_tile} to a tile of {moments.length(tile)}"

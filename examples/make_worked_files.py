@@ -3,8 +3,9 @@
 
     python3 examples/make_worked_files.py FOLDER
 
-worked.store has a header, a table, eight rows and a Frontier. worked.book is the notary's book in which its one tile is
-filed, at second 480. altered.store is the store with one byte changed: row 5 says 1 and not 0.
+worked.store has a header, a table, eight rows and a Frontier, in format 1. worked_2.store is the same in format 2. worked.book is
+the notary's book in which the one tile of both is filed, at second 480. altered.store is the first store with one byte changed: row
+5 says 1 and not 0.
 """
 import hashlib
 import pathlib
@@ -59,10 +60,11 @@ def transactions():
     return [[transaction(1, 0, CREATE)] + puts[0]] + puts[1:]
 
 
-def store():
+def store(letters):
+    """In either format the records follow one another: fewer than 65,536 bytes are one segment."""
     items = [item for granule in transactions() for item in granule] + [FRONTIER]
     # the gate behind the last record is closed
-    return b"\xa7DRAGOON1" + FIELDS + bytes(33) + b"".join(map(record, items)) + b"\x00"
+    return b"\xa7" + letters + FIELDS + bytes(33) + b"".join(map(record, items)) + b"\x00"
 
 
 # ---- the digests of its one tile, under their names, in the order in which they are filed
@@ -112,9 +114,10 @@ def book():
 
 def main(folder):
     pathlib.Path(folder).mkdir(parents=True, exist_ok=True)
-    whole = store()
+    whole = store(b"DRAGOON1")
     altered = whole[:CHANGED] + b"\x01" + whole[CHANGED + 1 :]
-    for name, content in (("worked.store", whole), ("worked.book", book()), ("altered.store", altered)):
+    files = {"worked.store": whole, "worked_2.store": store(b"DRAGOON2"), "worked.book": book(), "altered.store": altered}
+    for name, content in files.items():
         (pathlib.Path(folder) / name).write_bytes(content)
 
 

@@ -15,6 +15,7 @@ import sys
 from itertools import zip_longest
 
 OPEN, FIRST_GATE, GRANULES = 0xA7, 64, 1_048_576
+SEGMENT, SEGMENTS, LETTERS = 65_536, 1_024, {b"DRAGOON1": 1, b"DRAGOON2": 2}
 
 
 class Source:
@@ -92,14 +93,21 @@ class Source:
         self.number(4, 0, 0xFFFF_FFFF if outcome == 1 else 0)
 
 
-def records(content, read, payload_limit, file_limit):
-    """What the payloads of the longest prefix of valid records spell, each with its bytes."""
-    place = FIRST_GATE
+def ranges(content, file_limit):
+    """The ranges in which records follow one another, each with its first gate and the place that no gate reaches."""
+    if LETTERS.get(content[1:9]) != 2:
+        return [(FIRST_GATE, min(len(content), file_limit))]
+    count = min(SEGMENTS, (len(content) - 1) // SEGMENT + 1)
+    return [(q * SEGMENT or FIRST_GATE, min(len(content), (q + 1) * SEGMENT)) for q in range(count)]
+
+
+def run(content, place, limit, read, payload_limit):
+    """The longest prefix of valid records in a range: what each payload spells, its bytes, and the gate behind it."""
     while content[place] == OPEN:
         begin = place + 5
         place = begin + int.from_bytes(content[place + 1 : begin], "big")
         source = Source(content[begin:place])
-        if place - begin > payload_limit or place >= min(len(content), file_limit):
+        if place - begin > payload_limit or place >= limit:
             return
         try:
             value = read(source)
@@ -107,29 +115,54 @@ def records(content, read, payload_limit, file_limit):
             return
         if source.place < len(source.content):
             return
-        yield value, source.content
+        yield value, source.content, place
+
+
+def records(content, read, payload_limit, file_limit):
+    """What the payloads of a file spell, each with its bytes."""
+    for begin, limit in ranges(content, file_limit):
+        for value, payload, _ in run(content, begin, limit, read, payload_limit):
+            yield value, payload
 
 
 STORE = (Source.item, 32_768, 67_108_864)
 BOOK = (Source.filing, 262_144, 2_147_483_648)
 
 
+def ends_of(content, kind):
+    """Of each range the gate that ends its records, and the place that no gate of it reaches."""
+    read, payload_limit, file_limit = kind
+    for begin, limit in ranges(content, file_limit):
+        yield max([begin, *(gate for *_, gate in run(content, begin, limit, read, payload_limit))]), limit
+
+
 def end_of(content, kind):
-    """The place of the gate that ends the records."""
-    return FIRST_GATE + sum(5 + len(payload) for _, payload in records(content, *kind))
+    """The place of the gate that ends the file."""
+    return list(ends_of(content, kind))[-1][0]
+
+
+def behind_ends(content, kind):
+    """How many bytes others than zeros alone stand behind the gate that ends the file, and behind those of earlier segments."""
+    if len(content) <= FIRST_GATE:
+        return 0, 0
+    *segments, (end, _) = ends_of(content, kind)
+    behind = content[end + 1 :]
+    return len(behind) if any(behind) else 0, sum(len(content[gate + 1 : limit].rstrip(b"\0")) for gate, limit in segments)
 
 
 def tell_hidden(name, content, kind):
-    """Says on standard error where bytes stand behind the gate that ends the records."""
-    end = end_of(content, kind) if len(content) > FIRST_GATE else len(content)
-    behind = len(content) - end - 1
-    if behind > 0:
-        print(f"verify: {name} ends at byte {end + 1}, and {behind} bytes stand behind it: a crash leaves such bytes, and so does whoever hides records", file=sys.stderr)
+    """Says on standard error where bytes stand behind a gate that ends records."""
+    behind, within = behind_ends(content, kind)
+    why = "a crash leaves such bytes, and so does whoever hides records"
+    if behind:
+        print(f"verify: {name} ends at byte {len(content) - behind}, and {behind} bytes stand behind it: {why}", file=sys.stderr)
+    if within:
+        print(f"verify: {within} bytes stand behind the records of segments of {name}: {why}", file=sys.stderr)
 
 
 def header_of(content):
     """The header fields, and of them the id, the width, the tile exponent and the algorithms; or None."""
-    if len(content) <= FIRST_GATE or content[:9] != b"\xa7DRAGOON1" or any(content[31:FIRST_GATE]):
+    if len(content) <= FIRST_GATE or content[0] != OPEN or content[1:9] not in LETTERS or any(content[31:FIRST_GATE]):
         return None
     id, epoch, width, k, algorithms = map(Source(content[9:31]).number, (8, 8, 4, 1, 1))
     in_range = epoch <= 1_099_511_627_775 and 1 <= width <= 86_400 and k <= 10 and algorithms <= 3

@@ -26,3 +26,6 @@ is_there() {
 
 # behind TOLD: what the program told of bytes that stand behind the end of a file. Then `clean` is no verdict.
 behind() { sed -n 's/^dragoon: \(.* bytes stand behind it\):.*/\1/p' <<<"$1" | paste -s -d ';'; }
+
+# in_format 1|2 OLD NEW: a store in this format, laid out by hand. OLD and NEW may be one file.
+in_format() { PYTHONDONTWRITEBYTECODE=1 PYTHONPATH=$(dirname "${BASH_SOURCE[0]}") python3 -m parts.laid "$@"; }

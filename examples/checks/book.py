@@ -32,7 +32,7 @@ JOB = EXAMPLES / "operate" / "job"
 def make_store(path, seconds, width, exponent):
     """A store of id 7 that began so many seconds ago, with a table and two rows."""
     header = struct.pack(">QQIBB", 7, int(time.time()) - seconds, width, exponent, 3)
-    path.write_bytes(b"\xa7DRAGOON1" + header + bytes(33) + b"\0")
+    path.write_bytes(b"\xa7DRAGOON2" + header + bytes(33) + b"\0")
     if dragoon(f"store={path}", "run", "7", "scripted", lines="create t k int v int\ninsert t 1 1\ninsert t 2 2\n")[0]:
         raise Wrong("a store can't be filled")
 

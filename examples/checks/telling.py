@@ -19,7 +19,7 @@ from program import DRAGOON, EXAMPLES, Wrong, count_of
 
 PROGRAM = str(pathlib.Path(DRAGOON).resolve()) if "/" in DRAGOON else DRAGOON
 STORE, BOOK = "store=worked.store", "notary=worked.book"
-WHOLE = "usage: dragoon [store=FILE] [notary=FILE,..] COMMAND"
+WHOLE = "usage: dragoon [store=FILE] [notary=FILE,..] [target=FILE] COMMAND"
 BEHIND = "a crash leaves such bytes, and so does whoever hides records; docs/NOTARY.md"
 KEEP = "isn't what was filed: keep it and the notary's book worked.book as they are, and copy both"
 REFUSED = "lines were refused; the first one is line"
@@ -28,6 +28,8 @@ QUORUM = "notary=a,b,c"
 DIFFERS = "differs from the others: keep it as it is; docs/NOTARY.md says why one does"
 LOST = "more than half of the books were missing or empty, and what they say is what new books say: stop, keep the others as they are, and look for copies; docs/NOTARY.md"
 UNSTORED = "nothing of it is stored"
+OLD = "store=old.store"
+IS_OLD = "the store old.store is a file of the first format, to which nothing is added: `target=FILE migrate ID` writes what it holds to a new one"
 
 
 def put(name, place, new):
@@ -81,7 +83,7 @@ ROWS = [
     ("a command that is none", None, ["runn", "7"], "", 2, "fault Usage\n",
      ["dragoon: `runn` is no command: is `run` meant?", "  run ID            carries out..", ".."]),
     ("a command that is far from all", None, ["SELECT"], "", 2, "fault Usage\n",
-     ["dragoon: `SELECT` is no command: those are link, init, run, make, drill, notarize, validate and analyse"]),
+     ["dragoon: `SELECT` is no command: those are link, init, run, make, drill, notarize, validate, analyse and migrate"]),
     ("algorithms in another order", None, ["init", "7", "60", "3", "at"], "", 2, "fault Usage\n",
      ["dragoon: `at` isn't what `init` takes there: ALGS, one of m, t, a and ta", "  init ID W K ALGS..", ".."]),
     ("a number out of its range", None, ["init", "7", "0", "3", "ta"], "", 2, "fault Usage\n",
@@ -91,7 +93,7 @@ ROWS = [
     ("a word too many", None, [STORE, "analyse", "7", "mono", "3"], "", 2, "fault Usage\n",
      ["dragoon: `3` is one word too many for `analyse`", "  analyse ID ALG ..", ".."]),
     ("a device behind the command", None, ["link", STORE], "", 2, "fault Usage\n",
-     ["dragoon: `store=worked.store` names a device, which is done once, and before the command: [store=FILE] [notary=FILE,..] COMMAND"]),
+     ["dragoon: `store=worked.store` names a device, which is done once, and before the command: [store=FILE] [notary=FILE,..] [target=FILE] COMMAND"]),
     ("nothing odd", None, [STORE, BOOK, "validate", "7"], "", 0, "clean 1\n", []),
     ("an altered store", None, ["store=altered.store", BOOK, "validate", "7"], "", 1, "altered 1 from 0\n",
      [f"dragoon: the store altered.store {KEEP}; `analyse` says which granules, and since when; docs/OPERATING.md"]),
@@ -108,7 +110,7 @@ ROWS = [
     ("an open gate before a broken record", lambda: put("worked.store", 99, b"\x09"), [STORE, "link"], "", 0, None,
      [f"dragoon: the store worked.store ends at byte 95, and 350 bytes stand behind it: {BEHIND}"]),
     ("what an append leaves that was cut off", lambda: put("worked.store", None, bytes.fromhex("0000002501000000")), [STORE, "link"], "", 0, None, []),
-    ("more than an append can leave", lambda: put("worked.store", None, bytes(33000)), [STORE, "link"], "", 0, None,
+    ("more than an append can leave", lambda: put("worked.store", None, b"\1" * 33000), [STORE, "link"], "", 0, None,
      [f"dragoon: the store worked.store ends at byte 445, and 33000 bytes stand behind it: {BEHIND}"]),
     ("a filing without a book", new_store, ["store=new.store", "notarize", "7"], "", 0, "sealed 0\n",
      [f"dragoon: no notary=FILE was named: what was filed {GONE}"]),
@@ -138,7 +140,7 @@ ROWS = [
     ("a book in the place of the store", None, ["store=worked.book", "run", "7"], "", 4, "fault NotAStore\n",
      ["dragoon: the store worked.book holds a notary's book: make one by `init`, or name the right file and id"]),
     ("a run that asks a book that is missing", None, [STORE, "notary=none", "run", "7"], "validate\n", 0, "unsealed\n",
-     ["dragoon: the notary's book none was missing: nothing was compared, and it was made anew"]),
+     ["dragoon: the notary's book none was missing: nothing was compared"]),
     ("a run that has a book analysed that is empty", lambda: pathlib.Path("none").touch(), [STORE, "notary=none", "run", "7"], "analyse mono\nget t 1\n", 0, None,
      ["dragoon: the notary's book none was empty: nothing was compared"]),
     ("a run that asks no book, and none is there", None, [STORE, "notary=none", "run", "7"], "get t 1\n", 0, "row 1 0\n", []),
@@ -167,9 +169,9 @@ ROWS = [
     ("a statement as a command", None, [STORE, "scan", "t"], "", 2, "fault Usage\n", ["dragoon: `scan` begins a statement, which `run ID` reads from its input, ..", ".."]),
     ("files and no command", None, [STORE, BOOK], "", 2, "fault Usage\n", ["dragoon: no command stands behind the words that name files: those are link, .."]),
     ("a device without `=`", None, ["store", "worked.store", "link"], "", 2, "fault Usage\n",
-     ["dragoon: `store` is no command, and names no device: store=FILE does, and notary=FILE, in lower case"]),
+     ["dragoon: `store` is no command, and names no device: store=FILE does, and notary=FILE, and target=FILE, in lower case"]),
     ("a device in capitals", None, ["STORE=worked.store", "link"], "", 2, "fault Usage\n",
-     ["dragoon: `STORE=worked.store` is no command, and names no device: store=FILE does, and notary=FILE, in lower case"]),
+     ["dragoon: `STORE=worked.store` is no command, and names no device: store=FILE does, and notary=FILE, and target=FILE, in lower case"]),
     ("an empty path", None, ["store=", "link"], "", 4, "fault NotAStore\n",
      ["dragoon: the store of an empty path is missing: make one by `init`, or name the right file and id"]),
     ("a damaged book", two_batches_with_one_index, [STORE, BOOK, "validate", "7"], "", 6, "fault NotaryFault\n",
@@ -195,6 +197,12 @@ ROWS = [
     ("two notaries that differ", three_books, [STORE, "notary=a,b", "validate", "7"], "", 6, "fault NotaryFault\n",
      ["dragoon: the quorum of 2 notaries has no answer that more than half of them gave: mend what is named next, and start again; what was answered is kept",
       f"dragoon: notary 1 of 2 (a) {DIFFERS}", f"dragoon: notary 2 of 2 (b) {DIFFERS}"]),
+    ("two notaries of whom one lost its book", lambda: shutil.copy("worked.book", "a"), [STORE, "notary=a,b", "validate", "7"], "", 6, "fault NotaryFault\n",
+     ["dragoon: the quorum of 2 notaries has no answer that ..", "dragoon: notary 2 of 2 (b) was missing"]),
+    ("a filing with two notaries of whom one lost its book", lambda: shutil.copy("worked.book", "a"), [STORE, "notary=a,b", "run", "7", "scripted"], "notarize\n", 6, "fault NotaryFault\n",
+     ["dragoon: the quorum of 2 notaries has no answer that ..", "dragoon: notary 2 of 2 (b) was missing"]),
+    ("two notaries of whom one has an empty book", lambda: (shutil.copy("worked.book", "a"), pathlib.Path("b").touch()), [STORE, "notary=a,b", "make", "7", "1", "5"], "", 6, "fault NotaryFault\n",
+     ["dragoon: the quorum of 2 notaries has no answer that ..", "dragoon: notary 2 of 2 (b) was empty"]),
     ("notaries of which one fails and two differ", three_ways, [STORE, QUORUM, "validate", "7"], "", 6, "fault NotaryFault\n",
      ["dragoon: the quorum of 3 notaries has no answer that ..", f"dragoon: notary 1 of 3 (a) {DIFFERS}", "dragoon: notary 2 of 3 (b) holds a store ..", f"dragoon: notary 3 of 3 (c) {DIFFERS}"]),
     ("notaries of whom two lost their books", lambda: shutil.copy("worked.book", "a"), [STORE, QUORUM, "validate", "7"], "", 0, "unsealed\n",
@@ -223,6 +231,18 @@ ROWS = [
      [f"dragoon: 1 of 4 {REFUSED} 4, `s0 commit`: TooLate, ..", f"dragoon: no commit came for what was begun as s0: {UNSTORED}"]),
     ("a commit that is repeated", None, [STORE, "run", "7", "scripted"], "now 1099511627775\ns0 begin\ns0 insert t 9 9\ns0 commit\nnow 600\ns0 commit\n", 3, None,
      [f"dragoon: 1 of 6 {REFUSED} 4, .."]),
+    ("a run over a store of format 1", None, [OLD, "run", "7"], "get t 1\n", 20, "fault OldFormat\n", [f"dragoon: {IS_OLD}"]),
+    ("a filing of one", None, [OLD, BOOK, "notarize", "7"], "", 20, "fault OldFormat\n", [f"dragoon: {IS_OLD}"]),
+    ("a script made over one", None, [OLD, BOOK, "make", "7", "1", "5"], "", 20, "fault OldFormat\n", [f"dragoon: {IS_OLD}"]),
+    ("a validation of one", None, [OLD, BOOK, "validate", "7"], "", 0, "clean 1\n", []),
+    ("a run over one with another id", None, [OLD, "run", "8"], "", 4, "fault NotAStore\n", ["dragoon: the store old.store holds a store with the id 7, .."]),
+    ("a migration", None, [OLD, "target=new.store", "migrate", "7"], "", 0, "migrated 9\n", []),
+    ("a migration into memory", None, [OLD, "migrate", "7"], "", 0, "migrated 9\n", [f"dragoon: no target=FILE was named: what was written {GONE}"]),
+    ("a migration into a store", None, [OLD, "target=worked.store", "migrate", "7"], "", 13, "fault AlreadyThere\n",
+     ["dragoon: the target worked.store holds a store with the id 7, which begins at 1970-01-01 00:00:00 UTC, and stays as it is: name another file"]),
+    ("a migration into the store itself", None, [OLD, "target=old.store", "migrate", "7"], "", 5, "fault DiskFault\n",
+     ["dragoon: the target old.store is locked by another process, or named twice in one call: start again when it is free"]),
+    ("a migration of another id", None, [OLD, "target=new.store", "migrate", "8"], "", 4, "fault NotAStore\n", ["dragoon: the store old.store holds a store with the id 7, .."]),
     ("a path with an escape code", None, ["store=a\x1b[2Jb", "link"], "", 4, "fault NotAStore\n",
      ["dragoon: the store a\\u{1b}[2Jb is missing: make one by `init`, or name the right file and id"]),
 ]
@@ -279,9 +299,10 @@ def call(words, lines):
 
 def try_row(what, before, words, lines, status, output, told):
     with tempfile.TemporaryDirectory() as folder:
-        for name in ("worked.store", "worked.book", "altered.store"):
-            shutil.copy(EXAMPLES / name, folder)
+        for name, kept in (("worked_2.store", "worked.store"), ("worked_2.store", "altered.store"), ("worked.store", "old.store"), ("worked.book", "worked.book")):
+            shutil.copy(EXAMPLES / name, pathlib.Path(folder, kept))
         os.chdir(folder)
+        put("altered.store", 345, b"\1")
         if before:
             before()
         there = sorted(os.listdir())
@@ -291,6 +312,8 @@ def try_row(what, before, words, lines, status, output, told):
         if status == 4 or words[-1:] == ["link"] or {"validate", "analyse"} & set(words):
             if sorted(os.listdir()) != there:
                 raise Wrong(f"{what}: what only asks, or finds no store, has left {sorted(os.listdir())}")
+        if empty := [name for name in os.listdir() if name not in there and not os.path.getsize(name)]:
+            raise Wrong(f"{what}: an empty file is left behind: {empty}")
         os.chdir("/")
 
 
@@ -321,7 +344,7 @@ def at_terminal(words, lines):
 
 def try_terminal():
     with tempfile.TemporaryDirectory() as folder:
-        shutil.copy(EXAMPLES / "worked.store", folder)
+        shutil.copy(EXAMPLES / "worked_2.store", pathlib.Path(folder, "worked.store"))
         os.chdir(folder)
         status, seen = at_terminal([STORE, "run", "7"], "get t 1\n")
         if status or "one statement a line; end with Ctrl-D" not in seen or "row 1 0" not in seen or "\x1b[" in seen:

@@ -4,7 +4,9 @@
     python3 examples/checks/verify.py [COUNT]
 
 On the worked store, on the altered one, on the worked one with each of its bytes changed, and on COUNT made stores (1,000 if
-none is given), each with an id, a width, an exponent, chains and statements of its own: as it is, and with one byte changed.
+none is given), each with an id, a width, an exponent, chains and statements of its own: as it is, and with one byte changed. Then
+on as many of more than 65,536 bytes, as they are and damaged. All stand in both formats. Only format 2 is made by the program, and
+format 1 has the same items, laid out by hand.
 """
 import importlib.util
 import pathlib
@@ -13,6 +15,9 @@ import sys
 import tempfile
 
 from program import EXAMPLES, Wrong, count_of, dragoon, script
+
+sys.path.insert(0, str(EXAMPLES))
+from parts.laid import in_format, record
 
 spec = importlib.util.spec_from_file_location("examples_verify", EXAMPLES / "verify.py")
 verify = importlib.util.module_from_spec(spec)
@@ -44,10 +49,11 @@ def changed(content, place, value):
 
 def as_a_user():
     """The script itself: what it prints, and how it ends."""
-    worked, altered, book = (EXAMPLES / name for name in ("worked.store", "altered.store", "worked.book"))
+    worked, second, altered, book = (EXAMPLES / name for name in ("worked.store", "worked_2.store", "altered.store", "worked.book"))
     names = "cum 0\ntile 0 whole\ntile 0 bit 1\nnode 0 5\nnode 1 2\nnode 2 1\nnode 3 0\n"
     wanted = [
         ((worked, book, "7"), 0, "clean 1\n"),
+        ((second, book, "7"), 0, "clean 1\n"),
         ((altered, book, "7"), 1, "altered 1 from 0\n" + names),
         ((worked, book, "8"), 0, "unsealed\n"),
         ((book, book, "7"), 1, "header altered 1\n"),
@@ -64,8 +70,10 @@ def as_a_user():
 def worked(folder):
     store, book = ((EXAMPLES / name).read_bytes() for name in ("worked.store", "worked.book"))
     tried = [(store, "the worked store"), ((EXAMPLES / "altered.store").read_bytes(), "the altered store")]
-    for place, byte in enumerate(store):
-        tried.append((changed(store, place, byte ^ 1 << place % 8), f"the worked store with byte {place} changed"))
+    for format in (1, 2):
+        content = in_format(store, format)
+        for place, byte in enumerate(content):
+            tried.append((changed(content, place, byte ^ 1 << place % 8), f"the worked store in format {format} with byte {place} changed"))
     for content, what in tried:
         (folder / "store").write_bytes(content)
         (folder / "book").write_bytes(book)
@@ -104,20 +112,72 @@ def a_script(rng, width):
     return "\n".join(lines + [f"now {moment + rng.choice([0, width, 40 * width])}", "notarize\n"])
 
 
-def made(folder, seed):
-    """One store as it is, and with one byte changed. The answer is the two verdicts, with their last numbers left out."""
+def a_large_script(rng, width):
+    """Rows that fill some segments: few of them, or many."""
+    most, moment = rng.choice([300, 5_000, 32_000]), 0
+    lines = ["create t k int v text"]
+    for key in range(1_500 if most == 300 else 20 * 32_000 // most):
+        moment += rng.choice([0, 0, 1, width, 3 * width])
+        lines += [f"now {moment}", f"insert t {key} '{rng.choice('ab') * rng.randint(most // 2, most)}'"]
+    return "\n".join(lines + [f"now {moment + 40 * width}", "notarize\n"])
+
+
+def one_byte(rng, content):
+    place = rng.choice([rng.randrange(64), rng.randrange(64, len(content)), rng.randrange(64, len(content))])
+    return changed(content, place, content[place] ^ rng.randint(1, 255)), f"byte {place} changed"
+
+
+def a_gate(rng, content):
+    """The gate of a record that is the first or the last one of its range."""
+    place = rng.choice([place for gate, limit in verify.ends_of(content, verify.STORE) for place in (gate, min(limit, len(content) - 1))])
+    value = rng.choice([0, 0xA7, 0xA6, rng.randrange(256)])
+    return changed(content, place, value), f"byte {place} set to {value}"
+
+
+def an_end(rng, content):
+    """The file cut, often at the first bytes of a segment."""
+    start = rng.randint(1, (len(content) - 1) // verify.SEGMENT) * verify.SEGMENT
+    length = rng.choice([rng.randrange(1, len(content)), start + rng.randint(0, 6), start - rng.randint(0, 6)])
+    return content[:length], f"cut to {length} bytes"
+
+
+def behind_records(rng, content):
+    """Old records, zeros or open gates behind those of a range, within it and past its end."""
+    gate, _ = rng.choice(list(verify.ends_of(content, verify.STORE)))
+    old = rng.choice([payload for _, payload in verify.records(content, *verify.STORE)])
+    new = rng.choice([record(old), record(old)[:-1] + bytes(9), bytes(99), b"\xa7" * 99, record(old * 2), b"\xa7" + (rng.getrandbits(17)).to_bytes(4, "big")])
+    return content[:gate] + new + content[gate + len(new) :], f"{len(new)} bytes put at the gate {gate}"
+
+
+def letters(rng, content):
+    """The letters of the other format, or of none."""
+    letter = rng.choice(b"012399aD\0")
+    return changed(content, 8, letter), f"letter {letter}"
+
+
+DAMAGE = one_byte, one_byte, one_byte, a_gate, a_gate, an_end, behind_records, behind_records, letters
+
+
+def made(folder, seed, lines, damage):
+    """One store as it is, and damaged, in both formats. The answer is the verdicts of the damaged ones, with their numbers left out."""
     rng, store, book = random.Random(seed), folder / "store", folder / "book"
     store.unlink(missing_ok=True)
     book.unlink(missing_ok=True)
     id, width = str(rng.choice([0, 7, (1 << 64) - 1, rng.getrandbits(64)])), rng.choice([1, 60, 3600, 86400])
     dragoon(f"store={store}", "init", id, str(width), str(rng.randint(0, 5)), rng.choice(["m", "t", "a", "ta"]))
-    dragoon(f"store={store}", f"notary={book}", "run", id, "scripted", lines=a_script(rng, width))
-    if not agrees(store, book, id, f"made store {seed}").startswith("clean"):
-        raise Wrong(f"made store {seed} isn't clean")
-    content = store.read_bytes()
-    place = rng.choice([rng.randrange(64), rng.randrange(64, len(content)), rng.randrange(64, len(content))])
-    store.write_bytes(changed(content, place, content[place] ^ rng.randint(1, 255)))
-    return agrees(store, book, id, f"made store {seed} with byte {place} changed").split(" ")[0]
+    dragoon(f"store={store}", f"notary={book}", "run", id, "scripted", lines=lines(rng, width))
+    content, verdicts = store.read_bytes(), []
+    if in_format(content, 2) != content:
+        raise Wrong(f"made store {seed}: records don't stand where FORMATS.md says that a writer puts them")
+    for whole in (content, in_format(content, 1)):
+        what = f"made store {seed}, {whole[1:9].decode()}, {len(whole)} bytes"
+        store.write_bytes(whole)
+        if not agrees(store, book, id, what).startswith("clean"):
+            raise Wrong(f"{what}, isn't clean")
+        harmed, how = rng.choice(damage)(rng, whole)
+        store.write_bytes(harmed)
+        verdicts.append(agrees(store, book, id, f"{what}, {how}").split(" ")[0])
+    return verdicts
 
 
 def main(words):
@@ -126,9 +186,10 @@ def main(words):
         folder = pathlib.Path(name)
         as_a_user()
         worked(folder)
-        verdicts = [made(folder, seed) for seed in range(count)]
-    told = ", ".join(f"{verdicts.count(it)} {it}" for it in sorted(set(verdicts)))
-    print(f"verify: agrees on {count} made stores, and with one byte changed: {told}")
+        for lines, damage, what in ((a_script, [one_byte], "with one byte changed"), (a_large_script, DAMAGE, "above 65,536 bytes, damaged")):
+            verdicts = [verdict for seed in range(count) for verdict in made(folder, seed, lines, damage)]
+            told = ", ".join(f"{verdicts.count(it)} {it}" for it in sorted(set(verdicts)))
+            print(f"verify: agrees on {count} made stores in both formats, and on each {what}: {told}")
 
 
 if __name__ == "__main__":

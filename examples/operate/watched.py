@@ -106,7 +106,7 @@ def content_of(path, most=None, durable=False):
 def read_header(conf):
     """How much the store can still take, where the file is a store of this id."""
     head, length = content_of(conf.store, 65)
-    if len(head) < 65 or head[:9] != b"\xa7DRAGOON1":
+    if len(head) < 65 or head[:9] not in (b"\xa7DRAGOON1", b"\xa7DRAGOON2"):
         raise Wrong(f"{conf.store} is no store")
     id, epoch, width, exponent = struct.unpack_from(">QQIB", head, 9)
     if id != conf.id:

@@ -3,7 +3,7 @@ from collections import namedtuple
 
 import verify
 from .script import Refused, content_of, counted, plain
-from .store import end_of, what_is
+from .store import what_is
 
 Batch = namedtuple("Batch", "id index moment seals")
 Mark = namedtuple("Mark", "id moment tiles outcome bad")
@@ -37,7 +37,7 @@ class Book:
 
     def gate(self):
         """The place of the gate that ends the book."""
-        return max(0, len(self.content) - 1) if is_empty(self.content) else end_of(self.content, RECORDS)
+        return max(0, len(self.content) - 1) if is_empty(self.content) else verify.end_of(self.content, RECORDS)
 
     def batches(self, id):
         return [it for it in self.filings if isinstance(it, Batch) and it.id == id]

@@ -77,6 +77,7 @@ class Store:
         if verify.header_of(self.content) is None:
             raise Refused(f"{plain(path)} is no store: {what_is(self.content)}")
         self.fields, self.id, self.width, self.k, self.algorithms = verify.header_of(self.content)
+        self.format = verify.LETTERS[self.content[1:9]]
         self.epoch = int.from_bytes(self.fields[8:16], "big")
         self.tile_width = self.width << self.k
 
@@ -95,11 +96,11 @@ class Store:
 
     def gate(self):
         """The place of the gate that ends the store."""
-        return end_of(self.content, RECORDS)
+        return verify.end_of(self.content, RECORDS)
 
     def behind(self):
-        """How many bytes stand behind that gate."""
-        return len(self.content) - self.gate() - 1
+        """How many bytes stand behind that gate, and behind the records of earlier segments."""
+        return sum(verify.behind_ends(self.content, RECORDS))
 
     def tell_hidden(self):
         """Says on standard error where such bytes stand."""
@@ -108,11 +109,6 @@ class Store:
 
     def chains(self):
         return ("the chain over all transactions alone", "tile chains", "the tree", "tile chains and the tree")[self.algorithms]
-
-
-def end_of(content, kind):
-    """The place of the gate that ends the records of a store or a book. `kind` is what verify.records takes of it."""
-    return verify.FIRST_GATE + sum(5 + len(payload) for _, payload in verify.records(content, *kind))
 
 
 def hidden(count):
@@ -130,9 +126,9 @@ def what_is(content):
     if content[:9] == b"\xa7DRAGBOK1":
         is_whole = len(content) > 64 and not any(content[9:64])
         return "it is a notary's book" if is_whole else "it begins as a notary's book, whose front is cut or damaged"
-    if content[1:9] == b"DRAGOON1" and content[0] != verify.OPEN:
+    if content[1:9] in verify.LETTERS and content[0] != verify.OPEN:
         return "it is a store whose header's gate is closed"
-    if content[:9] == b"\xa7DRAGOON1":
+    if content[1:9] in verify.LETTERS:
         return "it begins as a store, and " + ("ends within the header" if len(content) < 65 else "its header has a field that no store has")
     if not any(content):
         return f"its {len(content)} bytes are zeros"
