@@ -21,11 +21,11 @@ use Rattle.stmt_text.specs.declared.line.Line.{Line}
 use Rattle.stmt_text.specs.declared.line.Line.TheVariants as lines
 use Rattle.stmt_text.specs.Tokens.{Token, inside_after, separates, is_filled, with_byte, pieces, tokens}
 use Rattle.stmt_text.specs.Numbers.{in_range, int, number, minus, int_in_range}
-use Rattle.stmt_text.specs.Values.{SaysBytes, hex_quoted}
+use Rattle.stmt_text.specs.Values.{hex_quoted}
 use Rattle.stmt_text.specs.Lines.{without_return, line_by}
 use Rattle.stmt_text.specs.Printing.{value_token, kind_token, compare_token, column_tokens, as_of_tokens, filter_tokens, algorithm_tokens, stmt_word, stmt_tokens, event_word, event_tokens, spaced, stmt_text, event_text, line_text}
 use Rattle.stmt_text.specs.Fits.{FitsValue, FitsMoment, FitsFilter, FitsColumn, FitsAlgorithm, FitsStmt, FitsEvent, FitsParts, FitsLine}
-use Rattle.stmt_text.specs.Grammar.{Says, SaysNumber, SayValues, SayColumns, SayAsOf, SayAlgorithm, SayFilter, SayStmt, SayEvent, SayLine, SaysWords, SaysContent, SaysLine}
+use Rattle.stmt_text.specs.Grammar.{Says, SaysNumber, SayValues, SayColumns, SayAsOf, SayAlgorithm, SayFilter, SayStmt, SayEvent, SayLine, SaysWords, SaysContent, SaysLine, SaysBytes}
 use Rattle.stmt_text.proofs.Choices.{map_takes}
 use Rattle.stmt_text.proofs.Numerals.{number_shortest}
 use Rattle.stmt_text.proofs.TakenLines.{says_taken}
@@ -77,6 +77,7 @@ stmt_fits ts stmts.Commit h = tt
 stmt_fits ts stmts.Abort h = tt
 stmt_fits ts stmts.Notarize h = tt
 stmt_fits ts stmts.Validate h = tt
+stmt_fits ts stmts.Audit h = tt
 stmt_fits ts (stmts.Analyse a) h = algorithm_fits ts a h
 stmt_fits ts (stmts.Now m) h = h.2.2
 
@@ -211,6 +212,7 @@ stmt_shortest ts stmts.Commit h = omega arith
 stmt_shortest ts stmts.Abort h = omega arith
 stmt_shortest ts stmts.Notarize h = omega arith
 stmt_shortest ts stmts.Validate h = omega arith
+stmt_shortest ts stmts.Audit h = omega arith
 stmt_shortest ts (stmts.Analyse a) h = algorithm_shortest ts a h
 stmt_shortest ts (stmts.Now m) h = rw h.1 (more (decimal m) h.0 [] [] (decimal_shortest 0 max_moment m h.0 (omega arith) h.2) (omega arith))
 

@@ -16,10 +16,10 @@ use Rattle.stmt_text.specs.declared.event.Event.{Event}
 use Rattle.stmt_text.specs.declared.event.Event.TheVariants as events
 use Rattle.stmt_text.specs.Tokens.{Token}
 use Rattle.stmt_text.specs.Numbers.{in_range}
-use Rattle.stmt_text.specs.Values.{SaysValue, value_in_range}
+use Rattle.stmt_text.specs.Values.{value_in_range}
 use Rattle.stmt_text.specs.Printing.{value_token, column_tokens, as_of_tokens, filter_tokens, algorithm_tokens, stmt_tokens, event_tokens}
 use Rattle.stmt_text.specs.Fits.{FitsValue, FitsMoment, FitsFilter, FitsColumn, FitsAlgorithm, FitsStmt, FitsEvent}
-use Rattle.stmt_text.specs.Grammar.{Says, SaysNumber, SayValues, SayColumns, SayAsOf, SayAlgorithm, SayFilter, SayStmt, SayEvent}
+use Rattle.stmt_text.specs.Grammar.{Says, SaysNumber, SayValues, SayColumns, SayAsOf, SayAlgorithm, SayFilter, SayStmt, SayEvent, SaysValue}
 use Rattle.stmt_text.proofs.Numerals.{number_again, int_back}
 
 -- ---- parts
@@ -90,6 +90,7 @@ stmt_says stmts.Commit h = refl
 stmt_says stmts.Abort h = refl
 stmt_says stmts.Notarize h = refl
 stmt_says stmts.Validate h = refl
+stmt_says stmts.Audit h = refl
 stmt_says (stmts.Analyse a) h = algorithm_says a h
 stmt_says (stmts.Now m) h = (decimal m, refl, moment_says m h)
 

@@ -23,7 +23,8 @@ use Rattle.stmt_text.specs.declared.stmt.Stmt.{Stmt}
 use Rattle.stmt_text.specs.declared.stmt.Stmt.TheVariants as stmts
 use Rattle.stmt_text.specs.declared.event.Event.{Event}
 use Rattle.stmt_text.specs.declared.event.Event.TheVariants as events
-use Rattle.stmt_text.specs.Tokens.{Token, is_filled, is_closed, joined, tokens}
+use Rattle.stmt_text.specs.Tokens.{Token, is_filled, tokens}
+use Rattle.stmt_text.specs.Grammar.{is_closed, joined}
 use Rattle.stmt_text.specs.Numbers.{is_digit, int_in_range}
 use Rattle.stmt_text.specs.Values.{doubled, quoted, hex_quoted, is_text, is_text_byte}
 use Rattle.stmt_text.specs.Keywords.{keyword_token}
@@ -260,6 +261,7 @@ word_printed words.Commit = printed (codes "commit") refl refl
 word_printed words.Abort = printed (codes "abort") refl refl
 word_printed words.Notarize = printed (codes "notarize") refl refl
 word_printed words.Validate = printed (codes "validate") refl refl
+word_printed words.Audit = printed (codes "audit") refl refl
 word_printed words.Analyse = printed (codes "analyse") refl refl
 word_printed words.Now = printed (codes "now") refl refl
 word_printed words.Init = printed (codes "init") refl refl
@@ -284,6 +286,7 @@ stmt_printed stmts.Commit h = tt
 stmt_printed stmts.Abort h = tt
 stmt_printed stmts.Notarize h = tt
 stmt_printed stmts.Validate h = tt
+stmt_printed stmts.Audit h = tt
 stmt_printed (stmts.Analyse a) h = algorithm_printed a h
 stmt_printed (stmts.Now m) h = (decimal_printed m (omega arith), tt)
 

@@ -299,6 +299,7 @@ stmt_keeps words.Commit ts s e = e
 stmt_keeps words.Abort ts s e = e
 stmt_keeps words.Notarize ts s e = e
 stmt_keeps words.Validate ts s e = e
+stmt_keeps words.Audit ts s e = e
 stmt_keeps words.Analyse ts s e = map_keeps stmts.Analyse (algorithm in_range ts) (algorithm any_width ts) s (algorithm_keeps ts) e
 stmt_keeps words.Now ts s e = map_keeps stmts.Now (only (moment in_range) ts) (only (moment any_width) ts) s (only_keeps (moment in_range) (moment any_width) moment_keeps ts) e
 stmt_keeps words.Init ts s e = e

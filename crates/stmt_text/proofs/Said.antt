@@ -150,6 +150,7 @@ stmt_said numbers ts stmts.Commit h = rw h refl
 stmt_said numbers ts stmts.Abort h = rw h refl
 stmt_said numbers ts stmts.Notarize h = rw h refl
 stmt_said numbers ts stmts.Validate h = rw h refl
+stmt_said numbers ts stmts.Audit h = rw h refl
 stmt_said numbers ts (stmts.Analyse a) h = rw (algorithm_said numbers ts a h) refl
 stmt_said numbers ts (stmts.Now m) h = rw (h.1, moment_said numbers h.0 m h.2) refl
 

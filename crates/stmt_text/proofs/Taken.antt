@@ -21,7 +21,7 @@ use Rattle.stmt_text.specs.Tokens.{Token}
 use Rattle.stmt_text.specs.declared.number.Numbers.{Numbers}
 use Rattle.stmt_text.specs.declared.number.Numbers.TheVariants as modes
 use Rattle.stmt_text.specs.Numbers.{number, any_width, in_range, kept}
-use Rattle.stmt_text.specs.Values.{SaysValue, value, nearest_value, value_in_range}
+use Rattle.stmt_text.specs.Values.{value, nearest_value, value_in_range}
 use Rattle.stmt_text.specs.Words.{compare, kind, algorithm_word}
 use Rattle.stmt_text.specs.Keywords.{stmt_keyword}
 use Rattle.stmt_text.specs.Parts.{kept_value, moment, kappa, value_in, name, front, ended, only, each, after_word, behind_word, two_names, as_of}
@@ -29,7 +29,7 @@ use Rattle.stmt_text.specs.Rows.{is_row, are_columns, column_of, row, column, ea
 use Rattle.stmt_text.specs.Statements.{create, insert, update, delete, get, history, filter_of, filter_at, unfiltered, filtered, scan, span, only_filter, over_select, over_join, over_by, over, exactly, algorithm, alone, stmt_by}
 use Rattle.stmt_text.specs.Printing.{kind_token, compare_token}
 use Rattle.stmt_text.specs.Fits.{FitsName}
-use Rattle.stmt_text.specs.Grammar.{Says, SaysNumber, SayValues, SayColumns, SayAsOf, SayAlgorithm, SayFilter, SayStmt}
+use Rattle.stmt_text.specs.Grammar.{Says, SaysNumber, SayValues, SayColumns, SayAsOf, SayAlgorithm, SayFilter, SayStmt, SaysValue}
 use Rattle.stmt_text.proofs.Choices.{both, bind_some, if_some, where_some, says_if, or_takes, map_takes, same_text}
 use Rattle.stmt_text.proofs.ValueReads.{value_takes}
 use Rattle.stmt_text.proofs.WordReads.{kind_takes, compare_takes}
@@ -398,6 +398,7 @@ stmt_takes numbers words.Commit ts s e = alone_takes numbers words.Commit stmts.
 stmt_takes numbers words.Abort ts s e = alone_takes numbers words.Abort stmts.Abort ts s refl (λ h. h) e
 stmt_takes numbers words.Notarize ts s e = alone_takes numbers words.Notarize stmts.Notarize ts s refl (λ h. h) e
 stmt_takes numbers words.Validate ts s e = alone_takes numbers words.Validate stmts.Validate ts s refl (λ h. h) e
+stmt_takes numbers words.Audit ts s e = alone_takes numbers words.Audit stmts.Audit ts s refl (λ h. h) e
 stmt_takes numbers words.Analyse ts s e = analyse_takes numbers ts s e
 stmt_takes numbers words.Now ts s e = now_takes numbers ts s e
 stmt_takes numbers words.Init ts s e = absurd cc

@@ -132,6 +132,7 @@ event_takes words.Commit ts e h = absurd cc
 event_takes words.Abort ts e h = absurd cc
 event_takes words.Notarize ts e h = absurd cc
 event_takes words.Validate ts e h = absurd cc
+event_takes words.Audit ts e h = absurd cc
 event_takes words.Analyse ts e h = absurd cc
 event_takes words.Now ts e h = absurd cc
 

@@ -38,6 +38,7 @@ keyword_back words.Commit = refl
 keyword_back words.Abort = refl
 keyword_back words.Notarize = refl
 keyword_back words.Validate = refl
+keyword_back words.Audit = refl
 keyword_back words.Analyse = refl
 keyword_back words.Now = refl
 keyword_back words.Init = refl
@@ -94,8 +95,9 @@ other_takes token k e =
     (says_if (bytes_eq token (codes "abort")) words.Abort k _ P (same_text token (codes "abort"))
     (says_if (bytes_eq token (codes "notarize")) words.Notarize k _ P (same_text token (codes "notarize"))
     (says_if (bytes_eq token (codes "validate")) words.Validate k _ P (same_text token (codes "validate"))
+    (says_if (bytes_eq token (codes "audit")) words.Audit k _ P (same_text token (codes "audit"))
     (says_if (bytes_eq token (codes "analyse")) words.Analyse k _ P (same_text token (codes "analyse"))
-    (says_if (bytes_eq token (codes "now")) words.Now k _ P (same_text token (codes "now")) (λ f. absurd cc)))))))
+    (says_if (bytes_eq token (codes "now")) words.Now k _ P (same_text token (codes "now")) (λ f. absurd cc))))))))
     e
 
 drill_takes : (token : Token) (k : Keyword) → drill_keyword token ≡ Some k → token ≡ keyword_token k
@@ -164,6 +166,7 @@ word_not_blank words.Commit rest = refl
 word_not_blank words.Abort rest = refl
 word_not_blank words.Notarize rest = refl
 word_not_blank words.Validate rest = refl
+word_not_blank words.Audit rest = refl
 word_not_blank words.Analyse rest = refl
 word_not_blank words.Now rest = refl
 word_not_blank words.Init rest = refl
@@ -186,6 +189,7 @@ no_session words.Commit = refl
 no_session words.Abort = refl
 no_session words.Notarize = refl
 no_session words.Validate = refl
+no_session words.Audit = refl
 no_session words.Analyse = refl
 no_session words.Now = refl
 no_session words.Init = refl
@@ -208,6 +212,7 @@ no_drill stmts.Commit = refl
 no_drill stmts.Abort = refl
 no_drill stmts.Notarize = refl
 no_drill stmts.Validate = refl
+no_drill stmts.Audit = refl
 no_drill (stmts.Analyse a) = refl
 no_drill (stmts.Now m) = refl
 

@@ -74,6 +74,7 @@ FitsStmt stmts.Commit = Unit {0}
 FitsStmt stmts.Abort = Unit {0}
 FitsStmt stmts.Notarize = Unit {0}
 FitsStmt stmts.Validate = Unit {0}
+FitsStmt stmts.Audit = Unit {0}
 FitsStmt (stmts.Analyse a) = FitsAlgorithm a
 FitsStmt (stmts.Now m) = m ≤ max_moment
 

@@ -1,8 +1,10 @@
 -- The grammar, by cases on what is said: which line says which value, with numbers in their ranges or of any width.
-use Rattle.std.specs.Prelude.{◌≡◌, ℕ, ◌≤◌, true, false, min, List, [], ◌∷◌, length, Option, Some, None, Ok, codes, decimal}
+use Rattle.std.specs.Prelude.{◌≡◌, ℕ, ◌≤◌, Bool, true, false, ◌&&◌, not, min, List, [], ◌∷◌, ◌++◌, length, Option, Some, None, Ok, codes, decimal}
+use Rattle.std.specs.List.{flat_map, filter, list_all}
 use Rattle.hex.specs.Hex.{decode_of}
 use Rattle.tuple_bytes.specs.declared.op.Column.{Column}
 use Rattle.tuple_bytes.specs.declared.value.Value.{Value}
+use Rattle.tuple_bytes.specs.declared.value.Value.TheVariants as values
 use Rattle.tuple_bytes.specs.declared.filter.Filter.{Filter}
 use Rattle.tuple_bytes.specs.Limits.{max_moment}
 use Rattle.stmt_text.specs.declared.stmt.LineAlgorithm.{LineAlgorithm}
@@ -13,17 +15,53 @@ use Rattle.stmt_text.specs.declared.event.Event.{Event}
 use Rattle.stmt_text.specs.declared.event.Event.TheVariants as events
 use Rattle.stmt_text.specs.declared.line.Line.{Line}
 use Rattle.stmt_text.specs.declared.line.Line.TheVariants as lines
-use Rattle.stmt_text.specs.Tokens.{Token, tokens}
+use Rattle.stmt_text.specs.Tokens.{Token, separates, inside_after, is_filled, tokens}
 use Rattle.stmt_text.specs.declared.number.Numbers.{Numbers}
 use Rattle.stmt_text.specs.declared.number.Numbers.TheVariants as modes
-use Rattle.stmt_text.specs.Numbers.{number, any_width, in_range, max_u64}
-use Rattle.stmt_text.specs.Values.{SaysValue, nearest_value, value_in_range}
+use Rattle.stmt_text.specs.Numbers.{number, int, any_width, in_range, max_u64}
+use Rattle.stmt_text.specs.Values.{quoted, is_text, hex_quoted, nearest_value, value_in_range}
 use Rattle.stmt_text.specs.Keywords.{stmt_keyword, is_session_word, is_for_session}
 use Rattle.stmt_text.specs.Rows.{is_row, are_columns}
 use Rattle.stmt_text.specs.Events.{is_altering}
 use Rattle.stmt_text.specs.Lines.{without_return, is_blank, max_line}
 use Rattle.stmt_text.specs.Printing.{kind_token, compare_token, algs_token, stmt_word, event_word}
 use Rattle.stmt_text.specs.Fits.{FitsName}
+
+-- ---- tokens
+
+-- spaces stand only between quotes, and each quote that opens is closed
+abbrev pub is_closed : Bool → List ℕ → Bool
+is_closed inside [] = not inside
+is_closed inside (b ∷ bytes) = not (separates inside b) && is_closed (inside_after inside b) bytes
+
+-- a piece, and then a space and a piece as often as wanted
+abbrev pub joined : List ℕ → List (List ℕ) → List ℕ
+joined first others = first ++ flat_map (λ piece. 32 ∷ piece) others
+
+-- The line is closed pieces with a space between each two; the tokens are those pieces that are not empty.
+pub record HasTokens (line : List ℕ) (found : List Token) : Type 0 where
+  pub first : List ℕ
+  pub others : List (List ℕ)
+  pub line_is : line ≡ joined first others
+  pub closed : list_all (is_closed false) (first ∷ others) ≡ true
+  pub found_is : found ≡ filter is_filled (first ∷ others)
+
+-- ---- values
+
+-- the bytes between the quotes are these, written as hexadecimal digits in either case
+pub record SaysBytes (token : Token) (bytes : List ℕ) : Type 0 where
+  pub digits : List ℕ
+  pub token_is : token ≡ hex_quoted digits
+  pub bytes_are : decode_of digits ≡ Ok bytes
+
+-- what a token says, by cases on the value
+abbrev pub SaysValue : Token → Value → Type 0
+SaysValue token values.Null = token ≡ codes "null"
+SaysValue token (values.Bool true) = token ≡ codes "true"
+SaysValue token (values.Bool false) = token ≡ codes "false"
+SaysValue token (values.Int z) = int token ≡ Some z
+SaysValue token (values.Text text) = (token ≡ quoted text) × (is_text text ≡ true)
+SaysValue token (values.Bytes bytes) = SaysBytes token bytes
 
 -- ---- parts
 
@@ -109,6 +147,7 @@ SayStmt numbers ts stmts.Commit = ts ≡ []
 SayStmt numbers ts stmts.Abort = ts ≡ []
 SayStmt numbers ts stmts.Notarize = ts ≡ []
 SayStmt numbers ts stmts.Validate = ts ≡ []
+SayStmt numbers ts stmts.Audit = ts ≡ []
 SayStmt numbers ts (stmts.Analyse a) = SayAlgorithm numbers ts a
 SayStmt numbers ts (stmts.Now m) = (token : Token) × (ts ≡ token ∷ []) × SaysNumber numbers 0 max_moment token m
 

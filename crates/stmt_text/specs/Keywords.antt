@@ -23,6 +23,7 @@ keyword_token words.Commit = codes "commit"
 keyword_token words.Abort = codes "abort"
 keyword_token words.Notarize = codes "notarize"
 keyword_token words.Validate = codes "validate"
+keyword_token words.Audit = codes "audit"
 keyword_token words.Analyse = codes "analyse"
 keyword_token words.Now = codes "now"
 keyword_token words.Init = codes "init"
@@ -46,6 +47,7 @@ stmt_keyword stmts.Commit = words.Commit
 stmt_keyword stmts.Abort = words.Abort
 stmt_keyword stmts.Notarize = words.Notarize
 stmt_keyword stmts.Validate = words.Validate
+stmt_keyword stmts.Audit = words.Audit
 stmt_keyword (stmts.Analyse a) = words.Analyse
 stmt_keyword (stmts.Now m) = words.Now
 

@@ -21,6 +21,7 @@ stmt_kind (stmts.OverSelect from to table filter) = kinds.InWorld parts.Tables
 stmt_kind (stmts.OverJoin from to left right left_column right_column) = kinds.InWorld parts.Tables
 stmt_kind stmts.Notarize = kinds.InWorld (parts.Notary asked.Notarize)
 stmt_kind stmts.Validate = kinds.InWorld (parts.Notary asked.Validate)
+stmt_kind stmts.Audit = kinds.InWorld (parts.Notary asked.Audit)
 stmt_kind (stmts.Analyse algorithm) = kinds.InWorld (parts.Notary (asked.Analyse algorithm))
 stmt_kind (stmts.Now moment) = kinds.SetsMoment moment
 stmt_kind stmts.Begin = kinds.OutsideScripts

@@ -1,12 +1,10 @@
 -- What stands in the tokens of a line, one part after the other.
-use Rattle.std.specs.Prelude.{◌≡◌, ℕ, if◌then◌else◌, List, [], ◌∷◌, Option, Some, None, option_map, Result, Ok, Err, codes}
+use Rattle.std.specs.Prelude.{ℕ, if◌then◌else◌, List, [], ◌∷◌, Option, Some, None, option_map, codes}
 use Rattle.std.specs.Str.{bytes_eq}
 use Rattle.tuple_bytes.specs.declared.value.Value.{Value}
 use Rattle.byte_grammar.specs.Reading.{◌>>=◌}
 use Rattle.tuple_bytes.specs.Limits.{max_moment}
 use Rattle.tuple_bytes.specs.Word.{is_word}
-use Rattle.stmt_text.specs.declared.error.ReadFail.{ReadFail}
-use Rattle.stmt_text.specs.declared.error.ReadFail.TheVariants as fails
 use Rattle.stmt_text.specs.declared.number.Numbers.{Numbers}
 use Rattle.stmt_text.specs.declared.number.Numbers.TheVariants as modes
 use Rattle.stmt_text.specs.Tokens.{Token}
@@ -87,11 +85,3 @@ unfoldable pub as_of : Numbers → List Token → Option (Option ℕ)
 as_of numbers [] = Some None
 as_of numbers (token ∷ tokens) =
     option_map Some (after_word (codes "as") (after_word (codes "of") (only (moment numbers))) (token ∷ tokens))
-
--- ---- what code answers
-
--- what was read, seen by view, is what reading gives, unless memory ran out
-abbrev pub Read : {X Y : Type 0} → (X → Y) → Result X ReadFail → Option Y → Type 0
-Read view (Ok x) read = read ≡ Some (view x)
-Read view (Err fails.Missing) read = read ≡ None
-Read view (Err fails.NoMemory) read = Unit {0}

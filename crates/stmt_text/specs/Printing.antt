@@ -86,6 +86,7 @@ stmt_tokens stmts.Commit = []
 stmt_tokens stmts.Abort = []
 stmt_tokens stmts.Notarize = []
 stmt_tokens stmts.Validate = []
+stmt_tokens stmts.Audit = []
 stmt_tokens (stmts.Analyse a) = algorithm_tokens a
 stmt_tokens (stmts.Now m) = decimal m ∷ []
 

@@ -162,6 +162,7 @@ stmt_by numbers words.Commit tokens = alone stmts.Commit tokens
 stmt_by numbers words.Abort tokens = alone stmts.Abort tokens
 stmt_by numbers words.Notarize tokens = alone stmts.Notarize tokens
 stmt_by numbers words.Validate tokens = alone stmts.Validate tokens
+stmt_by numbers words.Audit tokens = alone stmts.Audit tokens
 stmt_by numbers words.Analyse tokens = option_map stmts.Analyse (algorithm numbers tokens)
 stmt_by numbers words.Now tokens = option_map stmts.Now (only (moment numbers) tokens)
 stmt_by numbers words.Init tokens = None

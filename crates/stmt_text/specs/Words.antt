@@ -33,6 +33,7 @@ other_keyword token =
     else if bytes_eq token (codes "abort") then Some words.Abort
     else if bytes_eq token (codes "notarize") then Some words.Notarize
     else if bytes_eq token (codes "validate") then Some words.Validate
+    else if bytes_eq token (codes "audit") then Some words.Audit
     else if bytes_eq token (codes "analyse") then Some words.Analyse
     else if bytes_eq token (codes "now") then Some words.Now
     else None

@@ -4,7 +4,8 @@ ghost use Rattle.std.specs.Prelude.{◌≤◌, IfOk};
 ghost use Rattle.stmt_text.specs.Tokens.{tokens};
 ghost use Rattle.stmt_text.specs.Words.{algs};
 ghost use Rattle.stmt_text.specs.Numbers.{plain_number};
-ghost use Rattle.stmt_text.specs.Parts.{Read, front};
+ghost use Rattle.stmt_text.specs.Parts.{front};
+ghost use Rattle.stmt_text.specs.Reading.{Read};
 ghost use Rattle.stmt_text.specs.Events.{altering, init, crash, alter, cut, event_by};
 
 use crate::error::ReadFail;

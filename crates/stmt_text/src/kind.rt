@@ -13,6 +13,7 @@ use crate::stmt::{LineAlgorithm, Stmt};
 pub enum NotaryLine {
     Notarize,
     Validate,
+    Audit,
     Analyse { algorithm: LineAlgorithm },
 }
 
@@ -23,7 +24,7 @@ pub enum WorldPart {
     Tables,
     /// One of its sixteen sessions.
     Sessions,
-    /// Its notary.
+    /// Its notary: `notarize`, `validate`, `audit` and `analyse`.
     Notary { asks: NotaryLine },
 }
 
@@ -66,6 +67,7 @@ impl Stmt {
             },
             Stmt::Notarize => notary_line(NotaryLine::Notarize),
             Stmt::Validate => notary_line(NotaryLine::Validate),
+            Stmt::Audit => notary_line(NotaryLine::Audit),
             Stmt::Analyse { algorithm } => notary_line(NotaryLine::Analyse {
                 algorithm: *algorithm,
             }),

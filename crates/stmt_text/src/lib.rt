@@ -9,7 +9,7 @@
 //! ```text
 //! line      = plain | "s" N insession | drill           N is 0 to 15 in the same token, spelled plainly
 //! insession = table | "begin" | "commit" | "abort"
-//! plain     = table | "notarize" | "validate" | "analyse" algorithm | "now" M
+//! plain     = table | "notarize" | "validate" | "audit" | "analyse" algorithm | "now" M
 //! table     = "create" NAME NAME KIND [NAME KIND ..]    1 to 32 columns whose names differ
 //!           | "insert" NAME VALUE [VALUE ..]            1 to 32 values
 //!           | "update" NAME VALUE [VALUE ..]
@@ -49,10 +49,10 @@
 //! | what a line asks for, and which part of a store's world answers it, is said once for all layers | `value` of `Line::kind` and `Stmt::kind` |
 //! | `print_line` writes one text for each line, and reading it gives the same line | `value`, `spelled` of `print_line`; `lines_come_back` |
 //!
-//! `specs/Grammar.antt` says the grammar by cases on what is said, with numbers in their ranges or of any width, and so
-//! what is refused as Syntax and as NumberTooWide. `Tokens`, `Numbers` and `Values` say what tokens
-//! are and mean; the other files read a line part by part, as the code does. Only tested: that memory suffices, and
-//! that long lines take no long time (each byte is looked at a fixed number of times, and nothing recurses).
+//! `specs/Grammar.antt` says the grammar by cases on what is said: tokens, values and lines, with numbers in their ranges
+//! or of any width, and so what is refused as Syntax and as NumberTooWide. The other files read a line part by part;
+//! `Reading` has the words of the code alone. Only tested: that memory suffices, and that long lines take no long time
+//! (each byte is looked at a fixed number of times, and nothing recurses).
 //!
 //! # Use
 //!

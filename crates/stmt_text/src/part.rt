@@ -3,7 +3,8 @@
 
 ghost use Rattle.byte_grammar.specs.Reading.{Gives};
 ghost use Rattle.stmt_text.specs.Tokens.{tokens};
-ghost use Rattle.stmt_text.specs.Parts.{Read, moment, kappa, value_in, name, front, ended, only, behind_word, two_names, as_of};
+ghost use Rattle.stmt_text.specs.Parts.{moment, kappa, value_in, name, front, ended, only, behind_word, two_names, as_of};
+ghost use Rattle.stmt_text.specs.Reading.{Read};
 
 use crate::error::ReadFail;
 use crate::number::{Numbers, number_of};

@@ -65,6 +65,8 @@ pub enum Stmt {
     Abort,
     Notarize,
     Validate,
+    /// The next piece of an audit.
+    Audit,
     Analyse {
         algorithm: LineAlgorithm,
     },

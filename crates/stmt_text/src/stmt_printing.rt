@@ -148,6 +148,7 @@ fn word_of(stmt: &Stmt) -> &'static [u8]
         Stmt::Abort => b"abort",
         Stmt::Notarize => b"notarize",
         Stmt::Validate => b"validate",
+        Stmt::Audit => b"audit",
         Stmt::Analyse { .. } => b"analyse",
         Stmt::Now { .. } => b"now",
     }
@@ -214,7 +215,8 @@ fn put_rest(alloc: Global, out: &mut Vec<u8>, stmt: &Stmt) -> Result<(), AllocEr
             let moment = *moment;
             put_number(alloc, out, moment)?;
         }
-        Stmt::Begin | Stmt::Commit | Stmt::Abort | Stmt::Notarize | Stmt::Validate => {}
+        Stmt::Begin | Stmt::Commit | Stmt::Abort | Stmt::Notarize | Stmt::Validate | Stmt::Audit =>
+            {}
     }
     Ok(())
 }

@@ -4,7 +4,8 @@ ghost use Rattle.std.specs.Prelude.{option_map, codes};
 ghost use Rattle.byte_grammar.specs.Reading.{Gives};
 ghost use Rattle.stmt_text.specs.Tokens.{tokens};
 ghost use Rattle.stmt_text.specs.Words.{compare, algorithm_word};
-ghost use Rattle.stmt_text.specs.Parts.{Read, front, only, moment, kappa, after_word};
+ghost use Rattle.stmt_text.specs.Parts.{front, only, moment, kappa, after_word};
+ghost use Rattle.stmt_text.specs.Reading.{Read};
 ghost use Rattle.stmt_text.specs.Statements.{create, insert, update, delete, get, history, filter_at, filtered, scan, span, only_filter, over_select, over_join, over_by, over, algorithm, alone, stmt_by};
 
 use crate::error::ReadFail;
@@ -317,6 +318,7 @@ pub fn stmt_of(
         Keyword::Abort => alone_of(Stmt::Abort, bytes),
         Keyword::Notarize => alone_of(Stmt::Notarize, bytes),
         Keyword::Validate => alone_of(Stmt::Validate, bytes),
+        Keyword::Audit => alone_of(Stmt::Audit, bytes),
         Keyword::Analyse => analyse_of(numbers, bytes),
         Keyword::Now => now_of(numbers, bytes),
         Keyword::Init | Keyword::Crash | Keyword::Alter | Keyword::Cut => Err(ReadFail::Missing),

@@ -25,6 +25,7 @@ pub enum Keyword {
     Abort,
     Notarize,
     Validate,
+    Audit,
     Analyse,
     Now,
     Init,
@@ -79,6 +80,8 @@ fn other_keyword_of(token: &[u8]) -> Option<Keyword>
         Some(Keyword::Notarize)
     } else if spells(token, b"validate") {
         Some(Keyword::Validate)
+    } else if spells(token, b"audit") {
+        Some(Keyword::Audit)
     } else if spells(token, b"analyse") {
         Some(Keyword::Analyse)
     } else if spells(token, b"now") {

@@ -16,7 +16,8 @@ use Rattle.stmt_text.specs.Parts.{moment, only, front}
 use Rattle.stmt_text.specs.Statements.{stmt_by}
 use Rattle.stmt_text.specs.Words.{keyword, table_keyword, other_keyword, drill_keyword}
 use Rattle.stmt_text.specs.declared.error.ParseFail.TheVariants as fails
-use Rattle.stmt_text.specs.Tokens.{Token, joined}
+use Rattle.stmt_text.specs.Tokens.{Token}
+use Rattle.stmt_text.specs.Grammar.{joined}
 use Rattle.stmt_text.specs.Lines.{answer, answer_by, line_by, content_line, is_blank, max_line, said, plain, plain_by, session}
 use Rattle.stmt_text.specs.Printing.{line_text, stmt_text}
 use Rattle.stmt_text.specs.Fits.{FitsLine}

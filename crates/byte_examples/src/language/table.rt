@@ -4,7 +4,7 @@
 /// the one above it.
 pub type Case = (&'static str, &'static str, &'static str);
 
-pub const LINES: [Case; 17] = [
+pub const LINES: [Case; 18] = [
     ("", "", "a line of no bytes is blank"),
     ("   ", "", "and so is one of spaces"),
     (
@@ -33,6 +33,7 @@ pub const LINES: [Case; 17] = [
     ),
     ("validate", "validate", "validate stands alone"),
     ("validate 1", "Syntax", "nothing stands behind it"),
+    ("audit", "audit", "audit stands alone, too"),
     ("select t", "Syntax", "no such word"),
 ];
 
