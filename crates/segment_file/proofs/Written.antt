@@ -20,10 +20,9 @@ use Rattle.segment_file.specs.declared.fail.SegmentFail.{SegmentFail}
 use Rattle.segment_file.specs.declared.fail.SegmentFail.TheVariants as fails
 use Rattle.segment_file.specs.Fail.{fail_of_disk}
 use Rattle.tuple_bytes.specs.Spelling.{spell_item}
-use Rattle.segment_file.specs.Placing.{laid, end_of_laid}
+use Rattle.segment_file.specs.LaidOut.{laid, end_of_laid, laid_out}
 use Rattle.history_model.specs.Heads.{spell_head}
-use Rattle.segment_file.specs.LaidOut.{laid_out}
-use Rattle.segment_file.specs.LayingOut.{layout_writes, IsOfLayingOut, RefusesLayout, MakesLayout, HoldsNoneOrAll, LaysOut}
+use Rattle.segment_file.specs.Writing.{layout_writes, IsOfLayingOut, RefusesLayout, MakesLayout, HoldsNoneOrAll, LaysOut}
 use Rattle.history_model.proofs.Fronts.{short_header, no_front}
 use Rattle.segment_file.proofs.Appended.{lifted, on_lifted}
 

@@ -9,7 +9,8 @@ ghost use Rattle.history_model.specs.Stored.{store_shape, max_file};
 ghost use Rattle.tuple_bytes.specs.Limits.{max_payload};
 ghost use Rattle.segment_file.specs.declared.fail.SegmentFail.TheVariants.{DiskFault, StoreFull, Closed};
 ghost use Rattle.history_model.specs.Placing.{gate_behind, is_full};
-ghost use Rattle.segment_file.specs.Append.{Standing, append_calls, way_to, IsRefusedAsFull, StandsAfter, Appends};
+ghost use Rattle.segment_file.specs.Append.{Standing, append_calls};
+ghost use Rattle.segment_file.specs.Appended.{way_to, IsRefusedAsFull, StandsAfter, Appends};
 
 use crate::SegmentFail;
 use crate::append::{Way, add, record_bytes, zeros_of};

@@ -2,7 +2,7 @@
 
 ghost use Rattle.segment_file.specs.Damage.{DamageStays, DamageKeepsOthers};
 ghost use Rattle.segment_file.specs.LaidOut.{LaidOutIsFound};
-ghost use Rattle.segment_file.specs.Writes.{RoomIsOneFormula};
+ghost use Rattle.segment_file.specs.Leaving.{RoomIsOneFormula};
 ghost use Rattle.segment_file.specs.Places.{FirstPlace, PlaceStays};
 
 /// Damage within a segment leaves what the other segments hold.

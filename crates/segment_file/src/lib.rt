@@ -24,6 +24,7 @@
 //! | `laid_out header items` | the file with these, each item in the first place that has room for it |
 //! | `segment_writes open length end payload` | the writes of an append, a sync behind each |
 //! | `IsPlaceOf i place bytes` | the first i items stand before the place, and end there |
+//! | `KeepsPlaces before after` | each place of a file is one of the other |
 //!
 //! What the layer above may rely on:
 //!
@@ -40,7 +41,8 @@
 //! | a whole store is written so that a crash leaves no header, or all of it | `images` of `LaysOut` |
 //! | what is laid out is found again | `laid_is_found` |
 //! | damage within a segment leaves the items of the others, in order | `damage_keeps_others`, `damage_stays` |
-//! | a place stays one behind an append | `place_stays` |
+//! | after Ok each place is one still, from which reading goes on | `places` of `Appends` |
+//! | a place is one still where the bytes up to it stay, and payloads only come behind | `place_stays` |
 //! | there is room exactly up to the end of segment 1,023 | `store_full` of `append`, `room_is_one_formula` |
 //! | reading begins at place 64 | `first_place` |
 //!

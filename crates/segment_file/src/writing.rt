@@ -9,8 +9,8 @@ ghost use Rattle.tuple_bytes.specs.Spelling.{FitsHeader, spell_item};
 ghost use Rattle.history_model.specs.Stored.{IsStorable, max_file};
 ghost use Rattle.segment_file.specs.declared.fail.SegmentFail.TheVariants.{DiskFault};
 ghost use Rattle.history_model.specs.Heads.{spell_head};
-ghost use Rattle.segment_file.specs.Placing.{laid, end_of_laid};
-ghost use Rattle.segment_file.specs.LayingOut.{IsOfLayingOut, LaysOut};
+ghost use Rattle.segment_file.specs.LaidOut.{laid, end_of_laid};
+ghost use Rattle.segment_file.specs.Writing.{IsOfLayingOut, LaysOut};
 
 use crate::SegmentFail;
 use crate::append::begin;

@@ -112,11 +112,12 @@ module _ (w : Service) (n now : ℕ) (op : Op) (ops : List Op) (m new_m : Machin
     stands = behind_is (subst (λ (r : Reply). GoesAlong n (op ∷ ops) r m new_m) st.reply goes) st.stands;
     dropped = tt;
     settled = st.settled;
+    places = st.places;
     images = st.images;
     kept = st.kept;
     trace = st.trace;
   }
-  by_none (Err fail) st goes gone = record { reply = tt; stands = tt; dropped = gone; settled = st.settled; images = st.images; kept = st.kept; trace = st.trace }
+  by_none (Err fail) st goes gone = record { reply = tt; stands = tt; dropped = gone; settled = st.settled; places = st.places; images = st.images; kept = st.kept; trace = st.trace }
 
   by_some : (f : StoreFail) (result : Result Reply StepFail) → stepping.StepsIn w.store (statements.committed (Some f) w.store t) result stand new_stand old new before after
       → IfOk result (λ reply. GoesAlong n (op ∷ ops) reply m new_m) → OnErr result (NoneKept new_m)
@@ -126,11 +127,12 @@ module _ (w : Service) (n now : ℕ) (op : Op) (ops : List Op) (m new_m : Machin
     stands = left_is (left_of n (op ∷ ops) m new_m f (subst (λ (r : Reply). GoesAlong n (op ∷ ops) r m new_m) st.reply goes)) st.stands;
     dropped = tt;
     settled = st.settled;
+    places = st.places;
     images = st.images;
     kept = st.kept;
     trace = st.trace;
   }
-  by_some f (Err fail) st goes gone = record { reply = tt; stands = tt; dropped = gone; settled = st.settled; images = st.images; kept = st.kept; trace = st.trace }
+  by_some f (Err fail) st goes gone = record { reply = tt; stands = tt; dropped = gone; settled = st.settled; places = st.places; images = st.images; kept = st.kept; trace = st.trace }
 
   by_fault : (f : Option StoreFail) (result : Result Reply StepFail) → stepping.StepsIn w.store (statements.committed f w.store t) result stand new_stand old new before after
       → IfOk result (λ reply. GoesAlong n (op ∷ ops) reply m new_m) → OnErr result (NoneKept new_m)

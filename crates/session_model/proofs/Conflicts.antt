@@ -10,7 +10,8 @@ use Rattle.history_model.specs.Values.{key_of, same_name, same_key}
 use Rattle.tuple_bytes.specs.declared.item.Txn.{Txn}
 use Rattle.session_model.specs.declared.place.Place.{Place}
 use Rattle.session_model.specs.declared.place.Place.TheVariants.{Key, Keys}
-use Rattle.session_model.specs.Places.{touches, touches_one, NoneTouches, first_touching}
+use Rattle.session_model.specs.Places.{touches, touches_one, first_touching}
+use Rattle.session_model.specs.Later.{NoneTouches}
 use Rattle.session_model.specs.Conflicts.{IsFirstTouching, ConflictsAreFirst, ReadsAreASet, SameReadsConflictAlike, AllKeysCoverEach}
 
 module _ (places : List Place) where

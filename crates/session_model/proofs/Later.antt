@@ -16,8 +16,8 @@ use Rattle.history_model.proofs.Histories.{NoneAfter, none_at, state_before, sta
 use Rattle.statement_core.specs.Database as stores
 pub use Rattle.statement_core.proofs.Promising.{txns_more}
 use Rattle.session_model.specs.declared.place.Place.{Place}
-use Rattle.session_model.specs.Places.{touches, touches_one, NoneTouches}
-use Rattle.session_model.specs.Later.{Rise, IsLater}
+use Rattle.session_model.specs.Places.{touches, touches_one}
+use Rattle.session_model.specs.Later.{Rise, IsLater, NoneTouches}
 use Rattle.session_model.proofs.Untouched.{ordered_state, kept_ops}
 
 -- ---- one item more

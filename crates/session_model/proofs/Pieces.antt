@@ -19,11 +19,11 @@ use Rattle.statement_core.specs.Database as stores
 use Rattle.session_model.specs.declared.place.Place.{Place}
 use Rattle.session_model.specs.Places.{first_touching, since}
 use Rattle.session_model.specs.Statements.{say}
-use Rattle.session_model.specs.Service.{Session, Service, put_at, with_session, new_session, NoneBegun}
+use Rattle.session_model.specs.Service.{Session, Service, put_at, with_session, new_session}
 use Rattle.session_model.specs.Steps.{Answer, Replied, Served, answers, stored, store_pending, unless_conflict, conflict, heard, speak, in_session, serve}
 use Rattle.session_model.specs.Alone.{alone_from, Exchange, IsAlone}
 use Rattle.session_model.specs.Runs.{Turn, Logs, no_logs, logged, noted, told_in, world_after, reached, opened}
-use Rattle.session_model.specs.Serial.{WasAlone}
+use Rattle.session_model.specs.Serial.{WasAlone, NoneBegun}
 use Rattle.session_model.specs.Pieces.{in_turn, piece, IsOnePiece, IsPieceOf, InPieces, IsSpoken, AloneIsOneSession, RunsAreInPieces}
 use Rattle.session_model.specs.Runs as turns
 use Rattle.session_model.proofs.Serials.{AreHeld, was_alone, line_goes, reach_held, none_held}

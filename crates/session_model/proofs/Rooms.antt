@@ -13,8 +13,8 @@ use Rattle.store_engine.specs.declared.fail.StoreFail.TheVariants as fails
 use Rattle.store_engine.specs.Refusals.{where_true, is_back, is_late, is_full, next_txn, item_fault}
 use Rattle.statement_core.specs.Database as stores
 use Rattle.statement_core.specs.Steps.{write_in}
-use Rattle.session_model.specs.Statements.{size_of, size_fault, pended, pend, change_or_read, say}
-use Rattle.session_model.specs.Pending.{PendingHasRoom, RoomIsEnough}
+use Rattle.session_model.specs.Statements.{size_fault, pended, pend, change_or_read, say}
+use Rattle.session_model.specs.Pending.{PendingHasRoom, RoomIsEnough, size_of}
 use Rattle.session_model.proofs.Each.{each_session}
 
 pended_room : (pending : List Op) (op : Op) → size_fault pending ≡ None → (f : Option StoreFail) → size_fault (pending ++ op ∷ []) ≡ f → size_fault (pended pending op f).pending ≡ None

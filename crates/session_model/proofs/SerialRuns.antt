@@ -16,11 +16,11 @@ use Rattle.statement_core.specs.declared.reply.Reply.{Reply}
 use Rattle.statement_core.specs.declared.reply.Reply.TheVariants as replies
 use Rattle.statement_core.specs.Database as stores
 use Rattle.statement_core.specs.Refusing.{refused_by_store}
-use Rattle.session_model.specs.Service.{Session, Service, with_store, NoneBegun}
+use Rattle.session_model.specs.Service.{Session, Service, with_store}
 use Rattle.session_model.specs.Steps.{Replied, Served, stored, store_pending, unless_conflict, conflict, in_session, serve}
 use Rattle.session_model.specs.Alone.{Exchange, IsAlone}
 use Rattle.session_model.specs.Runs.{Turn, Logs, no_logs, noted, told_in, world_after, reached, opened}
-use Rattle.session_model.specs.Serial.{IsStored, WasAlone}
+use Rattle.session_model.specs.Serial.{IsStored, WasAlone, NoneBegun}
 use Rattle.session_model.specs.Pieces.{piece, turns_for, serial_run, answers_for, serial_answers, RunsAreAsSerial}
 use Rattle.session_model.specs.Runs as turns
 use Rattle.session_model.proofs.Serials.{AreHeld, was_alone, line_goes, reach_held, none_held}

@@ -21,15 +21,15 @@ use Rattle.statement_core.specs.declared.reply.Reply.{Reply}
 use Rattle.statement_core.specs.Database as stores
 use Rattle.statement_core.specs.Steps as statements
 use Rattle.session_model.specs.declared.place.Place.{Place}
-use Rattle.session_model.specs.Places.{reads_of, touches, touches_one, NoneTouches, first_touching, since}
+use Rattle.session_model.specs.Places.{reads_of, touches, touches_one, first_touching, since}
 use Rattle.session_model.specs.Statements.{Said, say}
-use Rattle.session_model.specs.Service.{Session, Service, put_at, with_store, new_session, NoneBegun}
+use Rattle.session_model.specs.Service.{Session, Service, put_at, with_store, new_session}
 use Rattle.session_model.specs.Steps.{Served, stored, store_pending, unless_conflict, conflict, heard, in_session, serve}
 use Rattle.session_model.specs.Alone.{Alone, after_reply, alone_from, alone, Exchange, IsAlone}
 use Rattle.session_model.specs.Runs.{Turn, reached, opened, Logs, no_logs, noted}
-use Rattle.session_model.specs.Serial.{WasAlone, IsSerialAt, Serial, RunsAreSerial}
+use Rattle.session_model.specs.Serial.{WasAlone, IsSerialAt, Serial, RunsAreSerial, NoneBegun}
 use Rattle.session_model.specs.Runs as turns
-use Rattle.session_model.specs.Later.{IsLater}
+use Rattle.session_model.specs.Later.{IsLater, NoneTouches}
 use Rattle.session_model.proofs.Later.{later_same, later_still, later_txn, later_frontier}
 use Rattle.session_model.proofs.Staying.{answers_stay}
 

@@ -34,9 +34,8 @@ use Rattle.statement_core.specs.Steps.{found, scanned, told, pieced}
 use Rattle.session_model.specs.OneTable.{on_tables, OneTableIsEnough}
 use Rattle.session_model.specs.declared.place.Place.{Place}
 use Rattle.session_model.specs.declared.place.Place.TheVariants.{Key, Keys, Existence}
-use Rattle.session_model.specs.Places.{NoneTouches}
 use Rattle.session_model.specs.Statements.{said, pend, say}
-use Rattle.session_model.specs.Later.{IsLater, AnswersStay}
+use Rattle.session_model.specs.Later.{IsLater, AnswersStay, NoneTouches}
 use Rattle.session_model.proofs.Untouched.{ordered_state, table_ops, there_after, there_ops, glance_kept, table_kept, there_kept, none_of_first, none_of_more}
 use Rattle.session_model.proofs.Later.{IsQuiet, now_of, quiet_at, quiet_now, all_quiet}
 use Rattle.session_model.proofs.Histories.{changes_now, quiet_changes}
@@ -190,6 +189,7 @@ answers_stay w later pending stmts.Commit more quiet = refl
 answers_stay w later pending stmts.Abort more quiet = refl
 answers_stay w later pending stmts.Notarize more quiet = refl
 answers_stay w later pending stmts.Validate more quiet = refl
+answers_stay w later pending stmts.Audit more quiet = refl
 answers_stay w later pending (stmts.Analyse algorithm) more quiet = refl
 answers_stay w later pending (stmts.Now moment) more quiet = refl
 

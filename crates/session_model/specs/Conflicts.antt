@@ -6,7 +6,8 @@ use Rattle.tuple_bytes.specs.declared.op.Op.{Op}
 use Rattle.tuple_bytes.specs.declared.item.Txn.{Txn}
 use Rattle.session_model.specs.declared.place.Place.{Place}
 use Rattle.session_model.specs.declared.place.Place.TheVariants.{Key, Keys}
-use Rattle.session_model.specs.Places.{touches, touches_one, NoneTouches, first_touching}
+use Rattle.session_model.specs.Places.{touches, touches_one, first_touching}
+use Rattle.session_model.specs.Later.{NoneTouches}
 
 -- it touches a place, and none before it does
 pub record IsFirstTouching (places : List Place) (ts : List Txn) (number : ℕ) : Type 0 where

@@ -1,6 +1,7 @@
 -- What is pending has room in a transaction, and fits the tables.
-use Rattle.std.specs.Prelude.{◌≡◌, ℕ, false, List, [], ◌∷◌, Option, None, IfSome, Ok}
+use Rattle.std.specs.Prelude.{◌≡◌, ℕ, false, List, [], ◌∷◌, length, Option, None, IfSome, Ok}
 use Rattle.tuple_bytes.specs.declared.op.Op.{Op}
+use Rattle.tuple_bytes.specs.Spelling.{spell_txn}
 use Rattle.history_model.specs.declared.change.Write.{Write}
 use Rattle.history_model.specs.Answers.{prepared}
 use Rattle.history_model.specs.State.{State, after_ops}
@@ -10,10 +11,14 @@ use Rattle.store_engine.specs.declared.fail.StoreFail.TheVariants as fails
 use Rattle.store_engine.specs.declared.fail.StoreFail.{StoreFail}
 use Rattle.store_engine.specs.Refusals.{Tail, where_true, is_back, is_late, is_full, commit_fault}
 use Rattle.statement_core.specs.Database as stores
-use Rattle.session_model.specs.Statements.{size_of, size_fault}
+use Rattle.session_model.specs.Statements.{draft, size_fault}
 use Rattle.session_model.specs.Service.{Session, Service}
 use Rattle.session_model.specs.Steps.{serve}
 use Rattle.session_model.specs.Alone.{alone}
+
+-- the bytes that operations take
+abbrev pub size_of : List Op → ℕ
+size_of ops = length (spell_txn (draft ops))
 
 -- a session, if there is one, wants to store what a transaction can hold
 abbrev pub HasRoom : Option Session → Type 0

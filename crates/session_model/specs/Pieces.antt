@@ -8,11 +8,11 @@ use Rattle.stmt_text.specs.declared.stmt.Stmt.{Stmt}
 use Rattle.stmt_text.specs.declared.line.Line.{Line}
 use Rattle.statement_core.specs.declared.reply.Reply.TheVariants as replies
 use Rattle.statement_core.specs.declared.reply.Reply.{Reply}
-use Rattle.session_model.specs.Service.{Session, Service, NoneBegun}
+use Rattle.session_model.specs.Service.{Session, Service}
 use Rattle.session_model.specs.Steps.{Answer, Replied, Served, serve, ended}
 use Rattle.session_model.specs.Alone.{alone_from, Exchange}
 use Rattle.session_model.specs.Runs.{Turn, no_logs, told_in, world_after, Take, Reach, Open, reached, opened, Logs, noted, AtEachLine}
-use Rattle.session_model.specs.Serial.{IsStored}
+use Rattle.session_model.specs.Serial.{IsStored, NoneBegun}
 
 -- statements of a session, one after the other
 abbrev pub in_turn : ℕ → ℕ → List Stmt → List Turn

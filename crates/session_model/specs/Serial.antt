@@ -1,15 +1,19 @@
 -- A run is serial: each session that commits was told what its statements are told alone.
-use Rattle.std.specs.Prelude.{List, Option, Some, None}
+use Rattle.std.specs.Prelude.{◌≡◌, ℕ, List, Option, Some, None}
 use Rattle.stmt_text.specs.declared.stmt.Stmt.TheVariants as stmts
 use Rattle.stmt_text.specs.declared.line.Line.TheVariants as lines
 use Rattle.stmt_text.specs.declared.line.Line.{Line}
 use Rattle.statement_core.specs.Database as stores
 use Rattle.statement_core.specs.declared.reply.Reply.TheVariants as replies
 use Rattle.statement_core.specs.declared.reply.Reply.{Reply}
-use Rattle.session_model.specs.Service.{Session, Service, NoneBegun}
+use Rattle.session_model.specs.Service.{Session, Service}
 use Rattle.session_model.specs.Steps.{Answer, Replied, serve}
 use Rattle.session_model.specs.Runs.{Turn, no_logs, Logs, AtEachLine}
 use Rattle.session_model.specs.Alone.{Exchange, IsAlone}
+
+-- no session is begun
+abbrev pub NoneBegun : Service → Type 0
+NoneBegun w = (n : ℕ) → w.sessions n ≡ None
 
 -- `ok N`, or `ok` where nothing was to be stored
 abbrev pub IsStored : Reply → Type 0

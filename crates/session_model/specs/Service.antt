@@ -1,5 +1,5 @@
 -- A store with its sessions: a stored history, and what each session has read and wants to store.
-use Rattle.std.specs.Prelude.{◌≡◌, ℕ, ◌==◌, if◌then◌else◌, List, [], length, Option, None}
+use Rattle.std.specs.Prelude.{ℕ, ◌==◌, if◌then◌else◌, List, [], length, Option}
 use Rattle.tuple_bytes.specs.declared.op.Op.{Op}
 use Rattle.history_model.specs.History.{txns}
 use Rattle.statement_core.specs.Database as stores
@@ -32,7 +32,3 @@ with_store w store = record { store = store; sessions = w.sessions }
 -- a session that begins now
 abbrev pub new_session : Service → Session
 new_session w = record { begun = length (txns w.store.items); reads = []; pending = [] }
-
--- no session is begun
-abbrev pub NoneBegun : Service → Type 0
-NoneBegun w = (n : ℕ) → w.sessions n ≡ None

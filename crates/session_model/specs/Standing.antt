@@ -108,6 +108,7 @@ pub record StepsIn (w : Service) (next : Served) (result : Result Reply StepFail
   pub stands : OnOk result (IsIn next.world to.machine to.store after)
   pub dropped : OnErr result (NoneKept to.machine)
   pub settled : Only before old → OnOk result (Only after new)
+  pub places : OnOk result (stepping.KeepsPlaces before after)
   pub images : Only before old → EveryImage old new (stores.StoresEither w.store next.world.store)
   pub kept : Only before old → stores.StoresEither w.store next.world.store after
   pub trace : stepping.MakesFor w.store (of_store next) result from.store old new

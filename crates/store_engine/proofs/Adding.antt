@@ -1,5 +1,5 @@
 -- What an append does to a store, by its items.
-use Rattle.std.proofs.Common.{◌≡◌, inl, inr, ℕ, Bool, List, [], ◌∷◌, ◌++◌, Option, Some, None, Result, Ok, Err, refl, sym, ap, subst, ◌∙◌}
+use Rattle.std.proofs.Common.{◌≡◌, inl, inr, ℕ, Bool, List, [], ◌∷◌, ◌++◌, Some, Result, Ok, Err, refl, sym, ap, subst, ◌∙◌}
 use Rattle.outside_words.specs.Told.{WhereTold}
 use Rattle.outside_words.proofs.Told.{told_map, told_same}
 use Rattle.disk_words.specs.Disk.{State, Only, Unchanged, Call, turn}
@@ -13,8 +13,9 @@ use Rattle.tuple_bytes.proofs.ItemLaws.{whole_again}
 use Rattle.txn_journal.specs.Append.{KeepsFront}
 use Rattle.segment_file.specs.declared.fail.SegmentFail.{SegmentFail}
 use Rattle.segment_file.specs.declared.fail.SegmentFail.TheVariants as segment_fails
-use Rattle.segment_file.specs.Append as segments
-use Rattle.segment_file.specs.Append.{Standing, StandsIn, Appends, append_calls, behind}
+use Rattle.segment_file.specs.Appended as segments
+use Rattle.segment_file.specs.Append.{Standing, append_calls, behind}
+use Rattle.segment_file.specs.Appended.{StandsIn, Appends}
 use Rattle.segment_file.specs.Writes.{segment_writes}
 use Rattle.store_engine.specs.declared.fail.StoreFail.{StoreFail}
 use Rattle.store_engine.specs.declared.fail.StoreFail.TheVariants as fails
@@ -74,6 +75,7 @@ module _ (item : Item) (payload : List ℕ) (is : payload ≡ spell_item item) (
     adds_failed new_stand e made = record {
       added = tt;
       durable = tt;
+      places = tt;
       images = images_of;
       kept = kept_of;
       front = front_of;
@@ -98,6 +100,7 @@ module _ (item : Item) (payload : List ℕ) (is : payload ≡ spell_item item) (
     adds_done new_stand behind_item = record {
       added = opens new_stand behind_item;
       durable = appends.durable;
+      places = λ items open_on. appends.places (stands items open_on);
       images = images_of (Ok tt) appends;
       kept = kept_of (Ok tt) appends;
       front = front_of (Ok tt) appends;
@@ -139,6 +142,7 @@ pub record_refused : (payload : List ℕ) (at : Standing) (s : State) → ((c : 
 record_refused payload at s only_now = told_same s.reads s.reads (AddsAny payload at (Err fails.Closed) s s) refl (λ bytes item stand spells at_is later. record {
   added = tt;
   durable = tt;
+  places = tt;
   images = λ items open_on only. started s (StoresOldOrNew stand.header items item) only_now (λ c now. inl (subst (Stores stand.header items) (sym (only c now)) open_on.stores));
   kept = λ items open_on only. inl open_on.stores;
   front = λ items open_on only. refl;
@@ -165,6 +169,7 @@ module _ (item : Item) (stand later : Opened) (s : State) (only_now : (c : List 
   told_nothing fail made = told_same s.reads s.reads (Adds {A = Unit {0}} item (Err fail) stand later s s) refl (λ bytes. record {
     added = tt;
     durable = tt;
+    places = tt;
     images = λ items open_on only. started s (StoresOldOrNew stand.header items item) only_now (λ c now. inl (subst (Stores stand.header items) (sym (only c now)) open_on.stores));
     kept = λ items open_on only. inl open_on.stores;
     front = λ items open_on only. refl;

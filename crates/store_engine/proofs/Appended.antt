@@ -1,5 +1,5 @@
 -- What an append leaves of a store, by its bytes alone.
-use Rattle.std.proofs.Common.{◌≡◌, ℕ, ◌+◌, ◌<◌, Bool, false, List, [], ◌∷◌, ◌++◌, length, Some, refl, subst, arith}
+use Rattle.std.proofs.Common.{◌≡◌, ℕ, ◌+◌, ◌<◌, false, List, [], ◌∷◌, ◌++◌, length, Some, refl, subst, arith}
 use Rattle.std.proofs.lemmas.Bool.Decides.{nat_tests}
 use Rattle.disk_model.specs.Moments.{written_all, AllWithin, CutShort}
 use Rattle.byte_grammar.specs.Gated.{FitsRecord}
@@ -10,13 +10,15 @@ use Rattle.tuple_bytes.specs.Spelling.{spell_item}
 use Rattle.tuple_bytes.proofs.ItemLaws.{whole_again, spelled_some}
 use Rattle.history_model.specs.Stored.{store_shape, max_file, stored}
 use Rattle.txn_journal.specs.Append.{KeepsFront}
-use Rattle.segment_file.specs.Append as segments
-use Rattle.segment_file.specs.Append.{Standing, StandsIn}
+use Rattle.segment_file.specs.Appended as segments
+use Rattle.segment_file.specs.Append.{Standing}
+use Rattle.segment_file.specs.Appended.{StandsIn}
 use Rattle.history_model.specs.Placing.{gate_behind}
 use Rattle.segment_file.proofs.Appended.{gate_within, front_at, within_at, each_at, added_at}
 use Rattle.store_engine.specs.Opened.{Stores, StoresOldOrNew}
 use Rattle.store_engine.specs.Refusals.{is_full}
-use Rattle.store_engine.specs.Appended.{standing, item_writes, with_record, Takes, CutAppendLeavesOldOrNew, AppendAddsItem, AppendIsWithin, CutAppendLeavesFront, AppendPutsRecord}
+use Rattle.store_engine.specs.Appended.{standing, with_record}
+use Rattle.store_engine.specs.Leaving.{item_writes, Takes, CutAppendLeavesOldOrNew, AppendAddsItem, AppendIsWithin, CutAppendLeavesFront, AppendPutsRecord}
 use Rattle.store_engine.proofs.StoredFiles.{stores_new, stores_either}
 use Rattle.store_engine.proofs.Placed.{all_placed}
 

@@ -1,5 +1,5 @@
 -- Each item takes more bytes than one, and no moment falls.
-use Rattle.std.proofs.Common.{◌≡◌, ℕ, ◌+◌, ◌*◌, ◌<◌, ◌≤◌, max, Bool, true, false, cond, leb, ltb, List, length, Option, Some, None, Result, Ok, Err, OnOk, OnErr, refl, sym, ap, subst, ◌∙◌, arith}
+use Rattle.std.proofs.Common.{◌≡◌, ℕ, ◌+◌, ◌*◌, ◌<◌, ◌≤◌, max, Bool, true, false, cond, leb, ltb, List, length, Option, Some, None, Result, Ok, Err, OnOk, OnErr, refl, sym, ap, subst, arith}
 use Rattle.std.specs.Prelude.{IfSome}
 use Rattle.std.specs.Option.{option_map}
 use Rattle.std.proofs.lemmas.Bool.{leb-true, leb-false}
@@ -12,7 +12,7 @@ use Rattle.segment_file.specs.Append.{Standing, behind}
 use Rattle.chain_state.specs.Chained.{Chained, without_room, with_closed}
 use Rattle.store_engine.specs.declared.contents.Contents.{Contents}
 use Rattle.store_engine.specs.Adding.{stands_at}
-use Rattle.store_engine.specs.Chaining.{HaveReached}
+use Rattle.store_engine.specs.Taking.{HaveReached}
 use Rattle.store_engine.specs.Contents.{after_item, with_tables}
 use Rattle.store_engine.proofs.Taken.{chains_moved}
 

@@ -15,7 +15,8 @@ use Rattle.chain_state.specs.Chained.{Chained, without_room}
 use Rattle.store_engine.specs.declared.contents.Contents.{Contents}
 use Rattle.store_engine.specs.declared.fail.StoreFail.TheVariants as fails
 use Rattle.store_engine.specs.Opened.{Opened, Knows, IsOpenOn}
-use Rattle.store_engine.specs.Refusals.{IsOfAnother, IsOfThis, IsNoStore}
+use Rattle.store_engine.specs.Refusals.{IsOfAnother, IsOfThis}
+use Rattle.store_engine.specs.Causes.{IsNoStore}
 use Rattle.store_engine.specs.Replay.{Replays, OpensAs}
 use Rattle.store_engine.proofs.Taken.{chains_shown}
 

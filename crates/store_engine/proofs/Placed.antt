@@ -1,5 +1,5 @@
 -- The writes of an append put its record where it goes.
-use Rattle.std.proofs.Common.{◌≡◌, ℕ, ◌+◌, ◌-◌, ◌<◌, ◌≤◌, max, Bool, true, false, cond, eqb, ltb, List, [], ◌∷◌, ◌++◌, length, take, drop, replicate, refl, sym, ap, ◌∙◌, arith, append_assoc, length-append}
+use Rattle.std.proofs.Common.{◌≡◌, ℕ, ◌+◌, ◌-◌, ◌<◌, ◌≤◌, Bool, true, false, cond, eqb, ltb, List, [], ◌∷◌, ◌++◌, length, take, drop, replicate, refl, sym, ap, ◌∙◌, arith, append_assoc, length-append}
 use Rattle.std.specs.Prelude.{slice_index}
 use borrow.Author.Tests.{ltb-true, ltb-false}
 use Rattle.std.proofs.lemmas.List.{take_at, drop_at, drop-drop, length-take-le, length-replicate}
@@ -13,10 +13,9 @@ use Rattle.txn_journal.proofs.Appending.{over, at_over}
 use Rattle.txn_journal.proofs.Replaced.{all_appended}
 use Rattle.segment_file.specs.Append.{append_writes}
 use Rattle.history_model.specs.Placing.{next_start}
-use Rattle.segment_file.specs.Writes.{closes, fills, adds}
+use Rattle.segment_file.specs.Writes.{closes, fills, placed}
 use Rattle.segment_file.proofs.SegmentAppends.{written_length}
-use Rattle.store_engine.specs.Appended.{standing}
-use Rattle.store_engine.specs.Record.{shut_at, filled_to, with_piece_within}
+use Rattle.store_engine.specs.Appended.{standing, filled_to, with_piece_within}
 
 -- a closed gate is written at a place, also right behind all bytes, and a piece behind it
 module _ (p : ℕ) (piece x : List ℕ) (room : p ≤ length x) where
@@ -83,13 +82,13 @@ module _ (end : ℕ) (payload : List ℕ) where
     goes_on true is = begins_at (over end 0 x) (length x) shut_length (let e = shut_length in omega (arith, room, e))
     goes_on false is = begins_at x (length x) refl room
 
-    placed : (within : Bool)
-        → written_all (closes (eqb (slice_index x end) open_gate) end (adds within (length x) end (next_start end) payload)) x
+    with_placed : (within : Bool)
+        → written_all (closes (eqb (slice_index x end) open_gate) end (placed within (ltb (length x) (next_start end)) end (next_start end) (behind_gate payload))) x
         ≡ with_piece_within within end (next_start end) (behind_gate payload) x
-    placed true = ap (λ (w : List (ℕ × List ℕ)). written_all w x) (closes_are (eqb (slice_index x end) open_gate)) ∙ all_appended end payload x room
-    placed false = goes_on (eqb (slice_index x end) open_gate) refl
+    with_placed true = ap (λ (w : List (ℕ × List ℕ)). written_all w x) (closes_are (eqb (slice_index x end) open_gate)) ∙ all_appended end payload x room
+    with_placed false = goes_on (eqb (slice_index x end) open_gate) refl
 
 -- of any bytes within which the end lies
 pub all_placed : (end : ℕ) (payload x : List ℕ) → end < length x
     → written_all (append_writes (standing end x) payload) x ≡ with_piece_within (ltb (end + 5 + length payload) (next_start end)) end (next_start end) (behind_gate payload) x
-all_placed end payload x room = placed end payload x room (ltb (end + 5 + length payload) (next_start end))
+all_placed end payload x room = with_placed end payload x room (ltb (end + 5 + length payload) (next_start end))

@@ -1,6 +1,6 @@
 -- Records are replayed, one after another.
-use Rattle.std.proofs.Common.{◌≡◌, ℕ, ◌==◌, ◌<◌, ◌++◌, List, [], ◌∷◌, length, length-append, Option, Some, None, Result, Ok, Err, refl, sym, ap, subst, ◌∙◌, arith}
-use Rattle.std.specs.Prelude.{false, true, IfSome, IfOk, slice_index}
+use Rattle.std.proofs.Common.{◌≡◌, ℕ, ◌==◌, ◌<◌, ◌++◌, List, [], ◌∷◌, length, length-append, Option, Some, None, refl, sym, ap, subst, ◌∙◌, arith}
+use Rattle.std.specs.Prelude.{false, true, IfSome, slice_index}
 use Rattle.std.proofs.lemmas.List.Elements.{filter_map-append}
 use Rattle.disk_words.specs.Disk.{State, Unchanged, GoesOn}
 use Rattle.byte_grammar.specs.Gated.{open_gate}
@@ -16,7 +16,8 @@ use Rattle.segment_file.proofs.Collecting.{IsCollecting, IsAll}
 use Rattle.chain_state.specs.Chained.{Chained}
 use Rattle.store_engine.specs.declared.contents.Contents.{Contents}
 use Rattle.store_engine.specs.declared.replay.Gathered.{Gathered}
-use Rattle.store_engine.specs.Chaining.{AreChainsOf, HaveTaken}
+use Rattle.store_engine.specs.Chaining.{AreChainsOf}
+use Rattle.store_engine.specs.Taking.{HaveTaken}
 use Rattle.store_engine.specs.Contents.{Tells}
 use Rattle.store_engine.specs.Replay.{IsRead, IsGathered, Replays}
 use Rattle.store_engine.proofs.Taken.{chains_taken}

@@ -1,5 +1,5 @@
 -- A store before and behind an item.
-use Rattle.std.proofs.Common.{◌≡◌, inl, inr, ℕ, ◌+◌, ◌<◌, ◌≤◌, max, Bool, true, List, [], ◌∷◌, ◌++◌, length, Option, Some, None, Ok, Err, refl, sym, ap, subst, ◌∙◌, arith}
+use Rattle.std.proofs.Common.{◌≡◌, inl, inr, ℕ, ◌+◌, ◌<◌, ◌≤◌, max, List, [], ◌∷◌, ◌++◌, Option, Some, None, Ok, Err, refl, sym, ap, subst, ◌∙◌, arith}
 use Rattle.std.specs.Option.{option_map}
 use Rattle.std.proofs.lemmas.Bool.{cases_lt}
 use Rattle.tuple_bytes.specs.declared.header.Header.{Header}
@@ -8,8 +8,8 @@ use Rattle.tuple_bytes.specs.declared.item.Item.TheVariants as kinds
 use Rattle.tuple_bytes.specs.declared.item.Txn.{Txn}
 use Rattle.tuple_bytes.specs.Limits.{max_granules}
 use Rattle.tuple_bytes.specs.Spelling.{spell_item, spell_txn}
-use Rattle.history_model.specs.History.{MayFollow, txn_in, granule_of, last_moment}
-use Rattle.tt_table.specs.Versions.{TablesVersions, applied}
+use Rattle.history_model.specs.History.{txn_in, granule_of}
+use Rattle.tt_table.specs.Versions.{applied}
 use Rattle.history_model.specs.Placing.{next_start, gate_behind}
 use Rattle.segment_file.specs.Append.{Standing, behind}
 use Rattle.segment_file.proofs.LaidOut.{place_stays, place_goes}
@@ -17,11 +17,11 @@ use Rattle.chain_state.specs.Chained.{Chained, without_room, with_chained}
 use Rattle.store_engine.specs.declared.fail.StoreFail.{StoreFail}
 use Rattle.store_engine.specs.declared.fail.StoreFail.TheVariants as fails
 use Rattle.store_engine.specs.declared.contents.Contents.{Contents}
-use Rattle.store_engine.specs.Opened.{Opened, Knows}
-use Rattle.store_engine.specs.Contents.{Tells, after_item, with_tables}
-use Rattle.store_engine.specs.Chaining.{AreChainsOf, with_room}
-use Rattle.store_engine.specs.Commits.{StandsAfter, IsCutShort, shut, with_txn, with_item}
-use Rattle.store_engine.specs.Adding.{IsBehind, GoesBehind, stands_at}
+use Rattle.store_engine.specs.Opened.{Opened}
+use Rattle.store_engine.specs.Contents.{Tells, after_item}
+use Rattle.store_engine.specs.Chaining.{AreChainsOf}
+use Rattle.store_engine.specs.Commits.{StandsAfter, with_txn, with_item}
+use Rattle.store_engine.specs.Adding.{IsBehind, GoesBehind}
 use Rattle.store_engine.proofs.Taken.{chains_stay, chains_more}
 
 -- the open store of a header, of what is known of its file, of what its chains show, and of where the file stands

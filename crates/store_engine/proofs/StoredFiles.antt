@@ -1,5 +1,5 @@
 -- From what a file in segments holds to the items that a store has.
-use Rattle.std.proofs.Common.{◌≡◌, ◌⊎◌, inl, inr, ℕ, ◌+◌, ◌==◌, max, List, [], ◌∷◌, ◌++◌, length, Option, Some, None, refl, sym, ap, ◌∙◌}
+use Rattle.std.proofs.Common.{◌≡◌, ◌⊎◌, inl, inr, ℕ, ◌+◌, ◌==◌, max, List, [], ◌∷◌, ◌++◌, length, Some, None, refl, sym, ap, ◌∙◌}
 use Rattle.std.specs.Prelude.{slice_index}
 use Rattle.std.proofs.lemmas.List.{append-nil}
 use Rattle.std.proofs.lemmas.List.Elements.{filter_map-append}
@@ -7,9 +7,10 @@ use Rattle.byte_grammar.specs.Gated.{open_gate}
 use Rattle.tuple_bytes.specs.declared.header.Header.{Header}
 use Rattle.tuple_bytes.specs.declared.item.Item.{Item}
 use Rattle.tuple_bytes.specs.Items.{item_of}
-use Rattle.history_model.specs.Stored.{items_of, stored_under, front_header, stored}
-use Rattle.segment_file.specs.Append as segments
-use Rattle.segment_file.specs.Append.{Standing, StandsIn, behind}
+use Rattle.history_model.specs.Stored.{items_of, stored}
+use Rattle.segment_file.specs.Appended as segments
+use Rattle.segment_file.specs.Append.{Standing, behind}
+use Rattle.segment_file.specs.Appended.{StandsIn}
 use Rattle.history_model.specs.Placing.{gate_behind}
 use Rattle.store_engine.specs.Opened.{Opened, Stores, StoresOldOrNew, IsOpenOn}
 

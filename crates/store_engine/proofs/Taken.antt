@@ -1,5 +1,5 @@
 -- The chains that took what payloads spell, and then one item after another.
-use Rattle.std.proofs.Common.{◌≡◌, ℕ, ◌+◌, ◌*◌, ◌/◌, ◌<◌, ◌≤◌, max, Bool, true, false, cond, ◌&&◌, leb, ltb, List, [], ◌∷◌, ◌++◌, fold, Option, Some, None, Result, Ok, Err, OnOk, OnErr, refl, sym, ap, subst, ◌∙◌, arith}
+use Rattle.std.proofs.Common.{◌≡◌, ℕ, ◌+◌, ◌*◌, ◌<◌, ◌≤◌, max, Bool, true, false, cond, ◌&&◌, leb, ltb, List, [], ◌∷◌, ◌++◌, fold, Option, Some, None, Result, Ok, Err, OnOk, OnErr, refl, sym, ap, subst, ◌∙◌, arith}
 use Rattle.std.specs.List.{AllByRecursion}
 use Rattle.std.specs.Result.{is_err}
 use Rattle.std.specs.Bool.{MatchBool}
@@ -15,12 +15,13 @@ use Rattle.tuple_bytes.specs.declared.item.Txn.{Txn}
 use Rattle.tuple_bytes.specs.Spelling.{Spells}
 use Rattle.tuple_bytes.specs.Limits.{max_granules}
 use Rattle.tuple_bytes.proofs.ItemLaws.{whole_again}
-use Rattle.history_model.specs.History.{history, txns, txn_in, granule_of, last_moment, after_last}
+use Rattle.history_model.specs.History.{history, txns, txn_in, granule_of, last_moment}
 use Rattle.history_model.specs.Stored.{items_of}
-use Rattle.policy_eras.specs.Policy.{Policy, policy_of}
-use Rattle.chain_state.specs.Chained.{Chained, IsItemTaken, IsItemRefused, AreTaken, without_room, with_chained, with_closed, are_chained, open_of, open_after}
+use Rattle.policy_eras.specs.Policy.{policy_of}
+use Rattle.chain_state.specs.Chained.{Chained, IsItemTaken, IsItemRefused, AreTaken, without_room, with_chained, with_closed, open_of, open_after}
 use Rattle.chain_state.proofs.Gathering.{taken_more, refused_from, none_later}
-use Rattle.store_engine.specs.Chaining.{IsChainedFor, AreChainsOf, HaveReached, HaveTaken, with_room}
+use Rattle.store_engine.specs.Chaining.{AreChainsOf}
+use Rattle.store_engine.specs.Taking.{HaveReached, HaveTaken, with_room}
 use Rattle.store_engine.proofs.StoredFiles.{item_more}
 use Rattle.store_engine.proofs.Telling.{last_more, txns_more, txns_stay, none_above}
 

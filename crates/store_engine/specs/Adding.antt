@@ -7,7 +7,8 @@ use Rattle.tuple_bytes.specs.declared.item.Txn.{Txn}
 use Rattle.tuple_bytes.specs.Spelling.{spell_item}
 use Rattle.tuple_bytes.specs.Limits.{max_granules}
 use Rattle.history_model.specs.History.{granule_of}
-use Rattle.segment_file.specs.Append.{Standing, behind, closed}
+use Rattle.segment_file.specs.Append.{Standing, behind}
+use Rattle.segment_file.specs.Appended.{closed}
 use Rattle.store_engine.specs.declared.fail.StoreFail.{StoreFail}
 use Rattle.store_engine.specs.declared.fail.StoreFail.TheVariants as fails
 use Rattle.store_engine.specs.Opened.{Opened, Knows}

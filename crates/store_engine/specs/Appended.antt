@@ -1,55 +1,32 @@
--- What an append leaves of a store, by its bytes alone: over the list of its writes, whole and cut short.
-use Rattle.std.specs.Prelude.{◌≡◌, ◌==◌, ℕ, false, List, [], ◌∷◌, ◌++◌, length, slice_index}
-use Rattle.disk_model.specs.Moments.{written_all, AllWithin, CutShort}
+-- The bytes of a store with one record more, and where a file of such bytes stands.
+use Rattle.std.specs.Prelude.{ℕ, ◌+◌, ◌-◌, nat_lt, ◌==◌, Bool, true, false, if◌then◌else◌, List, [], ◌∷◌, length, slice_index, replicate}
+use Rattle.disk_words.specs.Disk.{written}
+use Rattle.disk_model.specs.Gate.{with_piece}
 use Rattle.byte_grammar.specs.Gated.{open_gate}
-use Rattle.tuple_bytes.specs.declared.header.Header.{Header}
 use Rattle.tuple_bytes.specs.declared.item.Item.{Item}
 use Rattle.tuple_bytes.specs.Spelling.{spell_item}
-use Rattle.history_model.specs.Stored.{IsStorable, stored}
-use Rattle.txn_journal.specs.Append.{KeepsFront}
-use Rattle.segment_file.specs.Append.{Standing, append_writes}
-use Rattle.history_model.specs.Placing.{gate_behind}
-use Rattle.store_engine.specs.Opened.{Stores, StoresOldOrNew}
-use Rattle.store_engine.specs.Refusals.{is_full}
-pub use Rattle.store_engine.specs.Record.{with_record}
+use Rattle.txn_journal.specs.Append.{behind_gate, closed_gate}
+use Rattle.history_model.specs.Placing.{next_start}
+use Rattle.segment_file.specs.Append.{Standing}
 
 -- a file of these bytes is opened, where the gate behind all items stands at this place
 abbrev pub standing : ℕ → List ℕ → Standing
 standing end bytes = record { end = end; length = length bytes; gate_is_open = slice_index bytes end == open_gate; is_closed = false }
 
--- the writes that append an item to the store that these bytes hold
-abbrev pub item_writes : Item → List ℕ → List (ℕ × List ℕ)
-item_writes item bytes = append_writes (standing (stored bytes).end bytes) (spell_item item)
+-- a closed gate at this place, where an open one stands there
+abbrev pub shut_at : ℕ → List ℕ → List ℕ
+shut_at end bytes = if slice_index bytes end == open_gate then written end (closed_gate ∷ []) bytes else bytes
 
--- the store that these bytes hold takes the item: a record can hold it, and there is room behind all others
-pub record Takes (bytes : List ℕ) (item : Item) : Type 0 where
-  pub storable : IsStorable item
-  pub room : is_full (stored bytes).end (length (spell_item item)) ≡ false
+-- zeros behind the end up to the next start, where the bytes end before that
+abbrev pub filled_to : ℕ → ℕ → List ℕ → List ℕ
+filled_to next end bytes = if nat_lt (length bytes) next then written (end + 1) (replicate (next - (end + 1)) 0) bytes else bytes
 
--- Cut short anywhere, the writes leave the header and the items, or these and the new one.
-abbrev pub CutAppendLeavesOldOrNew : Type 0
-CutAppendLeavesOldOrNew = (header : Header) (items : List Item) (item : Item) (x c : List ℕ) → Stores header items x → Takes x item
-    → CutShort (item_writes item x) x c
-    → StoresOldOrNew header items item c
+-- The bytes from the end on are replaced by an open gate and a piece, where these stay within the segment; those behind stay.
+-- Else those from the next start on are, with no open gate at the end, and zeros up to there.
+abbrev pub with_piece_within : Bool → ℕ → ℕ → List ℕ → List ℕ → List ℕ
+with_piece_within true end next piece bytes = with_piece end open_gate piece bytes
+with_piece_within false end next piece bytes = with_piece next open_gate piece (filled_to next end (shut_at end bytes))
 
--- All of them leave these and the new one, and the next gate behind its record.
-abbrev pub AppendAddsItem : Type 0
-AppendAddsItem = (header : Header) (items : List Item) (item : Item) (x : List ℕ) → Stores header items x → Takes x item
-    → Stores header (items ++ item ∷ []) (written_all (item_writes item x) x)
-    × ((stored (written_all (item_writes item x) x)).end ≡ gate_behind (stored x).end (length (spell_item item)))
-
--- Each begins within the file.
-abbrev pub AppendIsWithin : Type 0
-AppendIsWithin = (header : Header) (items : List Item) (item : Item) (x : List ℕ) → Stores header items x → Takes x item
-    → AllWithin (item_writes item x) x
-
--- Cut short anywhere, they leave the bytes before the gate.
-abbrev pub CutAppendLeavesFront : Type 0
-CutAppendLeavesFront = (header : Header) (items : List Item) (item : Item) (x c : List ℕ) → Stores header items x
-    → CutShort (item_writes item x) x c
-    → KeepsFront (stored x).end x c
-
--- All of them put the record where it goes, and change nothing but what is said there.
-abbrev pub AppendPutsRecord : Type 0
-AppendPutsRecord = (header : Header) (items : List Item) (item : Item) (x : List ℕ) → Stores header items x
-    → written_all (item_writes item x) x ≡ with_record (stored x).end item x
+-- the piece is the record of an item, and a closed gate
+abbrev pub with_record : ℕ → Item → List ℕ → List ℕ
+with_record end item bytes = with_piece_within (nat_lt (end + 5 + length (spell_item item)) (next_start end)) end (next_start end) (behind_gate (spell_item item)) bytes

@@ -11,7 +11,9 @@ use Rattle.tuple_bytes.specs.Spelling.{spell_txn, spell_policy, spell_item}
 use Rattle.tt_table.specs.Versions.{applied}
 use Rattle.tt_table.specs.Tables.{TablesVersions}
 use Rattle.txn_journal.specs.Append.{KeepsFront}
-use Rattle.segment_file.specs.Append.{behind, closed, append_calls}
+use Rattle.segment_file.specs.Append.{behind, append_calls}
+use Rattle.segment_file.specs.Appended.{closed}
+use Rattle.segment_file.specs.Places.{KeepsPlaces}
 use Rattle.chain_state.specs.Chained.{with_chained}
 use Rattle.store_engine.specs.declared.fail.StoreFail.{StoreFail}
 use Rattle.store_engine.specs.declared.fail.StoreFail.TheVariants as fails
@@ -82,6 +84,7 @@ MakesOf calls (Err fails.Closed) old new = Unchanged old new
 pub record Adds {A : Type 0} (item : Item) (result : Result A StoreFail) (stand new_stand : Opened) (old new : State) (before after : List ℕ) : Type 0 where
   pub added : OnOk result ((stored_items : List Item) → IsOpenOn stand stored_items before → IsOpenOn new_stand (stored_items ++ item ∷ []) after)
   pub durable : OnOk result (Only after new)
+  pub places : OnOk result ((stored_items : List Item) → IsOpenOn stand stored_items before → KeepsPlaces before after)
   pub images : (stored_items : List Item) → IsOpenOn stand stored_items before → Only before old → EveryImage old new (StoresOldOrNew stand.header stored_items item)
   -- whatever was answered
   pub kept : (stored_items : List Item) → IsOpenOn stand stored_items before → Only before old → StoresOldOrNew stand.header stored_items item after

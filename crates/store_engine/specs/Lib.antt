@@ -1,11 +1,13 @@
 pub mod Chaining
+pub mod Taking
 pub mod Opened
 pub mod Refusals
+pub mod Causes
 pub mod Commits
 pub mod Adding
 pub mod Appended
+pub mod Leaving
 pub mod Contents
 pub mod Replay
 pub mod Fail
 pub mod Texts
-pub mod Record

@@ -12,7 +12,7 @@ ghost use Rattle.history_model.specs.Stored.{store_shape};
 ghost use Rattle.store_engine.specs.declared.fail.StoreFail.TheVariants.{DiskFault};
 ghost use Rattle.store_engine.specs.Opened.{Opened};
 ghost use Rattle.store_engine.specs.Fail.{closes};
-ghost use Rattle.store_engine.specs.Refusals.{IsRefusedBy};
+ghost use Rattle.store_engine.specs.Causes.{IsRefusedBy};
 ghost use Rattle.store_engine.specs.Adding.{AddsRecord, GoesBehind, record_fault, stands_at};
 
 use crate::StoreFail;

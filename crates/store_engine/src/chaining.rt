@@ -11,7 +11,7 @@ ghost use Rattle.tuple_bytes.specs.Spelling.{FitsHeader, FitsTxn, spell_txn};
 ghost use Rattle.history_model.specs.History.{granule_of};
 ghost use Rattle.history_model.specs.Stored.{store_shape};
 ghost use Rattle.chain_state.specs.Chained.{with_chained, with_closed};
-ghost use Rattle.store_engine.specs.Chaining.{HaveTaken, with_room};
+ghost use Rattle.store_engine.specs.Taking.{HaveTaken, with_room};
 
 use chain_state::Chains;
 use history_model::Spelled;

@@ -1,6 +1,6 @@
 //! Laws of the definitions, each the contract of a function that does nothing.
 
-ghost use Rattle.store_engine.specs.Appended.{CutAppendLeavesOldOrNew, AppendAddsItem, AppendIsWithin, CutAppendLeavesFront, AppendPutsRecord};
+ghost use Rattle.store_engine.specs.Leaving.{CutAppendLeavesOldOrNew, AppendAddsItem, AppendIsWithin, CutAppendLeavesFront, AppendPutsRecord};
 
 /// What the writes of an append leave of any bytes that store something, whole and cut short anywhere:
 /// the header and the items, or these and the new one, and always the bytes before the gate.

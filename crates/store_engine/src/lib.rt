@@ -35,6 +35,7 @@
 //! | why operations would be refused can be asked before, with nothing done | `value` of `commit_refusal` |
 //! | after Ok the store has the item, after a refusal it is as it was, after a fault or want of memory it is closed; the tables have nothing that is not durable | `stands` |
 //! | after Ok the file holds the item, and is durable: it is in every image | `added`, `durable` of `told` |
+//! | after Ok each place from which reading goes on is one still | `places` of `told` |
 //! | on a settled disk a crash at any moment leaves the old items, with the new one or without | `images` of `told` |
 //! | the changing calls are those of one append, in order, and none after one that failed; a refusal makes none | `trace` of `told` |
 //! | on a settled disk the bytes before the gate are as they were, whatever is answered | `front` of `told` |
@@ -50,7 +51,7 @@
 //!
 //! ```rust
 //! let mut store = Store::open_store(alloc, disk, id)?;
-//! let number = store.commit(alloc, disk, &ops, clock_seconds)?;
+//! let number = store.commit(alloc, disk, &ops, clock_seconds, steps)?;
 //! store.frontier(alloc, disk, end_of_tile)?;
 //! ```
 #![tactic(auto)]

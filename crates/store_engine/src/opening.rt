@@ -9,9 +9,9 @@ ghost use Rattle.history_model.specs.declared.format.Format.TheVariants.{Two};
 ghost use Rattle.history_model.specs.Stored.{stored, format_of, found_behind};
 ghost use Rattle.segment_file.specs.Walk.{StandsBefore};
 ghost use Rattle.store_engine.specs.declared.fail.StoreFail.TheVariants.{DiskFault};
-ghost use Rattle.store_engine.specs.Refusals.{IsNoStore, IsOfOpening};
+ghost use Rattle.store_engine.specs.Causes.{IsNoStore, IsOfOpening};
 ghost use Rattle.store_engine.specs.Contents.{IsInTime};
-ghost use Rattle.store_engine.specs.Chaining.{HaveReached};
+ghost use Rattle.store_engine.specs.Taking.{HaveReached};
 ghost use Rattle.store_engine.specs.Replay.{OpensAs, Replays};
 
 use crate::StoreFail;

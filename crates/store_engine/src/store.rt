@@ -16,8 +16,9 @@ ghost use Rattle.segment_file.specs.Append.{append_calls};
 ghost use Rattle.store_engine.specs.declared.fail.StoreFail.TheVariants.{Closed, DiskFault, StoreFull};
 ghost use Rattle.store_engine.specs.Opened.{IsOpenOn};
 ghost use Rattle.store_engine.specs.Fail.{closes};
-ghost use Rattle.store_engine.specs.Chaining.{HaveReached};
-ghost use Rattle.store_engine.specs.Refusals.{tail_of, next_txn, commit_fault, frontier_fault, item_fault, is_back, is_full, where_true, IsNextMoment, IsRefusedBy, IsOfOpening, IsNoStore};
+ghost use Rattle.store_engine.specs.Taking.{HaveReached};
+ghost use Rattle.store_engine.specs.Refusals.{tail_of, next_txn, commit_fault, frontier_fault, item_fault, is_back, is_full, where_true};
+ghost use Rattle.store_engine.specs.Causes.{IsNextMoment, IsRefusedBy, IsOfOpening, IsNoStore};
 ghost use Rattle.store_engine.specs.Contents.{lent_item};
 ghost use Rattle.store_engine.specs.Commits.{with_txn, with_item, frontier_at, StandsAfter, Adds};
 

@@ -1,4 +1,4 @@
-use Rattle.std.proofs.Common.{◌≡◌, [], ap, ◌∙◌}
+use Rattle.std.proofs.Common.{[], ap, ◌∙◌}
 use Rattle.policy_eras.specs.Policy.{Policy}
 use Rattle.chain_state.specs.Chained.{Chained}
 use Rattle.store_engine.proofs.Taken.{taken_none}

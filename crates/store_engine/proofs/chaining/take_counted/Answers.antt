@@ -1,6 +1,6 @@
-use Rattle.std.proofs.Common.{◌≡◌, ℕ, List, [], ◌∷◌, ◌++◌, None, sym, subst, arith}
+use Rattle.std.proofs.Common.{◌≡◌, [], ◌∷◌, ◌++◌, None, sym, subst, arith}
 use Rattle.tuple_bytes.proofs.ItemLaws.{some_spelled}
-use Rattle.store_engine.specs.Chaining.{HaveTaken}
+use Rattle.store_engine.specs.Taking.{HaveTaken}
 use Rattle.store_engine.proofs.Taken.{taken_no_more, taken_or_ended}
 use Rattle.store_engine.proofs.chaining.take_counted.Goals as goal
 

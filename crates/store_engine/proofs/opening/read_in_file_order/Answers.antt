@@ -1,5 +1,5 @@
-use Rattle.std.proofs.Common.{◌≡◌, true, false, List, ℕ, [], ◌∷◌, ◌++◌, ap, ◌∙◌, subst, arith}
-use Rattle.store_engine.specs.Chaining.{HaveTaken}
+use Rattle.std.proofs.Common.{◌≡◌, true, false, List, ℕ, [], ◌∷◌, ◌++◌, ◌∙◌, subst, arith}
+use Rattle.store_engine.specs.Taking.{HaveTaken}
 use Rattle.store_engine.specs.Replay.{IsRead}
 use Rattle.disk_words.proofs.Frame.{goes_on_same}
 use Rattle.segment_file.proofs.Collecting.{all_collected}

@@ -3,7 +3,7 @@ use Rattle.tuple_bytes.specs.declared.item.Txn.{Txn}
 use Rattle.history_model.specs.Stored.{items_of}
 use Rattle.disk_words.proofs.Frame.{goes_on_same}
 use Rattle.segment_file.proofs.Collecting.{all_collected}
-use Rattle.store_engine.specs.Chaining.{HaveTaken}
+use Rattle.store_engine.specs.Taking.{HaveTaken}
 use Rattle.store_engine.specs.Replay.{IsRead, IsGathered}
 use Rattle.store_engine.proofs.Telling.{few_txns}
 use Rattle.store_engine.proofs.Taken.{chains_reached}

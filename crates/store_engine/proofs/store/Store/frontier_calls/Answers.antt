@@ -1,5 +1,5 @@
 -- A frontier's spelling has nine bytes, and whether a store is closed does not count.
-use Rattle.std.proofs.Common.{◌≡◌, ◌∙◌, ap, length, refl}
+use Rattle.std.proofs.Common.{◌∙◌, ap, length, refl}
 use Rattle.tuple_bytes.specs.Spelling.{spell_frontier}
 use Rattle.segment_file.specs.Append.{append_calls}
 use Rattle.store_engine.specs.Opened.{Opened}

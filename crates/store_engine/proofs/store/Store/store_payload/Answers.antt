@@ -1,7 +1,6 @@
-use Rattle.std.proofs.Common.{◌≡◌, true, Ok, Err, refl, ap, subst}
+use Rattle.std.proofs.Common.{true, Ok, Err, refl, ap, subst}
 use Rattle.std.specs.Option.{option_map}
 use Rattle.outside_words.specs.Told.{WhereTold}
-use Rattle.disk_words.proofs.Frame.{goes_on_same}
 use Rattle.tuple_bytes.proofs.ItemLaws.{spelled_some}
 use Rattle.chain_state.specs.Chained.{without_room}
 use Rattle.store_engine.specs.declared.fail.StoreFail.TheVariants as fails
