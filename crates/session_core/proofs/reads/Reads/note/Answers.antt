@@ -1,0 +1,15 @@
+use Rattle.std.proofs.Common.{OnOk, ◌++◌, sym, subst}
+use Rattle.std.specs.Map.{keys_of}
+use Rattle.stmt_text.specs.declared.stmt.Stmt.{Stmt}
+use Rattle.session_model.specs.Conflicts.{AreSameReads}
+use Rattle.session_model.specs.Places.{reads_of}
+use Rattle.session_core.proofs.reads.Reads.note.Goals as goal
+
+pub returns-in-Insert-clause-value : goal.returns-in-Insert-clause-value
+returns-in-Insert-clause-value c = subst (λ (s : Stmt). OnOk c.set_row.result (AreSameReads (keys_of c.set_row.new.self) (keys_of c.args.self.now ++ reads_of s))) (sym c.in-Insert.is) c.set_row.ensures.value
+
+pub returns-in-Update-clause-value : goal.returns-in-Update-clause-value
+returns-in-Update-clause-value c = subst (λ (s : Stmt). OnOk c.set_row-in-Update.result (AreSameReads (keys_of c.set_row-in-Update.new.self) (keys_of c.args.self.now ++ reads_of s))) (sym c.in-Update.is) c.set_row-in-Update.ensures.value
+
+pub returns-in-Delete-clause-value : goal.returns-in-Delete-clause-value
+returns-in-Delete-clause-value c = subst (λ (s : Stmt). OnOk c.set_key.result (AreSameReads (keys_of c.set_key.new.self) (keys_of c.args.self.now ++ reads_of s))) (sym c.in-Delete.is) c.set_key.ensures.value
