@@ -1,15 +1,14 @@
 -- The batches of kept chains are those of the stored history.
-use Rattle.std.proofs.Common.{◌≡◌, ℕ, ◌+◌, ◌<◌, ◌≤◌, true, List, [], ◌∷◌, length, map, Option, Some, None, IsSome, Result, refl, sym, ap, subst, ◌∙◌, arith, inl, inr}
+use Rattle.std.proofs.Common.{◌≡◌, ℕ, ◌+◌, ◌≤◌, true, List, [], ◌∷◌, length, map, Option, Some, None, IsSome, Result, refl, sym, ap, subst, ◌∙◌, arith, inl, inr}
 use Rattle.std.specs.Prelude.{IfSome, IfOk, unwrap_or}
 use Rattle.std.specs.Option.{option_map}
 use Rattle.std.specs.List.{range_with_len}
 use Rattle.std.proofs.lemmas.Bool.{cases_lt}
 use Rattle.std.proofs.lemmas.Result.{IfOk-weaker}
 use Rattle.std.proofs.lemmas.List.FromFn.{length-map-range_with_len}
-use Rattle.tuple_bytes.specs.declared.header.Header.{Header}
 use Rattle.tuple_bytes.specs.declared.item.Item.{Item}
 use Rattle.history_model.specs.History.{History, history}
-use Rattle.digest_model.specs.Layout.{layout, first_granule, tile_of}
+use Rattle.digest_model.specs.Layout.{layout, first_granule}
 use Rattle.digest_model.proofs.Layouts.{header_alike, same_first, ascends, adjoin, tile_ends}
 use Rattle.notary_link.specs.declared.seal.Seal.{Seal}
 use Rattle.audit_model.specs.Names.{batch}

@@ -1,7 +1,7 @@
 //! Filing the digests of a store with a notary, and holding the store against them later.
 //!
 //! [`validate`] reads the store, and hashes each transaction at most once: the chain alone is computed
-//! (the inner `find`: `steps`; that it is called once is by the body alone). It asks for the header, and searches the chain by halves for the first bad tile.
+//! (`judge`: `steps`; that it is called once is by the body alone). It asks for the header, and searches the chain by halves for the first bad tile.
 //!
 //! | Found | Where |
 //! |---|---|
@@ -22,6 +22,11 @@
 //! | a fault is answered only where the disk or the notary counted it | `disk_cause`, `notary_cause` |
 //! | behind Ok neither counted a fault, nor behind a refusal but its own fault and want of memory: no failed call was tried again | `disk_counted`, `notary_counted` |
 //!
+//! A caller that has counted the batches, and has at hand what is stored, finds the verdict and adds its mark by
+//! [`judge`]. Where it has the values of the chain at the ends of the sealed tiles it calls [`judge_links`], which
+//! hashes no transaction, and where no history is stored under the id [`judge_nowhere`]. Each answers what
+//! `validate` does (`told`).
+//!
 //! [`notarize`] reads the store anew, and holds what is filed already against it. Where a batch is to be filed
 //! and the last moment has not reached the end of the last tile that has ended, it stores a Frontier, and only
 //! then files the batches up to it, one after another. It may be called again after every refusal.
@@ -39,6 +44,7 @@
 //! | a Frontier that is stored is the end of the last tile that has ended by the clock. It lies past the last moment, and there is room for it | `stands`, `images` there, by `frontier_for` |
 //! | a crash leaves the items, or those and the Frontier | `images`, `kept` there |
 //! | after these the store is as it was, has reached the end of the last tile, or is closed. Besides, granules of its chains may be closed then | `stands` there |
+//! | where the store has reached it, each place from which reading goes on is one still | `places` of `IsReached` |
 //! | no batch is filed before all changing calls of the disk | `order` there |
 //! | where lists are told: the batches of the tiles that have ended are filed, of the clock's moment; after `Full` as many as there is room for, and as many calls are done; none where there is a cause against it | `free`, `files`, `calls` of `Files` |
 //! | no batch is filed before the store has reached the end of its tile on a settled disk | `ordered` there |
@@ -73,6 +79,7 @@ mod fail;
 mod filing;
 mod finding;
 mod holding;
+mod judging;
 mod laws;
 mod marking;
 mod next;
@@ -83,6 +90,7 @@ mod verdict;
 
 pub use ahead::frontier_ahead;
 pub use fail::AuditFail;
+pub use judging::{judge, judge_links, judge_nowhere};
 pub use laws::{broken_is_altered, missing_is_clash, sound_is_clean, sound_is_not_refused};
 pub use notarizing::notarize;
 pub use printing::{put_refusal, put_verdict};
