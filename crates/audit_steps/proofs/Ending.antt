@@ -1,0 +1,108 @@
+-- What the last piece answers, by an audit at its end.
+use Rattle.std.proofs.Common.{◌≡◌, ◌⊎◌, inl, inr, ℕ, ◌+◌, ◌≤◌, true, false, List, length, Option, Some, None, IfSome, Result, refl, sym, ap, subst, ◌∙◌, arith}
+use Rattle.std.proofs.lemmas.Bool.{false≢true}
+use Rattle.outside_words.specs.Told.{WhereTold}
+use Rattle.outside_words.proofs.Told.{told_map}
+use Rattle.tuple_bytes.specs.declared.header.Header.{Header}
+use Rattle.tuple_bytes.specs.declared.item.Item.{Item}
+use Rattle.history_model.specs.declared.stored.Stored.{Stored}
+use Rattle.history_model.specs.History.{History, history}
+use Rattle.history_model.specs.Stored.{stored}
+use Rattle.notary_link.specs.declared.notary.NotaryLimits.{NotaryLimits}
+use Rattle.notary_link.specs.Notary.{Lists, Entry}
+use Rattle.audit_model.specs.Altered.{history_with}
+use Rattle.chain_state.specs.Chained.{Chained, IsChainOf, are_chained}
+use Rattle.validator.specs.declared.verdict.Verdict.{Verdict}
+use Rattle.validator.specs.declared.fail.AuditFail.{AuditFail}
+use Rattle.validator.specs.Verdicts.{Validates}
+use Rattle.validator.proofs.Validated.{has_history}
+use Rattle.audit_steps.specs.declared.auditing.Auditing.{Auditing}
+use Rattle.audit_steps.specs.declared.next.Next.TheVariants as nexts
+use Rattle.audit_steps.specs.Auditing.{AreChainsOf, GranulesRise, IsAuditOf}
+use Rattle.audit_steps.specs.Pieces.{HasMore}
+use Rattle.audit_steps.specs.Steps.{HasReadAll, IsAtEnd, NextIs}
+use Rattle.audit_steps.proofs.KeptLinks.{chain_of}
+use Rattle.audit_steps.proofs.Nexts.{some_history}
+
+-- ---- by what is at hand
+
+module _ (id now tiles : ℕ) (limits : NotaryLimits) (was is : Option (List Entry)) (o z : Option Lists) (r : Result Verdict AuditFail) (audit : Option Auditing) where
+  abbrev Concludes : List ℕ → Type 0
+  Concludes bytes = IsAtEnd id bytes audit → WhereTold o z (λ lists later. length (lists.batches id) ≡ tiles + 1 → Validates id now limits (stored bytes) r was is lists later)
+
+  -- the chains of all items
+  pub by_chains : (a : Auditing) (c : Chained) (reads : Option (List ℕ)) → audit ≡ Some a → a.chains ≡ Some c
+      → WhereTold o z (λ lists later. (s : Stored) (h : History) → history_with id s ≡ Some h → IsChainOf c h → length (lists.batches id) ≡ tiles + 1 → Validates id now limits s r was is lists later)
+      → IfSome reads Concludes
+  by_chains a c None some are told = tt
+  by_chains a c (Some bytes) some are told = λ at_end.
+      let all : HasReadAll id bytes a = subst (IsAtEnd id bytes) some at_end in
+      let h = history a.header (stored bytes).items in
+      let chain : IsChainOf c h = chain_of a.header (stored bytes).items c (subst (AreChainsOf a.header (stored bytes).items) are all.chains) in
+      told_map o z _ _ told (λ lists later next count. next (stored bytes) h (has_history id (stored bytes) a.header all.header all.id_is) chain count)
+
+  -- no history
+  pub by_nowhere : (reads : Option (List ℕ)) → audit ≡ None
+      → WhereTold o z (λ lists later. (s : Stored) → history_with id s ≡ None → length (lists.batches id) ≡ tiles + 1 → Validates id now limits s r was is lists later)
+      → IfSome reads Concludes
+  by_nowhere None none told = tt
+  by_nowhere (Some bytes) none told = λ at_end. told_map o z _ _ told (λ lists later next count. next (stored bytes) (subst (IsAtEnd id bytes) none at_end) count)
+
+-- where there are no chains, granules don't rise
+fell : (o : Option Header) (items : List Item) (header : Header) → o ≡ Some header → are_chained (history header items) ≡ false → IfSome o (λ h. are_chained (history h items) ≡ true) → ⊥
+fell (Some h) items header is fall rise = false≢true (sym fall ∙ ap (λ (x : Header). are_chained (history x items)) (sym (one h header is)) ∙ rise)
+  where
+    one : (h header : Header) → Some h ≡ Some header → h ≡ header
+    one h header is = cc is
+fell None items header is fall rise = cc is
+
+none_rise : (id : ℕ) (audit : Option Auditing) (a : Auditing) (bytes : List ℕ) → audit ≡ Some a → a.chains ≡ None → IsAtEnd id bytes audit → GranulesRise bytes → ⊥
+none_rise id audit a bytes some none at_end rise =
+    let all : HasReadAll id bytes a = subst (IsAtEnd id bytes) some at_end in
+    fell (stored bytes).header (stored bytes).items a.header all.header (subst (AreChainsOf a.header (stored bytes).items) none all.chains) rise
+
+pub told_fell : (P : Type 0) (id : ℕ) (audit : Option Auditing) (a : Auditing) (reads : Option (List ℕ)) → audit ≡ Some a → a.chains ≡ None → IfSome reads (λ bytes. IsAtEnd id bytes audit → GranulesRise bytes → P)
+told_fell P id audit a None some none = tt
+told_fell P id audit a (Some bytes) some none = λ at_end rise. absurd (none_rise id audit a bytes some none at_end rise)
+
+-- ---- behind the last piece
+
+module _ (id : ℕ) (w b : Option Auditing) where
+  abbrev Ends : List ℕ → Type 0
+  Ends bytes = IsAuditOf id w bytes → NextIs id bytes w (nexts.Last b)
+
+  pub at_end : (Q : List ℕ → Type 0) (reads near : Option (List ℕ)) → near ≡ reads → IfSome reads Ends → IfSome near (λ bytes. IsAtEnd id bytes b → Q bytes) → IfSome reads (λ bytes. IsAuditOf id w bytes → Q bytes)
+  at_end Q reads near same ends told = by reads ends (subst (λ (o : Option (List ℕ)). IfSome o (λ bytes. IsAtEnd id bytes b → Q bytes)) same told)
+    where
+      by : (reads : Option (List ℕ)) → IfSome reads Ends → IfSome reads (λ bytes. IsAtEnd id bytes b → Q bytes) → IfSome reads (λ bytes. IsAuditOf id w bytes → Q bytes)
+      by None ends told = tt
+      by (Some bytes) ends told = λ audit. told (ends audit).0
+
+  pub ends_more : (P : Type 0) (reads : Option (List ℕ)) → IfSome reads Ends → IfSome reads (λ bytes. IsAuditOf id w bytes → HasMore id w bytes → P)
+  ends_more P None ends = tt
+  ends_more P (Some bytes) ends = λ audit more. absurd ((ends audit).1 more)
+
+  pub ends_few : (old mid new : ℕ) (Going : Type 0) → (Going → ⊥) → (reads near : Option (List ℕ)) → near ≡ reads → IfSome reads Ends → IfSome reads (λ bytes. IsAuditOf id w bytes → mid ≤ old + 512)
+      → IfSome near (λ bytes. IsAtEnd id bytes b → GranulesRise bytes → new ≡ mid) → IfSome reads (λ bytes. IsAuditOf id w bytes → Going ⊎ GranulesRise bytes → new ≤ old + 512)
+  ends_few old mid new Going never reads near same ends few still = by reads ends few (subst (λ (o : Option (List ℕ)). IfSome o (λ bytes. IsAtEnd id bytes b → GranulesRise bytes → new ≡ mid)) same still)
+    where
+      by : (reads : Option (List ℕ)) → IfSome reads Ends → IfSome reads (λ bytes. IsAuditOf id w bytes → mid ≤ old + 512) → IfSome reads (λ bytes. IsAtEnd id bytes b → GranulesRise bytes → new ≡ mid)
+          → IfSome reads (λ bytes. IsAuditOf id w bytes → Going ⊎ GranulesRise bytes → new ≤ old + 512)
+      by None ends few still = tt
+      by (Some bytes) ends few still = λ audit. elim_few (few audit) (still (ends audit).0)
+        where
+          elim_few : mid ≤ old + 512 → (GranulesRise bytes → new ≡ mid) → Going ⊎ GranulesRise bytes → new ≤ old + 512
+          elim_few most is (inl going) = absurd (never going)
+          elim_few most is (inr rise) = (let at = is rise in omega (arith, most, at))
+
+  pub ends_nowhere : (P : Type 0) (reads : Option (List ℕ)) → IfSome reads Ends → (b ≡ None → P) → IfSome reads (λ bytes. IsAuditOf id w bytes → history_with id (stored bytes) ≡ None → P)
+  ends_nowhere P None ends by = tt
+  ends_nowhere P (Some bytes) ends by = λ audit none. is b refl (ends audit).0 none
+    where
+      is : (x : Option Auditing) → b ≡ x → IsAtEnd id bytes x → history_with id (stored bytes) ≡ None → P
+      is None same nowhere none = by same
+      is (Some a) same all none = absurd (some_history id bytes a.header all.header all.id_is none)
+
+-- of what was taken out of the auditor
+pub same_auditing : (Q : Option Auditing → List ℕ → Type 0) (w v : Option Auditing) (reads : Option (List ℕ)) → w ≡ v → IfSome reads (Q w) → IfSome reads (Q v)
+same_auditing Q w v reads same told = subst (λ (o : Option Auditing). IfSome reads (Q o)) same told
