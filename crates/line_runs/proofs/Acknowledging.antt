@@ -16,7 +16,8 @@ use Rattle.statement_core.specs.Database as statements
 use Rattle.store_world.specs.Found.{Found}
 use Rattle.store_world.specs.World.{StoresWorld, StoresOf}
 use Rattle.store_world.specs.Steps.{step}
-use Rattle.store_world.specs.Acknowledged.{HasTxn, IsStored, StoresMore, OnlyAppends, ok_text}
+use Rattle.store_world.specs.Acknowledged.{HasTxn, StoresMore, ok_text}
+use Rattle.store_world.specs.Appending.{IsStored, OnlyAppends}
 use Rattle.store_world.proofs.Texts.{SaysOk, says_ok}
 use Rattle.store_world.proofs.Acknowledging.{appends_none, steps_append, steps_acknowledge}
 use Rattle.stmt_text.specs.declared.kind.LineKind.{LineKind}

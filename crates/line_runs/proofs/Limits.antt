@@ -1,5 +1,5 @@
 -- No line changes the limits of the notary.
-use Rattle.std.proofs.Common.{◌≡◌, ◌∙◌, ℕ, Bool, true, false, List, Option, Some, None, Result, Ok, Err, refl, ap}
+use Rattle.std.proofs.Common.{◌≡◌, ◌∙◌, ℕ, Bool, true, false, List, Option, Some, None, Result, Ok, Err, refl, sym, ap, subst}
 use Rattle.notary_link.specs.declared.mark.Mark.{Mark}
 use Rattle.stmt_text.specs.declared.error.ParseFail.{ParseFail}
 use Rattle.stmt_text.specs.declared.error.ParseFail.TheVariants as parse_fails
@@ -19,7 +19,8 @@ use Rattle.forensic_report.specs.declared.fail.AnalyseFail.{AnalyseFail}
 use Rattle.forensic_report.specs.Analysis.{Analysis}
 use Rattle.store_world.specs.Found.{Found}
 use Rattle.store_world.specs.World.{World}
-use Rattle.store_world.specs.Steps.{Step, step, unless, on_tables, intent_in, carried_out, notarized, marked, validated, analysed, algorithm_of}
+use Rattle.store_world.specs.Steps.{Step, step, unless, on_tables, intent_in, carried_out, notarized, marked, validated, has_more, audited, analysed, algorithm_of}
+use Rattle.store_world.proofs.Validating.{validated_anew}
 use Rattle.store_world.proofs.Acknowledging.{by_line}
 use Rattle.line_runs.specs.Running.{Running, Timed, carry, answered, said_by, set_moment, seconds_of}
 use Rattle.line_runs.proofs.Nothing.{carry_is}
@@ -50,13 +51,18 @@ module _ (w : World) where
   of_validate now (Ok verdict) refusal = of_mark (mark_of verdict now) refusal (verdict_text verdict)
   of_validate now (Err fail) refusal = refl
 
+  of_audit : (b : Bool) (now : ℕ) (found : Result Verdict AuditFail) (refusal : Option AuditFail) → Keeps (audited b w now found refusal)
+  of_audit true now found refusal = refl
+  of_audit false now found refusal = subst Keeps (sym (validated_anew w 0 now found refusal)) (of_validate now found refusal)
+
   of_analyse : (algorithm : Algorithm) (found : Result Analysis AnalyseFail) (body : List ℕ) → Keeps (analysed w algorithm found body)
   of_analyse algorithm (Ok a) body = refl
   of_analyse algorithm (Err fail) body = refl
 
 pub step_limits : (w : World) (line : Line) (now : ℕ) (found : Found) → (step w line now found).world.limits ≡ w.limits
 step_limits w line now found = by_line (λ line s. s.world.limits ≡ w.limits) w line now found (λ line. of_tables w w.store line now)
-    (of_notarize w w.store now found.heard found.refusal) (of_validate w now found.verdict found.refusal) (λ algorithm. of_analyse w (algorithm_of algorithm) found.analysis found.body)
+    (of_notarize w w.store now found.heard found.refusal) (of_validate w now found.verdict found.refusal)
+    (of_audit w (has_more w) now found.verdict found.refusal) (λ algorithm. of_analyse w (algorithm_of algorithm) found.analysis found.body)
 
 module _ (scripted : Bool) (now : ℕ) (found : Found) (r : Running) where
   of_moment : (b : Bool) (moment : ℕ) → (set_moment b r moment).world.limits ≡ r.world.limits

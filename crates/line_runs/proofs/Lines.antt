@@ -13,7 +13,8 @@ use Rattle.notary_link.specs.declared.notary.NotaryLimits.{NotaryLimits}
 use Rattle.notary_link.specs.Notary.{Lists}
 use Rattle.validator.proofs.Telling.{told_all}
 use Rattle.store_world.specs.declared.fail.LineFail.{LineFail}
-use Rattle.store_world.specs.World.{World, StoresWorld, StoresEither}
+use Rattle.store_world.specs.Stepping.{StoresEither}
+use Rattle.store_world.specs.World.{World, StoresWorld}
 use Rattle.store_world.specs.Lists.{IsBeside, ListsGo, WhereBeside}
 use Rattle.store_world.specs.Found.{Found}
 use Rattle.store_world.specs.Finding.{MayTell, MayFind}

@@ -9,11 +9,11 @@ use Rattle.disk_model.specs.Moments.{EveryImage}
 use Rattle.outside_io.specs.Sink as sinks
 use Rattle.tuple_bytes.specs.declared.header.Header.{Header}
 use Rattle.history_model.specs.declared.format.Format.{Format}
-use Rattle.history_model.specs.declared.format.Format.TheVariants.{One, Two}
+use Rattle.history_model.specs.declared.format.Format.TheVariants.{Two}
 use Rattle.history_model.specs.Stored.{stored, format_of}
 use Rattle.store_engine.specs.declared.fail.StoreFail.{StoreFail}
 use Rattle.store_engine.specs.declared.fail.StoreFail.TheVariants as stores
-use Rattle.store_engine.specs.Refusals.{IsNoStore}
+use Rattle.store_engine.specs.Causes.{IsNoStore}
 use Rattle.line_runs.specs.declared.status.Status.{Status}
 use Rattle.line_runs.specs.declared.status.Status.TheVariants as statuses
 use Rattle.line_runs.specs.Outcome.{Said, refused}

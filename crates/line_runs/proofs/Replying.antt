@@ -200,6 +200,7 @@ takes_for kinds.OutsideScripts false runner now clock ahead ne gives = gives
 finds_nothing : (line : Line) → ((part : WorldPart) → line_kind line ≡ kinds.InWorld part → ⊥) → (w : World) (now : ℕ) → MayTell w line no_finding × MayFind w line now no_finding
 finds_nothing (lines.Plain stmts.Notarize) ne w now = absurd (ne (parts.Notary asked.Notarize) refl)
 finds_nothing (lines.Plain stmts.Validate) ne w now = absurd (ne (parts.Notary asked.Validate) refl)
+finds_nothing (lines.Plain stmts.Audit) ne w now = absurd (ne (parts.Notary asked.Audit) refl)
 finds_nothing (lines.Plain (stmts.Analyse algorithm)) ne w now = absurd (ne (parts.Notary (asked.Analyse algorithm)) refl)
 finds_nothing line ne w now = (tt, tt)
 

@@ -36,7 +36,8 @@ use Rattle.validator.specs.Verdicts.{mark_of}
 use Rattle.validator.specs.Texts.{verdict_text}
 use Rattle.store_world.specs.World.{World}
 use Rattle.store_world.specs.Found.{Found}
-use Rattle.store_world.specs.Steps.{Step, step, on_tables, after_statement, notarized, unless, carried_out, intent_in, reached, validated, marked, algorithm_of}
+use Rattle.store_world.specs.Steps.{Step, step, on_tables, after_statement, notarized, unless, carried_out, intent_in, reached, validated, has_more, audited, marked, algorithm_of}
+use Rattle.store_world.proofs.Validating.{with_audit}
 use Rattle.store_world.proofs.Acknowledging.{by_line}
 use Rattle.store_world.proofs.Analysing.{analysed_stays}
 use Rattle.stmt_text.specs.declared.kind.LineKind.{LineKind}
@@ -184,9 +185,12 @@ module _ (w : World) (logs : Logs) (s : Stays w logs) where
   validated_stays now (Ok verdict) refusal = marked_stays (mark_of verdict now) refusal (verdict_text verdict)
   validated_stays now (Err fail) refusal = s
 
+  audited_stays : (b : Bool) (now : ℕ) (found : Result Verdict AuditFail) (refusal : Option AuditFail) → Stays (audited b w now found refusal).world logs
+  audited_stays b now found refusal = let leaves = with_audit b w now found refusal in same_stays _ leaves.same.store leaves.same.sessions
+
   pub step_stays : (line : Line) (now : ℕ) (found : Found) → Stays (step w line now found).world (logged_in w line (step w line now found).text logs)
   step_stays line now found = by_line (λ line x. Stays x.world (logged_in w line x.text logs)) w line now found (λ line. tables_stay line now) (notarized_stays now found.heard found.refusal) (validated_stays now found.verdict found.refusal)
-      (λ algorithm. subst (λ (x : World). Stays x logs) (sym (analysed_stays w (algorithm_of algorithm) found.analysis found.body)) s)
+      (audited_stays (has_more w) now found.verdict found.refusal) (λ algorithm. subst (λ (x : World). Stays x logs) (sym (analysed_stays w (algorithm_of algorithm) found.analysis found.body)) s)
 
 -- ---- the lines of a run
 

@@ -15,7 +15,8 @@ use Rattle.stmt_text.specs.Lines.{answer}
 use Rattle.store_world.specs.Found.{Found}
 use Rattle.store_world.specs.World.{World}
 use Rattle.store_world.specs.Finding.{MayFind}
-use Rattle.store_world.specs.Laws.{HoldsFiled, IsSoundWorld, HasFitHeader, TellsNoAlteration, SoundWorldsStaySound}
+use Rattle.store_world.specs.Laws.{HoldsFiled, IsSoundWorld, HasFitHeader, SoundWorldsStaySound}
+use Rattle.store_world.specs.NoAlteration.{TellsNoAlteration}
 use Rattle.stmt_text.specs.declared.kind.LineKind.{LineKind}
 use Rattle.stmt_text.specs.declared.kind.LineKind.TheVariants as kinds
 use Rattle.stmt_text.specs.Kinds.{line_kind}

@@ -6,7 +6,8 @@ use Rattle.disk_model.proofs.Moments.{started}
 use Rattle.outside_words.proofs.Told.{told_same}
 use Rattle.notary_link.specs.Notary as notaries
 use Rattle.store_world.specs.declared.fail.LineFail.{LineFail}
-use Rattle.store_world.specs.World.{World, StoresWorld, StoresEither}
+use Rattle.store_world.specs.Stepping.{StoresEither}
+use Rattle.store_world.specs.World.{World, StoresWorld}
 use Rattle.store_world.proofs.Left.{stores_world, beside_same, files_still}
 use Rattle.line_runs.specs.declared.runner.Runner.{Runner}
 use Rattle.line_runs.specs.Running.{Running}

@@ -21,7 +21,7 @@ use Rattle.store_world.specs.Found.{Found}
 use Rattle.store_world.specs.declared.fail.LineFail.{LineFail}
 use Rattle.store_world.specs.declared.fail.LineFail.TheVariants as lines
 use Rattle.store_world.specs.Standing.{IsIn}
-use Rattle.store_world.specs.World.{StoresEither}
+use Rattle.store_world.specs.Stepping.{StoresEither}
 use Rattle.store_world.specs.Steps.{step}
 use Rattle.store_world.specs.Finding.{MayTell, MayFind}
 use Rattle.store_world.specs.Lists.{ListsGo, WhereBeside}

@@ -8,7 +8,8 @@ use Rattle.notary_link.specs.Notary.{Lists}
 use Rattle.audit_model.specs.Altered.{history_in}
 use Rattle.store_world.specs.Laws.{HoldsFiled, IsSoundWorld, HasFitHeader}
 use Rattle.line_runs.specs.Running.{Running, Timed, start, world_of, carried, AllMayFind, AllTellNone, IsReplied, carry}
-use Rattle.store_world.specs.Acknowledged.{IsStored, OnlyAppends, ok_text}
+use Rattle.store_world.specs.Acknowledged.{ok_text}
+use Rattle.store_world.specs.Appending.{IsStored, OnlyAppends}
 use Rattle.line_runs.specs.Made.{all_but_two, added}
 
 -- ---- over a store that is what was filed

@@ -20,7 +20,7 @@ use Rattle.stmt_text.specs.declared.kind.LineKind.{LineKind}
 use Rattle.stmt_text.specs.declared.kind.LineKind.TheVariants as kinds
 use Rattle.stmt_text.specs.Kinds.{line_kind}
 use Rattle.stmt_text.specs.Numbers.{max_u64}
-use Rattle.store_world.specs.Laws.{TellsNoAlteration}
+use Rattle.store_world.specs.NoAlteration.{TellsNoAlteration}
 
 -- where a run stands
 pub record Running : Type 0 where
@@ -41,7 +41,7 @@ world_of header bytes = record { header = header; items = (stored bytes).items; 
 -- before the first line, over a store without sessions and what a notary holds: a scripted run begins at the last moment
 abbrev pub start : statements.Database → Lists → NotaryLimits → Running
 start store lists limits = record {
-  world = record { id = store.header.id; store = Some store; old_history = None; sessions = no_sessions; lists = lists; limits = limits };
+  world = record { id = store.header.id; store = Some store; old_history = None; sessions = no_sessions; lists = lists; limits = limits; audited = 0 };
   epoch = store.header.epoch;
   moment = last_moment store.items;
   text = [];

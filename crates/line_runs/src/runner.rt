@@ -8,7 +8,7 @@ ghost use Rattle.outside_io.specs.Clock as clocks;
 ghost use Rattle.history_model.specs.Stored.{stored, format_of};
 ghost use Rattle.stmt_text.specs.Fits.{FitsParts};
 ghost use Rattle.store_engine.specs.declared.fail.StoreFail.TheVariants as stores;
-ghost use Rattle.store_engine.specs.Refusals.{IsOfOpening, IsNoStore};
+ghost use Rattle.store_engine.specs.Causes.{IsOfOpening, IsNoStore};
 ghost use Rattle.store_world.specs.declared.fail.LineFail.TheVariants as lines;
 ghost use Rattle.store_world.specs.Steps.{IsWorldLine};
 ghost use Rattle.line_runs.specs.Devices.{desk, site};

@@ -1,10 +1,9 @@
 -- What a reply acknowledges is stored, and only items more are stored.
-use Rattle.std.proofs.Common.{◌≡◌, ◌∙◌, inl, inr, ℕ, List, [], ◌∷◌, ◌++◌, Option, Some, None, Result, Ok, Err, refl, sym, ap, subst}
+use Rattle.std.proofs.Common.{◌≡◌, ◌∙◌, ℕ, Bool, List, [], ◌∷◌, ◌++◌, Option, Some, None, Result, Ok, Err, refl, sym, ap, subst}
 use Rattle.std.specs.Prelude.{codes}
 use Rattle.std.specs.Fmt.{decimal}
 use Rattle.std.specs.Option.{is_some}
-use Rattle.std.proofs.lemmas.List.{append-nil, append_cancel_left, append_cancel_right}
-use Rattle.tuple_bytes.specs.declared.item.Item.TheVariants as items
+use Rattle.std.proofs.lemmas.List.{append_cancel_left, append_cancel_right}
 use Rattle.history_model.specs.History.{txns}
 use Rattle.notary_link.specs.declared.mark.Mark.{Mark}
 use Rattle.stmt_text.specs.declared.stmt.LineAlgorithm.{LineAlgorithm}
@@ -28,38 +27,31 @@ use Rattle.validator.specs.Texts.{verdict_text}
 use Rattle.store_world.specs.World.{World}
 use Rattle.store_world.specs.Found.{Found}
 use Rattle.validator.specs.Notarizing.{Heard}
-use Rattle.store_world.specs.Steps.{Step, step, on_tables, intent_in, notarized, unless, carried_out, validated, analysed, algorithm_of, marked, reached, why_none}
-use Rattle.store_world.specs.Acknowledged.{HasTxn, IsStored, Extends, OnlyAppends, StepsAcknowledge, StepsOnlyAppend, ok_text}
-use Rattle.store_world.proofs.Texts.{SaysOk, says_ok, reply_ok, refusal_no, notarized_no, validated_no, analysed_no}
-use Rattle.store_world.proofs.Adding.{Adds, step_adds}
+use Rattle.store_world.specs.Steps.{Step, step, on_tables, intent_in, notarized, unless, carried_out, validated, has_more, audited, analysed, algorithm_of, marked, reached, why_none}
+use Rattle.store_world.specs.Acknowledged.{HasTxn, ok_text}
+use Rattle.store_world.specs.Appending.{IsStored, Extends, OnlyAppends, StepsAcknowledge, StepsOnlyAppend}
+use Rattle.store_world.proofs.Texts.{SaysOk, says_ok, reply_ok, refusal_no, notarized_no, validated_no, audited_no, analysed_no}
+use Rattle.store_world.proofs.Adding.{step_adds, extends_same, added_extends, reached_extends}
+use Rattle.store_world.proofs.Validating.{with_audit}
 use Rattle.store_world.proofs.Analysing.{analysed_stays}
 
--- a line is a notarization, a validation or an analysis, or goes to the tables
+-- a line is a notarization, a validation, a piece of an audit or an analysis, or goes to the tables
 pub by_line : (P : Line → Step → Type 0) (w : World) (line : Line) (now : ℕ) (found : Found)
     → ((line : Line) → P line (on_tables w w.store line now)) → P (lines.Plain stmts.Notarize) (notarized w w.store now found.heard found.refusal) → P (lines.Plain stmts.Validate) (validated w now found.verdict found.refusal)
+    → P (lines.Plain stmts.Audit) (audited (has_more w) w now found.verdict found.refusal)
     → ((algorithm : LineAlgorithm) → P (lines.Plain (stmts.Analyse algorithm)) (analysed w (algorithm_of algorithm) found.analysis found.body)) → P line (step w line now found)
 unfolding step
-by_line P w (lines.Plain stmts.Notarize) now found tables notarizes validates analyses = notarizes
-by_line P w (lines.Plain stmts.Validate) now found tables notarizes validates analyses = validates
-by_line P w (lines.Plain (stmts.Analyse algorithm)) now found tables notarizes validates analyses = analyses algorithm
-by_line P w line now found tables notarizes validates analyses = tables line
+by_line P w (lines.Plain stmts.Notarize) now found tables notarizes validates audits analyses = notarizes
+by_line P w (lines.Plain stmts.Validate) now found tables notarizes validates audits analyses = validates
+by_line P w (lines.Plain stmts.Audit) now found tables notarizes validates audits analyses = audits
+by_line P w (lines.Plain (stmts.Analyse algorithm)) now found tables notarizes validates audits analyses = analyses algorithm
+by_line P w line now found tables notarizes validates audits analyses = tables line
 
 -- ---- only items more are stored
-
-extends_same : (w : statements.Database) → Extends w w
-extends_same w = record { header = refl; more = []; items = sym (append-nil w.items) }
 
 pub appends_none : (o : Option statements.Database) → OnlyAppends o o
 appends_none None = tt
 appends_none (Some w) = extends_same w
-
-added_extends : (w new : statements.Database) → Adds w new → Extends w new
-added_extends w new (inl same) = subst (Extends w) (sym same) (extends_same w)
-added_extends w new (inr more) = subst (Extends w) (sym more.is) (record { header = refl; more = items.Txn more.txn ∷ []; items = refl })
-
-pub reached_extends : (need : Option ℕ) (w : statements.Database) → Extends w (reached need w)
-reached_extends None w = extends_same w
-reached_extends (Some moment) w = record { header = refl; more = items.Frontier moment ∷ []; items = refl }
 
 module _ (w : World) where
   -- this step appends
@@ -98,8 +90,12 @@ module _ (w : World) where
   validated_appends now (Ok verdict) refusal = marked_appends (mark_of verdict now) refusal (verdict_text verdict)
   validated_appends now (Err fail) refusal = appends_none w.store
 
+  audited_appends : (b : Bool) (now : ℕ) (found : Result Verdict AuditFail) (refusal : Option AuditFail) → Appends (audited b w now found refusal)
+  audited_appends b now found refusal = none_stored (audited b w now found refusal) (with_audit b w now found refusal).same.store
+
 pub steps_append : StepsOnlyAppend
 steps_append w line now found = by_line (λ line s. Appends w s) w line now found (λ line. tables_append w w.store refl line now) (notarized_appends w w.store refl now found.heard found.refusal) (validated_appends w now found.verdict found.refusal)
+    (audited_appends w (has_more w) now found.verdict found.refusal)
     (λ algorithm. none_stored w (analysed w (algorithm_of algorithm) found.analysis found.body) (ap (λ (x : World). x.store) (analysed_stays w (algorithm_of algorithm) found.analysis found.body)))
 
 -- ---- what is acknowledged is stored
@@ -144,4 +140,5 @@ module _ (w : World) (digits : List ℕ) where
 pub steps_acknowledge : StepsAcknowledge
 steps_acknowledge w line now found digits = by_line (λ line s. Acknowledges digits s) w line now found (λ line. tables_acknowledge w digits w.store line now)
     (says_else w digits (notarized w w.store now found.heard found.refusal) (notarized_no w w.store now found.heard found.refusal)) (says_else w digits (validated w now found.verdict found.refusal) (validated_no w now found.verdict found.refusal))
+    (says_else w digits (audited (has_more w) w now found.verdict found.refusal) (audited_no (has_more w) w now found.verdict found.refusal))
     (λ algorithm. says_else w digits (analysed w (algorithm_of algorithm) found.analysis found.body) (analysed_no w (algorithm_of algorithm) found.analysis found.body))

@@ -136,7 +136,7 @@ module _ (algorithm : LineAlgorithm) (now : ℕ) (old new : State) (same : Uncha
           may = may;
           turn = given result tt;
           goes = subst (λ (x : Step). Goes w x result held old new bytes bytes) (sym is)
-              (left w held old new bytes i same only_now (analysed w (algorithm_of algorithm) f report) result (same_world w _ stays) reply);
+              (left w held old new bytes i same only_now (analysed w (algorithm_of algorithm) f report) result (same_world w _ stays) (ap (λ (x : World). x.audited) stays) reply);
           only = ends_anyhow result;
           timely = ends_any_time None refl result;
           finds = finds;

@@ -47,7 +47,8 @@ use Rattle.store_world.specs.Answers.{said, refusal, replied, Replies, IsAnswer,
 use Rattle.store_world.specs.World.{World}
 use Rattle.store_world.specs.Found.{Found}
 use Rattle.store_world.specs.Steps.{Step, intent_in, reached, carried_out, unless, notarized}
-use Rattle.store_world.specs.LineCalls.{items_added, appends, end_of_store, disk_calls, notary_calls}
+use Rattle.store_world.specs.ItemsMore.{items_added, end_of_store}
+use Rattle.store_world.specs.LineCalls.{appends, disk_calls, notary_calls}
 use Rattle.store_world.specs.CallsMade.{MakesOfDisk, IsAnswered, MakesOfNotary, MakesLineCalls}
 use Rattle.store_world.proofs.LineItems.{drop_all, none_added, carried_world}
 

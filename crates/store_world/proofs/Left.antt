@@ -14,13 +14,16 @@ use Rattle.outside_words.specs.Told.{WhereTold}
 use Rattle.outside_words.proofs.Told.{told_map, told_same}
 use Rattle.validator.specs.Desk.{Desk}
 use Rattle.validator.proofs.Telling.{told_by}
+use Rattle.audit_steps.specs.declared.auditing.Auditing.{Auditing}
+use Rattle.audit_steps.specs.Auditing.{IsAuditOf, read_by}
 use Rattle.store_world.specs.declared.answered.Answered.{Answered}
 use Rattle.store_world.specs.declared.fail.LineFail.{LineFail}
-use Rattle.store_world.specs.World.{World, old_under, StoresOf, StoresWorld, StoresEither}
+use Rattle.store_world.specs.World.{World, old_under, StoresOf, StoresWorld}
 use Rattle.store_world.specs.Standing.{OpenWorld, IsIn, StoreIsIn}
 use Rattle.store_world.specs.Lists.{IsBeside, AreBetween, ListsGo, WhereBeside}
+use Rattle.store_world.specs.Parts.{with_auditing}
 use Rattle.store_world.specs.Steps.{Step}
-use Rattle.store_world.specs.Stepping.{IsReply, Goes}
+use Rattle.store_world.specs.Stepping.{StoresEither, IsReply, Goes}
 use Rattle.store_world.proofs.Between.{kept_between}
 
 pub given : {P : Type 0} (result : Result Answered LineFail) → P → OnOk result P
@@ -33,7 +36,7 @@ stores_of id None old begun None bytes is i = (i.0, is)
 stores_of id (Some w) old begun None bytes is i = absurd i
 stores_of id None old begun (Some s) bytes is i = absurd i
 
--- all but the lists is the same
+-- all but the lists and what the auditor has read is the same
 pub record StaysSame (w next : World) : Type 0 where
   pub id : next.id ≡ w.id
   pub store : next.store ≡ w.store
@@ -61,8 +64,10 @@ module _ (w : World) (held : OpenWorld) (old new : State) (bytes : List ℕ) (i 
       (subst (λ (o : Option statements.Database). StoresOf next.id o w.old_history bytes) (sym stays.store)
       (subst (λ (n : ℕ). StoresOf n w.store w.old_history bytes) (sym stays.id) (stores_world w held bytes i)))
 
-  pub left : (next : Step) (result : Result Answered LineFail) → StaysSame w next.world → IfOk result (IsReply next) → Goes w next result held old new bytes bytes
-  left next (Ok answered) stays reply = record {
+  -- an audit of these bytes is under way behind it
+  pub left_auditing : (next : Step) (result : Result Answered LineFail) (auditing : Option Auditing) → StaysSame w next.world → OnOk result (IsAuditOf w.id auditing bytes × (read_by auditing ≡ next.world.audited)) → IfOk result (IsReply next)
+      → Goes w next result (with_auditing held auditing) old new bytes bytes
+  left_auditing next (Ok answered) auditing stays audit reply = record {
     reply = reply;
     stands = record {
       id = i.id ∙ sym stays.id;
@@ -71,13 +76,15 @@ module _ (w : World) (held : OpenWorld) (old new : State) (bytes : List ℕ) (i 
           (subst (λ (n : ℕ). StoreIsIn n w.store w.sessions held.opened bytes) (sym stays.id) i.store));
       old = stays.old ∙ i.old ∙ ap (λ (n : ℕ). old_under n bytes) (sym stays.id);
       is_old = i.is_old ∙ ap (λ (o : Option History). is_some o) (sym stays.old);
+      audit = subst (λ (n : ℕ). IsAuditOf n auditing bytes) (sym stays.id) audit.0;
+      audited = audit.1;
     };
     settled = λ only c now. only c ((same.images c).0 now);
     images = same_images next.world;
     kept = λ only. inl (stores_world w held bytes i);
     same = λ same_store. same.trace;
   }
-  left next (Err fail) stays reply = record {
+  left_auditing next (Err fail) auditing stays audit reply = record {
     reply = tt;
     stands = tt;
     settled = λ only. tt;
@@ -85,6 +92,10 @@ module _ (w : World) (held : OpenWorld) (old new : State) (bytes : List ℕ) (i 
     kept = λ only. inl (stores_world w held bytes i);
     same = λ same_store. tt;
   }
+
+  -- the auditor is as it was
+  pub left : (next : Step) (result : Result Answered LineFail) → StaysSame w next.world → next.world.audited ≡ w.audited → IfOk result (IsReply next) → Goes w next result held old new bytes bytes
+  left next result stays audited reply = left_auditing next result held.auditing stays (given result (i.audit, i.audited ∙ sym audited)) reply
 
   -- the lists may have changed
   pub files_left : (next : World) (Done : Type 0) (later : Lists) → StaysSame w next → (Done → Keeps next.lists later) → AreBetween w.lists next.lists later

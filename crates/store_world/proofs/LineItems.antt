@@ -3,7 +3,7 @@ use Rattle.std.proofs.Common.{◌≡◌, List, [], ◌∷◌, length, drop, Opti
 use Rattle.statement_core.specs.Database as statements
 use Rattle.validator.specs.declared.fail.AuditFail.{AuditFail}
 use Rattle.validator.specs.Notarizing.{Intent}
-use Rattle.store_world.specs.LineCalls.{items_added}
+use Rattle.store_world.specs.ItemsMore.{items_added}
 use Rattle.store_world.specs.World.{World, with_store}
 use Rattle.store_world.specs.Steps.{Step, unless, filed, reached, carried_out}
 

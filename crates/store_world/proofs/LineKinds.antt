@@ -15,11 +15,11 @@ use Rattle.forensic_report.specs.Analysis.{Analysis, Unsealed}
 use Rattle.stmt_text.specs.Kinds.{line_kind}
 use Rattle.store_world.specs.World.{World}
 use Rattle.store_world.specs.Found.{Found}
-use Rattle.store_world.specs.LineCalls.{notarize_calls, validate_calls, notary_calls}
+use Rattle.store_world.specs.LineCalls.{notarize_calls, validate_calls, audit_calls, notary_calls}
 use Rattle.store_world.specs.Faults.{early_of}
 use Rattle.validator.specs.Notarizing.{Heard}
 use Rattle.validator.specs.Steps.{counted}
-use Rattle.store_world.specs.Steps.{step, on_tables, notarized, validated, analysed, algorithm_of}
+use Rattle.store_world.specs.Steps.{step, on_tables, notarized, validated, has_more, audited, analysed, algorithm_of}
 use Rattle.store_world.specs.Finding.{MayTell, MayFind}
 
 -- what stands for a find where nothing is looked for
@@ -53,6 +53,7 @@ stmt_goes stmts.Commit on = absurd on
 stmt_goes stmts.Abort on = absurd on
 stmt_goes stmts.Notarize on = absurd on
 stmt_goes stmts.Validate on = absurd on
+stmt_goes stmts.Audit on = absurd on
 stmt_goes (stmts.Analyse algorithm) on = absurd on
 stmt_goes (stmts.Now moment) on = absurd on
 stmt_goes stmt on = record { steps = λ w now found. refl; tells = λ w found. tt; may = λ w now found. tt; calls = λ w now found. refl; early = λ w now. refl; kind = tt }
@@ -82,6 +83,14 @@ module _ (w : World) (now : ℕ) where
   pub validate_notes : (verdict : Result Verdict AuditFail) (refusal : Option AuditFail) → notary_calls w (lines.Plain stmts.Validate) now (judged verdict refusal) ≡ validate_calls w now verdict
   unfolding notary_calls
   validate_notes verdict refusal = refl
+
+  pub audit_step : (verdict : Result Verdict AuditFail) (refusal : Option AuditFail) → step w (lines.Plain stmts.Audit) now (judged verdict refusal) ≡ audited (has_more w) w now verdict refusal
+  unfolding step
+  audit_step verdict refusal = refl
+
+  pub audit_notes : (verdict : Result Verdict AuditFail) (refusal : Option AuditFail) → notary_calls w (lines.Plain stmts.Audit) now (judged verdict refusal) ≡ audit_calls (has_more w) w now verdict
+  unfolding notary_calls
+  audit_notes verdict refusal = refl
 
   pub analyse_step : (algorithm : LineAlgorithm) (analysis : Result Analysis AnalyseFail) (report : List ℕ) → step w (lines.Plain (stmts.Analyse algorithm)) now (shown analysis report) ≡ analysed w (algorithm_of algorithm) analysis report
   unfolding step

@@ -1,5 +1,5 @@
 -- A notarization does to the world what the definition says.
-use Rattle.std.proofs.Common.{◌≡◌, ◌≢◌, ◌⊎◌, ℕ, ◌+◌, ◌-◌, ◌≤◌, ◌==◌, Bool, true, false, List, [], ◌∷◌, ◌++◌, length, take, Option, Some, None, IsSome, IfSome, Result, Ok, Err, IsOk, OnOk, IfOk, IfErr, inl, inr, refl, sym, ap, subst, ◌∙◌, arith}
+use Rattle.std.proofs.Common.{◌≡◌, ◌≢◌, ◌⊎◌, ℕ, ◌-◌, ◌≤◌, ◌==◌, Bool, true, false, List, [], ◌∷◌, ◌++◌, length, take, Option, Some, None, IsSome, IfSome, Result, Ok, Err, IsOk, OnOk, IfOk, IfErr, inl, inr, refl, sym, ap, subst, ◌∙◌, arith}
 use Rattle.std.specs.Prelude.{codes}
 use Rattle.std.proofs.Math.Seq.{take-length}
 use Rattle.std.proofs.lemmas.Bool.{cases_eq, eq-eqb, ne_eqb}
@@ -36,6 +36,7 @@ use Rattle.validator.specs.Filing.{FilesFor, HasFiledMore, TellsCount, Files as 
 use Rattle.validator.proofs.Telling.{told_here}
 use Rattle.validator.specs.Reaching as reaching
 use Rattle.validator.specs.Reaching.{CarriesOut, Notarizes, IsReached, StoresAround}
+use Rattle.audit_steps.specs.declared.auditing.Auditing.{Auditing}
 use Rattle.store_world.specs.declared.answered.Answered.{Answered}
 use Rattle.store_world.specs.declared.fail.LineFail.{LineFail}
 use Rattle.stmt_text.specs.declared.line.Line.{Line}
@@ -52,6 +53,8 @@ use Rattle.store_world.specs.Parts.{alone}
 use Rattle.store_world.specs.CallsMade.{MakesLineCalls}
 use Rattle.store_world.specs.Steps.{Step, step, intent_in, says, refuses, filed, filed_for, reached, sealed_text, carried_out, unless, notarized}
 use Rattle.store_world.specs.Stepping.{Goes, Steps, StepsFor}
+use Rattle.store_world.proofs.Adding.{reached_extends}
+use Rattle.store_world.proofs.Kept.{audit_kept}
 use Rattle.store_world.proofs.Between.{keeps_then, filed_keeps, filed_between}
 use Rattle.store_world.proofs.LineKinds.{heard_so, notarize_step}
 use Rattle.store_world.proofs.LineItems.{carried_world}
@@ -142,12 +145,12 @@ taken_may (Err fails.Broken) b = full_may b
 taken_may (Err (fails.SealMissing name)) b = full_may b
 
 module _ (now : ℕ) (s later_s : Opened) (old new : State) (before after : List ℕ) (header : later_s.header ≡ s.header) (only_now : (c : List ℕ) → old.was_image (turn old) c → old.is_image c)
-    (reads : Unchanged old new → after ≡ before) (w : World) (kept_sessions : Machine) (i : IsIn w (alone kept_sessions s) before) (has : HasStore w kept_sessions s before) (heard : Heard) where
+    (reads : Unchanged old new → after ≡ before) (w : World) (kept_sessions : Machine) (auditing : Option Auditing) (i : IsIn w (alone kept_sessions s auditing) before) (has : HasStore w kept_sessions s before) (heard : Heard) where
   abbrev ws : statements.Database
   ws = has.world
 
   abbrev To : Step → Result Answered LineFail → Type 0
-  To next result = Goes w next result (alone kept_sessions later_s) old new before after
+  To next result = Goes w next result (alone kept_sessions later_s auditing) old new before after
 
   -- what is to be done
   abbrev intent : Intent
@@ -177,18 +180,18 @@ module _ (now : ℕ) (s later_s : Opened) (old new : State) (before after : List
     abbrev next : Step
     next = refuses w (refusal_text fail)
 
-    stay : (result : Result Answered LineFail) → IfOk result (λ answered. answered ≡ refusal (refusal_text fail)) → Goes w next result (alone kept_sessions s) old new before after
-    stay result reply = subst (λ (a : List ℕ). Goes w next result (alone kept_sessions s) old new before a) (sym (reads same))
-        (left w (alone kept_sessions s) old new before i same only_now next result (stays_same w) (replies_as next (refusal (refusal_text fail)) result refl refl reply))
+    stay : (result : Result Answered LineFail) → IfOk result (λ answered. answered ≡ refusal (refusal_text fail)) → Goes w next result (alone kept_sessions s auditing) old new before after
+    stay result reply = subst (λ (a : List ℕ). Goes w next result (alone kept_sessions s auditing) old new before a) (sym (reads same))
+        (left w (alone kept_sessions s auditing) old new before i same only_now next result (stays_same w) refl (replies_as next (refusal (refusal_text fail)) result refl refl reply))
 
     faulty : (result : Result Answered LineFail) → OnOk result ⊥ → To next result
     faulty (Ok answered) never = absurd never
-    faulty (Err other) never = wherever w next other (alone kept_sessions s) (alone kept_sessions later_s) old new before after (stay (Err other) tt)
+    faulty (Err other) never = wherever w next other (alone kept_sessions s auditing) (alone kept_sessions later_s auditing) old new before after (stay (Err other) tt)
 
     told : (told_fail : AuditFail) → fault ≡ Some told_fail → later_s ≡ s → (result : Result Answered LineFail) → IfOk result (λ answered. answered ≡ refusal (refusal_text told_fail)) → To next result
     told told_fail told_is stands result reply =
         let same_fail : told_fail ≡ fail = cc in
-        subst (λ (x : Opened). Goes w next result (alone kept_sessions x) old new before after) (sym stands)
+        subst (λ (x : Opened). Goes w next result (alone kept_sessions x auditing) old new before after) (sym stands)
         (stay result (subst (λ (f : AuditFail). IfOk result (λ answered. answered ≡ refusal (refusal_text f))) same_fail reply))
 
     pub refused : (r : Result ℕ AuditFail) (result : Result Answered LineFail) → Answers sealed_text r result → IsRefusedBy fault r → (reached_too shut : Type 0) → reaching.StandsAfter r reached_too (reaching.IsLeft s later_s old new) shut → To next result
@@ -262,6 +265,8 @@ module _ (now : ℕ) (s later_s : Opened) (old new : State) (before after : List
         store = stands_in need done.0;
         old = has.none_old ∙ sym (none_old w.id after done.0.open_on.stores.format);
         is_old = i.is_old;
+        audit = audit_kept w.id auditing ws (reached need ws) s later_s before after (reached_extends need ws) done.0.places has.stands (stands_in need done.0).0.store i.audit;
+        audited = i.audited;
       };
       settled = done.0.settled;
       images = λ only. weaker (images only) (either_of need);
@@ -391,8 +396,8 @@ told_known None n P Q told f = tt
 
 module _ (now : ℕ) (s later_s : Opened) (old new : State) (filed later : notaries.State) (is_open : s.at.is_closed ≡ false) (header : later_s.header ≡ s.header)
     (only_now : (c : List ℕ) → old.was_image (turn old) c → old.is_image c) (r : Result ℕ AuditFail) (result : Result Answered LineFail) (answer : IsAnswer sealed_text r result)
-    (early : IsEarly (early_fault (tail_of s) s.at.is_closed now) r) (turn : IfErr r (λ fail. TellsCount fail later)) (kept_sessions : Machine) where
-  module _ (before after : List ℕ) (reads : Unchanged old new → after ≡ before) (w : World) (i : IsIn w (alone kept_sessions s) before) (has : HasStore w kept_sessions s before)
+    (early : IsEarly (early_fault (tail_of s) s.at.is_closed now) r) (turn : IfErr r (λ fail. TellsCount fail later)) (kept_sessions : Machine) (auditing : Option Auditing) where
+  module _ (before after : List ℕ) (reads : Unchanged old new → after ≡ before) (w : World) (i : IsIn w (alone kept_sessions s auditing) before) (has : HasStore w kept_sessions s before)
       (n : Notarizes now has.world.items r s later_s (desk old filed) (desk new later) before after) where
     abbrev mine : statements.Database
     mine = has.world
@@ -433,33 +438,33 @@ module _ (now : ℕ) (s later_s : Opened) (old new : State) (filed later : notar
       finds : MayFind w line now found
       finds = subst (λ (o : Option statements.Database). IfSome o (MayFile w now found)) (sym has.is) (record {
         heard = heard_is;
-        refusal = λ free. taken_is now s later_s old new before after header only_now reads w kept_sessions i has heard r result answer filed later does lists later_lists beside files r
+        refusal = λ free. taken_is now s later_s old new before after header only_now reads w kept_sessions auditing i has heard r result answer filed later does lists later_lists beside files r
             (subst (λ (id : ℕ). FilesFor id filed.limits aim.batches r lists later_lists) i.id files.files);
       })
 
-    pub notarizes : Steps line now w result (alone kept_sessions later_s) (desk old filed) (desk new later) before after
+    pub notarizes : Steps line now w result (alone kept_sessions later_s auditing) (desk old filed) (desk new later) before after
     notarizes = record {
       found = found;
       may = given result (n.may, taken_may r (have_room w aim.batches));
       turn = given result (taken_turn r (have_room w aim.batches) later turn);
-      goes = subst (λ (x : Step). Goes w x result (alone kept_sessions later_s) old new before after) (sym step_is)
-          (goes_by now s later_s old new before after header only_now reads w kept_sessions i has heard r result answer filed later does aim.fault refl);
+      goes = subst (λ (x : Step). Goes w x result (alone kept_sessions later_s auditing) old new before after) (sym step_is)
+          (goes_by now s later_s old new before after header only_now reads w kept_sessions auditing i has heard r result answer filed later does aim.fault refl);
       only = ends_anyhow result;
       timely = subst (λ (e : Option AuditFail). IfErr result (EndsTimely e)) (sym (ap (λ (o : Option statements.Database). early_over o now) has.is))
           (subst (λ (e : Option AuditFail). IfErr result (EndsTimely e)) (early_in now mine s before has.stands is_open) (ends_timely sealed_text (tail_of s) s.at.is_closed now r result answer early));
       finds = beside_by w (desk old filed) (desk new later) _ (λ lists later_lists was is beside. finds lists later_lists was is beside);
       files = beside_by w (desk old filed) (desk new later) _ (λ lists later_lists was is beside. subst (λ (x : Step). ListsGo w x.world (IsOk result) old new before after later_lists) (sym step_is)
-          (files_by now s later_s old new before after header only_now reads w kept_sessions i has heard r result answer filed later does lists later_lists beside (files lists later_lists was is beside) aim.fault refl));
+          (files_by now s later_s old new before after header only_now reads w kept_sessions auditing i has heard r result answer filed later does lists later_lists beside (files lists later_lists was is beside) aim.fault refl));
       makes = beside_by w (desk old filed) (desk new later) _ (λ lists later_lists was is beside. subst (λ (x : Step). MakesLineCalls w line now found x result (desk old filed) (desk new later) before) (sym (notarize_step w now heard kept_back))
           (notarization_makes now w mine has.is s before has.stands heard kept_back i.id later_s lists later_lists beside.lists after (desk old filed) (desk new later) beside.limits r does
           (IsReached aim.frontier s later_s mine.items old new before after) (files lists later_lists was is beside) (counted_is lists later_lists was is beside) sealed_text result answer));
     }
 
   pub notarization : WhereTold old.reads new.reads (λ before after. (items : List Item) → IsOpenOn s items before → Notarizes now items r s later_s (desk old filed) (desk new later) before after)
-      → StepsFor (lines.Plain stmts.Notarize) now result (alone kept_sessions s) (alone kept_sessions later_s) (desk old filed) (desk new later)
+      → StepsFor (lines.Plain stmts.Notarize) now result (alone kept_sessions s auditing) (alone kept_sessions later_s auditing) (desk old filed) (desk new later)
   notarization told = told_known old.reads new.reads _ _ told
       (λ before after was is notarizes_at w i.
-      let has = has_store w kept_sessions s before i in
+      let has = has_store w kept_sessions s auditing before i in
       notarizes before after (λ same. same_bytes before after (sym is ∙ same.reads ∙ was)) w i has (notarizes_at has.world.items has.stands.open_on))
     where
       same_bytes : (b a : List ℕ) → Some a ≡ Some b → a ≡ b

@@ -14,6 +14,7 @@ use Rattle.statement_core.specs.Database as statements
 use Rattle.statement_core.proofs.Untouched.{unchanged_same}
 use Rattle.validator.specs.Desk.{desk}
 use Rattle.validator.specs.Steps.{counted}
+use Rattle.audit_steps.specs.declared.auditing.Auditing.{Auditing}
 use Rattle.store_world.specs.declared.answered.Answered.{Answered}
 use Rattle.store_world.specs.declared.fail.LineFail.{LineFail}
 use Rattle.store_world.specs.declared.fail.LineFail.TheVariants as fails
@@ -34,8 +35,8 @@ use Rattle.store_world.proofs.LineKinds.{none_found, GoesToTables, goes_to_table
 use Rattle.store_world.proofs.Left.{given, stays_same, left, files_still, beside_by, beside_same}
 use Rattle.store_world.proofs.Validating.{replies_as}
 
-has_none : (w : World) (id : ℕ) (is_old : Bool) (bytes : List ℕ) → IsIn w (no_store id is_old) bytes → w.store ≡ None
-has_none w id is_old bytes i = by w.store refl i.store
+has_none : (w : World) (id : ℕ) (is_old : Bool) (auditing : Option Auditing) (bytes : List ℕ) → IsIn w (no_store id is_old auditing) bytes → w.store ≡ None
+has_none w id is_old auditing bytes i = by w.store refl i.store
   where
     by : (o : Option statements.Database) → w.store ≡ o → StoreIsIn w.id o w.sessions None bytes → w.store ≡ None
     by None is none = is
@@ -65,6 +66,7 @@ module _ (w : World) (now : ℕ) (none : w.store ≡ None) where
     calls = notarize_none w now (counted 0) None none;
   }
   refuses_stmt stmts.Validate needs = absurd needs
+  refuses_stmt stmts.Audit needs = absurd needs
   refuses_stmt (stmts.Analyse algorithm) needs = absurd needs
   refuses_stmt stmts.Begin needs = absurd needs
   refuses_stmt stmts.Commit needs = absurd needs
@@ -81,6 +83,7 @@ module _ (w : World) (now : ℕ) (none : w.store ≡ None) where
 stmt_needs : (stmt : Stmt) → IsStatementLine (lines.Plain stmt) → NeedsStore (lines.Plain stmt)
 stmt_needs stmts.Notarize on = absurd on
 stmt_needs stmts.Validate on = absurd on
+stmt_needs stmts.Audit on = absurd on
 stmt_needs (stmts.Analyse algorithm) on = absurd on
 stmt_needs stmts.Begin on = absurd on
 stmt_needs stmts.Commit on = absurd on
@@ -95,17 +98,17 @@ statement_needs (lines.InSession session stmt) on = tt
 statement_needs (lines.Drill event) on = absurd on
 
 pub nowhere : (line : Line) → NeedsStore line → (id : ℕ) (is_old : Bool) (now : ℕ) (old : State) → ((c : List ℕ) → old.was_image (turn old) c → old.is_image c) → (filed : notaries.State) (result : Result Answered LineFail)
-    → IfOk result (λ answered. answered ≡ refusal (why_none is_old)) → IfErr result (λ fail. fail ≡ fails.NoMemory) → StepsFor line now result (no_store id is_old) (no_store id is_old) (desk old filed) (desk old filed)
-nowhere line needs id is_old now old only_now filed result reply only_memory =
+    → IfOk result (λ answered. answered ≡ refusal (why_none is_old)) → IfErr result (λ fail. fail ≡ fails.NoMemory) → (auditing : Option Auditing) → StepsFor line now result (no_store id is_old auditing) (no_store id is_old auditing) (desk old filed) (desk old filed)
+nowhere line needs id is_old now old only_now filed result reply only_memory auditing =
     told_same old.reads old.reads _ refl
     (λ bytes w i.
-    let r = refuses w now (has_none w id is_old bytes i) line needs in
+    let r = refuses w now (has_none w id is_old auditing bytes i) line needs in
     record {
       found = none_found;
       may = given result r.tells;
       turn = given result tt;
-      goes = subst (λ (x : Step). Goes w x result (no_store id is_old) old old bytes bytes) (sym r.step_is)
-          (left w (no_store id is_old) old old bytes i (unchanged_same old) only_now (has_no_store w) result (stays_same w)
+      goes = subst (λ (x : Step). Goes w x result (no_store id is_old auditing) old old bytes bytes) (sym r.step_is)
+          (left w (no_store id is_old auditing) old old bytes i (unchanged_same old) only_now (has_no_store w) result (stays_same w) refl
           (replies_as (has_no_store w) (refusal (why_none (is_some w.old_history))) result refl refl
           (subst (λ (b : Bool). IfOk result (λ answered. answered ≡ refusal (why_none b))) i.is_old reply)));
       only = ends_wanting ((step w line now none_found).world.store ≢ w.store) (line_kind line) result only_memory;

@@ -1,6 +1,7 @@
 -- A sound world stays sound at every line, and no line tells of an alteration.
 use Rattle.std.proofs.Common.{◌≡◌, ◌⊎◌, inl, inr, ℕ, ◌+◌, ◌-◌, ◌<◌, ◌≤◌, Bool, true, false, List, [], ◌∷◌, ◌++◌, length, take, Option, Some, None, IfSome, Result, Ok, Err, refl, sym, ap, subst, ◌∙◌, arith}
 use Rattle.std.specs.Prelude.{if◌then◌else◌}
+use Rattle.std.specs.Bool.{OnFalse}
 use Rattle.std.proofs.lemmas.Bool.{cases_lt, eq-eqb}
 use Rattle.std.proofs.lemmas.List.{append-nil}
 use Rattle.tuple_bytes.specs.declared.item.Item.TheVariants as items
@@ -36,10 +37,12 @@ use Rattle.forensic_report.specs.Finding.{IsAnalysisIn, IsSoundAnalysis}
 use Rattle.forensic_report.proofs.Sound.{sound_in}
 use Rattle.store_world.specs.World.{World, with_store, history_or, history_of}
 use Rattle.store_world.specs.Found.{Found}
-use Rattle.store_world.specs.Steps.{Step, step, filed, filed_for, reached, carried_out, intent_in, unless, notarized, marked, validated, analysed, algorithm_of, on_tables}
-use Rattle.store_world.specs.Finding.{MayFile, MayFind}
-use Rattle.store_world.specs.Laws.{HoldsFiled, IsSoundWorld, HasFitHeader, IsSoundVerdict, TellsNoAlteration, SoundWorldsStaySound}
+use Rattle.store_world.specs.Steps.{Step, step, filed, filed_for, reached, carried_out, intent_in, unless, notarized, marked, validated, has_more, audited, analysed, algorithm_of, on_tables}
+use Rattle.store_world.specs.Finding.{MayFile, FindsVerdict, MayFind}
+use Rattle.store_world.specs.Laws.{HoldsFiled, IsSoundWorld, HasFitHeader, SoundWorldsStaySound}
+use Rattle.store_world.specs.NoAlteration.{IsSoundVerdict, TellsNoAlteration}
 use Rattle.store_world.proofs.Adding.{Adds, step_adds}
+use Rattle.store_world.proofs.Validating.{validated_anew}
 use Rattle.store_world.proofs.Analysing.{analysed_stays}
 
 abbrev IsSoundAndFit : World → Type 0
@@ -200,6 +203,16 @@ module _ (w : World) (fits : HasFitHeader w) (sound : IsSoundWorld w) where
   clean_by None batches found (inr known) shows = absurd known.2
   clean_by (Some h) batches found (inr known) shows = inr (known.0, clean_in batches w.id known.0 h (Some h) found refl known.2.filed shows)
 
+  -- ---- a piece of an audit
+
+  of_audit : (b : Bool) (now : ℕ) (found : Result Verdict AuditFail) (refusal : Option AuditFail) → IsSoundAndFit (audited b w now found refusal).world
+  of_audit true now found refusal = (sound, fits)
+  of_audit false now found refusal = subst (λ (s : Step). IsSoundAndFit s.world) (sym (validated_anew w 0 now found refusal)) (of_validation now found refusal)
+
+  clean_last : (b : Bool) (now : ℕ) (found : Found) → OnFalse b (FindsVerdict w now found) → OnFalse b (IsSoundVerdict found.verdict)
+  clean_last true now found shows = tt
+  clean_last false now found shows = clean_by (history_of w) (filed_for w) found.verdict sound shows.0
+
   -- ---- an analysis
 
   of_analysis : (algorithm : Algorithm) (found : Result Analysis AnalyseFail) (body : List ℕ) → IsSoundAndFit (analysed w algorithm found body).world
@@ -223,6 +236,7 @@ module _ (w : World) (fits : HasFitHeader w) (sound : IsSoundWorld w) where
     unfolding step
     of_stmt stmts.Notarize may = let both = of_notarization now found.heard found.refusal (filed_heard w.store found now may) in (both.0, both.1, not_refused)
     of_stmt stmts.Validate may = let both = of_validation now found.verdict found.refusal in (both.0, both.1, clean_by (history_of w) (filed_for w) found.verdict sound may.0)
+    of_stmt stmts.Audit may = let both = of_audit (has_more w) now found.verdict found.refusal in (both.0, both.1, clean_last (has_more w) now found may)
     of_stmt (stmts.Analyse algorithm) may =
         let both = of_analysis (algorithm_of algorithm) found.analysis found.body in
         (both.0, both.1, none_by (algorithm_of algorithm) (history_of w) (filed_for w) found.analysis sound may.0)

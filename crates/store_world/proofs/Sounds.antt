@@ -22,6 +22,7 @@ use Rattle.statement_core.specs.Database.{Database, StoresEither}
 use Rattle.session_model.specs.Service as sessions
 use Rattle.session_model.specs.Steps.{serve}
 use Rattle.session_model.specs.Standing.{Machine, IsIn, StepsTo, serving}
+use Rattle.audit_steps.specs.declared.auditing.Auditing.{Auditing}
 use Rattle.store_world.specs.Parts.{alone, StaysSound}
 use Rattle.store_world.proofs.Adding.{Adds, step_adds}
 
@@ -72,8 +73,8 @@ module _ (kept later_kept : Machine) (s later : Opened) (line : Line) (now : ℕ
   abbrev Stands : List ℕ → Type 0
   Stands bytes = (w : sessions.Service) × IsIn w kept s bytes
 
-  pub stays_sound : IfSome old.reads old.is_image → WhereTold old.reads new.reads (StepsTo line now r (serving kept s) (serving later_kept later) old new) → StaysSound (alone kept s) old new
-  stays_sound reads told filed = told_with old.reads new.reads (StepsTo line now r (serving kept s) (serving later_kept later) old new)
+  pub stays_sound : IfSome old.reads old.is_image → WhereTold old.reads new.reads (StepsTo line now r (serving kept s) (serving later_kept later) old new) → (auditing : Option Auditing) → StaysSound (alone kept s auditing) old new
+  stays_sound reads told auditing filed = told_with old.reads new.reads (StepsTo line now r (serving kept s) (serving later_kept later) old new)
       (λ before after. WhereTold filed.lists filed.lists (λ lists later_lists. (id : ℕ) → Stands before → Only before old → IsSound old.is_image (lists.batches id) id → IsSound new.is_image (later_lists.batches id) id))
       old.is_image told reads
       (λ b a image does. told_same filed.lists filed.lists (λ lists later_lists. (id : ℕ) → Stands b → Only b old → IsSound old.is_image (lists.batches id) id → IsSound new.is_image (later_lists.batches id) id) refl

@@ -1,24 +1,50 @@
 -- What a line does where a store is open: the store stays, or after a failure it is no matter where it stands.
-use Rattle.std.proofs.Common.{◌≡◌, ℕ, Bool, false, List, Option, Some, Result, Err, refl, ap, sym, subst, ◌∙◌}
+use Rattle.std.proofs.Common.{◌≡◌, ℕ, Bool, false, List, Option, Some, None, Result, Ok, Err, ap, sym, subst, ◌∙◌}
+use Rattle.std.specs.Prelude.{IsErr}
 use Rattle.outside_words.proofs.Told.{told_map}
 use Rattle.disk_words.specs.Disk.{State}
 use Rattle.notary_link.specs.Notary as notaries
 use Rattle.stmt_text.specs.declared.line.Line.{Line}
 use Rattle.validator.specs.Desk.{Desk, KeepsSound, desk}
 use Rattle.store_world.specs.declared.fail.LineFail.{LineFail}
+use Rattle.audit_steps.specs.declared.auditing.Auditing.{Auditing}
 use Rattle.store_world.specs.declared.open_store.OpenStore.{OpenStore}
 use Rattle.store_world.specs.declared.answered.Answered.{Answered}
 use Rattle.store_world.specs.World.{World}
 use Rattle.store_world.specs.Standing.{OpenWorld, StandsOver, IsIn}
-use Rattle.store_world.specs.Parts.{alone}
+use Rattle.store_world.specs.Parts.{alone, no_store}
 use Rattle.store_world.specs.Stepping.{Steps, StepsFor}
 
--- what is held is this open store under its id
-pub held_alone : (o : OpenStore) (held : OpenWorld) → held.opened ≡ Some o → held.id ≡ o.store.header.id → held.is_old ≡ false → held ≡ alone o.sessions o.store
-held_alone o held is own new =
-    ap (λ (n : ℕ). record { id = n; opened = held.opened; is_old = held.is_old }) own
-    ∙ ap (λ (s : Option OpenStore). record { id = o.store.header.id; opened = s; is_old = held.is_old }) is
-    ∙ ap (λ (b : Bool). record { id = o.store.header.id; opened = Some o; is_old = b }) new
+-- what is held is this open store under its id, and this audit
+pub record Holds (o : OpenStore) (auditing : Option Auditing) (held : OpenWorld) : Type 0 where
+  pub opened : held.opened ≡ Some o
+  pub own : held.id ≡ o.store.header.id
+  pub age : held.is_old ≡ false
+  pub audit : held.auditing ≡ auditing
+
+abbrev pub with_store : OpenStore → Option Auditing → OpenWorld
+with_store o auditing = alone o.sessions o.store auditing
+
+held_alone : (o : OpenStore) (auditing : Option Auditing) (held : OpenWorld) → Holds o auditing held → held ≡ with_store o auditing
+held_alone o auditing held h =
+    ap (λ (n : ℕ). record { id = n; opened = held.opened; is_old = held.is_old; auditing = held.auditing }) h.own
+    ∙ ap (λ (s : Option OpenStore). record { id = o.store.header.id; opened = s; is_old = held.is_old; auditing = held.auditing }) h.opened
+    ∙ ap (λ (b : Bool). record { id = o.store.header.id; opened = Some o; is_old = b; auditing = held.auditing }) h.age
+    ∙ ap (λ (a : Option Auditing). record { id = o.store.header.id; opened = Some o; is_old = false; auditing = a }) h.audit
+
+-- or there is no store, and this audit
+pub record HoldsNone (id : ℕ) (is_old : Bool) (auditing : Option Auditing) (held : OpenWorld) : Type 0 where
+  pub opened : held.opened ≡ None
+  pub own : held.id ≡ id
+  pub age : held.is_old ≡ is_old
+  pub audit : held.auditing ≡ auditing
+
+held_none : (id : ℕ) (is_old : Bool) (auditing : Option Auditing) (held : OpenWorld) → HoldsNone id is_old auditing held → held ≡ no_store id is_old auditing
+held_none id is_old auditing held h =
+    ap (λ (s : Option OpenStore). record { id = held.id; opened = s; is_old = held.is_old; auditing = held.auditing }) h.opened
+    ∙ ap (λ (n : ℕ). record { id = n; opened = None; is_old = held.is_old; auditing = held.auditing }) h.own
+    ∙ ap (λ (b : Bool). record { id = id; opened = None; is_old = b; auditing = held.auditing }) h.age
+    ∙ ap (λ (a : Option Auditing). record { id = id; opened = None; is_old = is_old; auditing = a }) h.audit
 
 module _ (line : Line) (now : ℕ) (old new : State) (filed filed_later : notaries.State) where
   abbrev StepsOn : LineFail → OpenWorld → OpenWorld → List ℕ → List ℕ → Type 0
@@ -31,18 +57,24 @@ module _ (line : Line) (now : ℕ) (old new : State) (filed filed_later : notari
       let s = steps w i in
       record { found = s.found; may = s.may; turn = tt; goes = record { reply = tt; stands = tt; settled = λ only. tt; images = s.goes.images; kept = s.goes.kept; same = λ stays. tt }; only = s.only; timely = s.timely; finds = s.finds; files = s.files; makes = s.makes })
 
-  pub stops : (fail : LineFail) (o : OpenStore) (later held other : OpenWorld) → held.opened ≡ Some o → held.id ≡ o.store.header.id → held.is_old ≡ false
-      → StepsFor line now (Err fail) (alone o.sessions o.store) later (desk old filed) (desk new filed_later) → StepsFor line now (Err fail) held other (desk old filed) (desk new filed_later)
-  stops fail o later held other is own young told =
-      subst (λ (h : OpenWorld). StepsFor line now (Err fail) h other (desk old filed) (desk new filed_later)) (sym (held_alone o held is own young)) (anywhere fail (alone o.sessions o.store) later other told)
+  stops : (fail : LineFail) (first later held other : OpenWorld) → held ≡ first → StepsFor line now (Err fail) first later (desk old filed) (desk new filed_later) → StepsFor line now (Err fail) held other (desk old filed) (desk new filed_later)
+  stops fail first later held other is told = subst (λ (h : OpenWorld). StepsFor line now (Err fail) h other (desk old filed) (desk new filed_later)) (sym is) (anywhere fail first later other told)
+
+  pub stops_open : (fail : LineFail) (o : OpenStore) (auditing : Option Auditing) (later held other : OpenWorld) → Holds o auditing held
+      → StepsFor line now (Err fail) (with_store o auditing) later (desk old filed) (desk new filed_later) → StepsFor line now (Err fail) held other (desk old filed) (desk new filed_later)
+  stops_open fail o auditing later held other h told = stops fail (with_store o auditing) later held other (held_alone o auditing held h) told
+
+  pub stops_none : (result : Result Answered LineFail) → IsErr result → (id : ℕ) (is_old : Bool) (auditing : Option Auditing) (later held other : OpenWorld) → HoldsNone id is_old auditing held
+      → StepsFor line now result (no_store id is_old auditing) later (desk old filed) (desk new filed_later) → StepsFor line now result held other (desk old filed) (desk new filed_later)
+  stops_none (Ok answered) failed id is_old auditing later held other h told = absurd cc
+  stops_none (Err fail) failed id is_old auditing later held other h told = stops fail (no_store id is_old auditing) later held other (held_none id is_old auditing held h) told
 
   -- where the store stays open
-  pub stays_open : (result : Result Answered LineFail) (o later : OpenStore) (held stays : OpenWorld) → held.opened ≡ Some o → held.id ≡ o.store.header.id → held.is_old ≡ false
-      → stays.opened ≡ Some later → stays.id ≡ later.store.header.id → stays.is_old ≡ false
-      → StepsFor line now result (alone o.sessions o.store) (alone later.sessions later.store) (desk old filed) (desk new filed_later) → StepsFor line now result held stays (desk old filed) (desk new filed_later)
-  stays_open result o later held stays is own young later_is later_own later_young told =
-      subst (λ (h : OpenWorld). StepsFor line now result h stays (desk old filed) (desk new filed_later)) (sym (held_alone o held is own young))
-      (subst (λ (h : OpenWorld). StepsFor line now result (alone o.sessions o.store) h (desk old filed) (desk new filed_later)) (sym (held_alone later stays later_is later_own later_young)) told)
+  pub stays_open : (result : Result Answered LineFail) (o after : OpenStore) (from to : Option Auditing) (held later : OpenWorld) → Holds o from held → Holds after to later
+      → StepsFor line now result (with_store o from) (with_store after to) (desk old filed) (desk new filed_later) → StepsFor line now result held later (desk old filed) (desk new filed_later)
+  stays_open result o after from to held later h l told =
+      subst (λ (x : OpenWorld). StepsFor line now result x later (desk old filed) (desk new filed_later)) (sym (held_alone o from held h))
+      (subst (λ (x : OpenWorld). StepsFor line now result (with_store o from) x (desk old filed) (desk new filed_later)) (sym (held_alone after to later l)) told)
 
-pub stays_sound_open : (o : OpenStore) (held : OpenWorld) (old new : Desk) → held.opened ≡ Some o → held.id ≡ o.store.header.id → held.is_old ≡ false → KeepsSound (StandsOver (alone o.sessions o.store)) old new → KeepsSound (StandsOver held) old new
-stays_sound_open o held old new is own young sound = subst (λ (h : OpenWorld). KeepsSound (StandsOver h) old new) (sym (held_alone o held is own young)) sound
+pub stays_sound_open : (o : OpenStore) (auditing : Option Auditing) (held : OpenWorld) (old new : Desk) → Holds o auditing held → KeepsSound (StandsOver (with_store o auditing)) old new → KeepsSound (StandsOver held) old new
+stays_sound_open o auditing held old new h sound = subst (λ (x : OpenWorld). KeepsSound (StandsOver x) old new) (sym (held_alone o auditing held h)) sound

@@ -33,20 +33,25 @@ use Rattle.statement_core.specs.declared.reply.Reply.TheVariants as replies
 use Rattle.tuple_bytes.specs.declared.item.Item.{Item}
 use Rattle.tuple_bytes.specs.declared.item.Item.TheVariants as items
 use Rattle.validator.specs.Desk.{desk}
+use Rattle.audit_steps.specs.declared.auditing.Auditing.{Auditing}
+use Rattle.store_world.specs.Appending.{Extends}
 use Rattle.store_world.specs.declared.answered.Answered.{Answered}
 use Rattle.store_world.specs.declared.fail.LineFail.{LineFail}
-use Rattle.store_world.specs.World.{World, old_in, old_under, StoresOf, StoresEither}
+use Rattle.store_world.specs.World.{World, old_in, old_under, StoresOf}
 use Rattle.store_world.specs.Standing.{IsIn, StoreIsIn}
 use Rattle.store_world.specs.declared.fail.LineFail.TheVariants as fails
 use Rattle.store_world.specs.Answers.{replied, fault_of, IsReplied}
 use Rattle.store_world.specs.Found.{Found}
-use Rattle.store_world.specs.LineCalls.{items_added, appends, end_of_store, notary_calls}
+use Rattle.store_world.specs.ItemsMore.{items_added, end_of_store}
+use Rattle.store_world.specs.LineCalls.{appends, notary_calls}
 use Rattle.store_world.specs.CallsMade.{MakesOfDisk, MakesOfNotary, MakesLineCalls}
 use Rattle.store_world.specs.Faults.{IsOfStoring, MayEndIn, early_of}
 use Rattle.store_world.specs.Parts.{alone, StepsBeside}
 use Rattle.store_world.specs.Steps.{Step, step, on_tables, after_statement}
-use Rattle.store_world.specs.Stepping.{Goes, Steps}
+use Rattle.store_world.specs.Stepping.{StoresEither, Goes, Steps}
 use Rattle.store_world.proofs.Left.{given, beside_by, beside_same, files_still}
+use Rattle.store_world.proofs.Adding.{step_adds, added_extends}
+use Rattle.store_world.proofs.Kept.{audit_kept}
 use Rattle.store_world.proofs.CallsTold.{none_made, statement_calls}
 use Rattle.store_world.proofs.Faults.{ends_storing, ends_any_time}
 use Rattle.store_world.proofs.LineKinds.{none_found, goes_to_tables}
@@ -64,8 +69,8 @@ pub record HasStore (w : World) (kept : Machine) (s : Opened) (bytes : List ℕ)
 pub none_old : (id : ℕ) (bytes : List ℕ) → format_of bytes ≡ Some Two → old_under id bytes ≡ None
 none_old id bytes new = ap (λ (o : Option Format). old_in o (history_with id (stored bytes))) new
 
-pub has_store : (w : World) (kept : Machine) (s : Opened) (bytes : List ℕ) → IsIn w (alone kept s) bytes → HasStore w kept s bytes
-has_store w kept s bytes i = by w.store refl i.store
+pub has_store : (w : World) (kept : Machine) (s : Opened) (auditing : Option Auditing) (bytes : List ℕ) → IsIn w (alone kept s auditing) bytes → HasStore w kept s bytes
+has_store w kept s auditing bytes i = by w.store refl i.store
   where
     by : (o : Option statements.Database) → w.store ≡ o → StoreIsIn w.id o w.sessions (Some (record { store = s; sessions = kept })) bytes → HasStore w kept s bytes
     by (Some world) is stands = record { world = world; is = is; with_sessions = stands.0; stands = stands.0.store; own = stands.1; none_old = i.old ∙ none_old w.id bytes stands.0.store.open_on.stores.format }
@@ -101,8 +106,8 @@ of_answer : (w new : statements.Database) (answer : Answer) → promises.IsPromi
 of_answer w new (Replied reply) is = is
 of_answer w new (Stopped refusal) is = is
 
-module _ (kept later_kept : Machine) (s later : Opened) (header : later.header ≡ s.header) (old new : disks.State) where
-  module _ (w : World) (b a : List ℕ) (i : IsIn w (alone kept s) b) (has : HasStore w kept s b) where
+module _ (kept later_kept : Machine) (s later : Opened) (header : later.header ≡ s.header) (old new : disks.State) (auditing : Option Auditing) where
+  module _ (w : World) (b a : List ℕ) (i : IsIn w (alone kept s auditing) b) (has : HasStore w kept s b) where
     abbrev own : sessions.Service
     own = record { store = has.world; sessions = w.sessions }
 
@@ -110,22 +115,24 @@ module _ (kept later_kept : Machine) (s later : Opened) (header : later.header �
     either next c (inl stores) = inl (subst (λ (o : Option statements.Database). StoresOf w.id o w.old_history c) (sym has.is) stores)
     either next c (inr stores) = inr stores
 
-    goes : (next : session_steps.Served) (r : Result Reply StepFail) (result : Result Answered LineFail) → StepsIn own next r (serving kept s) (serving later_kept later) old new b a → IsReplied r result
-        → Goes w (after_statement w next) result (alone later_kept later) old new b a
-    goes next (Ok reply) (Ok answered) steps is = record {
+    goes : (next : session_steps.Served) (r : Result Reply StepFail) (result : Result Answered LineFail) → Extends has.world next.world.store → StepsIn own next r (serving kept s) (serving later_kept later) old new b a → IsReplied r result
+        → Goes w (after_statement w next) result (alone later_kept later auditing) old new b a
+    goes next (Ok reply) (Ok answered) more steps is = record {
       reply = record { text = ap (λ (x : Answered). x.text) is ∙ ap (λ (x : Reply). (replied x).text) steps.reply; refused = ap (λ (x : Answered). x.refused) is ∙ ap (λ (x : Reply). (replied x).refused) steps.reply };
       stands = record {
         id = ap (λ (h : Header). h.id) header ∙ i.id;
         store = (steps.stands, ap (λ (h : Header). h.id) (sym steps.stands.store.header ∙ header) ∙ i.id);
         old = has.none_old ∙ sym (none_old w.id a steps.stands.store.open_on.stores.format);
         is_old = i.is_old;
+        audit = audit_kept w.id auditing has.world next.world.store s later b a more steps.places has.stands steps.stands.store i.audit;
+        audited = i.audited;
       };
       settled = steps.settled;
       images = λ only. weaker (steps.images only) (either next);
       kept = λ only. either next a (steps.kept only);
       same = λ stays. unmoved has.world (of_store next) reply s old new steps.trace (stays ∙ has.is);
     }
-    goes next r (Err fail) steps is = record {
+    goes next r (Err fail) more steps is = record {
       reply = tt;
       stands = tt;
       settled = λ only. tt;
@@ -133,7 +140,7 @@ module _ (kept later_kept : Machine) (s later : Opened) (header : later.header �
       kept = λ only. either next a (steps.kept only);
       same = λ stays. tt;
     }
-    goes next (Err fail) (Ok answered) steps is = absurd cc
+    goes next (Err fail) (Ok answered) more steps is = absurd cc
 
     -- in a fault of the disk, only where it stores
     only : (next : session_steps.Served) (r : Result Reply StepFail) (result : Result Answered LineFail) → StepsIn own next r (serving kept s) (serving later_kept later) old new b a → IsReplied r result → IfErr result (IsOfStoring (Some next.world.store ≢ w.store))
@@ -156,9 +163,9 @@ module _ (kept later_kept : Machine) (s later : Opened) (header : later.header �
     }
 
   module _ (line : Line) (now : ℕ) (on : IsStatementLine line) (r : Result Reply StepFail) (result : Result Answered LineFail) (answers : IsReplied r result) where
-    steps : (filed : notaries.State) (w : World) (b a : List ℕ) → IsIn w (alone kept s) b → StepsTo line now r (serving kept s) (serving later_kept later) old new b a → Steps line now w result (alone later_kept later) (desk old filed) (desk new filed) b a
+    steps : (filed : notaries.State) (w : World) (b a : List ℕ) → IsIn w (alone kept s auditing) b → StepsTo line now r (serving kept s) (serving later_kept later) old new b a → Steps line now w result (alone later_kept later auditing) (desk old filed) (desk new filed) b a
     steps filed w b a i does =
-        let has = has_store w kept s b i in
+        let has = has_store w kept s auditing b i in
         let goes_on = goes_to_tables line on in
         let before : sessions.Service = record { store = has.world; sessions = w.sessions } in
         let next = session_steps.serve before line now in
@@ -168,7 +175,8 @@ module _ (kept later_kept : Machine) (s later : Opened) (header : later.header �
           found = none_found;
           may = given result (goes_on.tells w none_found);
           turn = given result tt;
-          goes = subst (λ (x : Step). Goes w x result (alone later_kept later) old new b a) (sym is) (goes w b a i has next r result done answers);
+          goes = subst (λ (x : Step). Goes w x result (alone later_kept later auditing) old new b a) (sym is)
+              (goes w b a i has next r result (added_extends has.world next.world.store (step_adds before line now)) done answers);
           only = subst (λ (x : Step). IfErr result (MayEndIn (line_kind line) (x.world.store ≢ w.store))) (sym is) (ends_storing (Some next.world.store ≢ w.store) (line_kind line) goes_on.kind result (only w b a i has next r result done answers));
           timely = ends_any_time (early_of w line now) (goes_on.early w now) result;
           finds = beside_by w (desk old filed) (desk new filed) _ (λ lists later_lists was is beside. goes_on.may w now none_found);
@@ -177,5 +185,5 @@ module _ (kept later_kept : Machine) (s later : Opened) (header : later.header �
               (makes w b a i has line now none_found next r result filed (goes_on.calls w now none_found) (of_answer has.world next.world.store next.answer (steps_keep_promises before line now).store) done answers));
         }
 
-    pub beside : WhereTold old.reads new.reads (StepsTo line now r (serving kept s) (serving later_kept later) old new) → StepsBeside line now result (alone kept s) (alone later_kept later) old new
+    pub beside : WhereTold old.reads new.reads (StepsTo line now r (serving kept s) (serving later_kept later) old new) → StepsBeside line now result (alone kept s auditing) (alone later_kept later auditing) old new
     beside told filed = told_map old.reads new.reads _ _ told (λ b a does w i. steps filed w b a i does)

@@ -1,5 +1,5 @@
 -- Only the reply that acknowledges a transaction begins as `ok` and a number.
-use Rattle.std.proofs.Common.{◌≡◌, ℕ, List, [], ◌∷◌, ◌++◌, Option, Some, None, Result, Ok, Err, refl, arith}
+use Rattle.std.proofs.Common.{◌≡◌, ℕ, Bool, true, false, List, [], ◌∷◌, ◌++◌, Option, Some, None, Result, Ok, Err, refl, arith}
 use Rattle.std.specs.Prelude.{slice_index}
 use Rattle.notary_link.specs.declared.mark.Mark.{Mark}
 use Rattle.stmt_text.specs.Printing.{row_text}
@@ -17,8 +17,8 @@ use Rattle.forensic_report.specs.declared.fail.AnalyseFail.{AnalyseFail}
 use Rattle.forensic_report.specs.Analysis.{Analysis}
 use Rattle.forensic_report.specs.Texts.{head_line}
 use Rattle.validator.specs.Notarizing.{Heard}
-use Rattle.store_world.specs.World.{World}
-use Rattle.store_world.specs.Steps.{Step, refuses, unless, intent_in, carried_out, notarized, validated, analysed, marked}
+use Rattle.store_world.specs.World.{World, with_audited}
+use Rattle.store_world.specs.Steps.{Step, refuses, unless, intent_in, carried_out, notarized, validated, audited, analysed, marked}
 use Rattle.store_world.specs.Acknowledged.{ok_text}
 
 -- it begins as `ok` and a number
@@ -74,6 +74,10 @@ validated_no w now (Ok verdict) refusal ok = by (mark_of verdict now) ok
     by : (m : Option Mark) → SaysOk (marked w m refusal (verdict_text verdict)).text → ⊥
     by None ok = verdict_no verdict ok
     by (Some mark) ok = unless_no refusal w _ (verdict_no verdict) ok
+
+pub audited_no : (b : Bool) (w : World) (now : ℕ) (found : Result Verdict AuditFail) (refusal : Option AuditFail) → SaysOk (audited b w now found refusal).text → ⊥
+audited_no true w now found refusal ok = (let first = ok.first in omega (arith, first))
+audited_no false w now found refusal ok = validated_no (with_audited w 0) now found refusal ok
 
 pub head_no : (algorithm : Algorithm) (id : ℕ) (a : Analysis) (rest : List ℕ) → SaysOk (head_line algorithm id a ++ rest) → ⊥
 unfolding head_line

@@ -1,6 +1,7 @@
--- A validation does to the world what the definition says.
+-- A validation does to the world what the definition says, and so does the last piece of an audit.
 use Rattle.std.proofs.Common.{◌≡◌, ℕ, ◌<◌, Bool, true, false, List, [], ◌∷◌, length, Option, Some, None, IfSome, Result, Ok, Err, IsOk, IfOk, IfErr, inl, inr, refl, sym, ap, subst, ◌∙◌, arith}
-use Rattle.std.specs.Prelude.{nat_lt, nat_le, if◌then◌else◌}
+use Rattle.std.specs.Prelude.{◌+◌, nat_lt, nat_le, if◌then◌else◌}
+use Rattle.std.specs.Bool.{OnFalse}
 use Rattle.std.proofs.lemmas.Bool.{eq-eqb, ne_eqb}
 use Rattle.std.proofs.lemmas.Bool.Decides.{nat_tests}
 use Rattle.outside_words.specs.Told.{WhereTold}
@@ -40,27 +41,28 @@ use Rattle.notary_link.specs.declared.answer.Answer.TheVariants.{Same, Differs, 
 use Rattle.digest_model.specs.Layout.{layout, first_granule, max_granules}
 use Rattle.validator.proofs.Telling.{if_both}
 use Rattle.validator.specs.Verdicts.{IsFound, IsFoundIn, IsFoundBy, IsFoundWithin, IsFoundAt, IsOfValidation, ValidatesNone, mark_of, IsMarked, IsNotMarked, MayBeMarked, MakesNone, MakesMark, Validates}
+use Rattle.audit_steps.specs.Auditing.{piece}
 use Rattle.store_world.specs.declared.answered.Answered.{Answered}
 use Rattle.store_world.specs.declared.fail.LineFail.{LineFail}
-use Rattle.store_world.specs.World.{World, HasNoStore, history_or, history_of, old_in, old_under}
+use Rattle.store_world.specs.World.{World, HasNoStore, history_or, history_of, old_in, old_under, with_audited}
 use Rattle.store_world.specs.Standing.{OpenWorld, IsIn, StoreIsIn}
 use Rattle.store_world.specs.Lists.{IsBeside, ListsGo}
-use Rattle.store_world.specs.Finding.{full_unless, MayJudge, MayRefuseMark, MayMark}
+use Rattle.store_world.specs.Finding.{full_unless, MayJudge, MayRefuseMark, MayBeValidated, MayMark, FindsVerdict}
 use Rattle.store_world.specs.declared.fail.LineFail.TheVariants as line_fails
 use Rattle.store_world.specs.Answers.{said, refusal, Replies, IsAnswer}
-use Rattle.store_world.specs.LineCalls.{noting, validate_calls}
+use Rattle.store_world.specs.LineCalls.{noting, validate_calls, audit_calls}
 use Rattle.store_world.specs.CallsMade.{IsAnswered, MakesOfNotary, MakesLineCalls}
-use Rattle.store_world.specs.Parts.{StepsWithout}
-use Rattle.store_world.specs.Steps.{Step, says, refuses, marked, validated, filed_for}
+use Rattle.store_world.specs.Parts.{StepsWithout, with_auditing}
+use Rattle.store_world.specs.Steps.{Step, says, refuses, marked, validated, has_more, audited, filed_for}
 use Rattle.store_world.specs.Stepping.{IsReply, Goes, Steps}
 use Rattle.store_world.proofs.Between.{keeps_then, noted_keeps, noted_between, unmarked_yet}
 use Rattle.validator.proofs.SomethingFound.{something_is_found}
-use Rattle.store_world.proofs.LineKinds.{judged, validate_step, validate_notes}
+use Rattle.store_world.proofs.LineKinds.{judged, validate_step, validate_notes, audit_step, audit_notes}
 use Rattle.store_world.proofs.Replies.{replied}
 use Rattle.store_world.proofs.CallsTold.{none_made, all_replied, some_made, calls_beside}
 use Rattle.store_world.proofs.MarkCalls.{was_marked, found_no_room, has_failed}
 use Rattle.store_world.proofs.Faults.{ends_anyhow, ends_any_time}
-use Rattle.store_world.proofs.Left.{given, StaysSame, stays_same, left, files_left, files_still, beside_told}
+use Rattle.store_world.proofs.Left.{given, StaysSame, stays_same, left, left_auditing, files_left, files_still, beside_told}
 
 pub replies_as : (next : Step) (x : Answered) (result : Result Answered LineFail) → x.text ≡ next.text → x.refused ≡ next.is_refused → IfOk result (λ answered. answered ≡ x) → IfOk result (IsReply next)
 replies_as next x (Ok answered) text refused is = record { text = ap (λ (y : Answered). y.text) is ∙ text; refused = ap (λ (y : Answered). y.refused) is ∙ refused }
@@ -141,6 +143,36 @@ with_validated w now (Ok verdict) refusal = by (mark_of verdict now) refusal
     by (Some mark) None = record { same = record { id = refl; store = refl; old = refl; sessions = refl }; batches = λ id. refl }
     by (Some mark) (Some fail) = same_store w
 
+-- with another number of items that the auditor has read
+abbrev pub anew : ℕ → Step → Step
+anew n s = record s { world = with_audited s.world n }
+
+pub validated_anew : (w : World) (n now : ℕ) (found : Result Verdict AuditFail) (refusal : Option AuditFail) → validated (with_audited w n) now found refusal ≡ anew n (validated w now found refusal)
+validated_anew w n now (Err fail) refusal = refl
+validated_anew w n now (Ok verdict) refusal = by (mark_of verdict now) refusal
+  where
+    by : (m : Option Mark) (refusal : Option AuditFail) → marked (with_audited w n) m refusal (verdict_text verdict) ≡ anew n (marked w m refusal (verdict_text verdict))
+    by None refusal = refl
+    by (Some mark) None = refl
+    by (Some mark) (Some fail) = refl
+
+leaves_anew : (w : World) (n : ℕ) (x : World) → LeavesStore w x → LeavesStore w (with_audited x n)
+leaves_anew w n x l = record { same = record { id = l.same.id; store = l.same.store; old = l.same.old; sessions = l.same.sessions }; batches = l.batches }
+
+pub with_audit : (b : Bool) (w : World) (now : ℕ) (found : Result Verdict AuditFail) (refusal : Option AuditFail) → LeavesStore w (audited b w now found refusal).world
+with_audit true w now found refusal = leaves_anew w (w.audited + piece) w (same_store w)
+with_audit false w now found refusal = subst (λ (s : Step). LeavesStore w s.world) (sym (validated_anew w 0 now found refusal)) (leaves_anew w 0 (validated w now found refusal).world (with_validated w now found refusal))
+
+-- a validation leaves what the auditor has read
+pub validated_audited : (w : World) (now : ℕ) (found : Result Verdict AuditFail) (refusal : Option AuditFail) → (validated w now found refusal).world.audited ≡ w.audited
+validated_audited w now (Err fail) refusal = refl
+validated_audited w now (Ok verdict) refusal = by (mark_of verdict now) refusal
+  where
+    by : (m : Option Mark) (refusal : Option AuditFail) → (marked w m refusal (verdict_text verdict)).world.audited ≡ w.audited
+    by None refusal = refl
+    by (Some mark) None = refl
+    by (Some mark) (Some fail) = refl
+
 -- ---- what is found may be told
 
 by_chain : (chain : ℕ → Answer) (n : ℕ) (f : Result Verdict AuditFail) → IsFoundBy chain n f → MayJudge f
@@ -205,7 +237,7 @@ module _ (now : ℕ) (w : World) (held : OpenWorld) (old new : State) (bytes : L
   pub record Judges (result : Result Answered LineFail) : Type 0 where
     pub verdict : Result Verdict AuditFail
     pub refusal : Option AuditFail
-    pub may : MayJudge verdict × MayRefuseMark refusal × (history_of w ≡ None → ValidatesNone verdict)
+    pub may : MayBeValidated w (judged verdict refusal)
     pub reply : IfOk result (IsReply (validated w now verdict refusal))
     pub adds : WhereTold filed.lists filed_later.lists (AddsWhere verdict refusal result)
 
@@ -221,7 +253,7 @@ module _ (now : ℕ) (w : World) (held : OpenWorld) (old new : State) (bytes : L
         found = judged j.verdict j.refusal;
         may = given result j.may;
         turn = given result (mark_turn j.refusal filed_later j.may.1);
-        goes = subst (λ (x : Step). Goes w x result held old new bytes bytes) (sym is) (left w held old new bytes i same only_now next result leaves.same j.reply);
+        goes = subst (λ (x : Step). Goes w x result held old new bytes bytes) (sym is) (left w held old new bytes i same only_now next result leaves.same (validated_audited w now j.verdict j.refusal) j.reply);
         only = ends_anyhow result;
         timely = ends_any_time None refl result;
         finds = beside_told w (desk old filed) (desk new filed_later) _ _ j.adds (λ lists later beside adds. ((adds beside).found, (adds beside).mark));
@@ -230,6 +262,39 @@ module _ (now : ℕ) (w : World) (held : OpenWorld) (old new : State) (bytes : L
             subst (λ (x : Step). MakesLineCalls w line now (judged j.verdict j.refusal) x result (desk old filed) (desk new filed_later) bytes) (sym is)
             (calls_beside w line now (judged j.verdict j.refusal) next leaves.same.store bytes result old new same.trace filed filed_later
             (subst (λ (cs : List Call). Makes cs result) (sym (validate_notes w now j.verdict j.refusal)) (adds beside).makes)));
+      }
+
+  -- ---- the last piece of an audit, which begins anew
+
+  reply_anew : (n : ℕ) (next : Step) (result : Result Answered LineFail) → IfOk result (IsReply next) → IfOk result (IsReply (anew n next))
+  reply_anew n next (Ok answered) reply = record { text = reply.text; refused = reply.refused }
+  reply_anew n next (Err fail) reply = tt
+
+  abbrev piece_line : Line
+  piece_line = lines.Plain stmts.Audit
+
+  pub last_piece : has_more w ≡ false → (result : Result Answered LineFail) → Judges result → Steps piece_line now w result (with_auditing held None) (desk old filed) (desk new filed_later) bytes bytes
+  last_piece none result j =
+      let told = validated w now j.verdict j.refusal in
+      let next = anew 0 told in
+      let leaves = leaves_anew w 0 told.world (with_validated w now j.verdict j.refusal) in
+      let is = audit_step w now j.verdict j.refusal ∙ ap (λ (b : Bool). audited b w now j.verdict j.refusal) none ∙ validated_anew w 0 now j.verdict j.refusal in
+      let notes = audit_notes w now j.verdict j.refusal ∙ ap (λ (b : Bool). audit_calls b w now j.verdict) none in
+      record {
+        found = judged j.verdict j.refusal;
+        may = given result (subst (λ (b : Bool). OnFalse b (MayBeValidated w (judged j.verdict j.refusal))) (sym none) j.may);
+        turn = given result (mark_turn j.refusal filed_later j.may.1);
+        goes = subst (λ (x : Step). Goes w x result (with_auditing held None) old new bytes bytes) (sym is)
+            (left_auditing w held old new bytes i same only_now next result None leaves.same (given result (tt, refl)) (reply_anew 0 told result j.reply));
+        only = ends_anyhow result;
+        timely = ends_any_time None refl result;
+        finds = beside_told w (desk old filed) (desk new filed_later) _ _ j.adds (λ lists later beside adds. subst (λ (b : Bool). OnFalse b (FindsVerdict w now (judged j.verdict j.refusal))) (sym none) ((adds beside).found, (adds beside).mark));
+        files = beside_told w (desk old filed) (desk new filed_later) _ _ j.adds (λ lists later beside adds. subst (λ (x : Step). ListsGo w x.world (IsOk result) old new bytes bytes later) (sym is)
+            (record { keeps = (adds beside).files.keeps; between = (adds beside).files.between; ordered = (adds beside).files.ordered }));
+        makes = beside_told w (desk old filed) (desk new filed_later) _ _ j.adds (λ lists later beside adds.
+            subst (λ (x : Step). MakesLineCalls w piece_line now (judged j.verdict j.refusal) x result (desk old filed) (desk new filed_later) bytes) (sym is)
+            (calls_beside w piece_line now (judged j.verdict j.refusal) next leaves.same.store bytes result old new same.trace filed filed_later
+            (subst (λ (cs : List Call). Makes cs result) (sym notes) (adds beside).makes)));
       }
 
   -- ---- beside a notary that tells its lists
@@ -421,7 +486,7 @@ module _ (now : ℕ) (w : World) (held : OpenWorld) (old new : State) (bytes : L
   by_answer : (result other : Result Answered LineFail) → result ≡ other → Judges other → Judges result
   by_answer result other is does = subst Judges (sym is) does
 
-  judges : (v : Result Verdict AuditFail) (result : Result Answered LineFail) → IsAnswer verdict_text v result → WhereTold filed.trace filed_later.trace (MakesMark w.id now v)
+  pub judges : (v : Result Verdict AuditFail) (result : Result Answered LineFail) → IsAnswer verdict_text v result → WhereTold filed.trace filed_later.trace (MakesMark w.id now v)
       → WhereTold filed.lists filed_later.lists (Told v) → IfErr v IsOfValidation → (history_of w ≡ None → ValidatesNone v) → Judges result
   judges (Ok verdict) result answer made told only nowhere = record {
     verdict = Ok verdict;

@@ -1,15 +1,10 @@
--- What a reply acknowledges is stored, and no line takes an item away.
-use Rattle.std.specs.Prelude.{◌≡◌, ℕ, ◌+◌, List, ◌++◌, ◌∷◌, [], length, codes, Option, Some, None}
+-- What a reply acknowledges.
+use Rattle.std.specs.Prelude.{◌≡◌, ℕ, ◌+◌, List, ◌++◌, ◌∷◌, [], length, codes}
 use Rattle.std.specs.Fmt.{decimal}
 use Rattle.tuple_bytes.specs.declared.item.Item.{Item}
 use Rattle.tuple_bytes.specs.declared.item.Txn.{Txn}
 use Rattle.history_model.specs.History.{txns}
 use Rattle.history_model.specs.Stored.{stored}
-use Rattle.stmt_text.specs.declared.line.Line.{Line}
-use Rattle.statement_core.specs.Database as statements
-use Rattle.store_world.specs.World.{World}
-use Rattle.store_world.specs.Found.{Found}
-use Rattle.store_world.specs.Steps.{step}
 
 -- the reply that acknowledges a transaction, by the digits of its number
 abbrev pub ok_text : List ℕ → List ℕ
@@ -24,33 +19,7 @@ pub record HasTxn (digits : List ℕ) (items : List Item) : Type 0 where
   pub among : txns items ≡ before ++ txn ∷ behind
   pub place : txn.number ≡ length before + 1
 
--- it is in this store
-abbrev pub IsStored : List ℕ → Option statements.Database → Type 0
-IsStored digits None = ⊥
-IsStored digits (Some store) = HasTxn digits store.items
-
 -- the bytes store these items, and perhaps more behind them
 pub record StoresMore (items : List Item) (bytes : List ℕ) : Type 0 where
   pub more : List Item
   pub all : (stored bytes).items ≡ items ++ more
-
--- the same header, and perhaps items more behind all others
-pub record Extends (old new : statements.Database) : Type 0 where
-  pub header : new.header ≡ old.header
-  pub more : List Item
-  pub items : new.items ≡ old.items ++ more
-
--- there is a store as before, and only items more are stored
-abbrev pub OnlyAppends : Option statements.Database → Option statements.Database → Type 0
-OnlyAppends None None = Unit {0}
-OnlyAppends None (Some new) = ⊥
-OnlyAppends (Some old) None = ⊥
-OnlyAppends (Some old) (Some new) = Extends old new
-
--- A line that is replied `ok N` leaves a store that has the transaction N.
-abbrev pub StepsAcknowledge : Type 0
-StepsAcknowledge = (w : World) (line : Line) (now : ℕ) (found : Found) (digits : List ℕ) → (step w line now found).text ≡ ok_text digits → IsStored digits (step w line now found).world.store
-
--- No line takes an item away, or changes one.
-abbrev pub StepsOnlyAppend : Type 0
-StepsOnlyAppend = (w : World) (line : Line) (now : ℕ) (found : Found) → OnlyAppends w.store (step w line now found).world.store

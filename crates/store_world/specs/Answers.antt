@@ -6,11 +6,14 @@ use Rattle.statement_core.specs.declared.statements.StepFail.TheVariants as step
 use Rattle.statement_core.specs.Replies.{reply_text, is_refusal}
 use Rattle.validator.specs.declared.fail.AuditFail.{AuditFail}
 use Rattle.validator.specs.declared.fail.AuditFail.TheVariants as audits
-use Rattle.validator.specs.Texts.{refusal_text}
+use Rattle.validator.specs.Texts.{verdict_text, refusal_text}
+use Rattle.audit_steps.specs.declared.audit.Audit.{Audit}
+use Rattle.audit_steps.specs.declared.audit.Audit.TheVariants.{Going, Found}
 use Rattle.forensic_report.specs.declared.report.Report.{Report}
 use Rattle.forensic_report.specs.declared.fail.AnalyseFail.{AnalyseFail}
 use Rattle.forensic_report.specs.declared.fail.AnalyseFail.TheVariants as analyses
 use Rattle.forensic_report.specs.Fails as reports
+use Rattle.store_world.specs.Steps.{auditing_text}
 use Rattle.store_world.specs.declared.answered.Answered.{Answered}
 use Rattle.store_world.specs.declared.fail.LineFail.{LineFail}
 use Rattle.store_world.specs.declared.fail.LineFail.TheVariants as fails
@@ -56,6 +59,11 @@ IsAnswerTo fail result = Replies (refusal (refusal_text fail)) result
 abbrev pub IsAnswer : {A : Type 0} → (A → List ℕ) → Result A AuditFail → Result Answered LineFail → Type 0
 IsAnswer text (Ok a) result = Replies (said (text a)) result
 IsAnswer text (Err fail) result = IsAnswerTo fail result
+
+-- what a piece of an audit came to: how many items are read, or what was found
+abbrev pub audit_text : Audit → List ℕ
+audit_text (Going read) = auditing_text read
+audit_text (Found verdict) = verdict_text verdict
 
 -- a report, as it is written
 abbrev pub reported : Report → Answered

@@ -1,7 +1,5 @@
 -- In which faults a line may end.
-use Rattle.std.specs.Prelude.{◌≡◌, ℕ, true, false, Option, Some, None, Result}
-use Rattle.outside_words.specs.Faults.{HidesNoFault}
-use Rattle.notary_link.specs.Notary as notaries
+use Rattle.std.specs.Prelude.{◌≡◌, ℕ, false, Option, Some, None}
 use Rattle.stmt_text.specs.declared.stmt.Stmt.TheVariants as stmts
 use Rattle.stmt_text.specs.declared.line.Line.{Line}
 use Rattle.stmt_text.specs.declared.line.Line.TheVariants as lines
@@ -26,10 +24,6 @@ IsOfStoring stores fails.NoMemory = Unit {0}
 abbrev pub MayEndIn : LineKind → Type 0 → LineFail → Type 0
 MayEndIn (kinds.InWorld (parts.Notary asks)) stores fail = Unit {0}
 MayEndIn kind stores fail = IsOfStoring stores fail
-
--- behind a reply, a notary that shows its faults counted none
-abbrev pub HidesNone : {T E : Type 0} → notaries.State → notaries.State → Result T E → Type 0
-HidesNone old new result = old.shows ≡ true → HidesNoFault old.faults new.faults result
 
 -- ---- before anything is asked
 

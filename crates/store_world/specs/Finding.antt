@@ -1,5 +1,6 @@
 -- What may be found: by any notary, and by one that holds the lists of a world.
 use Rattle.std.specs.Prelude.{◌≡◌, ℕ, ◌==◌, nat_lt, Bool, true, false, List, length, Option, Some, None, Result, Ok, Err, IfOk, IfSome}
+use Rattle.std.specs.Bool.{OnFalse}
 use Rattle.history_model.specs.History.{history}
 use Rattle.notary_link.specs.declared.mark.Mark.{Mark}
 use Rattle.notary_link.specs.Batches.{Batch}
@@ -22,7 +23,7 @@ use Rattle.forensic_report.specs.Finding.{IsAnalysisIn, IsOfAnalysis}
 use Rattle.forensic_report.specs.Texts.{body_text, kept_of}
 use Rattle.store_world.specs.Found.{Found}
 use Rattle.store_world.specs.World.{World, history_of}
-use Rattle.store_world.specs.Steps.{filed_for, intent_in, algorithm_of}
+use Rattle.store_world.specs.Steps.{filed_for, intent_in, has_more, algorithm_of}
 
 -- ---- whatever the notary tells
 
@@ -58,10 +59,15 @@ abbrev pub AnalysesNone : Result Analysis AnalyseFail → Type 0
 AnalysesNone (Ok a) = IsWithoutStore a
 AnalysesNone (Err fail) = ⊥
 
--- What any notary allows a line to find.
+-- a verdict, or why there is none; and why its mark is not taken
+abbrev pub MayBeValidated : World → Found → Type 0
+MayBeValidated w found = MayJudge found.verdict × MayRefuseMark found.refusal × (history_of w ≡ None → ValidatesNone found.verdict)
+
+-- What any notary allows a line to find. While an audit goes on, nothing is looked for.
 abbrev pub MayTell : World → Line → Found → Type 0
 MayTell w (lines.Plain stmts.Notarize) found = MaySpeak found.heard.against × MayRefuse found.refusal
-MayTell w (lines.Plain stmts.Validate) found = MayJudge found.verdict × MayRefuseMark found.refusal × (history_of w ≡ None → ValidatesNone found.verdict)
+MayTell w (lines.Plain stmts.Validate) found = MayBeValidated w found
+MayTell w (lines.Plain stmts.Audit) found = OnFalse (has_more w) (MayBeValidated w found)
 MayTell w (lines.Plain (stmts.Analyse algorithm)) found = MayAnalyse (algorithm_of algorithm) found.analysis × (history_of w ≡ None → AnalysesNone found.analysis)
 MayTell w line found = Unit {0}
 
@@ -86,10 +92,15 @@ abbrev pub MayMark : World → Option Mark → Option AuditFail → Type 0
 MayMark w None refusal = Unit {0}
 MayMark w (Some mark) refusal = refusal ≡ full_unless (nat_lt (marks_in_all w.lists) w.limits.marks)
 
+-- it is asked what a validation asks, and takes the mark
+abbrev pub FindsVerdict : World → ℕ → Found → Type 0
+FindsVerdict w now found = IsFoundIn (filed_for w) (history_of w) found.verdict × IfOk found.verdict (λ verdict. MayMark w (mark_of verdict now) found.refusal)
+
 -- What a line may find there.
 abbrev pub MayFind : World → Line → ℕ → Found → Type 0
 MayFind w (lines.Plain stmts.Notarize) now found = IfSome w.store (MayFile w now found)
-MayFind w (lines.Plain stmts.Validate) now found = IsFoundIn (filed_for w) (history_of w) found.verdict × IfOk found.verdict (λ verdict. MayMark w (mark_of verdict now) found.refusal)
+MayFind w (lines.Plain stmts.Validate) now found = FindsVerdict w now found
+MayFind w (lines.Plain stmts.Audit) now found = OnFalse (has_more w) (FindsVerdict w now found)
 MayFind w (lines.Plain (stmts.Analyse algorithm)) now found = IsAnalysisIn (algorithm_of algorithm) (filed_for w) (history_of w) found.analysis
     × IfOk found.analysis (λ a. found.body ≡ body_text (algorithm_of algorithm) (kept_of w.lists w.id now) a)
 MayFind w line now found = Unit {0}

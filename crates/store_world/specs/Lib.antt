@@ -3,6 +3,7 @@ pub mod Lists
 pub mod Found
 pub mod Steps
 pub mod Finding
+pub mod ItemsMore
 pub mod LineCalls
 pub mod CallsMade
 pub mod Faults
@@ -11,6 +12,8 @@ pub mod Stepping
 pub mod Answers
 pub mod AtDesk
 pub mod ByBytes
+pub mod NoAlteration
 pub mod Laws
 pub mod Acknowledged
+pub mod Appending
 pub mod Parts

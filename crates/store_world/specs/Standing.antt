@@ -5,20 +5,23 @@ use Rattle.history_model.specs.Stored.{stored, format_of}
 use Rattle.store_engine.specs.declared.fail.StoreFail.{StoreFail}
 use Rattle.store_engine.specs.declared.fail.StoreFail.TheVariants as fails
 use Rattle.store_engine.specs.Opened.{IsOpenOn}
-use Rattle.store_engine.specs.Refusals.{IsNoStore}
+use Rattle.store_engine.specs.Causes.{IsNoStore}
 use Rattle.statement_core.specs.Database as statements
 use Rattle.session_model.specs.Service as session_worlds
 use Rattle.session_model.specs.Service.{Session}
 use Rattle.session_model.specs.Standing as sessions
+use Rattle.audit_steps.specs.declared.auditing.Auditing.{Auditing}
+use Rattle.audit_steps.specs.Auditing.{IsAuditOf, read_by}
 use Rattle.store_world.specs.declared.open_store.OpenStore.{OpenStore}
 use Rattle.store_world.specs.World.{World, HasNoStore, old_under}
 
 -- A world as code keeps it: its id, and where a store is open that store with what is kept of its sessions; else whether the file
--- was refused as one of the first format.
+-- was refused as one of the first format. And the audit that is under way.
 pub record OpenWorld : Type 0 where
   pub id : ℕ
   pub opened : Option OpenStore
   pub is_old : Bool
+  pub auditing : Option Auditing
 
 -- An open store of this id and its sessions stand for what is stored and for the sessions over it. Or there is no store and no
 -- session, and the bytes have no header with the id, or one of the first format.
@@ -35,6 +38,9 @@ pub record IsIn (w : World) (held : OpenWorld) (bytes : List ℕ) : Type 0 where
   -- what is stored in the first format
   pub old : w.old_history ≡ old_under w.id bytes
   pub is_old : held.is_old ≡ is_some w.old_history
+  -- what the auditor has read
+  pub audit : IsAuditOf w.id held.auditing bytes
+  pub audited : read_by held.auditing ≡ w.audited
 
 -- there is no store, or it stands over these bytes with its sessions, for whatever world
 abbrev pub StandsOver : OpenWorld → List ℕ → Type 0

@@ -1,15 +1,17 @@
 -- A line over an open store and a notary: it does to the world that they stand for what the definition says.
-use Rattle.std.specs.Prelude.{◌≡◌, ◌≢◌, ℕ, List, None, option_map, Result, Ok, Err, IsOk, OnOk, IfOk, IfErr, IfSome}
+use Rattle.std.specs.Prelude.{◌≡◌, ◌≢◌, ◌⊎◌, ℕ, true, List, None, option_map, Result, Ok, Err, IsOk, OnOk, IfOk, IfErr, IfSome}
 use Rattle.disk_words.specs.Disk as disks
 use Rattle.disk_model.specs.Moments.{EveryImage}
 use Rattle.stmt_text.specs.declared.line.Line.{Line}
 use Rattle.stmt_text.specs.Kinds.{line_kind}
+use Rattle.outside_words.specs.Faults.{HidesNoFault}
 use Rattle.outside_words.specs.Told.{WhereTold}
+use Rattle.notary_link.specs.Notary as notaries
 use Rattle.validator.specs.Desk.{Desk}
 use Rattle.validator.specs.Filing.{TellsCount}
 use Rattle.store_world.specs.declared.answered.Answered.{Answered}
 use Rattle.store_world.specs.declared.fail.LineFail.{LineFail}
-use Rattle.store_world.specs.World.{World, StoresEither}
+use Rattle.store_world.specs.World.{World, StoresWorld}
 use Rattle.store_world.specs.Standing.{OpenWorld, IsIn}
 use Rattle.store_world.specs.Lists.{ListsGo, WhereBeside}
 use Rattle.store_world.specs.Found.{Found}
@@ -17,6 +19,10 @@ use Rattle.store_world.specs.Steps.{Step, step}
 use Rattle.store_world.specs.Finding.{MayTell, MayFind}
 use Rattle.store_world.specs.CallsMade.{MakesLineCalls}
 use Rattle.store_world.specs.Faults.{MayEndIn, early_of, EndsTimely}
+
+-- bytes store what one of two worlds has
+abbrev pub StoresEither : World → World → List ℕ → Type 0
+StoresEither w next bytes = StoresWorld w bytes ⊎ StoresWorld next bytes
 
 -- this was replied
 pub record IsReply (next : Step) (answered : Answered) : Type 0 where
@@ -61,3 +67,7 @@ StepsFor line now result held later old new = WhereTold old.disk.reads new.disk.
 abbrev pub KeepsStore : Result Answered LineFail → OpenWorld → OpenWorld → Type 0
 KeepsStore (Ok answered) held later = option_map (λ o. o.store.header) later.opened ≡ option_map (λ o. o.store.header) held.opened
 KeepsStore (Err fail) held later = later.opened ≡ None
+
+-- behind a reply, a notary that shows its faults counted none
+abbrev pub HidesNone : {T E : Type 0} → notaries.State → notaries.State → Result T E → Type 0
+HidesNone old new result = old.shows ≡ true → HidesNoFault old.faults new.faults result

@@ -1,6 +1,7 @@
 -- What a line does to a world, and the text of its reply.
-use Rattle.std.specs.Prelude.{ℕ, false, true, Bool, List, ◌++◌, ◌∷◌, [], take, codes, Option, Some, None, Result, Ok, Err}
+use Rattle.std.specs.Prelude.{ℕ, ◌+◌, nat_lt, false, true, Bool, List, ◌++◌, ◌∷◌, [], length, take, codes, Option, Some, None, Result, Ok, Err}
 use Rattle.std.specs.Option.{is_some}
+use Rattle.history_model.specs.History.{History}
 use Rattle.notary_link.specs.declared.mark.Mark.{Mark}
 use Rattle.notary_link.specs.Batches.{Batch}
 use Rattle.notary_link.specs.Filing.{fitting, room_in}
@@ -29,8 +30,9 @@ use Rattle.forensic_report.specs.declared.fail.AnalyseFail.{AnalyseFail}
 use Rattle.forensic_report.specs.Analysis.{Analysis}
 use Rattle.forensic_report.specs.Texts.{head_line}
 use Rattle.forensic_report.specs.Fails as reports
+use Rattle.audit_steps.specs.Auditing.{piece}
 use Rattle.store_world.specs.Found.{Found}
-use Rattle.store_world.specs.World.{World, with_store, with_sessions, with_lists, with_batches, with_mark}
+use Rattle.store_world.specs.World.{World, with_store, with_sessions, with_lists, with_batches, with_mark, with_audited, history_of}
 
 -- the world after a line, the text of the reply, and whether it is a refusal
 pub record Step : Type 0 where
@@ -121,6 +123,30 @@ abbrev pub validated : World → ℕ → Result Verdict AuditFail → Option Aud
 validated w now (Ok verdict) refusal = marked w (mark_of verdict now) refusal (verdict_text verdict)
 validated w now (Err fail) refusal = refuses w (refusal_text fail)
 
+-- ---- a piece of an audit
+
+-- behind so many items of a history more are left than a piece reads
+abbrev pub is_more_left : Option History → ℕ → Bool
+is_more_left None read = false
+is_more_left (Some s) read = nat_lt (read + piece) (length s.items)
+
+-- the auditor goes on
+abbrev pub has_more : World → Bool
+has_more w = is_more_left (history_of w) w.audited
+
+-- how many items are read
+abbrev pub auditing_text : ℕ → List ℕ
+auditing_text read = numbered (codes "auditing ") read
+
+-- it has read a piece more
+abbrev pub audits_on : World → Step
+audits_on w = says (with_audited w (w.audited + piece)) (auditing_text (w.audited + piece))
+
+-- where it doesn't go on, what was found is told and marked, and it begins anew
+abbrev pub audited : Bool → World → ℕ → Result Verdict AuditFail → Option AuditFail → Step
+audited true w now found refusal = audits_on w
+audited false w now found refusal = validated (with_audited w 0) now found refusal
+
 -- ---- an analysis
 
 -- the algorithm that a statement names
@@ -141,6 +167,7 @@ analysed w algorithm (Err fail) body = refuses w (reports.refusal_text fail)
 unfoldable pub step : World → Line → ℕ → Found → Step
 step w (lines.Plain stmts.Notarize) now found = notarized w w.store now found.heard found.refusal
 step w (lines.Plain stmts.Validate) now found = validated w now found.verdict found.refusal
+step w (lines.Plain stmts.Audit) now found = audited (has_more w) w now found.verdict found.refusal
 step w (lines.Plain (stmts.Analyse algorithm)) now found = analysed w (algorithm_of algorithm) found.analysis found.body
 step w line now found = on_tables w w.store line now
 

@@ -26,6 +26,8 @@ pub record World : Type 0 where
   -- what the notary holds under each id; no step goes by it
   pub lists : Lists
   pub limits : NotaryLimits
+  -- how many items its auditor has read
+  pub audited : ℕ
 
 -- no session is begun
 abbrev pub no_sessions : ℕ → Option Session
@@ -54,6 +56,10 @@ abbrev pub with_mark : ℕ → Mark → Lists → Lists
 with_mark id mark lists = record lists {
   marks = λ any. if any == id then lists.marks any ++ mark ∷ [] else lists.marks any;
 }
+
+-- with an auditor that has read so many items
+abbrev pub with_audited : World → ℕ → World
+with_audited w read = record w { audited = read }
 
 -- the history of a store, or else an old one
 abbrev pub history_or : Option statements.Database → Option History → Option History
@@ -92,7 +98,3 @@ StoresOf id None old bytes = HasNoStore id bytes × (old ≡ old_under id bytes)
 -- the bytes store what a world has
 abbrev pub StoresWorld : World → List ℕ → Type 0
 StoresWorld w bytes = StoresOf w.id w.store w.old_history bytes
-
--- they store what one of two worlds has
-abbrev pub StoresEither : World → World → List ℕ → Type 0
-StoresEither w next bytes = StoresWorld w bytes ⊎ StoresWorld next bytes

@@ -10,7 +10,7 @@ ghost use Rattle.validator.specs.Desk.{KeepsSound, desk};
 ghost use Rattle.forensic_report.specs.declared.fail.AnalyseFail.TheVariants as analyses;
 ghost use Rattle.forensic_report.specs.Fails.{disk_in_doubt, notary_in_doubt};
 ghost use Rattle.store_world.specs.declared.fail.LineFail.TheVariants.{DiskFault, NotaryFault};
-ghost use Rattle.store_world.specs.Faults.{HidesNone};
+ghost use Rattle.store_world.specs.Stepping.{HidesNone};
 ghost use Rattle.store_world.specs.Answers.{IsReported};
 ghost use Rattle.store_world.specs.Parts.{StepsWithout};
 ghost use Rattle.store_world.specs.Standing.{OpenWorld};

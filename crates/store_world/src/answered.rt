@@ -1,12 +1,13 @@
 //! What a line is answered.
 
-ghost use Rattle.std.specs.Prelude.{◌≡◌, ◌++◌, ◌∷◌, [], codes, IfOk};
+ghost use Rattle.std.specs.Prelude.{◌≡◌, ◌++◌, ◌∷◌, [], IfOk};
 ghost use Rattle.byte_grammar.specs.Numbered.{numbered};
 ghost use Rattle.validator.specs.Texts.{verdict_text, refusal_text};
 ghost use Rattle.forensic_report.specs.Fails as reports;
-ghost use Rattle.store_world.specs.Answers.{said, refusal, reported};
-ghost use Rattle.store_world.specs.Steps.{why_none};
+ghost use Rattle.store_world.specs.Answers.{said, refusal, reported, audit_text};
+ghost use Rattle.store_world.specs.Steps.{why_none, sealed_text};
 
+use audit_steps::Audit;
 use forensic_report::{AnalyseFail, Report};
 use std::alloc::{AllocError, Global};
 use tuple_bytes::Blob;
@@ -28,17 +29,24 @@ fn line_of(words: Vec<u8>) -> Result<Blob, AllocError>
     Ok(Blob::from_vec(words))
 }
 
-/// How many tiles are sealed.
-pub(crate) fn sealed(alloc: Global, tiles: u32) -> Result<Answered, AllocError>
-    ensures value { IfOk result (λ answered. answered ≡ said (numbered (codes "sealed ") tiles)) }
+/// Words with a number behind them.
+fn counted(alloc: Global, head: &[u8], count: u32) -> Result<Answered, AllocError>
+    ensures value { IfOk result (λ answered. answered ≡ said (numbered head.now count)) }
 {
-    let digits = format!(in alloc; "{tiles}")?;
-    let mut words = b"sealed ".to_vec(alloc)?;
+    let digits = format!(in alloc; "{count}")?;
+    let mut words = head.to_vec(alloc)?;
     words.extend_from_slice(digits.as_bytes())?;
     Ok(Answered {
         refused: false,
         text: line_of(words)?,
     })
+}
+
+/// How many tiles are sealed.
+pub(crate) fn sealed(alloc: Global, tiles: u32) -> Result<Answered, AllocError>
+    ensures value { IfOk result (λ answered. answered ≡ said (sealed_text tiles)) }
+{
+    counted(alloc, b"sealed ", tiles)
 }
 
 /// What a validation found.
@@ -51,6 +59,16 @@ pub(crate) fn found(alloc: Global, verdict: Verdict) -> Result<Answered, AllocEr
         refused: false,
         text: line_of(words)?,
     })
+}
+
+/// What a piece of an audit came to.
+pub(crate) fn audited(alloc: Global, audit: Audit) -> Result<Answered, AllocError>
+    ensures value { IfOk result (λ answered. answered ≡ said (audit_text audit)) }
+{
+    match audit {
+        Audit::Going { read } => counted(alloc, b"auditing ", read),
+        Audit::Found { verdict } => found(alloc, verdict),
+    }
 }
 
 /// Why nothing was done.

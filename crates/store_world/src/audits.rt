@@ -1,6 +1,6 @@
 //! Notarizations and validations.
 
-ghost use Rattle.std.specs.Prelude.{◌≡◌, ⊤, false, List, OnOk, IsErrOf};
+ghost use Rattle.std.specs.Prelude.{◌≡◌, ⊤, false, List, Option, OnOk, IsErrOf};
 ghost use Rattle.outside_words.specs.Faults.{HasCause, HidesNoFault};
 ghost use Rattle.disk_words.specs.Disk as disks;
 ghost use Rattle.notary_link.specs.Notary as notaries;
@@ -12,10 +12,10 @@ ghost use Rattle.session_model.specs.Standing.{Machine};
 ghost use Rattle.validator.specs.declared.fail.AuditFail.TheVariants as audits;
 ghost use Rattle.validator.specs.Desk.{KeepsSound, desk};
 ghost use Rattle.validator.specs.Fails.{disk_in_doubt, notary_in_doubt};
+ghost use Rattle.audit_steps.specs.declared.auditing.Auditing.{Auditing};
 ghost use Rattle.store_world.specs.declared.fail.LineFail.TheVariants.{DiskFault, NotaryFault};
-ghost use Rattle.store_world.specs.Faults.{HidesNone};
 ghost use Rattle.store_world.specs.Answers.{IsAnswerTo};
-ghost use Rattle.store_world.specs.Stepping.{StepsFor};
+ghost use Rattle.store_world.specs.Stepping.{HidesNone, StepsFor};
 ghost use Rattle.store_world.specs.Parts.{alone, StepsWithout};
 ghost use Rattle.store_world.specs.Standing.{OpenWorld};
 ghost use Rattle.store_world.specs.ByBytes.{TellsVerdict};
@@ -29,7 +29,7 @@ use store_engine::Store;
 use validator::{AuditFail, notarize, validate};
 
 /// A fault has no reply, and a refusal is told. An open store never answers Closed.
-fn answer_to(alloc: Global, fail: AuditFail) -> Result<Answered, LineFail>
+pub(crate) fn answer_to(alloc: Global, fail: AuditFail) -> Result<Answered, LineFail>
     ensures value { IsAnswerTo fail result }
     ensures disk_only { IsErrOf result DiskFault → fail ≡ audits.DiskFault }
     ensures notary_only { IsErrOf result NotaryFault → fail ≡ audits.NotaryFault }
@@ -55,7 +55,8 @@ pub(crate) fn answer_notarization<D: Disk, N: Notary>(
     requires open { store.old.at.is_closed ≡ false }
     ensures open { OnOk result (store.new.at.is_closed ≡ false) }
     ensures header { store.new.header ≡ store.old.header }
-    ensures told { (kept : Machine) → StepsFor (lines.Plain stmts.Notarize) now result (alone kept store.old) (alone kept store.new)
+    ensures told { (kept : Machine) (auditing : Option Auditing) → StepsFor (lines.Plain stmts.Notarize) now result
+        (alone kept store.old auditing) (alone kept store.new auditing)
         (desk (D.state disk.old) (N.state notary.old)) (desk (D.state disk.new) (N.state notary.new)) }
     ensures sound { KeepsSound (λ before. (items : List Item) × IsOpenOn store.old items before)
         (desk (D.state disk.old) (N.state notary.old)) (desk (D.state disk.new) (N.state notary.new)) }

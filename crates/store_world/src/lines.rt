@@ -10,10 +10,10 @@ ghost use Rattle.session_model.specs.Standing.{IsStatementLine};
 ghost use Rattle.validator.specs.Desk.{KeepsSound, desk};
 ghost use Rattle.store_world.specs.declared.fail.LineFail.TheVariants.{DiskFault, NotaryFault, NoMemory};
 ghost use Rattle.store_world.specs.Answers.{refusal};
-ghost use Rattle.store_world.specs.Faults.{HidesNone, MayEndIn};
+ghost use Rattle.store_world.specs.Faults.{MayEndIn};
 ghost use Rattle.store_world.specs.Standing.{StandsOver};
 ghost use Rattle.store_world.specs.Steps.{IsWorldLine, why_none};
-ghost use Rattle.store_world.specs.Stepping.{StepsFor};
+ghost use Rattle.store_world.specs.Stepping.{HidesNone, StepsFor};
 ghost use Rattle.store_world.specs.Parts.{alone, no_store, asking};
 ghost use Rattle.store_world.specs.ByBytes.{NeedsStore, IsToldNone, GoesByBytes};
 
@@ -21,7 +21,9 @@ use crate::analyses::answer_analysis;
 use crate::answered::{Answered, no_open_store};
 use crate::audits::{answer_notarization, answer_validation};
 use crate::fail::LineFail;
+use crate::pieces::answer_audit;
 use crate::statements::answer_statement;
+use audit_steps::Auditor;
 use disk_model::Disk;
 use notary_link::Notary;
 use session_core::Sessions;
@@ -47,6 +49,7 @@ pub(crate) fn answer_with_store<D: Disk, N: Notary>(
     alloc: Global,
     sessions: &mut Sessions,
     store: &mut Store,
+    auditor: &mut Auditor,
     disk: &mut D,
     notary: &mut N,
     line: &Line,
@@ -57,13 +60,14 @@ pub(crate) fn answer_with_store<D: Disk, N: Notary>(
     requires fits { FitsParts line.now }
     ensures open { OnOk result (store.new.at.is_closed ≡ false) }
     ensures header { store.new.header ≡ store.old.header }
-    ensures bytes { GoesByBytes line.now store.old.header.id now result
+    ensures bytes { GoesByBytes line.now store.old.header.id auditor.old now result
         (desk (D.state disk.old) (N.state notary.old)) (desk (D.state disk.new) (N.state notary.new)) }
     ensures unasked { IsStatementLine line.now → N.state notary.new ≡ N.state notary.old }
     ensures only { IfErr result (MayEndIn (line_kind line.now) ⊤) }
-    ensures told { StepsFor line.now now result (alone sessions.old store.old) (alone sessions.new store.new)
+    ensures told { StepsFor line.now now result
+        (alone sessions.old store.old auditor.old) (alone sessions.new store.new auditor.new)
         (desk (D.state disk.old) (N.state notary.old)) (desk (D.state disk.new) (N.state notary.new)) }
-    ensures sound { KeepsSound (StandsOver (alone sessions.old store.old))
+    ensures sound { KeepsSound (StandsOver (alone sessions.old store.old auditor.old))
         (desk (D.state disk.old) (N.state notary.old)) (desk (D.state disk.new) (N.state notary.new)) }
     ensures disk_frame { disks.GoesOn (D.state disk.old) (D.state disk.new) }
     ensures notary_frame { notaries.GoesOn (N.state notary.old) (N.state notary.new) }
@@ -77,6 +81,10 @@ pub(crate) fn answer_with_store<D: Disk, N: Notary>(
         Some(NotaryLine::Validate) => {
             let id = store.header().id;
             answer_validation(alloc, disk, notary, id, now)
+        }
+        Some(NotaryLine::Audit) => {
+            let id = store.header().id;
+            answer_audit(alloc, auditor, disk, notary, id, now)
         }
         Some(NotaryLine::Analyse { algorithm }) => {
             let id = store.header().id;
@@ -97,6 +105,7 @@ fn no_answer(alloc: Global, is_old: bool) -> Result<Answered, LineFail>
 /// Carries out a line where there is no store of this id.
 pub(crate) fn answer_without_store<D: Disk, N: Notary>(
     alloc: Global,
+    auditor: &mut Auditor,
     disk: &mut D,
     notary: &mut N,
     id: u64,
@@ -107,10 +116,10 @@ pub(crate) fn answer_without_store<D: Disk, N: Notary>(
     requires is_line { IsWorldLine line.now }
     ensures none { NeedsStore line.now → IsToldNone is_old result
         (desk (D.state disk.old) (N.state notary.old)) (desk (D.state disk.new) (N.state notary.new)) }
-    ensures bytes { GoesByBytes line.now id now result
+    ensures bytes { GoesByBytes line.now id auditor.old now result
         (desk (D.state disk.old) (N.state notary.old)) (desk (D.state disk.new) (N.state notary.new)) }
     ensures only { IfErr result (MayEndIn (line_kind line.now) ⊤) }
-    ensures told { StepsFor line.now now result (no_store id is_old) (no_store id is_old)
+    ensures told { StepsFor line.now now result (no_store id is_old auditor.old) (no_store id is_old auditor.new)
         (desk (D.state disk.old) (N.state notary.old)) (desk (D.state disk.new) (N.state notary.new)) }
     ensures sound { KeepsSound (λ before. ⊤)
         (desk (D.state disk.old) (N.state notary.old)) (desk (D.state disk.new) (N.state notary.new)) }
@@ -123,6 +132,7 @@ pub(crate) fn answer_without_store<D: Disk, N: Notary>(
 {
     match asked_of_notary(line) {
         Some(NotaryLine::Validate) => answer_validation(alloc, disk, notary, id, now),
+        Some(NotaryLine::Audit) => answer_audit(alloc, auditor, disk, notary, id, now),
         Some(NotaryLine::Analyse { algorithm }) => {
             answer_analysis(alloc, disk, notary, id, algorithm, now)
         }
@@ -130,7 +140,8 @@ pub(crate) fn answer_without_store<D: Disk, N: Notary>(
     }
 }
 
-/// Whether a world takes a line: a statement on tables, `notarize`, `validate` or `analyse`, or any line of a session.
+/// Whether a world takes a line: a statement on tables, `notarize`, `validate`, `audit` or
+/// `analyse`, or any line of a session.
 pub fn is_world_line(line: &Line) -> bool
     ensures value { IsTrue result ↔ IsWorldLine line.now }
 {

@@ -1,11 +1,12 @@
 //! Statements on tables and lines of sessions, over an open store.
 
-ghost use Rattle.std.specs.Prelude.{◌≡◌, ⊤, false, IfErr, IsErrOf, OnOk};
+ghost use Rattle.std.specs.Prelude.{◌≡◌, ⊤, false, Option, IfErr, IsErrOf, OnOk};
 ghost use Rattle.outside_words.specs.Faults.{HasCause, HidesNoFault};
 ghost use Rattle.disk_words.specs.Disk as disks;
 ghost use Rattle.stmt_text.specs.Fits.{FitsParts};
 ghost use Rattle.stmt_text.specs.Kinds.{line_kind};
 ghost use Rattle.session_model.specs.Standing.{IsStatementLine};
+ghost use Rattle.audit_steps.specs.declared.auditing.Auditing.{Auditing};
 ghost use Rattle.store_world.specs.declared.fail.LineFail.TheVariants.{DiskFault, NotaryFault};
 ghost use Rattle.store_world.specs.Faults.{MayEndIn};
 ghost use Rattle.store_world.specs.Parts.{alone, StepsBeside, StaysSound};
@@ -33,8 +34,9 @@ pub(crate) fn answer_statement<D: Disk>(
     requires fits { FitsParts line.now }
     ensures open { OnOk result (store.new.at.is_closed ≡ false) }
     ensures header { store.new.header ≡ store.old.header }
-    ensures told { StepsBeside line.now now result (alone sessions.old store.old) (alone sessions.new store.new) (D.state disk.old) (D.state disk.new) }
-    ensures sound { StaysSound (alone sessions.old store.old) (D.state disk.old) (D.state disk.new) }
+    ensures told { (auditing : Option Auditing) → StepsBeside line.now now result
+        (alone sessions.old store.old auditing) (alone sessions.new store.new auditing) (D.state disk.old) (D.state disk.new) }
+    ensures sound { (auditing : Option Auditing) → StaysSound (alone sessions.old store.old auditing) (D.state disk.old) (D.state disk.new) }
     ensures frame { disks.GoesOn (D.state disk.old) (D.state disk.new) }
     ensures disk_only { IsErrOf result NotaryFault → ⊥ }
     ensures only { IfErr result (MayEndIn (line_kind line.now) ⊤) }

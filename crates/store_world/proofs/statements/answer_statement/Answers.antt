@@ -13,23 +13,23 @@ use Rattle.store_world.proofs.Sounds.{stays_sound}
 use Rattle.store_world.proofs.statements.answer_statement.Goals as goal
 
 pub returns-in_err-reply-clause-told : goal.returns-in_err-reply-clause-told
-returns-in_err-reply-clause-told g c =
+returns-in_err-reply-clause-told g c auditing =
     let S = g.D.Disk.state in
     let p = err_from_is_err_and c.from_residual.result c.from_residual.ensures.1 in
-    rw (p.1, p.2) (beside c.args.sessions.now c.step.new.self c.args.store.now c.step.new.store c.step.ensures.header (S c.args.disk.now) (S c.step.new.disk) c.args.line.now c.args.now c.requires.statement
+    rw (p.1, p.2) (beside c.args.sessions.now c.step.new.self c.args.store.now c.step.new.store c.step.ensures.header (S c.args.disk.now) (S c.step.new.disk) auditing c.args.line.now c.args.now c.requires.statement
     (Err c.in_err-reply.field-0.0) (Err (fault_of c.in_err-reply.field-0.0)) refl c.in_err-reply.ensures.told)
 
 pub returns-in_err-print_reply-clause-told : goal.returns-in_err-print_reply-clause-told
-returns-in_err-print_reply-clause-told g c =
+returns-in_err-print_reply-clause-told g c auditing =
     let S = g.D.Disk.state in
     let p = err_from_is_err_and c.from_residual-in_err-print_reply.result c.from_residual-in_err-print_reply.ensures.1 in
-    rw (p.1, p.2) (beside c.args.sessions.now c.step.new.self c.args.store.now c.step.new.store c.step.ensures.header (S c.args.disk.now) (S c.step.new.disk) c.args.line.now c.args.now c.requires.statement
+    rw (p.1, p.2) (beside c.args.sessions.now c.step.new.self c.args.store.now c.step.new.store c.step.ensures.header (S c.args.disk.now) (S c.step.new.disk) auditing c.args.line.now c.args.now c.requires.statement
     (Ok c.in_ok-reply.reply) (Err NoMemory) tt c.in_ok-reply.ensures.told)
 
 pub returns-clause-told : goal.returns-clause-told
-returns-clause-told g c =
+returns-clause-told g c auditing =
     let S = g.D.Disk.state in
-    beside c.args.sessions.now c.step.new.self c.args.store.now c.step.new.store c.step.ensures.header (S c.args.disk.now) (S c.step.new.disk) c.args.line.now c.args.now c.requires.statement (Ok c.in_ok-reply.reply) _
+    beside c.args.sessions.now c.step.new.self c.args.store.now c.step.new.store c.step.ensures.header (S c.args.disk.now) (S c.step.new.disk) auditing c.args.line.now c.args.now c.requires.statement (Ok c.in_ok-reply.reply) _
     (answered_as c.is_refusal.result c.in_ok-print_reply.field-0 c.in_ok-reply.reply c.is_refusal.ensures.value c.in_ok-print_reply.ensures.value) c.in_ok-reply.ensures.told
 
 pub returns-in_err-reply-clause-sound : goal.returns-in_err-reply-clause-sound
