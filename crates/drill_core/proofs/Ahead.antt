@@ -26,11 +26,11 @@ use Rattle.store_world.specs.Found.{Found}
 use Rattle.store_world.specs.World.{World}
 use Rattle.store_world.specs.Standing.{OpenWorld, StoreIsIn}
 use Rattle.store_world.specs.Steps as world_steps
-use Rattle.store_world.specs.Steps.{intent_in, validated}
+use Rattle.store_world.specs.Steps.{intent_in, validated, has_more, audited}
 use Rattle.store_world.specs.Finding.{MayFile, MayFind}
 use Rattle.store_world.specs.LineCalls.{unless, filing_calls, notarize_calls, notary_calls, disk_calls, appends, items_added, end_of_store}
 use Rattle.store_world.proofs.LineItems.{none_added}
-use Rattle.store_world.proofs.Validating.{with_validated}
+use Rattle.store_world.proofs.Validating.{with_validated, with_audit}
 use Rattle.store_world.proofs.CallsTold.{by_fault}
 use Rattle.timeline_model.specs.Scene.{Scene, world_of, batches_of}
 use Rattle.drill_core.specs.declared.machine.Drill.{Drill}
@@ -146,7 +146,7 @@ pub come_before : (t : Scene) (d : Drill) (filed count : ℕ) → IsAt t d → C
 come_before t d filed count at counts many =
     under_id t filed count t.id d.world at.world (subst (λ (now : ℕ). CountsFor now filed count (opened_in d.world.opened)) (sym (ap (λ (s : Scene). s.clock) at.left.fields)) counts) many
 
--- ---- any other line: it calls the notary for nothing, or is a validation, which stores nothing
+-- ---- any other line: it calls the notary for nothing, or is a validation or an audit, which store nothing
 
 module _ (w : World) (now : ℕ) (found : Found) (bytes : List ℕ) where
   nothing_stored : (next : world_steps.Step) → next.world.store ≡ w.store → 0 ≡ length (disk_calls w next bytes)
@@ -156,6 +156,7 @@ module _ (w : World) (now : ℕ) (found : Found) (bytes : List ℕ) where
   unfolding notary_calls world_steps.step
   of_other (lines.Plain stmts.Notarize) other some = absurd (other refl)
   of_other (lines.Plain stmts.Validate) other some = nothing_stored (validated w now found.verdict found.refusal) (with_validated w now found.verdict found.refusal).same.store
+  of_other (lines.Plain stmts.Audit) other some = nothing_stored (audited (has_more w) w now found.verdict found.refusal) (with_audit (has_more w) w now found.verdict found.refusal).same.store
   of_other line other some = absurd (some refl)
 
 pub none_before : (t : Scene) (id : Option ℕ) (line : Line) → (line ≡ notarize → ⊥) → ComeBefore 0 t id line

@@ -4,7 +4,7 @@ use Rattle.std.specs.Prelude.{nat_le, codes, [], is_some}
 use Rattle.std.proofs.lemmas.Bool.{le-leb}
 use Rattle.stmt_text.specs.declared.error.ParseFail.{ParseFail}
 use Rattle.stmt_text.specs.declared.error.ParseFail.TheVariants as parse_fails
-use Rattle.stmt_text.specs.Lines.{IsAnswer}
+use Rattle.stmt_text.specs.Reading.{IsAnswer}
 use Rattle.stmt_text.specs.declared.event.Event.{Event}
 use Rattle.stmt_text.specs.declared.stmt.Stmt.{Stmt}
 use Rattle.stmt_text.specs.declared.stmt.Stmt.TheVariants as stmts

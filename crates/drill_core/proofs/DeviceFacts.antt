@@ -81,13 +81,13 @@ module _ (d : Drill) (none : NoneFails d) (id : ℕ) (own : d.id ≡ Some id) (w
   entered_fields : bare_of later ≡ bare_of d
   entered_fields = fields_stay d world disk d.notary (same_Some disk.bytes.items d.disk.bytes.items same.reads) (record { lists = refl; limits = refl; faults = refl })
 
-  by_stands : StandsUnder (Some id) (bare_of d) (record { id = id; opened = world.opened; is_old = world.is_old }) → EntersAnew d later
+  by_stands : StandsUnder (Some id) (bare_of d) (record { id = id; opened = world.opened; is_old = world.is_old; auditing = world.auditing }) → EntersAnew d later
   by_stands stands = record {
     fields = entered_fields;
     at = record {
       left = record { fields = refl; none_fails = record { disk = on.plan ∙ none.disk; disk_sure = on.sure ∙ none.disk_sure; notary = none.notary; notary_sure = none.notary_sure } };
       world = subst (λ (t : Scene). StandsUnder t.id t world) (sym entered_fields)
-          (subst (λ (o : Option ℕ). StandsUnder o (bare_of d) world) (sym own) (subst (λ (n : ℕ). StandsUnder (Some id) (bare_of d) (record { id = n; opened = world.opened; is_old = world.is_old })) (sym id_is) stands));
+          (subst (λ (o : Option ℕ). StandsUnder o (bare_of d) world) (sym own) (subst (λ (n : ℕ). StandsUnder (Some id) (bare_of d) (record { id = n; opened = world.opened; is_old = world.is_old; auditing = world.auditing })) (sym id_is) stands));
     };
     faults = (let f = disk_quiet.no_change (disk_memory.state_of d.disk) (disk_memory.state_of disk) on none.disk_sure same.trace in omega (arith, f));
   }
@@ -95,21 +95,22 @@ module _ (d : Drill) (none : NoneFails d) (id : ℕ) (own : d.id ≡ Some id) (w
   abbrev IsEnteredBy : Result (Unit {0}) StoreFail → Type 0
   IsEnteredBy r = IsEntered id d.disk.bytes.items r world.opened
 
-  -- what it keeps, by what entering came to
-  kept_as : (opened : Option OpenStore) (is_old : Bool) → world.opened ≡ opened → world.is_old ≡ is_old → StandsUnder (Some id) (bare_of d) (record { id = id; opened = opened; is_old = is_old }) → EntersAnew d later
-  kept_as opened is_old opened_is old_is stands = by_stands (subst (λ (o : Option OpenStore). StandsUnder (Some id) (bare_of d) (record { id = id; opened = o; is_old = world.is_old })) (sym opened_is)
-      (subst (λ (b : Bool). StandsUnder (Some id) (bare_of d) (record { id = id; opened = opened; is_old = b })) (sym old_is) stands))
+  -- what it keeps, by what entering came to; no audit goes on
+  kept_as : (opened : Option OpenStore) (is_old : Bool) → world.opened ≡ opened → world.is_old ≡ is_old → world.auditing ≡ None → StandsUnder (Some id) (bare_of d) (record { id = id; opened = opened; is_old = is_old; auditing = None }) → EntersAnew d later
+  kept_as opened is_old opened_is old_is audit_is stands = by_stands (subst (λ (o : Option OpenStore). StandsUnder (Some id) (bare_of d) (record { id = id; opened = o; is_old = world.is_old; auditing = world.auditing })) (sym opened_is)
+      (subst (λ (b : Bool). StandsUnder (Some id) (bare_of d) (record { id = id; opened = opened; is_old = b; auditing = world.auditing })) (sym old_is)
+      (subst (λ a. StandsUnder (Some id) (bare_of d) (record { id = id; opened = opened; is_old = is_old; auditing = a })) (sym audit_is) stands)))
 
-  module _ (result : Result (Unit {0}) StoreFail) (entered : IsEnteredBy result) (sessions : IfSome world.opened (λ o. NoneKept o.sessions)) (old_is : world.is_old ≡ is_refused_old result) where
+  module _ (result : Result (Unit {0}) StoreFail) (entered : IsEnteredBy result) (sessions : IfSome world.opened (λ o. NoneKept o.sessions)) (old_is : world.is_old ≡ is_refused_old result) (audit_is : world.auditing ≡ None) where
     stands_by : (r : Result (Unit {0}) StoreFail) → result ≡ r → StandsEntered (bare_of d) id r world.opened
     stands_by r is = entering.entered (bare_of d) id r world.opened (subst IsEnteredBy is entered) sessions
 
     pub enters : result ≡ Ok tt → EntersAnew d later
-    enters is = kept_as world.opened false refl (old_is ∙ ap is_refused_old is) (stands_by (Ok tt) is)
+    enters is = kept_as world.opened false refl (old_is ∙ ap is_refused_old is) audit_is (stands_by (Ok tt) is)
 
     pub enters_none : (fail : StoreFail) → result ≡ Err fail → LeavesNone fail → world.opened ≡ None → EntersAnew d later
-    enters_none store_fails.NotAStore is leaves none_is = kept_as None false none_is (old_is ∙ ap is_refused_old is) (stands_by (Err store_fails.NotAStore) is)
-    enters_none store_fails.OldFormat is leaves none_is = kept_as None true none_is (old_is ∙ ap is_refused_old is) (stands_by (Err store_fails.OldFormat) is)
+    enters_none store_fails.NotAStore is leaves none_is = kept_as None false none_is (old_is ∙ ap is_refused_old is) audit_is (stands_by (Err store_fails.NotAStore) is)
+    enters_none store_fails.OldFormat is leaves none_is = kept_as None true none_is (old_is ∙ ap is_refused_old is) audit_is (stands_by (Err store_fails.OldFormat) is)
     enters_none store_fails.DiskFault is leaves none_is = absurd leaves
     enters_none store_fails.NoMemory is leaves none_is = absurd leaves
     enters_none (store_fails.ClockBack last) is leaves none_is = absurd leaves

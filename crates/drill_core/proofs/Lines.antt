@@ -33,8 +33,8 @@ use Rattle.drill_core.specs.declared.fail.DrillFail.TheVariants as fails
 use Rattle.drill_core.specs.declared.machine.Drill.{Drill}
 use Rattle.drill_core.specs.Drills.{IsAt, faults_of, HasFewFaults}
 use Rattle.drill_core.specs.Fail.{of_input, of_output}
-use Rattle.drill_core.specs.Taken.{IsAnswered}
-use Rattle.drill_core.specs.Drilled.{is_said, readings_of, read_for, some_refused, Ends, Reads, Writes, Drills, text_of, is_refused}
+use Rattle.drill_core.specs.Taken.{IsAnswered, text_of, is_refused}
+use Rattle.drill_core.specs.Drilled.{is_said, readings_of, read_for, some_refused, Ends, Reads, Writes, Drills}
 
 -- ---- lines and events
 

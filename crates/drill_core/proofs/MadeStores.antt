@@ -27,12 +27,11 @@ use Rattle.txn_journal.specs.declared.fail.JournalFail.TheVariants as journals
 use Rattle.segment_file.specs.declared.fail.SegmentFail.{SegmentFail}
 use Rattle.segment_file.specs.declared.fail.SegmentFail.TheVariants as fails
 use Rattle.segment_file.specs.Creation.{as_journal}
-use Rattle.txn_journal.specs.Append.{closed_gate}
 use Rattle.txn_journal.specs.Create.{IsFree, IsTaken, creation, Creates, is_free}
 use Rattle.txn_journal.proofs.Free.{free_is}
 use Rattle.store_world.specs.declared.answered.Answered.{Answered}
 use Rattle.store_world.specs.Answers.{said, refusal}
-use Rattle.timeline_model.specs.Scene.{Scene, Crash, without_sessions}
+use Rattle.timeline_model.specs.Scene.{Scene, Crash, entered_anew}
 use Rattle.timeline_model.specs.Lines.{Act, Next, quiet, refuses, makes, inits, header_at, brings}
 use Rattle.timeline_model.specs.Timeline.{calls_in, under, crashed, stopped, with_calls}
 use Rattle.stmt_text.specs.declared.event.Event.TheVariants as events
@@ -82,8 +81,8 @@ sure_by : (crash : Option Crash) (d : Drill) → StopsBy crash 0 d → (disk_mem
 sure_by None d none = none.disk_sure
 sure_by (Some crash) d s = s.disk_sure
 
--- of a scene without sessions: where all calls pass, a line takes its own step under a crash, too
-whole_under : (crash : Option Crash) (t : Scene) (a : Act) → without_sessions a.next.scene ≡ a.next.scene → ((c : Crash) → crash ≡ Some c → calls_in a ≤ c.after) → under crash t a ≡ a.next
+-- of a scene that was entered anew: where all calls pass, a line takes its own step under a crash, too
+whole_under : (crash : Option Crash) (t : Scene) (a : Act) → entered_anew a.next.scene ≡ a.next.scene → ((c : Crash) → crash ≡ Some c → calls_in a ≤ c.after) → under crash t a ≡ a.next
 whole_under None t a bare fits = refl
 whole_under (Some crash) t a bare fits = under_whole t crash a (le-leb (calls_in a) crash.after (fits crash refl)) ∙ ap (λ (s : Scene). record a.next { scene = s }) bare
 
@@ -249,7 +248,7 @@ module _ (d : Drill) (id width k algs : ℕ) (crash : Option Crash) (t : Scene) 
   brought s = inits s (header_at id s.clock width k algs)
 
   abbrev renamed : Scene
-  renamed = record (without_sessions t) { id = Some id }
+  renamed = record (entered_anew t) { id = Some id }
 
   renamed_is : renamed ≡ bare_of named
   renamed_is = ap (λ (s : Scene). record s { id = Some id }) at.left.fields

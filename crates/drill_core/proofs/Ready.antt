@@ -1,4 +1,4 @@
--- What a drill holds stands for its scene as long as its bytes, lists and sessions do.
+-- What a drill holds stands for its scene as long as its bytes, lists, sessions and audit do.
 use Rattle.std.proofs.Common.{◌≡◌, ℕ, false, List, [], Option, Some, None, Result, Ok, Err, OnOk, IfOk, sym, subst, ap, ◌∙◌, refl}
 use Rattle.std.proofs.Math.Path.{fun_ext}
 use Rattle.std.specs.Prelude.{is_some}
@@ -15,7 +15,7 @@ use Rattle.std.proofs.lemmas.Option.{same_Some}
 use Rattle.session_model.specs.Service.{Session}
 use Rattle.store_world.specs.Standing.{OpenWorld}
 use Rattle.timeline_model.specs.Scene as scenes
-use Rattle.timeline_model.specs.Scene.{Scene, nothing_yet, without_sessions, world_of}
+use Rattle.timeline_model.specs.Scene.{Scene, nothing_yet, entered_anew, world_of}
 use Rattle.drill_core.specs.declared.machine.Crash.{Crash}
 use Rattle.drill_core.specs.declared.machine.Drill.{Drill}
 use Rattle.drill_core.specs.Drills.{crash_of, bare_of, StandsUnder, NoneFails, IsAt}
@@ -53,15 +53,21 @@ none_of (Some id) none = absurd cc
 
 -- ---- the scene of a drill
 
--- with these sessions
-abbrev pub scene_of : Drill → (ℕ → Option Session) → Scene
-scene_of d begun = record (bare_of d) { sessions = begun }
+-- what goes on over its store: its sessions, and an audit
+pub record Begun : Type 0 where
+  pub sessions : ℕ → Option Session
+  pub audited : ℕ
+
+-- with these
+abbrev pub scene_of : Drill → Begun → Scene
+scene_of d begun = record (bare_of d) { sessions = begun.sessions; audited = begun.audited }
 
 -- a drill stands for no other
-pub by_scene : (t : Scene) (d : Drill) (P : Scene → Type 0) → without_sessions t ≡ bare_of d → StandsUnder t.id t d.world → ((begun : ℕ → Option Session) → StandsUnder d.id (scene_of d begun) d.world → P (scene_of d begun)) → P t
+pub by_scene : (t : Scene) (d : Drill) (P : Scene → Type 0) → entered_anew t ≡ bare_of d → StandsUnder t.id t d.world → ((begun : Begun) → StandsUnder d.id (scene_of d begun) d.world → P (scene_of d begun)) → P t
 by_scene t d P fields world holds =
-    let same : t ≡ scene_of d t.sessions = ap (λ (b : Scene). record b { sessions = t.sessions }) fields in
-    subst P (sym same) (holds t.sessions (subst (λ (s : Scene). StandsUnder s.id s d.world) same world))
+    let begun : Begun = record { sessions = t.sessions; audited = t.audited } in
+    let same : t ≡ scene_of d begun = ap (λ (b : Scene). record b { sessions = t.sessions; audited = t.audited }) fields in
+    subst P (sym same) (holds begun (subst (λ (s : Scene). StandsUnder s.id s d.world) same world))
 
 -- ---- what a drill sets
 

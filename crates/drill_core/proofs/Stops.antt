@@ -30,7 +30,6 @@ use Rattle.notary_link.specs.Runs as runs
 use Rattle.notary_link.proofs.Quiet as notary_quiet
 use Rattle.stmt_text.specs.declared.line.Line.{Line}
 use Rattle.stmt_text.specs.Fits.{FitsParts}
-use Rattle.session_model.specs.Service.{Session}
 use Rattle.validator.specs.Desk.{Desk, desk}
 use Rattle.store_world.specs.declared.answered.Answered.{Answered}
 use Rattle.store_world.specs.declared.fail.LineFail.{LineFail}
@@ -44,7 +43,7 @@ use Rattle.store_world.specs.Steps as world_steps
 use Rattle.store_world.specs.Stepping.{Steps, StepsFor}
 use Rattle.store_world.specs.Steps.{IsWorldLine}
 use Rattle.store_world.specs.Finding.{MayFind}
-use Rattle.timeline_model.specs.Scene.{Scene, Crash, without_sessions, world_of}
+use Rattle.timeline_model.specs.Scene.{Scene, Crash, entered_anew, world_of}
 use Rattle.timeline_model.specs.Lines.{Act, over_world, act}
 use Rattle.timeline_model.specs.Timeline.{calls_in, under, crashed, stopped, crashed_behind, with_calls}
 use Rattle.timeline_model.proofs.Calls.{failed_nothing}
@@ -52,7 +51,7 @@ use Rattle.drill_core.specs.declared.machine.Drill.{Drill}
 use Rattle.drill_core.specs.Drills.{bare_of, StandsUnder, IsBehind, faults_of, HasFewFaults, FailsOnce}
 use Rattle.drill_core.specs.Devices.{listed_filings, IsStopping, StopsBy, WillPass, IsRestarted, IsRestartedBy}
 use Rattle.drill_core.specs.Taken.{Follows, IsActed, ComeBefore}
-use Rattle.drill_core.proofs.Ready.{scene_of}
+use Rattle.drill_core.proofs.Ready.{Begun, scene_of}
 use Rattle.drill_core.proofs.Coming.{next_on, under_whole, under_stopped}
 use Rattle.drill_core.proofs.Planned.{FailedOne, failed_one, answered_within, answered_quiet}
 use Rattle.drill_core.proofs.Filings.{same_trace, failed_trace}
@@ -95,7 +94,7 @@ answered_by fail = Err fail
 
 -- ---- the drill
 
-module _ (d : Drill) (begun : ℕ → Option Session) (stands : StandsUnder d.id (scene_of d begun) d.world) (before : ℕ) (few : HasFewFaults d) (line : Line) (of_world : IsWorldLine line) (fits : FitsParts line)
+module _ (d : Drill) (begun : Begun) (stands : StandsUnder d.id (scene_of d begun) d.world) (before : ℕ) (few : HasFewFaults d) (line : Line) (of_world : IsWorldLine line) (fits : FitsParts line)
     (result : Result Answered LineFail) (world : OpenWorld) (disk : MemDisk) (notary : MemNotary)
     (told : StepsFor line d.clock result d.world world (desk (disk_memory.state_of d.disk) (notary_memory.state_of d.notary)) (desk (disk_memory.state_of disk) (notary_memory.state_of notary)))
     (disk_on : disks.GoesOn (disk_memory.state_of d.disk) (disk_memory.state_of disk)) (notary_on : notaries.GoesOn (notary_memory.state_of d.notary) (notary_memory.state_of notary))
@@ -343,7 +342,7 @@ module _ (d : Drill) (begun : ℕ → Option Session) (stands : StandsUnder d.id
       abbrev whole_act : Act
       whole_act = a answered is
 
-      fields_then : without_sessions whole_act.next.scene ≡ bare_of d4
+      fields_then : entered_anew whole_act.next.scene ≡ bare_of d4
       fields_then = whole.fields_are d begun stands line of_world fits result world disk notary told disk_on notary_on id own answered (steps answered is) ∙ sym pass.fields
 
       world_then : StandsUnder whole_act.next.scene.id whole_act.next.scene d4.world

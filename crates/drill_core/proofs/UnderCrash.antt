@@ -10,7 +10,6 @@ use Rattle.notary_link.specs.Memory as notary_memory
 use Rattle.notary_link.specs.Notary as notaries
 use Rattle.stmt_text.specs.declared.line.Line.{Line}
 use Rattle.stmt_text.specs.Fits.{FitsParts}
-use Rattle.session_model.specs.Service.{Session}
 use Rattle.validator.specs.Desk.{desk}
 use Rattle.store_world.specs.declared.answered.Answered.{Answered}
 use Rattle.store_world.specs.declared.fail.LineFail.{LineFail}
@@ -19,12 +18,12 @@ use Rattle.store_world.specs.Answers.{said}
 use Rattle.store_world.specs.Standing.{OpenWorld}
 use Rattle.store_world.specs.Steps.{IsWorldLine}
 use Rattle.store_world.specs.Stepping.{StepsFor}
-use Rattle.timeline_model.specs.Scene.{Scene, Crash, without_sessions}
+use Rattle.timeline_model.specs.Scene.{Scene, Crash, entered_anew}
 use Rattle.drill_core.specs.declared.machine.Drill.{Drill}
 use Rattle.drill_core.specs.Drills.{bare_of, StandsUnder, IsAt, faults_of, HasFewFaults}
 use Rattle.drill_core.specs.Devices.{WillStop, WillPass, IsRestartedBy}
 use Rattle.drill_core.specs.Taken.{IsActed, ComeBefore}
-use Rattle.drill_core.proofs.Ready.{scene_of, by_scene}
+use Rattle.drill_core.proofs.Ready.{Begun, scene_of, by_scene}
 use Rattle.drill_core.proofs.Stops as stopping
 
 -- the drill before, with the calls counted, and with the failures listed; and what its line left
@@ -43,7 +42,7 @@ module _ (d0 d1 d : Drill) (crash : Option Crash) (before : ℕ) (line : Line) (
   fewer : faults_of d ≤ faults_of d0
   fewer = let f = will.faults in omega (arith, f, faults1)
 
-  fields : without_sessions t ≡ bare_of d
+  fields : entered_anew t ≡ bare_of d
   fields = at1.left.fields ∙ sym will.fields
 
   stands : StandsUnder t.id t d.world
@@ -57,10 +56,10 @@ module _ (d0 d1 d : Drill) (crash : Option Crash) (before : ℕ) (line : Line) (
     Acts s = IsActed crash (Ok line) s answered d0 d4
 
     -- of whatever scene the drill stands for, under its id
-    from_id : ((begun : ℕ → Option Session) → StandsUnder d.id (scene_of d begun) d.world → (id : ℕ) → d.id ≡ Some id → ComeBefore before (scene_of d begun) (Some id) line → Acts (scene_of d begun)) → Acts t
+    from_id : ((begun : Begun) → StandsUnder d.id (scene_of d begun) d.world → (id : ℕ) → d.id ≡ Some id → ComeBefore before (scene_of d begun) (Some id) line → Acts (scene_of d begun)) → Acts t
     from_id holds = by_scene t d (λ s. ComeBefore before s s.id line → Acts s) fields stands (λ begun stand count. by begun stand count d.id refl some_then) counts
       where
-        by : (begun : ℕ → Option Session) → StandsUnder d.id (scene_of d begun) d.world → ComeBefore before (scene_of d begun) d.id line → (o : Option ℕ) → d.id ≡ o → is_some o ≡ true → Acts (scene_of d begun)
+        by : (begun : Begun) → StandsUnder d.id (scene_of d begun) d.world → ComeBefore before (scene_of d begun) d.id line → (o : Option ℕ) → d.id ≡ o → is_some o ≡ true → Acts (scene_of d begun)
         by begun stand count None own some_o = absurd cc
         by begun stand count (Some id) own some_o = holds begun stand id own (subst (λ (o : Option ℕ). ComeBefore before (scene_of d begun) o line) own count)
 

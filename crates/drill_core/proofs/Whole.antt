@@ -35,7 +35,7 @@ use Rattle.store_world.specs.Steps as world_steps
 use Rattle.store_world.specs.Stepping.{Steps, StepsFor}
 use Rattle.store_world.specs.Steps.{IsWorldLine}
 use Rattle.store_world.specs.Finding.{MayFind}
-use Rattle.timeline_model.specs.Scene.{Scene, Crash, without_sessions, sessions_over, store_in, world_of}
+use Rattle.timeline_model.specs.Scene.{Scene, Crash, entered_anew, sessions_over, store_in, world_of}
 use Rattle.store_world.specs.LineCalls.{items_added, with_items, appends, end_of_store}
 use Rattle.timeline_model.specs.Lines.{Next, quiet, refuses, over_world, over_store, act}
 use Rattle.timeline_model.specs.Timeline.{MayBeFound, under}
@@ -47,7 +47,7 @@ use Rattle.timeline_model.proofs.Stepping.{line_act}
 use Rattle.drill_core.specs.declared.machine.Drill.{Drill}
 use Rattle.drill_core.specs.Drills.{bare_of, StandsUnder, IsAt, IsBehind}
 use Rattle.drill_core.specs.Taken.{IsActed}
-use Rattle.drill_core.proofs.Ready.{same_lists, scene_of}
+use Rattle.drill_core.proofs.Ready.{Begun, same_lists, scene_of}
 use Rattle.drill_core.proofs.Coming.{any_found, next_on, quiet_follows, refused_only}
 
 -- ---- the bytes
@@ -111,7 +111,7 @@ module _ (t : Scene) (line : Line) (of_world : IsWorldLine line) where
 
 -- ---- the drill
 
-module _ (d : Drill) (begun : ℕ → Option Session) (stands : StandsUnder d.id (scene_of d begun) d.world) (line : Line) (of_world : IsWorldLine line) (fits : FitsParts line)
+module _ (d : Drill) (begun : Begun) (stands : StandsUnder d.id (scene_of d begun) d.world) (line : Line) (of_world : IsWorldLine line) (fits : FitsParts line)
     (result : Result Answered LineFail) (world : OpenWorld) (disk : MemDisk) (notary : MemNotary)
     (told : StepsFor line d.clock result d.world world (desk (disk_memory.state_of d.disk) (notary_memory.state_of d.notary)) (desk (disk_memory.state_of disk) (notary_memory.state_of notary)))
     (disk_on : disks.GoesOn (disk_memory.state_of d.disk) (disk_memory.state_of disk)) (notary_on : notaries.GoesOn (notary_memory.state_of d.notary) (notary_memory.state_of notary)) where
@@ -165,7 +165,7 @@ module _ (d : Drill) (begun : ℕ → Option Session) (stands : StandsUnder d.id
     lists_are : lists_of notary.made.items ≡ s.world.lists
     lists_are = same_lists s.world.lists (lists_of notary.made.items) ((steps.files (beside id)).keeps refl)
 
-    pub fields_are : without_sessions next.scene ≡ bare_of later
+    pub fields_are : entered_anew next.scene ≡ bare_of later
     fields_are =
         ap (λ (b : List ℕ). record (bare_of d) { bytes = b; lists = s.world.lists }) (sym bytes_are)
         ∙ ap (λ (l : notaries.Lists). record (bare_of d) { bytes = disk.bytes.items; lists = l }) (sym lists_are)
@@ -181,11 +181,11 @@ module _ (d : Drill) (begun : ℕ → Option Session) (stands : StandsUnder d.id
         ∙ world_is id s.world.store s.world.sessions world.opened disk.bytes.items (subst (λ (n : ℕ). StoreIsIn n s.world.store s.world.sessions world.opened disk.bytes.items) under.id steps.goes.stands.store) in
         let old : old_under id next.scene.bytes ≡ s.world.old_history =
         ap (old_under id) (sym bytes_are) ∙ ap (λ (n : ℕ). old_under n disk.bytes.items) (sym under.id) ∙ sym steps.goes.stands.old in
-        ap (λ (o : Option statements.Database). record { id = id; store = o; old_history = old_under id next.scene.bytes; sessions = sessions_over o s.world.sessions; lists = s.world.lists; limits = t.limits }) store
-        ∙ ap (λ (h : Option History). record { id = id; store = s.world.store; old_history = h; sessions = sessions_over s.world.store s.world.sessions; lists = s.world.lists; limits = t.limits }) old
-        ∙ ap (λ (b : ℕ → Option Session). record { id = id; store = s.world.store; old_history = s.world.old_history; sessions = b; lists = s.world.lists; limits = t.limits }) (under.over (world_over t id))
-        ∙ ap (λ (n : ℕ). record { id = n; store = s.world.store; old_history = s.world.old_history; sessions = s.world.sessions; lists = s.world.lists; limits = t.limits }) (sym under.id)
-        ∙ ap (λ (l : NotaryLimits). record { id = s.world.id; store = s.world.store; old_history = s.world.old_history; sessions = s.world.sessions; lists = s.world.lists; limits = l }) (sym under.limits)
+        ap (λ (o : Option statements.Database). record { id = id; store = o; old_history = old_under id next.scene.bytes; sessions = sessions_over o s.world.sessions; lists = s.world.lists; limits = t.limits; audited = s.world.audited }) store
+        ∙ ap (λ (h : Option History). record { id = id; store = s.world.store; old_history = h; sessions = sessions_over s.world.store s.world.sessions; lists = s.world.lists; limits = t.limits; audited = s.world.audited }) old
+        ∙ ap (λ (b : ℕ → Option Session). record { id = id; store = s.world.store; old_history = s.world.old_history; sessions = b; lists = s.world.lists; limits = t.limits; audited = s.world.audited }) (under.over (world_over t id))
+        ∙ ap (λ (n : ℕ). record { id = n; store = s.world.store; old_history = s.world.old_history; sessions = s.world.sessions; lists = s.world.lists; limits = t.limits; audited = s.world.audited }) (sym under.id)
+        ∙ ap (λ (l : NotaryLimits). record { id = s.world.id; store = s.world.store; old_history = s.world.old_history; sessions = s.world.sessions; lists = s.world.lists; limits = l; audited = s.world.audited }) (sym under.limits)
 
     pub stands_then : StandsUnder next.scene.id next.scene world
     stands_then = subst (λ (o : Option ℕ). StandsUnder o next.scene world) (sym own)

@@ -68,6 +68,6 @@ LeavesNone fails.NotAStore = Unit {0}
 LeavesNone fails.OldFormat = Unit {0}
 LeavesNone fail = ⊥
 
--- the store stands that the bytes have under the id, without any session
+-- the store stands that the bytes have under the id, without any session or audit
 abbrev pub EntersAnew : Drill → Drill → Type 0
 EntersAnew d later = Holds d.disk.bytes.items d later

@@ -1,5 +1,5 @@
 -- What a drill leaves: on its output the replies of a timeline for the lines of its input.
-use Rattle.std.specs.Prelude.{◌≡◌, ℕ, ◌||◌, Bool, true, false, List, [], ◌∷◌, map, filter, reverse, drop, Option, Some, None, Result, Ok, Err, IfOk}
+use Rattle.std.specs.Prelude.{◌≡◌, ℕ, ◌||◌, Bool, true, false, List, [], ◌∷◌, map, filter, reverse, drop, Result, Ok, Err, IfOk}
 use Rattle.outside_words.specs.Told.{WhereTold}
 use Rattle.outside_io.specs.Sink as sinks
 use Rattle.outside_io.specs.Source as sources
@@ -8,7 +8,6 @@ use Rattle.stmt_text.specs.declared.error.ParseFail.{ParseFail}
 use Rattle.stmt_text.specs.declared.line.Line.{Line}
 use Rattle.stmt_text.specs.declared.line.Line.TheVariants as lines
 use Rattle.stmt_text.specs.Lines.{answer}
-use Rattle.store_world.specs.declared.answered.Answered.{Answered}
 use Rattle.timeline_model.specs.Scene.{Scene}
 use Rattle.timeline_model.specs.Timeline.{Event, IsTimeline, after, replies, step}
 use Rattle.timeline_model.specs.Reports.{ReportsAreRight}
@@ -69,13 +68,3 @@ pub record Drills (begin : Scene) (result : Result Bool DrillFail) (input left :
   pub read : WhereTold input.rest left.rest (Reads taken result)
   pub replied : Writes result (replies begin (drop 1 events)) (replies begin events) out written
   pub refused : IfOk result (λ refused. refused ≡ some_refused begin events)
-
--- ---- a reply
-
-abbrev pub text_of : Option Answered → List ℕ
-text_of None = []
-text_of (Some answered) = answered.text
-
-abbrev pub is_refused : Option Answered → Bool
-is_refused None = false
-is_refused (Some answered) = answered.refused

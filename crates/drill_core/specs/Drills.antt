@@ -7,26 +7,27 @@ use Rattle.notary_link.specs.Memory as notaries
 use Rattle.store_world.specs.Standing.{OpenWorld, IsIn}
 use Rattle.store_world.specs.World.{no_sessions}
 use Rattle.timeline_model.specs.Scene as scenes
-use Rattle.timeline_model.specs.Scene.{Scene, without_sessions, world_of}
+use Rattle.timeline_model.specs.Scene.{Scene, entered_anew, world_of}
 use Rattle.drill_core.specs.declared.machine.Crash.{Crash}
 use Rattle.drill_core.specs.declared.machine.Drill.{Drill}
 
 abbrev pub crash_of : Option Crash → Option scenes.Crash
 crash_of crash = option_map (λ c. record { after = c.after; choice = c.choice }) crash
 
--- what it holds besides sessions, as a scene where none is begun
+-- what it holds besides sessions and its auditor, as a scene that was entered anew
 abbrev pub bare_of : Drill → Scene
 bare_of d = record {
   id = d.id;
   bytes = d.disk.bytes.items;
   sessions = no_sessions;
+  audited = 0;
   lists = lists_of d.notary.made.items;
   limits = d.notary.limits;
   clock = d.clock;
   crash = crash_of d.crash;
 }
 
--- the store that is held, with its sessions, stands for the world of the id, where there is one
+-- the store that is held, with its sessions and its auditor, stands for the world of the id, where there is one
 abbrev pub StandsUnder : Option ℕ → Scene → OpenWorld → Type 0
 StandsUnder None t held = Unit {0}
 StandsUnder (Some id) t held = IsIn (world_of t id) held t.bytes
@@ -38,17 +39,17 @@ pub record NoneFails (d : Drill) : Type 0 where
   pub notary : (notaries.state_of d.notary).plan ≡ Some (λ t. false)
   pub notary_sure : (notaries.state_of d.notary).sure ≡ true
 
--- it holds what a scene without sessions has, and no call is to fail
+-- it holds what this scene has, which was entered anew, and no call is to fail
 pub record IsLeft (t : Scene) (d : Drill) : Type 0 where
   pub fields : t ≡ bare_of d
   pub none_fails : NoneFails d
 
 -- between two lines a drill stands for this scene
 pub record IsAt (t : Scene) (d : Drill) : Type 0 where
-  pub left : IsLeft (without_sessions t) d
+  pub left : IsLeft (entered_anew t) d
   pub world : StandsUnder t.id t d.world
 
--- Behind a line. A crash drops all sessions, and leaves the store to be entered anew.
+-- Behind a line. A crash leaves the store to be entered anew.
 abbrev pub IsBehind : Option scenes.Crash → Scene → Drill → Type 0
 IsBehind None t d = IsAt t d
 IsBehind (Some crash) t d = IsLeft t d

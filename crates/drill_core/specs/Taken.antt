@@ -1,5 +1,5 @@
 -- What a line does to the scene that a drill stands for.
-use Rattle.std.specs.Prelude.{codes, if◌then◌else◌, Bool, true, false, ◌≡◌, ◌≢◌, ℕ, [], length, Option, Some, None, Result, Ok, IfOk}
+use Rattle.std.specs.Prelude.{codes, if◌then◌else◌, Bool, true, false, ◌≡◌, ◌≢◌, ℕ, List, [], length, Option, Some, None, Result, Ok, IfOk}
 use Rattle.tuple_bytes.specs.declared.header.Header.{Header}
 use Rattle.stmt_text.specs.declared.error.ParseFail.{ParseFail}
 use Rattle.stmt_text.specs.declared.line.Line.{Line}
@@ -56,6 +56,16 @@ IsBlankOr false reading = IsReading reading
 abbrev pub IsAnswered : Result Line ParseFail → Scene → Option Answered → Drill → Drill → Type 0
 IsAnswered reading t None d later = (reading ≡ Ok lines.Blank) × (later ≡ d)
 IsAnswered reading t (Some answered) d later = IsEvent reading t answered d later
+
+-- ---- a reply
+
+abbrev pub text_of : Option Answered → List ℕ
+text_of None = []
+text_of (Some answered) = answered.text
+
+abbrev pub is_refused : Option Answered → Bool
+is_refused None = false
+is_refused (Some answered) = answered.refused
 
 -- ---- a line of the world
 

@@ -69,7 +69,7 @@ impl Drill {
             .failing(Vec::new(self.alloc), Vec::new(self.alloc));
     }
 
-    /// Enters the store of the drill's id anew, if there is one that lines go over, without any session.
+    /// Enters the store of the drill's id anew, if there is one that lines go over, without any session or audit.
     pub(crate) fn enter_anew(&mut self) -> Result<(), AllocError>
         ensures value { OnOk result (NoneFails self.old → EntersAnew self.old self.new) }
     {

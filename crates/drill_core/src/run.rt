@@ -8,7 +8,8 @@ ghost use Rattle.outside_io.specs.Source as sources;
 ghost use Rattle.notary_book.specs.Books.{book_limits};
 ghost use Rattle.timeline_model.specs.Scene.{nothing_yet};
 ghost use Rattle.drill_core.specs.declared.fail.DrillFail.TheVariants.{ReadFault, WriteFault};
-ghost use Rattle.drill_core.specs.Drilled.{Drills, text_of, is_refused};
+ghost use Rattle.drill_core.specs.Drilled.{Drills};
+ghost use Rattle.drill_core.specs.Taken.{text_of, is_refused};
 
 use crate::fail::DrillFail;
 use crate::machine::Drill;

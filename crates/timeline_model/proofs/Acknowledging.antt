@@ -34,13 +34,13 @@ use Rattle.session_model.proofs.Promising.{steps_keep_promises}
 use Rattle.session_model.proofs.Storing.{StoresOrNot, stores_or_not}
 use Rattle.store_world.specs.Found.{Found}
 use Rattle.store_world.specs.World as worlds
-use Rattle.store_world.specs.World.{no_sessions, old_under}
+use Rattle.store_world.specs.World.{old_under}
 use Rattle.store_world.specs.Steps as world_steps
 use Rattle.store_world.proofs.Acknowledging.{promised}
-use Rattle.store_world.proofs.Texts.{SaysOk, says_ok, reply_ok, refusal_no, notarized_no, validated_no, analysed_no}
-use Rattle.store_world.specs.Steps.{why_none, on_tables, notarized, validated, algorithm_of, marked}
+use Rattle.store_world.proofs.Texts.{SaysOk, says_ok, reply_ok, refusal_no, notarized_no, validated_no, audited_no, analysed_no}
+use Rattle.store_world.specs.Steps.{why_none, on_tables, notarized, validated, has_more, algorithm_of}
 use Rattle.txn_journal.specs.Create.{is_free}
-use Rattle.timeline_model.specs.Scene.{Scene, Crash, nothing_yet, store_in, world_with, world_of, held}
+use Rattle.timeline_model.specs.Scene.{Scene, Crash, entered_anew, nothing_yet, store_in, world_with, world_of, held}
 use Rattle.store_world.specs.LineCalls.{notary_calls, items_added}
 use Rattle.timeline_model.specs.Lines.{Act, Next, quiet, says, refuses, over_world, over_store, header_at, makes, brings, act}
 use Rattle.timeline_model.specs.Timeline.{Event, calls_in, stopped, crashed, crashed_behind, under, without_crash, act_on, name_of, step, after, IsReading, IsDrillLine, FitsReading, MayCome}
@@ -172,6 +172,11 @@ unfolding world_steps.step
 over_validate t None found ok = no_refusal t (codes "NotAStore") ok
 over_validate t (Some i) found ok = validated_no (world_of t i) t.clock found.verdict found.refusal ok
 
+over_audit : (t : Scene) (o : Option ℕ) (found : Found) → SaysOk (over_store t o (lines.Plain stmts.Audit) found).next.text → ⊥
+unfolding world_steps.step
+over_audit t None found ok = no_refusal t (codes "NotAStore") ok
+over_audit t (Some i) found ok = audited_no (has_more (world_of t i)) (world_of t i) t.clock found.verdict found.refusal ok
+
 over_analyse : (t : Scene) (algorithm : LineAlgorithm) (o : Option ℕ) (found : Found) → SaysOk (over_store t o (lines.Plain (stmts.Analyse algorithm)) found).next.text → ⊥
 unfolding world_steps.step
 over_analyse t algorithm None found ok = no_refusal t (codes "NotAStore") ok
@@ -183,7 +188,7 @@ says_only_ok t ok = (let third = ok.third in omega (arith, third))
 inits_not : (t : Scene) (id width k algs : ℕ) → SaysOk (brings t (events.Init id width k algs)).next.text → ⊥
 inits_not t id width k algs = by (nat_lt max_moment t.clock) (is_free t.bytes)
   where
-    by : (late free : Bool) → SaysOk (if late then quiet (refuses (record t { id = Some id; sessions = no_sessions }) (codes "TooLate")) else if free then makes (record t { id = Some id; sessions = no_sessions }) (header_at id t.clock width k algs) else quiet (refuses (record t { id = Some id; sessions = no_sessions }) (codes "AlreadyThere"))).next.text → ⊥
+    by : (late free : Bool) → SaysOk (if late then quiet (refuses (entered_anew (record t { id = Some id })) (codes "TooLate")) else if free then makes (entered_anew (record t { id = Some id })) (header_at id t.clock width k algs) else quiet (refuses (entered_anew (record t { id = Some id })) (codes "AlreadyThere"))).next.text → ⊥
     by true free ok = (let first = ok.first in omega (arith, first))
     by false true ok = (let first = ok.first in omega (arith, first))
     by false false ok = (let first = ok.first in omega (arith, first))
@@ -198,6 +203,7 @@ stmt_acks : (t : Scene) (stmt : Stmt) (found : Found) → IsDrillLine (lines.Pla
 unfolding act world_steps.step notary_calls
 stmt_acks t stmts.Notarize found is parts fits ok = absurd (over_notarize t t.id found ok)
 stmt_acks t stmts.Validate found is parts fits ok = absurd (over_validate t t.id found ok)
+stmt_acks t stmts.Audit found is parts fits ok = absurd (over_audit t t.id found ok)
 stmt_acks t (stmts.Now moment) found is parts fits ok = absurd (says_only_ok t ok)
 stmt_acks t stmts.Begin found is parts fits ok = absurd is
 stmt_acks t stmts.Commit found is parts fits ok = absurd is

@@ -1,6 +1,7 @@
 -- Each event of a timeline files, marks, or leaves what is filed and marked.
 use Rattle.std.proofs.Common.{◌≡◌, ◌⊎◌, inl, inr, ℕ, ◌+◌, ◌-◌, ◌<◌, ◌≤◌, ◌==◌, Bool, true, false, List, [], ◌∷◌, ◌++◌, length, take, Option, Some, None, Result, Ok, Err, refl, sym, ap, subst, ◌∙◌, arith}
 use Rattle.std.specs.Prelude.{nat_le, nat_lt, if◌then◌else◌, codes}
+use Rattle.std.specs.Bool.{OnFalse}
 use Rattle.std.specs.Option.{option_map}
 use Rattle.std.proofs.lemmas.Bool.{cases_eq, eq-eqb, eqb-true, ne_eqb}
 use Rattle.std.proofs.lemmas.Option.{same_Some}
@@ -34,19 +35,20 @@ use Rattle.validator.specs.Verdicts.{IsFoundIn, mark_of}
 use Rattle.validator.specs.Texts.{verdict_text, refusal_text}
 use Rattle.store_world.specs.Found.{Found}
 use Rattle.store_world.specs.World as worlds
-use Rattle.store_world.specs.World.{no_sessions, with_mark, history_or, is_new, old_under}
+use Rattle.store_world.specs.World.{with_audited, with_mark, history_or, is_new, old_under}
 use Rattle.store_world.specs.Steps as world_steps
-use Rattle.store_world.specs.Steps.{on_tables, notarized, validated, algorithm_of, marked}
+use Rattle.store_world.specs.Steps.{on_tables, validated, algorithm_of, marked, has_more, audits_on, audited}
+use Rattle.store_world.specs.Finding.{FindsVerdict}
 use Rattle.store_world.proofs.Analysing.{analysed_stays}
 use Rattle.store_world.proofs.LineKinds.{GoesToTables}
 use Rattle.txn_journal.specs.Create.{is_free}
-use Rattle.timeline_model.specs.Scene.{Scene, Crash, store_under, store_as, store_in, world_with, world_of, batches_of}
+use Rattle.timeline_model.specs.Scene.{Scene, Crash, entered_anew, store_under, store_as, store_in, world_with, world_of, batches_of}
 use Rattle.store_engine.specs.Appended.{standing}
-use Rattle.store_world.specs.LineCalls.{items_added, with_items, appends, end_of_store, notary_calls, validate_calls, noting}
+use Rattle.store_world.specs.LineCalls.{items_added, with_items, appends, end_of_store, notary_calls, validate_calls, audit_calls, noting}
 use Rattle.timeline_model.specs.Lines.{Act, quiet, says, refuses, over_world, over_store, header_at, makes, inits, altered, shortened, brings}
 use Rattle.timeline_model.specs.Timeline.{with_calls, calls_in, stopped, crashed, crashed_behind, under, MayBeFound}
 use Rattle.store_world.proofs.LineItems.{none_added}
-use Rattle.timeline_model.proofs.Acts.{Acts, acts_without_sessions, take_none}
+use Rattle.timeline_model.proofs.Acts.{Acts, acts_entered, take_none}
 
 -- ---- what leaves the lists
 
@@ -73,7 +75,7 @@ under_crash id t a None acts = acts.whole
 under_crash id t a (Some crash) acts = by (nat_le (calls_in a) crash.after) refl
   where
     by : (b : Bool) → nat_le (calls_in a) crash.after ≡ b → ActsOn id t (if b then crashed_behind a.next else crashed (stopped t crash a)).scene
-    by true le = λ bytes. acts_without_sessions id t a.next.scene (acts.whole bytes)
+    by true le = λ bytes. acts_entered id t a.next.scene (acts.whole bytes)
     by false more = acts.in_part crash (grind (arith, nat_tests, more))
 
 -- no call of the notary
@@ -171,45 +173,57 @@ init_acts id t was header same = by (nat_lt max_moment t.clock)
 alter_acts : (id : ℕ) (t : Scene) (place : ℕ) (bytes : List ℕ) → ActsEither id t (quiet (altered t place bytes))
 alter_acts id t place bytes = by (nat_le (place + length bytes) (length t.bytes))
   where
-    by : (b : Bool) → ActsEither id t (quiet (if b then says (record t { bytes = written place bytes t.bytes; sessions = no_sessions }) (codes "ok") else refuses t (codes "NoPlace")))
-    by true = without_notary id t (quiet (says (record t { bytes = written place bytes t.bytes; sessions = no_sessions }) (codes "ok"))) refl refl
+    by : (b : Bool) → ActsEither id t (quiet (if b then says (entered_anew (record t { bytes = written place bytes t.bytes })) (codes "ok") else refuses t (codes "NoPlace")))
+    by true = without_notary id t (quiet (says (entered_anew (record t { bytes = written place bytes t.bytes })) (codes "ok"))) refl refl
     by false = without_notary id t (quiet (refuses t (codes "NoPlace"))) refl refl
 
 cut_acts : (id : ℕ) (t : Scene) (n : ℕ) → ActsEither id t (quiet (shortened t n))
 cut_acts id t n = by (nat_le n (length t.bytes))
   where
-    by : (b : Bool) → ActsEither id t (quiet (if b then says (record t { bytes = take n t.bytes; sessions = no_sessions }) (codes "ok") else refuses t (codes "NoPlace")))
-    by true = without_notary id t (quiet (says (record t { bytes = take n t.bytes; sessions = no_sessions }) (codes "ok"))) refl refl
+    by : (b : Bool) → ActsEither id t (quiet (if b then says (entered_anew (record t { bytes = take n t.bytes })) (codes "ok") else refuses t (codes "NoPlace")))
+    by true = without_notary id t (quiet (says (entered_anew (record t { bytes = take n t.bytes })) (codes "ok"))) refl refl
     by false = without_notary id t (quiet (refuses t (codes "NoPlace"))) refl refl
 
 pub drill_acts : (id : ℕ) (t : Scene) (event : Event) → ActsEither id t (brings t event)
-drill_acts id t (events.Init i width k algs) = init_acts id (record t { id = Some i; sessions = no_sessions }) t (header_at i t.clock width k algs) refl
+drill_acts id t (events.Init i width k algs) = init_acts id (entered_anew (record t { id = Some i })) t (header_at i t.clock width k algs) refl
 drill_acts id t (events.Crash after choice) = without_notary id t (brings t (events.Crash after choice)) refl refl
 drill_acts id t (events.Alter place bytes) = alter_acts id t place bytes
 drill_acts id t (events.Cut n) = cut_acts id t n
 
--- ---- a validation
+-- ---- a validation, and a piece of an audit
 
-module _ (id i : ℕ) (t : Scene) (found : Found) where
-  abbrev line : Line
-  line = lines.Plain stmts.Validate
+-- the calls of either: one at most
+noting_few : (i : ℕ) (m : Option Mark) → length (noting i m) ≤ 1
+noting_few i None = omega arith
+noting_few i (Some mark) = omega arith
 
+validate_few : (w : worlds.World) (now : ℕ) (r : Result Verdict AuditFail) → length (validate_calls w now r) ≤ 1
+validate_few w now (Ok verdict) = noting_few w.id (mark_of verdict now)
+validate_few w now (Err fail) = omega arith
+
+audit_few : (b : Bool) (w : worlds.World) (now : ℕ) (r : Result Verdict AuditFail) → length (audit_calls b w now r) ≤ 1
+audit_few true w now r = omega arith
+audit_few false w now r = validate_few w now r
+
+module _ (id i : ℕ) (t : Scene) (line : Line) (found : Found) where
   -- the bytes stay
   bytes_stay : (o : Option statements.Database) (lists : Lists) (end : ℕ) → with_items end (items_added o o) t.bytes ≡ t.bytes
   bytes_stay o lists end = ap (λ (is : List Item). with_items end is t.bytes) (none_added o)
 
-  module _ (o : Option statements.Database) (is : store_in i t.bytes ≡ o) (may : IsFoundIn (batches_of t i) (history_or o (old_under i t.bytes)) found.verdict) where
+  -- the line makes one call at most
+  module _ (o : Option statements.Database) (is : store_in i t.bytes ≡ o) (few_calls : length (notary_calls (world_with t i o) line t.clock found) ≤ 1) where
     abbrev w : worlds.World
     w = world_with t i o
 
-    abbrev a : Act
-    a = over_world t w line found (validated w t.clock found.verdict found.refusal)
+    -- what a line that judges finds
+    abbrev IsFound : Result Verdict AuditFail → Type 0
+    IsFound r = IsFoundIn (batches_of t i) (history_or o (old_under i t.bytes)) r
 
     history_is : history_or o (old_under i t.bytes) ≡ history_with i (stored t.bytes)
     history_is = ap (λ (x : Option statements.Database). history_or x (old_under i t.bytes)) (sym is) ∙ history_same i t.bytes
 
-    marks_here : (verdict : Verdict) (mark : Mark) (after : Scene) → found.verdict ≡ Ok verdict → mark_of verdict t.clock ≡ Some mark → after.bytes ≡ t.bytes → after.clock ≡ t.clock → after.lists ≡ with_mark i mark t.lists → ActsOn id t after
-    marks_here verdict mark after found_is mark_is bytes_same clock_same lists_are bytes = by (cases_eq id i)
+    marks_here : (verdict : Verdict) (mark : Mark) (after : Scene) → IsFound (Ok verdict) → mark_of verdict t.clock ≡ Some mark → after.bytes ≡ t.bytes → after.clock ≡ t.clock → after.lists ≡ with_mark i mark t.lists → ActsOn id t after
+    marks_here verdict mark after may mark_is bytes_same clock_same lists_are bytes = by (cases_eq id i)
       where
         by : (id ≡ i) ⊎ (id ≡ i → ⊥) → Acts id t after
         by (inl own) = inr (inr (record {
@@ -220,7 +234,7 @@ module _ (id i : ℕ) (t : Scene) (found : Found) where
           is_mark = mark_is;
           found =
               let there : IsFoundIn (batches_of t i) (history_with i (stored t.bytes)) (Ok verdict) =
-              subst (λ (x : Option History). IsFoundIn (batches_of t i) x (Ok verdict)) history_is (subst (λ (r : Result Verdict AuditFail). IsFoundIn (batches_of t i) (history_or o (old_under i t.bytes)) r) found_is may) in
+              subst (λ (x : Option History). IsFoundIn (batches_of t i) x (Ok verdict)) history_is may in
               subst (λ (x : ℕ). IsFoundIn (batches_of t x) (history_with x (stored after.bytes)) (Ok verdict)) (sym own)
               (subst (λ (x : List ℕ). IsFoundIn (batches_of t i) (history_with i (stored x)) (Ok verdict)) (sym bytes_same) there);
           spelled = λ s held_is. spelled_of after.bytes s bytes held_is;
@@ -232,19 +246,6 @@ module _ (id i : ℕ) (t : Scene) (found : Found) where
           marks = ap (λ (l : Lists). l.marks id) lists_are ∙ ap (λ (b : Bool). if b then t.lists.marks id ++ mark ∷ [] else t.lists.marks id) (ne_eqb id i other);
         })
 
-    -- stopped before its one call
-    few_calls : length (notary_calls w line t.clock found) ≤ 1
-    unfolding notary_calls
-    few_calls = by found.verdict
-      where
-        by_mark : (m : Option Mark) → length (noting i m) ≤ 1
-        by_mark None = omega arith
-        by_mark (Some mark) = omega arith
-
-        by : (r : Result Verdict AuditFail) → length (validate_calls w t.clock r) ≤ 1
-        by (Ok verdict) = by_mark (mark_of verdict t.clock)
-        by (Err fail) = omega arith
-
     module _ (s : world_steps.Step) (same : s.world.store ≡ o) where
       abbrev with_s : Act
       with_s = over_world t w line found s
@@ -255,6 +256,7 @@ module _ (id i : ℕ) (t : Scene) (found : Found) where
       bytes_same : with_s.next.scene.bytes ≡ t.bytes
       bytes_same = ap (λ (is : List Item). with_items (end_of_store o) is t.bytes) (ap (items_added o) same ∙ none_added o)
 
+      -- stopped before its one call
       early : (crash : Crash) → crash.after < calls_in with_s → (stopped t crash with_s).lists ≡ t.lists
       early crash soon =
           let none : crash.after - length with_s.disk_calls ≡ 0 = omega (arith, soon, no_disk, few_calls) in
@@ -266,31 +268,42 @@ module _ (id i : ℕ) (t : Scene) (found : Found) where
         in_part = λ crash soon bytes. same_lists id t (stopped t crash with_s) (early crash soon);
       }
 
-      noted : (verdict : Verdict) (mark : Mark) → found.verdict ≡ Ok verdict → mark_of verdict t.clock ≡ Some mark → s.world.lists ≡ with_mark i mark t.lists → ActsEither id t with_s
-      noted verdict mark found_is mark_is lists_are = record {
-        whole = λ bytes. marks_here verdict mark with_s.next.scene found_is mark_is bytes_same refl lists_are bytes;
+      noted : (verdict : Verdict) (mark : Mark) → IsFound (Ok verdict) → mark_of verdict t.clock ≡ Some mark → s.world.lists ≡ with_mark i mark t.lists → ActsEither id t with_s
+      noted verdict mark may mark_is lists_are = record {
+        whole = λ bytes. marks_here verdict mark with_s.next.scene may mark_is bytes_same refl lists_are bytes;
         in_part = λ crash soon bytes. same_lists id t (stopped t crash with_s) (early crash soon);
       }
 
-    validates : ActsEither id t a
-    validates = by found.verdict refl
+    -- what was found is told and marked, whatever the auditor has read then
+    validates : (read : ℕ) (r : Result Verdict AuditFail) → IsFound r → ActsEither id t (over_world t w line found (validated (with_audited w read) t.clock r found.refusal))
+    validates read (Err fail) may = left (world_steps.refuses (with_audited w read) (refusal_text fail)) refl refl
+    validates read (Ok verdict) may = by (mark_of verdict t.clock) refl
       where
-        by_room : (verdict : Verdict) (mark : Mark) → found.verdict ≡ Ok verdict → mark_of verdict t.clock ≡ Some mark → (refusal : Option AuditFail) → ActsEither id t (over_world t w line found (marked w (Some mark) refusal (verdict_text verdict)))
-        by_room verdict mark found_is mark_is None = noted (world_steps.says (worlds.with_lists w (with_mark i mark t.lists)) (verdict_text verdict)) refl verdict mark found_is mark_is refl
-        by_room verdict mark found_is mark_is (Some fail) = left (world_steps.refuses w (refusal_text fail)) refl refl
+        by_room : (mark : Mark) → mark_of verdict t.clock ≡ Some mark → (refusal : Option AuditFail) → ActsEither id t (over_world t w line found (marked (with_audited w read) (Some mark) refusal (verdict_text verdict)))
+        by_room mark mark_is None = noted (world_steps.says (worlds.with_lists (with_audited w read) (with_mark i mark t.lists)) (verdict_text verdict)) refl verdict mark may mark_is refl
+        by_room mark mark_is (Some fail) = left (world_steps.refuses (with_audited w read) (refusal_text fail)) refl refl
 
-        by_mark : (verdict : Verdict) → found.verdict ≡ Ok verdict → (m : Option Mark) → mark_of verdict t.clock ≡ m → ActsEither id t (over_world t w line found (marked w m found.refusal (verdict_text verdict)))
-        by_mark verdict found_is None mark_is = left (world_steps.says w (verdict_text verdict)) refl refl
-        by_mark verdict found_is (Some mark) mark_is = by_room verdict mark found_is mark_is found.refusal
+        by : (m : Option Mark) → mark_of verdict t.clock ≡ m → ActsEither id t (over_world t w line found (marked (with_audited w read) m found.refusal (verdict_text verdict)))
+        by None mark_is = left (world_steps.says (with_audited w read) (verdict_text verdict)) refl refl
+        by (Some mark) mark_is = by_room mark mark_is found.refusal
 
-        by : (r : Result Verdict AuditFail) → found.verdict ≡ r → ActsEither id t (over_world t w line found (validated w t.clock r found.refusal))
-        by (Ok verdict) found_is = by_mark verdict found_is (mark_of verdict t.clock) refl
-        by (Err fail) found_is = left (world_steps.refuses w (refusal_text fail)) refl refl
+    -- a piece that goes on finds nothing
+    audits : (b : Bool) → OnFalse b (FindsVerdict w t.clock found) → ActsEither id t (over_world t w line found (audited b w t.clock found.verdict found.refusal))
+    audits true may = left (audits_on w) refl refl
+    audits false may = validates 0 found.verdict may.0
 
 pub validate_acts : (id : ℕ) (t : Scene) (o : Option ℕ) (found : Found) → MayBeFound o t (Ok (lines.Plain stmts.Validate)) found → ActsEither id t (over_store t o (lines.Plain stmts.Validate) found)
-unfolding world_of world_steps.step
+unfolding world_of world_steps.step notary_calls
 validate_acts id t None found may = without_notary id t (over_store t None (lines.Plain stmts.Validate) found) refl refl
-validate_acts id t (Some i) found may = validates id i t found (store_in i t.bytes) refl may.0
+validate_acts id t (Some i) found may =
+    validates id i t (lines.Plain stmts.Validate) found (store_in i t.bytes) refl (validate_few (world_with t i (store_in i t.bytes)) t.clock found.verdict) t.audited found.verdict may.0
+
+pub audit_acts : (id : ℕ) (t : Scene) (o : Option ℕ) (found : Found) → MayBeFound o t (Ok (lines.Plain stmts.Audit)) found → ActsEither id t (over_store t o (lines.Plain stmts.Audit) found)
+unfolding world_of world_steps.step notary_calls
+audit_acts id t None found may = without_notary id t (over_store t None (lines.Plain stmts.Audit) found) refl refl
+audit_acts id t (Some i) found may =
+    let w = world_with t i (store_in i t.bytes) in
+    audits id i t (lines.Plain stmts.Audit) found (store_in i t.bytes) refl (audit_few (has_more w) w t.clock found.verdict) (has_more w) may
 
 -- ---- an analysis
 

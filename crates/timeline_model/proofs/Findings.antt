@@ -1,6 +1,7 @@
 -- What a line finds is one thing, or two inputs clash.
 use Rattle.std.proofs.Common.{◌≡◌, ◌⊎◌, inl, inr, ℕ, zero, suc, ◌+◌, ◌-◌, ◌<◌, ◌≤◌, Bool, true, false, List, [], ◌∷◌, length, Option, Some, None, Result, Ok, Err, refl, sym, ap, subst, ◌∙◌, arith}
 use Rattle.std.specs.Prelude.{nat_le, ◌==◌, IfSome, IfOk}
+use Rattle.std.specs.Bool.{OnFalse}
 use Rattle.std.proofs.lemmas.Bool.{cases_lt}
 use Rattle.byte_grammar.specs.Reading.{IsBytes}
 use Rattle.history_model.specs.Stored.{stored}
@@ -45,10 +46,10 @@ use Rattle.stmt_text.specs.declared.stmt.LineAlgorithm.{LineAlgorithm}
 use Rattle.stmt_text.specs.declared.stmt.Stmt.TheVariants as stmts
 use Rattle.stmt_text.specs.declared.line.Line.TheVariants as lines
 use Rattle.store_world.specs.Found.{Found as FoundOf}
-use Rattle.store_world.specs.World.{World, history_or, old_under}
+use Rattle.store_world.specs.World.{World, with_audited, history_or, old_under}
 use Rattle.store_world.specs.Steps as world_steps
-use Rattle.store_world.specs.Steps.{algorithm_of, intent_in, unless, carried_out, notarized, marked, validated, analysed}
-use Rattle.store_world.specs.Finding.{MayFile, MayMark, MayFind, full_unless}
+use Rattle.store_world.specs.Steps.{algorithm_of, intent_in, unless, carried_out, notarized, marked, validated, has_more, audited, analysed}
+use Rattle.store_world.specs.Finding.{MayFile, MayMark, FindsVerdict, MayFind, full_unless}
 use Rattle.timeline_model.specs.Scene.{Scene, nothing_yet, store_in, world_of, held, batches_of}
 use Rattle.timeline_model.specs.Timeline.{Event, after, IsTimeline}
 use Rattle.timeline_model.specs.Filed.{IsFiledOver, HasClash}
@@ -278,18 +279,20 @@ module _ (w : World) (now : ℕ) where
       by None free = ap (carried_out w store intent) (same free)
       by (Some fail) against = refl
 
-  marked_same : (verdict : Result Verdict AuditFail) (r q : Option AuditFail) → IfOk verdict (λ v. MayMark w (mark_of v now) r) → IfOk verdict (λ v. MayMark w (mark_of v now) q) → validated w now verdict r ≡ validated w now verdict q
-  marked_same (Err fail) r q x y = refl
-  marked_same (Ok v) r q x y = by (mark_of v now) x y
+  -- whatever its auditor has read
+  marked_same : (read : ℕ) (verdict : Result Verdict AuditFail) (r q : Option AuditFail) → IfOk verdict (λ v. MayMark w (mark_of v now) r) → IfOk verdict (λ v. MayMark w (mark_of v now) q)
+      → validated (with_audited w read) now verdict r ≡ validated (with_audited w read) now verdict q
+  marked_same read (Err fail) r q x y = refl
+  marked_same read (Ok v) r q x y = by (mark_of v now) x y
     where
-      by : (o : Option Mark) → MayMark w o r → MayMark w o q → marked w o r (verdict_text v) ≡ marked w o q (verdict_text v)
+      by : (o : Option Mark) → MayMark w o r → MayMark w o q → marked (with_audited w read) o r (verdict_text v) ≡ marked (with_audited w read) o q (verdict_text v)
       by None x y = refl
-      by (Some mark) x y = ap (λ (refusal : Option AuditFail). marked w (Some mark) refusal (verdict_text v)) (x ∙ sym y)
+      by (Some mark) x y = ap (λ (refusal : Option AuditFail). marked (with_audited w read) (Some mark) refusal (verdict_text v)) (x ∙ sym y)
 
-  validated_same : (one other : FoundOf) → MayFind w (lines.Plain stmts.Validate) now one → MayFind w (lines.Plain stmts.Validate) now other → one.verdict ≡ other.verdict
-      → validated w now one.verdict one.refusal ≡ validated w now other.verdict other.refusal
-  validated_same one other x y same = ap (λ (v : Result Verdict AuditFail). validated w now v one.refusal) same
-      ∙ marked_same other.verdict one.refusal other.refusal (subst (λ (r : Result Verdict AuditFail). IfOk r (λ v. MayMark w (mark_of v now) one.refusal)) same x.1) y.1
+  validated_same : (read : ℕ) (one other : FoundOf) → FindsVerdict w now one → FindsVerdict w now other → one.verdict ≡ other.verdict
+      → validated (with_audited w read) now one.verdict one.refusal ≡ validated (with_audited w read) now other.verdict other.refusal
+  validated_same read one other x y same = ap (λ (v : Result Verdict AuditFail). validated (with_audited w read) now v one.refusal) same
+      ∙ marked_same read other.verdict one.refusal other.refusal (subst (λ (r : Result Verdict AuditFail). IfOk r (λ v. MayMark w (mark_of v now) one.refusal)) same x.1) y.1
 
   analysed_same : (algorithm : Algorithm) (r : Result Analysis AnalyseFail) (one other : List ℕ) → IfOk r (λ a. one ≡ body_text algorithm (kept_of w.lists w.id now) a) → IfOk r (λ a. other ≡ body_text algorithm (kept_of w.lists w.id now) a)
       → analysed w algorithm r one ≡ analysed w algorithm r other
@@ -297,11 +300,22 @@ module _ (w : World) (now : ℕ) where
   analysed_same algorithm (Ok a) one other x y = ap (analysed w algorithm (Ok a)) (x ∙ sym y)
 
   -- the verdicts or the analyses are one, and so is the rest
-  validates_one : {C : Type 0} (one other : FoundOf) → MayFind w (lines.Plain stmts.Validate) now one → MayFind w (lines.Plain stmts.Validate) now other → (one.verdict ≡ other.verdict) ⊎ C
+  validates_one : {C : Type 0} (one other : FoundOf) → FindsVerdict w now one → FindsVerdict w now other → (one.verdict ≡ other.verdict) ⊎ C
       → DoesSame w (lines.Plain stmts.Validate) now one other ⊎ C
   unfolding world_steps.step
-  validates_one one other x y (inl same) = inl (record { finds = same; step = validated_same one other x y same })
+  validates_one one other x y (inl same) = inl (record { finds = same; step = validated_same w.audited one other x y same })
   validates_one one other x y (inr clash) = inr clash
+
+  -- an audit that goes on does the same whatever is found
+  audited_one : {C : Type 0} (b : Bool) (one other : FoundOf) → OnFalse b (FindsVerdict w now one) → OnFalse b (FindsVerdict w now other) → (FindsVerdict w now one → FindsVerdict w now other → (one.verdict ≡ other.verdict) ⊎ C)
+      → (OnFalse b (one.verdict ≡ other.verdict) × (audited b w now one.verdict one.refusal ≡ audited b w now other.verdict other.refusal)) ⊎ C
+  audited_one true one other x y verdicts = inl (tt, refl)
+  audited_one false one other x y verdicts = elim (verdicts x y) [ inl same ↦ inl (same, validated_same 0 one other x y same) | inr clash ↦ inr clash ]
+
+  audits_one : {C : Type 0} (one other : FoundOf) → MayFind w (lines.Plain stmts.Audit) now one → MayFind w (lines.Plain stmts.Audit) now other → (FindsVerdict w now one → FindsVerdict w now other → (one.verdict ≡ other.verdict) ⊎ C)
+      → DoesSame w (lines.Plain stmts.Audit) now one other ⊎ C
+  unfolding world_steps.step
+  audits_one one other x y verdicts = elim (audited_one (has_more w) one other x y verdicts) [ inl same ↦ inl (record { finds = same.0; step = same.1 }) | inr clash ↦ inr clash ]
 
   analyses_as_one : {C : Type 0} (algorithm : LineAlgorithm) (one other : FoundOf) → MayFind w (lines.Plain (stmts.Analyse algorithm)) now one → MayFind w (lines.Plain (stmts.Analyse algorithm)) now other
       → (one.analysis ≡ other.analysis) ⊎ C → DoesSame w (lines.Plain (stmts.Analyse algorithm)) now one other ⊎ C
@@ -314,14 +328,19 @@ module _ (w : World) (now : ℕ) where
   })
   analyses_as_one algorithm one other x y (inr clash) = inr clash
 
+found_one : (limits : NotaryLimits) (es : List Event) (id : ℕ) (one other : FoundOf) → IsTimeline (nothing_yet limits) es → let t = after (nothing_yet limits) es in FindsVerdict (world_of t id) t.clock one → FindsVerdict (world_of t id) t.clock other
+    → (one.verdict ≡ other.verdict) ⊎ HasFiledClash (nothing_yet limits) es id
+unfolding world_of
+found_one limits es id one other is x y = verdicts_one limits es id is (each_kept limits es id is) one.verdict other.verdict
+    (subst (λ (o : Option History). IsFoundIn (batches_of (after (nothing_yet limits) es) id) o one.verdict) (file_is limits es id is) x.0)
+    (subst (λ (o : Option History). IsFoundIn (batches_of (after (nothing_yet limits) es) id) o other.verdict) (file_is limits es id is) y.0)
+
 pub findings_one : FindingsAreOne
 unfolding world_of world_steps.step
 findings_one limits es id (lines.Plain stmts.Notarize) one other is x y =
     inl (record { finds = tt; step = filed_same (world_of (after (nothing_yet limits) es) id) (after (nothing_yet limits) es).clock one other (world_of (after (nothing_yet limits) es) id).store x y })
-findings_one limits es id (lines.Plain stmts.Validate) one other is x y = validates_one (world_of (after (nothing_yet limits) es) id) (after (nothing_yet limits) es).clock one other x y
-    (verdicts_one limits es id is (each_kept limits es id is) one.verdict other.verdict
-    (subst (λ (o : Option History). IsFoundIn (batches_of (after (nothing_yet limits) es) id) o one.verdict) (file_is limits es id is) x.0)
-    (subst (λ (o : Option History). IsFoundIn (batches_of (after (nothing_yet limits) es) id) o other.verdict) (file_is limits es id is) y.0))
+findings_one limits es id (lines.Plain stmts.Validate) one other is x y = validates_one (world_of (after (nothing_yet limits) es) id) (after (nothing_yet limits) es).clock one other x y (found_one limits es id one other is x y)
+findings_one limits es id (lines.Plain stmts.Audit) one other is x y = audits_one (world_of (after (nothing_yet limits) es) id) (after (nothing_yet limits) es).clock one other x y (found_one limits es id one other is)
 findings_one limits es id (lines.Plain (stmts.Analyse algorithm)) one other is x y = analyses_as_one (world_of (after (nothing_yet limits) es) id) (after (nothing_yet limits) es).clock algorithm one other x y
     (analyses_one limits es id is (algorithm_of algorithm) (each_kept limits es id is) one.analysis other.analysis
     (subst (λ (o : Option History). IsAnalysisIn (algorithm_of algorithm) (batches_of (after (nothing_yet limits) es) id) o one.analysis) (file_is limits es id is) x.0)

@@ -15,7 +15,7 @@ use Rattle.history_model.specs.History.{txns, last_moment}
 use Rattle.history_model.proofs.Stores.{stored_history}
 use Rattle.store_engine.specs.declared.fail.StoreFail.TheVariants as fails
 use Rattle.store_engine.specs.Refusals.{is_full, commit_fault}
-use Rattle.store_engine.specs.Appended.{Takes}
+use Rattle.store_engine.specs.Leaving.{Takes}
 use Rattle.stmt_text.specs.declared.error.ParseFail.{ParseFail}
 use Rattle.stmt_text.specs.declared.line.Line.{Line}
 use Rattle.stmt_text.specs.Fits.{FitsParts}

@@ -56,7 +56,8 @@ use Rattle.store_world.specs.Steps as world_steps
 use Rattle.store_world.specs.Steps.{notarized, intent_in, carried_out, reached, filed}
 use Rattle.store_world.specs.Finding.{MayFile}
 use Rattle.timeline_model.specs.Scene.{Scene, Crash, store_in, world_with, world_of, held}
-use Rattle.store_engine.specs.Appended.{standing, with_record, Takes}
+use Rattle.store_engine.specs.Appended.{standing, with_record}
+use Rattle.store_engine.specs.Leaving.{Takes}
 use Rattle.store_engine.proofs.Appended.{gate_inside, stores_record}
 use Rattle.store_world.specs.LineCalls.{items_added, with_items, appends, notary_calls, filing_calls, unless}
 use Rattle.timeline_model.specs.Lines.{Act, over_world, over_store}

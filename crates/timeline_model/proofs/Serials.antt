@@ -5,7 +5,6 @@ use Rattle.std.proofs.lemmas.Option.{same_Some}
 use Rattle.disk_words.specs.Disk.{written}
 use Rattle.tuple_bytes.specs.declared.header.Header.{Header}
 use Rattle.tuple_bytes.specs.Limits.{max_moment}
-use Rattle.history_model.specs.Stored.{stored}
 use Rattle.history_model.specs.History.{history}
 use Rattle.digest_model.specs.Layout.{layout}
 use Rattle.txn_journal.specs.Create.{is_free}
@@ -36,17 +35,17 @@ use Rattle.store_world.specs.Found.{Found}
 use Rattle.store_world.specs.World as worlds
 use Rattle.store_world.specs.World.{no_sessions}
 use Rattle.store_world.specs.Steps as world_steps
-use Rattle.store_world.specs.Steps.{reached, notarized, validated, on_tables, algorithm_of}
+use Rattle.store_world.specs.Steps.{reached, notarized, validated, has_more, audited, on_tables, algorithm_of}
 use Rattle.store_world.proofs.Acknowledging.{by_line}
 use Rattle.store_world.proofs.Analysing.{analysed_stays}
-use Rattle.timeline_model.specs.Scene.{Scene, Crash, nothing_yet, without_sessions, sessions_over, store_in, world_with, world_of}
+use Rattle.timeline_model.specs.Scene.{Scene, Crash, nothing_yet, entered_anew, sessions_over, store_in, world_with, world_of}
 use Rattle.timeline_model.specs.Lines.{Act, quiet, says, refuses, over_store, header_at, makes, inits, altered, shortened, brings, act}
 use Rattle.timeline_model.specs.Timeline.{Event, calls_in, stopped, crashed, crashed_behind, under, without_crash, act_on, step, after, FitsReading, IsTimeline, MayCome}
 use Rattle.timeline_model.specs.Stepping.{IsWhole}
 use Rattle.timeline_model.specs.Sessions.{begun_under, begun_in, told_more, told_under, told, SessionsAreSerial}
 use Rattle.timeline_model.proofs.Events.{fit_after, nothing_fit}
-use Rattle.timeline_model.proofs.Sessions.{IsFit, notarized_rest, validated_rest}
-use Rattle.store_world.proofs.Validating.{with_validated}
+use Rattle.timeline_model.proofs.Sessions.{IsFit, notarized_rest, validated_rest, audited_rest}
+use Rattle.store_world.proofs.Validating.{with_validated, with_audit}
 use Rattle.timeline_model.proofs.Statements.{with_begun, notarized_store, step_stores}
 use Rattle.timeline_model.proofs.StayBytes.{still_fit}
 use Rattle.timeline_model.proofs.Stepping.{read_by, take_step}
@@ -110,7 +109,8 @@ module _ (w : worlds.World) (now : ℕ) (logs : Logs) where
   step_held : (line : Line) (found : Found) → HeldIn (store_of w) logs → HeldIn (store_of (world_steps.step w line now found).world) (told_more logs (store_of w) (Ok line) now)
   step_held line found held = by_line (λ line s. HeldIn (store_of s.world) (told_more logs (store_of w) (Ok line) now)) w line now found (λ line. tables_held w.store refl line held)
       (plain_held stmts.Notarize (notarized w w.store now found.heard found.refusal).world (notarized_held found.heard found.refusal w.store refl held))
-      (plain_held stmts.Validate (validated w now found.verdict found.refusal).world (stays_held (validated w now found.verdict found.refusal).world (with_validated w now found.verdict found.refusal).same.store (validated_rest w now found.verdict found.refusal).sessions held))
+      (plain_held stmts.Validate (validated w now found.verdict found.refusal).world (stays_held (validated w now found.verdict found.refusal).world (with_validated w now found.verdict found.refusal).same.store (validated_rest w w.audited now found.verdict found.refusal).sessions held))
+      (plain_held stmts.Audit (audited (has_more w) w now found.verdict found.refusal).world (stays_held (audited (has_more w) w now found.verdict found.refusal).world (with_audit (has_more w) w now found.verdict found.refusal).same.store (audited_rest (has_more w) w now found.verdict found.refusal).sessions held))
       (λ algorithm. plain_held (stmts.Analyse algorithm) (world_steps.analysed w (algorithm_of algorithm) found.analysis found.body).world
       (subst (λ (x : worlds.World). HeldIn (store_of x) logs) (sym (analysed_stays w (algorithm_of algorithm) found.analysis found.body)) held))
 
@@ -125,9 +125,9 @@ clock_same : (id : Option ℕ) (t : Scene) (moment : ℕ) → begun_under id (re
 clock_same None t moment = refl
 clock_same (Some id) t moment = refl
 
-held_without_sessions : (id : Option ℕ) (t : Scene) (logs : Logs) → HeldIn (begun_under id (without_sessions t)) logs
-held_without_sessions None t logs = tt
-held_without_sessions (Some id) t logs = by (store_in id t.bytes)
+held_entered : (id : Option ℕ) (t : Scene) (logs : Logs) → HeldIn (begun_under id (entered_anew t)) logs
+held_entered None t logs = tt
+held_entered (Some id) t logs = by (store_in id t.bytes)
   where
     by : (o : Option statements.Database) → HeldIn (option_map (λ store. record { store = store; sessions = no_sessions }) o) logs
     by None = tt
@@ -138,8 +138,8 @@ under_held t a None logs held = held
 under_held t a (Some crash) logs held = by (nat_le (calls_in a) crash.after)
   where
     by : (b : Bool) → HeldIn (begun_in (if b then crashed_behind a.next else crashed (stopped t crash a)).scene) no_logs
-    by true = held_without_sessions a.next.scene.id a.next.scene no_logs
-    by false = held_without_sessions a.next.scene.id (stopped t crash a) no_logs
+    by true = held_entered a.next.scene.id a.next.scene no_logs
+    by false = held_entered a.next.scene.id (stopped t crash a) no_logs
 
 -- the world of a scene
 same_store : (t : Scene) (id : ℕ) → store_of (world_of t id) ≡ begun_under (Some id) t
@@ -174,27 +174,27 @@ module _ (t : Scene) (fits : IsFit t) (logs : Logs) (held : HeldIn (begun_in t) 
   over line found parts =
       subst (λ (o : Option ℕ). HeldIn (begun_under o (over_store t t.id line found).next.scene) (told_more logs (begun_in t) (Ok line) t.clock)) (sym (same_id t.id line found)) (over_held t.id refl line found parts held)
 
-  inits_held : (id : ℕ) (header : Header) → HeldIn (begun_in (inits (record t { id = Some id; sessions = no_sessions }) header).next.scene) logs
+  inits_held : (id : ℕ) (header : Header) → HeldIn (begun_in (inits (entered_anew (record t { id = Some id })) header).next.scene) logs
   inits_held id header = by (nat_lt max_moment t.clock) (is_free t.bytes)
     where
       by : (late free : Bool)
-          → HeldIn (begun_in (if late then quiet (refuses (record t { id = Some id; sessions = no_sessions }) (codes "TooLate")) else if free then makes (record t { id = Some id; sessions = no_sessions }) header else quiet (refuses (record t { id = Some id; sessions = no_sessions }) (codes "AlreadyThere"))).next.scene) logs
-      by true free = held_without_sessions (Some id) t logs
-      by false true = held_without_sessions (Some id) (makes t header).next.scene logs
-      by false false = held_without_sessions (Some id) t logs
+          → HeldIn (begun_in (if late then quiet (refuses (entered_anew (record t { id = Some id })) (codes "TooLate")) else if free then makes (entered_anew (record t { id = Some id })) header else quiet (refuses (entered_anew (record t { id = Some id })) (codes "AlreadyThere"))).next.scene) logs
+      by true free = held_entered (Some id) t logs
+      by false true = held_entered (Some id) (makes t header).next.scene logs
+      by false false = held_entered (Some id) t logs
 
   altered_held : (place : ℕ) (bytes : List ℕ) → HeldIn (begun_in (altered t place bytes).scene) logs
   altered_held place bytes = by (nat_le (place + length bytes) (length t.bytes))
     where
-      by : (b : Bool) → HeldIn (begun_in (if b then says (record t { bytes = written place bytes t.bytes; sessions = no_sessions }) (codes "ok") else refuses t (codes "NoPlace")).scene) logs
-      by true = held_without_sessions t.id (record t { bytes = written place bytes t.bytes }) logs
+      by : (b : Bool) → HeldIn (begun_in (if b then says (entered_anew (record t { bytes = written place bytes t.bytes })) (codes "ok") else refuses t (codes "NoPlace")).scene) logs
+      by true = held_entered t.id (record t { bytes = written place bytes t.bytes }) logs
       by false = held
 
   shortened_held : (n : ℕ) → HeldIn (begun_in (shortened t n).scene) logs
   shortened_held n = by (nat_le n (length t.bytes))
     where
-      by : (b : Bool) → HeldIn (begun_in (if b then says (record t { bytes = take n t.bytes; sessions = no_sessions }) (codes "ok") else refuses t (codes "NoPlace")).scene) logs
-      by true = held_without_sessions t.id (record t { bytes = take n t.bytes }) logs
+      by : (b : Bool) → HeldIn (begun_in (if b then says (entered_anew (record t { bytes = take n t.bytes })) (codes "ok") else refuses t (codes "NoPlace")).scene) logs
+      by true = held_entered t.id (record t { bytes = take n t.bytes }) logs
       by false = held
 
   brings_held : (event : drills.Event) → HeldIn (begun_in (brings t event).next.scene) logs

@@ -1,5 +1,5 @@
 -- What sessions want to store stays what a line can hold; and what becomes of the sessions of a world.
-use Rattle.std.proofs.Common.{◌≡◌, ℕ, List, [], ◌∷◌, ◌++◌, Option, Some, None, IfSome, Result, Ok, Err, refl, sym, ap, subst}
+use Rattle.std.proofs.Common.{◌≡◌, ℕ, Bool, true, false, List, [], ◌∷◌, ◌++◌, Option, Some, None, IfSome, Result, Ok, Err, refl, sym, ap, subst}
 use Rattle.std.specs.Prelude.{is_some}
 use Rattle.std.specs.List.{AllByRecursion}
 use Rattle.byte_grammar.specs.Reading.{IsBytes}
@@ -32,9 +32,9 @@ use Rattle.session_model.proofs.Each.{KeptBy, one_line}
 use Rattle.session_model.proofs.Storing.{AsksFor}
 use Rattle.store_world.specs.Found.{Found}
 use Rattle.store_world.specs.World as worlds
-use Rattle.store_world.specs.World.{no_sessions}
+use Rattle.store_world.specs.World.{no_sessions, with_audited}
 use Rattle.store_world.specs.Steps as world_steps
-use Rattle.store_world.specs.Steps.{Step, notarized, intent_in, carried_out, unless, validated, algorithm_of, marked, on_tables}
+use Rattle.store_world.specs.Steps.{Step, notarized, intent_in, carried_out, unless, validated, has_more, audited, algorithm_of, marked, on_tables}
 use Rattle.store_world.proofs.Acknowledging.{by_line}
 use Rattle.store_world.proofs.Analysing.{analysed_stays}
 use Rattle.timeline_model.specs.Scene.{Scene, sessions_over, world_of, store_in}
@@ -109,13 +109,21 @@ notarized_rest w (Some store) is now heard refusal =
     let rest : KeepsRest w (world_steps.filed (worlds.with_store w (world_steps.reached i.frontier store)) i.batches) = record { id = refl; old = refl; limits = refl; sessions = refl; store = sym (ap is_some is) } in
     unless_rest w i.fault w (carried_out w store i refusal) (rest_same w) (unless_rest w refusal _ _ rest rest)
 
-pub validated_rest : (w : worlds.World) (now : ℕ) (found : Result Verdict AuditFail) (refusal : Option AuditFail) → KeepsRest w (validated w now found refusal).world
-validated_rest w now (Err fail) refusal = rest_same w
-validated_rest w now (Ok verdict) refusal = by (mark_of verdict now)
+-- whatever its auditor has read
+read_rest : (w : worlds.World) (read : ℕ) → KeepsRest w (with_audited w read)
+read_rest w read = record { id = refl; old = refl; limits = refl; sessions = refl; store = refl }
+
+pub validated_rest : (w : worlds.World) (read now : ℕ) (found : Result Verdict AuditFail) (refusal : Option AuditFail) → KeepsRest w (validated (with_audited w read) now found refusal).world
+validated_rest w read now (Err fail) refusal = read_rest w read
+validated_rest w read now (Ok verdict) refusal = by (mark_of verdict now)
   where
-    by : (m : Option Mark) → KeepsRest w (marked w m refusal (verdict_text verdict)).world
-    by None = rest_same w
-    by (Some mark) = unless_rest w refusal w _ (rest_same w) (record { id = refl; old = refl; limits = refl; sessions = refl; store = refl })
+    by : (m : Option Mark) → KeepsRest w (marked (with_audited w read) m refusal (verdict_text verdict)).world
+    by None = read_rest w read
+    by (Some mark) = unless_rest w refusal (with_audited w read) _ (read_rest w read) (record { id = refl; old = refl; limits = refl; sessions = refl; store = refl })
+
+pub audited_rest : (b : Bool) (w : worlds.World) (now : ℕ) (found : Result Verdict AuditFail) (refusal : Option AuditFail) → KeepsRest w (audited b w now found refusal).world
+audited_rest true w now found refusal = read_rest w _
+audited_rest false w now found refusal = validated_rest w 0 now found refusal
 
 -- ---- a line
 
@@ -147,7 +155,8 @@ tables_under w (Some store) line now fits = record { id = refl; old = refl; limi
 
 pub step_under : (w : worlds.World) (line : Line) (now : ℕ) (found : Found) → FitsParts line → StaysUnder w (world_steps.step w line now found).world
 step_under w line now found = by_line (λ line s. FitsParts line → StaysUnder w s.world) w line now found (λ line. tables_under w w.store line now)
-    (λ fits. stays_under w (notarized w w.store now found.heard found.refusal).world (notarized_rest w w.store refl now found.heard found.refusal)) (λ fits. stays_under w (validated w now found.verdict found.refusal).world (validated_rest w now found.verdict found.refusal))
+    (λ fits. stays_under w (notarized w w.store now found.heard found.refusal).world (notarized_rest w w.store refl now found.heard found.refusal)) (λ fits. stays_under w (validated w now found.verdict found.refusal).world (validated_rest w w.audited now found.verdict found.refusal))
+    (λ fits. stays_under w (audited (has_more w) w now found.verdict found.refusal).world (audited_rest (has_more w) w now found.verdict found.refusal))
     (λ algorithm fits. subst (StaysUnder w) (sym (analysed_stays w (algorithm_of algorithm) found.analysis found.body)) (stays_under w w (rest_same w)))
 
 -- ---- the world of a scene

@@ -47,15 +47,15 @@ use Rattle.store_world.specs.Found.{Found}
 use Rattle.store_world.specs.Laws.{HoldsFiled, TellsNoAlteration}
 use Rattle.store_world.proofs.SoundWorlds.{sound_worlds}
 use Rattle.store_world.specs.World as worlds
-use Rattle.store_world.specs.World.{no_sessions, history_or, old_under}
+use Rattle.store_world.specs.World.{history_or, old_under}
 use Rattle.store_world.specs.Steps as world_steps
-use Rattle.store_world.specs.Steps.{notarized, intent_in, carried_out, validated, analysed, algorithm_of, marked, reached}
+use Rattle.store_world.specs.Steps.{notarized, intent_in, carried_out, validated, has_more, audited, analysed, algorithm_of, reached}
 use Rattle.store_world.specs.Finding.{MayFile, MayFind}
 use Rattle.store_world.proofs.LineKinds.{goes_to_tables}
 use Rattle.store_world.proofs.Analysing.{analysed_stays}
-use Rattle.timeline_model.specs.Scene.{Scene, Crash, nothing_yet, store_in, world_with, world_of, held, batches_of}
+use Rattle.timeline_model.specs.Scene.{Scene, Crash, entered_anew, nothing_yet, store_in, world_with, world_of, held, batches_of}
 use Rattle.store_engine.specs.Appended.{standing}
-use Rattle.store_world.specs.LineCalls.{end_of_store, items_added, with_items, appends, notary_calls, validate_calls, noting, filing_calls, unless}
+use Rattle.store_world.specs.LineCalls.{end_of_store, items_added, with_items, appends, notary_calls, validate_calls, audit_calls, noting, filing_calls, unless}
 use Rattle.timeline_model.specs.Lines.{Act, says, refuses, over_world, over_store, header_at, act}
 use Rattle.timeline_model.specs.Timeline.{Event, step, without_crash, act_on, name_of, after, with_calls, calls_in, stopped, IsDrillLine, IsReading, FitsReading, MayBeFound, IsTimeline, MayCome}
 use Rattle.timeline_model.specs.Sound.{IsFromInside, stored_by, stores, AllFromInside, HasAlso, TimelinesStaySound, EventsKeepItems, NextLinesTellNoAlteration}
@@ -67,13 +67,13 @@ use Rattle.timeline_model.proofs.Doings.{history_same, StoreIs, store_is}
 use Rattle.timeline_model.proofs.Events.{found_without_crash, fit_after, nothing_fit}
 use Rattle.timeline_model.proofs.StayBytes.{still_fit}
 use Rattle.timeline_model.proofs.Sessions.{IsFit}
-use Rattle.store_world.proofs.Validating.{with_validated}
+use Rattle.store_world.proofs.Validating.{with_validated, with_audit}
 use Rattle.timeline_model.proofs.Sealing as sealing
 use Rattle.timeline_model.proofs.Sealing.{HasMore, more_with, calls_file, take_inner, frontier_items}
 use Rattle.timeline_model.proofs.Sound.{IsSoundScene, Extends, IsGood, SoundEither, good_same, under_sound, quiet_sound, init_sound, stored_held, stays, tables_by, tables_sound}
 use Rattle.digest_model.specs.Layout.{layout}
 
--- ---- a validation
+-- ---- a validation, and a piece of an audit
 
 noted_batches : (n i : ℕ) (m : Option Mark) (lists : Lists) (id : ℕ) → (with_calls (take n (noting i m)) lists).batches id ≡ lists.batches id
 noted_batches zero i m lists id = refl
@@ -84,6 +84,10 @@ noted_batches (suc (suc n)) i (Some mark) lists id = refl
 validated_batches : (n : ℕ) (w : worlds.World) (now : ℕ) (found : Result Verdict AuditFail) (lists : Lists) (id : ℕ) → (with_calls (take n (validate_calls w now found)) lists).batches id ≡ lists.batches id
 validated_batches n w now (Ok verdict) lists id = noted_batches n w.id (mark_of verdict now) lists id
 validated_batches n w now (Err fail) lists id = ap (λ (calls : List Call). (with_calls calls lists).batches id) (take_none n)
+
+audited_batches : (b : Bool) (n : ℕ) (w : worlds.World) (now : ℕ) (found : Result Verdict AuditFail) (lists : Lists) (id : ℕ) → (with_calls (take n (audit_calls b w now found)) lists).batches id ≡ lists.batches id
+audited_batches true n w now found lists id = ap (λ (calls : List Call). (with_calls calls lists).batches id) (take_none n)
+audited_batches false n w now found lists id = validated_batches n w now found lists id
 
 -- a line that leaves the store and its batches
 asked_by : (i : ℕ) (t : Scene) (line : Line) (found : Found) (o : Option statements.Database) (s : world_steps.Step) → s.world.store ≡ o → ((id : ℕ) → s.world.lists.batches id ≡ t.lists.batches id)
@@ -109,6 +113,18 @@ validate_sound : (t : Scene) (o : Option ℕ) (found : Found) → SoundEither (s
 unfolding world_of world_steps.step
 validate_sound t None found = quiet_sound [] t (refuses t (codes "NotAStore")) refl refl
 validate_sound t (Some i) found = validate_by i t found (store_in i t.bytes)
+
+audit_by : (i : ℕ) (t : Scene) (found : Found) → (o : Option statements.Database) → let w = world_with t i o in let s = audited (has_more w) w t.clock found.verdict found.refusal in SoundEither (items_added o s.world.store) t (over_world t w (lines.Plain stmts.Audit) found s)
+unfolding notary_calls
+audit_by i t found o =
+    let w = world_with t i o in
+    let parts = with_audit (has_more w) w t.clock found.verdict found.refusal in
+    asked_by i t (lines.Plain stmts.Audit) found o (audited (has_more w) w t.clock found.verdict found.refusal) parts.same.store parts.batches (λ n id. audited_batches (has_more w) n w t.clock found.verdict t.lists id)
+
+audit_sound : (t : Scene) (o : Option ℕ) (found : Found) → SoundEither (stored_by o t (Ok (lines.Plain stmts.Audit)) found) t (over_store t o (lines.Plain stmts.Audit) found)
+unfolding world_of world_steps.step
+audit_sound t None found = quiet_sound [] t (refuses t (codes "NotAStore")) refl refl
+audit_sound t (Some i) found = audit_by i t found (store_in i t.bytes)
 
 -- ---- an analysis
 
@@ -362,6 +378,7 @@ stmt_sound : (t : Scene) (stmt : Stmt) (found : Found) → IsDrillLine (lines.Pl
 unfolding act world_steps.step notary_calls
 stmt_sound t stmts.Notarize found is parts may fits = notarize_sound t t.id found may fits
 stmt_sound t stmts.Validate found is parts may fits = validate_sound t t.id found
+stmt_sound t stmts.Audit found is parts may fits = audit_sound t t.id found
 stmt_sound t (stmts.Now moment) found is parts may fits = quiet_sound (stored_by t.id t (Ok (lines.Plain (stmts.Now moment))) found) t (says (record t { clock = moment }) (codes "ok")) refl refl
 stmt_sound t stmts.Begin found is parts may fits = absurd is
 stmt_sound t stmts.Commit found is parts may fits = absurd is
@@ -372,7 +389,7 @@ stmt_sound t stmt found is parts may fits = tables_sound t t.id (lines.Plain stm
 line_sound : (t : Scene) (line : Line) (found : Found) → IsDrillLine line → IsFromInside (Ok line) → FitsParts line → MayBeFound t.id t (Ok line) found → IsFit t → SoundEither (stored_by t.id t (Ok line) found) t (act t line found)
 unfolding act world_steps.step notary_calls
 line_sound t (lines.Plain stmt) found is inside parts may fits = stmt_sound t stmt found is parts may fits
-line_sound t (lines.Drill (events.Init id width k algs)) found is inside parts may fits = init_sound (stored_by t.id t (Ok (lines.Drill (events.Init id width k algs))) found) (record t { id = Some id; sessions = no_sessions }) t (header_at id t.clock width k algs) refl refl
+line_sound t (lines.Drill (events.Init id width k algs)) found is inside parts may fits = init_sound (stored_by t.id t (Ok (lines.Drill (events.Init id width k algs))) found) (entered_anew (record t { id = Some id })) t (header_at id t.clock width k algs) refl refl
 line_sound t (lines.Drill (events.Crash after choice)) found is inside parts may fits = quiet_sound (stored_by t.id t (Ok (lines.Drill (events.Crash after choice))) found) t (says (record t { crash = Some (record { after = after; choice = choice }) }) (codes "ok")) refl refl
 line_sound t (lines.Drill (events.Alter place bytes)) found is inside parts may fits = absurd inside
 line_sound t (lines.Drill (events.Cut n)) found is inside parts may fits = absurd inside

@@ -19,10 +19,10 @@ use Rattle.session_model.proofs.Storing.{AsksFor, stores_or_not}
 use Rattle.store_world.specs.Found.{Found}
 use Rattle.store_world.specs.World as worlds
 use Rattle.store_world.specs.Steps as world_steps
-use Rattle.store_world.specs.Steps.{on_tables, notarized, intent_in, carried_out, reached, filed, validated, algorithm_of, marked}
+use Rattle.store_world.specs.Steps.{on_tables, notarized, intent_in, carried_out, reached, validated, has_more, algorithm_of}
 use Rattle.store_world.proofs.Acknowledging.{by_line}
 use Rattle.store_world.proofs.Analysing.{analysed_stays}
-use Rattle.store_world.proofs.Validating.{with_validated}
+use Rattle.store_world.proofs.Validating.{with_validated, with_audit}
 use Rattle.store_world.specs.LineCalls.{items_added}
 use Rattle.store_world.proofs.LineItems.{none_added, carried_world}
 use Rattle.digest_model.specs.Layout.{layout}
@@ -102,7 +102,7 @@ module _ (w : worlds.World) (line : Line) (now : ℕ) where
 
 pub step_stores : (w : worlds.World) (line : Line) (now : ℕ) (found : Found) → Stores w line now (world_steps.step w line now found).world.store
 step_stores w line now found = by_line (λ line s. Stores w line now s.world.store) w line now found (λ line. of_tables w line now w.store refl) (of_notarize w (lines.Plain stmts.Notarize) now found.heard found.refusal w.store refl)
-    (inl (with_validated w now found.verdict found.refusal).same.store) (λ algorithm. inl (ap (λ (x : worlds.World). x.store) (analysed_stays w (algorithm_of algorithm) found.analysis found.body)))
+    (inl (with_validated w now found.verdict found.refusal).same.store) (inl (with_audit (has_more w) w now found.verdict found.refusal).same.store) (λ algorithm. inl (ap (λ (x : worlds.World). x.store) (analysed_stays w (algorithm_of algorithm) found.analysis found.body)))
 
 -- the items of that
 module _ (w : worlds.World) (line : Line) (now : ℕ) (new : Option statements.Database) where

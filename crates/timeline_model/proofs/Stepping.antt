@@ -25,8 +25,9 @@ use Rattle.session_model.specs.Service.{Session}
 use Rattle.store_world.specs.Found.{Found}
 use Rattle.store_world.specs.World as worlds
 use Rattle.store_world.specs.Steps as world_steps
-use Rattle.store_world.specs.Steps.{on_tables, notarized, filed, reached, validated, algorithm_of, marked, IsWorldStmt, IsWorldLine}
-use Rattle.store_engine.specs.Appended.{with_record, Takes}
+use Rattle.store_world.specs.Steps.{IsWorldStmt, IsWorldLine}
+use Rattle.store_engine.specs.Appended.{with_record}
+use Rattle.store_engine.specs.Leaving.{Takes}
 use Rattle.store_engine.proofs.Appended.{append_adds, append_puts, stores_record}
 use Rattle.store_world.specs.World.{old_under}
 use Rattle.store_world.specs.LineCalls.{items_added, with_items, end_of_store}
@@ -140,11 +141,11 @@ module _ (id : ℕ) (t : Scene) (line : Line) (found : Found) (scene_fits : IsFi
       let old = old_by s.world.store (step_stores w line t.clock found) ∙ sym under.old in
       record {
         world =
-            ap (λ (o : Option statements.Database). record { id = id; store = o; old_history = old_under id (bytes_to s.world.store); sessions = sessions_over o s.world.sessions; lists = s.world.lists; limits = t.limits }) store
-            ∙ ap (λ (h : Option History). record { id = id; store = s.world.store; old_history = h; sessions = sessions_over s.world.store s.world.sessions; lists = s.world.lists; limits = t.limits }) old
-            ∙ ap (λ (begun : ℕ → Option Session). record { id = id; store = s.world.store; old_history = s.world.old_history; sessions = begun; lists = s.world.lists; limits = t.limits }) (under.over (world_over t id))
-            ∙ ap (λ (n : ℕ). record { id = n; store = s.world.store; old_history = s.world.old_history; sessions = s.world.sessions; lists = s.world.lists; limits = t.limits }) (sym under.id)
-            ∙ ap (λ (l : NotaryLimits). record { id = s.world.id; store = s.world.store; old_history = s.world.old_history; sessions = s.world.sessions; lists = s.world.lists; limits = l }) (sym under.limits)
+            ap (λ (o : Option statements.Database). record { id = id; store = o; old_history = old_under id (bytes_to s.world.store); sessions = sessions_over o s.world.sessions; lists = s.world.lists; limits = t.limits; audited = s.world.audited }) store
+            ∙ ap (λ (h : Option History). record { id = id; store = s.world.store; old_history = h; sessions = sessions_over s.world.store s.world.sessions; lists = s.world.lists; limits = t.limits; audited = s.world.audited }) old
+            ∙ ap (λ (begun : ℕ → Option Session). record { id = id; store = s.world.store; old_history = s.world.old_history; sessions = begun; lists = s.world.lists; limits = t.limits; audited = s.world.audited }) (under.over (world_over t id))
+            ∙ ap (λ (n : ℕ). record { id = n; store = s.world.store; old_history = s.world.old_history; sessions = s.world.sessions; lists = s.world.lists; limits = t.limits; audited = s.world.audited }) (sym under.id)
+            ∙ ap (λ (l : NotaryLimits). record { id = s.world.id; store = s.world.store; old_history = s.world.old_history; sessions = s.world.sessions; lists = s.world.lists; limits = l; audited = s.world.audited }) (sym under.limits)
             ∙ ap (λ (crash : Option Crash). left_by crash s.world) (sym free);
         text = refl;
         refused = refl;
@@ -180,7 +181,7 @@ under_whole t a (Some crash) passes = let enough : nat_le (calls_in a) crash.aft
 world_behind : (crash : Option Crash) (next : Next) (id : ℕ) → world_of (behind crash next).scene id ≡ left_by crash (world_of next.scene id)
 unfolding world_of
 world_behind None next id = refl
-world_behind (Some crash) next id = ap (λ (begun : ℕ → Option Session). record { id = id; store = store_in id next.scene.bytes; old_history = old_under id next.scene.bytes; sessions = begun; lists = next.scene.lists; limits = next.scene.limits }) (none_over (store_in id next.scene.bytes))
+world_behind (Some crash) next id = ap (λ (begun : ℕ → Option Session). record { id = id; store = store_in id next.scene.bytes; old_history = old_under id next.scene.bytes; sessions = begun; lists = next.scene.lists; limits = next.scene.limits; audited = 0 }) (none_over (store_in id next.scene.bytes))
 
 behind_text : (crash : Option Crash) (next : Next) → (behind crash next).text ≡ next.text
 behind_text None next = refl

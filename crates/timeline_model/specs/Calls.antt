@@ -19,8 +19,9 @@ use Rattle.session_model.specs.Service.{Session}
 use Rattle.session_model.specs.Standing.{NoneKept}
 use Rattle.store_world.specs.declared.open_store.OpenStore.{OpenStore}
 use Rattle.store_world.specs.Standing.{StoreIsIn, IsIn, IsEntered}
-use Rattle.timeline_model.specs.Scene.{Scene, without_sessions, store_in, world_of}
-use Rattle.store_world.specs.LineCalls.{with_items, appends}
+use Rattle.timeline_model.specs.Scene.{Scene, entered_anew, store_in, world_of}
+use Rattle.store_world.specs.ItemsMore.{with_items}
+use Rattle.store_world.specs.LineCalls.{appends}
 
 -- nothing is on its way to the disk: what reads give was synced
 pub record IsSettledBy (first : List ℕ) (trace : List (Call × Bool)) : Type 0 where
@@ -60,9 +61,9 @@ ImagesGoByNewCalls = (choice : ℕ) (first : List ℕ) (trace : List (Call × Bo
 abbrev pub WorldsGoByBytes : Type 0
 WorldsGoByBytes = (id : ℕ) (w : Option statements.Database) (begun : ℕ → Option Session) (kept : Option OpenStore) (bytes : List ℕ) → StoreIsIn id w begun kept bytes → store_in id bytes ≡ w
 
--- a machine with this store stands for the world of a scene without sessions
+-- a machine with this store stands for the world of a scene that was entered anew
 abbrev pub StandsWith : Scene → ℕ → Option OpenStore → Bool → Type 0
-StandsWith t id kept is_old = IsIn (world_of (without_sessions t) id) (record { id = id; opened = kept; is_old = is_old }) t.bytes
+StandsWith t id kept is_old = IsIn (world_of (entered_anew t) id) (record { id = id; opened = kept; is_old = is_old; auditing = None }) t.bytes
 
 -- what it stands for behind an answer of entering, if it came to one
 abbrev pub StandsEntered : Scene → ℕ → Result (Unit {0}) StoreFail → Option OpenStore → Type 0
@@ -71,7 +72,7 @@ StandsEntered t id (Err fails.NotAStore) kept = StandsWith t id None false
 StandsEntered t id (Err fails.OldFormat) kept = StandsWith t id None true
 StandsEntered t id (Err fail) kept = Unit {0}
 
--- The other way round: a machine that entered over a scene's bytes, without sessions, stands for the world that a timeline reads.
+-- The other way round: a machine that entered over a scene's bytes stands for the world that a timeline reads then.
 abbrev pub EnteredStandForWorlds : Type 0
 EnteredStandForWorlds = (t : Scene) (id : ℕ) (result : Result (Unit {0}) StoreFail) (kept : Option OpenStore)
     → IsEntered id t.bytes result kept → IfSome kept (λ o. NoneKept o.sessions) → StandsEntered t id result kept
