@@ -1,13 +1,12 @@
 -- A store is moved to a target, or not.
 use Rattle.std.proofs.Common.{◌≡◌, ◌≢◌, ◌⊎◌, ◌+◌, ◌==◌, ◌∙◌, ◌<◌, ◌≤◌, ℕ, suc, Bool, true, false, List, [], ◌∷◌, length, take, get_or, map, Option, Some, None, refl, sym, ap, subst, arith, inl, inr, ⊎_elim, Result, Ok, Err}
-use Rattle.std.specs.Prelude.{IfSome, IfErr, IfOk, OnOk, if◌then◌else◌}
+use Rattle.std.specs.Prelude.{IfSome, IfErr, if◌then◌else◌}
 use Rattle.std.specs.List.{count_by}
 use Rattle.std.proofs.lemmas.Bool.Decides.{nat_tests}
 use Rattle.std.proofs.lemmas.List.{take_all}
 use Rattle.std.proofs.lemmas.List.Sums.{sum_by-cons, count_by_more_yes, count_by_more_no}
-use Rattle.std.proofs.lemmas.Option.{none-some, same_Some}
+use Rattle.std.proofs.lemmas.Option.{none-some}
 use Rattle.outside_words.specs.Told.{WhereTold}
-use Rattle.outside_words.specs.Faults.{Rose}
 use Rattle.outside_words.proofs.Told.{told_map, told_same}
 use Rattle.disk_words.specs.Disk as disks
 use Rattle.outside_io.specs.Sink as sinks
@@ -29,12 +28,12 @@ use Rattle.segment_file.specs.Fail.{IsOfReading}
 use Rattle.segment_file.specs.declared.reading.StoredAny.{StoredAny}
 use Rattle.segment_file.specs.Reading.{as_stored, IsRead}
 use Rattle.segment_file.specs.LaidOut.{laid_out, Holds}
-use Rattle.segment_file.specs.LayingOut.{IsOfLayingOut, RefusesLayout, LaysOut}
+use Rattle.segment_file.specs.Writing.{IsOfLayingOut, RefusesLayout, LaysOut}
 use Rattle.segment_file.proofs.LaidFound.{laid_out_is_found}
 use Rattle.segment_file.proofs.Written.{not_written}
 use Rattle.line_runs.specs.declared.status.Status.{Status}
 use Rattle.line_runs.specs.declared.status.Status.TheVariants as statuses
-use Rattle.line_runs.specs.Devices.{Desk, Devices}
+use Rattle.line_runs.specs.Devices.{Devices}
 use Rattle.line_runs.specs.Ends.{Ends}
 use Rattle.line_runs.specs.Outcome.{Said}
 use Rattle.line_runs.specs.Saying.{IsSaid}
@@ -43,7 +42,7 @@ use Rattle.line_runs.proofs.Ended.{ends_said, ends_refused}
 use Rattle.line_runs.proofs.OnStore.{told_of}
 use Rattle.dragoon_app.specs.declared.command.Command.TheVariants as commands
 use Rattle.dragoon_app.specs.Ends.{ends_of}
-use Rattle.dragoon_app.specs.Migrated.{begins_txn, migrate_outcome, IsOfMove, as_written, Moves, MovesHistory, MovesStore, TargetIsSound}
+use Rattle.dragoon_app.specs.Migrated.{begins_txn, migrate_outcome, IsOfMove, Moves, MovesStore, TargetIsSound}
 use Rattle.dragoon_app.proofs.Answering.{said_status}
 
 -- ---- how many transactions there are

@@ -110,7 +110,7 @@ notarizes_from now items result s later_s first old new before after filed later
     }
   where
     reached_from : (need : Option ℕ) → IsReached need s later_s items old new before after → IsReached need s later_s items first new before after
-    reached_from need r = record { closed = r.closed; store_is = r.store_is; open_on = r.open_on; settled = λ only. r.settled (only_before first old before same only) }
+    reached_from need r = record { closed = r.closed; store_is = r.store_is; open_on = r.open_on; settled = λ only. r.settled (only_before first old before same only); places = r.places }
 
 -- the store stands for its bytes
 pub notarizes_opened : (now : ℕ) (answer : Result ℕ AuditFail) (s later_s : Opened) (old new : Desk) → s.at.is_closed ≡ false → IsEarly (early_fault (tail_of s) s.at.is_closed now) answer

@@ -40,6 +40,11 @@ impl Ask {
         self == Ask::Link || self == Ask::Validate || self == Ask::Analyse
     }
 
+    /// Whether it changes nothing unless a line of its input does.
+    pub(crate) fn may_only_ask(self) -> bool {
+        self.only_asks() || self == Ask::Run
+    }
+
     /// Whether it holds one thing against another, or says what is there.
     pub(crate) fn compares(self) -> bool {
         self.only_asks() || self == Ask::Notarize || self == Ask::Run

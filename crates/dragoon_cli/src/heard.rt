@@ -7,6 +7,9 @@ use std::str;
 /// As many bytes of a reply are kept.
 const FRONT: usize = 80;
 
+/// How the reply of a piece of an audit begins, behind which some items are left.
+const PIECE: &str = "auditing ";
+
 /// The front of a text.
 #[derive(Clone, Copy)]
 pub(crate) struct Front {
@@ -54,6 +57,8 @@ pub(crate) struct Heard<'a> {
     /// The last verdict of `validate` or `analyse`, and the first one that says altered.
     pub(crate) verdict: Front,
     pub(crate) altered: Front,
+    /// The last piece of an audit, where no verdict came behind it.
+    piece: Front,
     /// Whether something was filed with the notary, or marked.
     pub(crate) is_filed: bool,
     /// Whether a report says that something happened between a moment and an earlier one.
@@ -70,6 +75,7 @@ impl<'a> Heard<'a> {
             first_refusal: Front::new(),
             verdict: Front::new(),
             altered: Front::new(),
+            piece: Front::new(),
             is_filed: false,
             goes_back: false,
         }
@@ -102,6 +108,11 @@ impl<'a> Heard<'a> {
     fn hear(&mut self, reply: Front) {
         let text = reply.text();
         self.is_filed = self.is_filed || text.starts_with("sealed ") || is_of_validate(text);
+        if text.starts_with(PIECE) {
+            self.piece = reply;
+        } else if text == "unsealed" || is_of_validate(text) {
+            self.piece = Front::new();
+        }
         if text == "unsealed" || text.starts_with("report ") || is_of_validate(text) {
             self.verdict = reply;
             if self.altered.length == 0 && says_altered(text) {
@@ -117,6 +128,11 @@ impl<'a> Heard<'a> {
     /// Whether the last verdict compared nothing.
     pub(crate) fn is_unsealed(&self) -> bool {
         self.verdict.text().ends_with("unsealed")
+    }
+
+    /// How many items an audit has read that came to no verdict, or nothing.
+    pub(crate) fn read_by_audit(&self) -> &str {
+        self.piece.text().strip_prefix(PIECE).unwrap_or("")
     }
 
     /// Whether the notary was given or asked something.

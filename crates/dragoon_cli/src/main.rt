@@ -324,7 +324,7 @@ fn carry_out<'a, R: Runtime + Files<File = File> + AllocGlobal + Drop>(
         ask,
         call,
         store: mut named_store,
-        copy: _,
+        copy: named_copy,
         target: mut named_target,
         books: mut named_books,
     } = asked;
@@ -365,6 +365,7 @@ fn carry_out<'a, R: Runtime + Files<File = File> + AllocGlobal + Drop>(
         ask,
         status,
         store: named_store,
+        copy: named_copy,
         target: named_target,
         notaries: Notaries(named_books),
         input: input.below().error(),

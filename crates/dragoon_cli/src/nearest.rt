@@ -1,6 +1,7 @@
 //! Words that are no command: which one isn't understood, what may stand there, and that command's part of the usage page.
 
 use crate::shown::Shown;
+use crate::tokens::session_of;
 use crate::usage::USAGE;
 use std::alloc::Global;
 use std::{fmt, io};
@@ -82,7 +83,10 @@ impl fmt::Display for Slot {
                 f,
                 "ID, a number of 64 bits, without a sign or zeros at its front"
             ),
-            Slot::Width => write!(f, "W, the seconds of a granule, 1 to 86400"),
+            Slot::Width => write!(
+                f,
+                "W, the seconds of a granule, 1 to 86400, without zeros at its front"
+            ),
             Slot::Exponent => write!(f, "K, 0 to 10: a tile has 2^K granules"),
             Slot::Algorithms => write!(f, "ALGS, one of m, t, a and ta"),
             Slot::Scripted => write!(f, "`scripted`, or nothing"),
@@ -217,7 +221,9 @@ fn wrong_of(alloc: Global, call: &[String]) -> Wrong<'_> {
     if word.as_bytes().contains(&b'=') || DEVICES.contains(&word) {
         return Wrong::Almost { word };
     }
-    if STATEMENTS.iter().any(|statement| *statement == word) {
+    if STATEMENTS.iter().any(|statement| *statement == word)
+        || session_of(word.as_bytes()).is_some()
+    {
         return Wrong::Statement { word };
     }
     match FORMS.iter().find(|form| form.word == word) {
@@ -294,8 +300,9 @@ fn wrong_at<'a>(command: &'static str, word: &'a str, slot: Slot, is_tiled: bool
 }
 
 /// What begins a statement, and no command.
-const STATEMENTS: [&str; 8] = [
-    "create", "insert", "update", "delete", "get", "scan", "history", "over",
+const STATEMENTS: [&str; 13] = [
+    "create", "insert", "update", "delete", "get", "scan", "history", "over", "audit", "now",
+    "begin", "commit", "abort",
 ];
 
 const COMMANDS: &str = "link, init, run, make, drill, notarize, validate, analyse and migrate";
@@ -333,7 +340,7 @@ impl fmt::Display for Wrong<'_> {
             }
             Wrong::Statement { word } => write!(
                 f,
-                "`{word}` begins a statement, which `run ID` reads from its input, as in echo '{word} ..' | dragoon store=FILE run ID"
+                "`{word}` begins a line, which `run ID` reads from its input, as in echo 'LINE' | dragoon store=FILE run ID"
             ),
             Wrong::Almost { word } => {
                 let word = Shown(word);

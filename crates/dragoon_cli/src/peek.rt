@@ -23,8 +23,10 @@ pub(crate) enum Found {
     /// No file was named, or the command uses none.
     Unused,
     Missing,
-    /// Nothing, or what a making leaves that was cut off: it counts as empty.
-    Empty,
+    /// Nothing, or so many bytes as a making leaves that was cut off: it counts as empty.
+    Empty {
+        bytes: u64,
+    },
     Store {
         header: Header,
         behind: Option<Behind>,
@@ -166,7 +168,7 @@ fn look_into(alloc: Global, disk: &mut Peek) -> Result<Found, DiskFail> {
         return Ok(Found::Store { header, behind });
     }
     if is_free(disk)? {
-        Ok(Found::Empty)
+        Ok(Found::Empty { bytes: length })
     } else {
         Ok(Found::Other)
     }

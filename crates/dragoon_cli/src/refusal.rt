@@ -24,7 +24,7 @@ const MEANINGS_IN_JOINS: [(&str, &str); 3] = [
     ),
 ];
 
-const MEANINGS: [(&str, &str); 29] = [
+const MEANINGS: [(&str, &str); 30] = [
     ("Syntax", "the line isn't in the grammar"),
     (
         "NumberTooWide",
@@ -90,6 +90,10 @@ const MEANINGS: [(&str, &str); 29] = [
     (
         "NotAStore",
         "the drill has no store yet, or its header is gone",
+    ),
+    (
+        "OldFormat",
+        "the drill's store is in the first format, to which nothing is added",
     ),
     ("AlreadyThere", "the drill's store holds something already"),
     ("NoPlace", "the place lies behind the end of the store"),

@@ -70,6 +70,7 @@ pub(crate) struct Ending<'a, 'w> {
     pub(crate) ask: Ask,
     pub(crate) status: Status,
     pub(crate) store: Named<'w>,
+    pub(crate) copy: Named<'w>,
     pub(crate) target: Named<'w>,
     pub(crate) notaries: Notaries<'w>,
     pub(crate) input: Option<io::Error>,
@@ -159,7 +160,13 @@ impl fmt::Display for Kind {
             }
             Found::Book { .. } => write!(f, "holds a notary's book"),
             Found::Missing => write!(f, "is missing"),
-            Found::Empty => write!(f, "is empty"),
+            Found::Empty { bytes: 0 } => write!(f, "is empty"),
+            Found::Empty { bytes } => {
+                write!(
+                    f,
+                    "holds {bytes} bytes, neither a store nor a notary's book"
+                )
+            }
             Found::Unused | Found::Other | Found::Unread => {
                 write!(f, "holds neither a store nor a notary's book")
             }
@@ -168,13 +175,17 @@ impl fmt::Display for Kind {
 }
 
 // Of a device that failed, and of a call that this ended.
-fn tell_failed<W: fmt::Write>(device: &Named<'_>, f: &mut fmt::Formatter<W>) -> fmt::Result {
+fn tell_failed<W: fmt::Write>(
+    device: &Named<'_>,
+    ask: Ask,
+    f: &mut fmt::Formatter<W>,
+) -> fmt::Result {
     match device.error {
         Some(error) if error.kind() == ErrorKind::WouldBlock => write!(
             f,
             "{device} {LOCKED}: start again when it is free"
         ),
-        Some(error) if is_not_writable(error) => write!(
+        Some(error) if is_not_writable(error) && ask.may_only_ask() => write!(
             f,
             "{device}: {error}; mend this and start again, what was answered is kept. Asking opens a file for writing, too: examples/on_copy asks over a copy"
         ),
@@ -203,10 +214,11 @@ pub(crate) fn tell_member_failed<W: fmt::Write>(
 // Of notaries that failed the call.
 fn tell_notaries_failed<W: fmt::Write>(
     notaries: &Notaries<'_>,
+    ask: Ask,
     f: &mut fmt::Formatter<W>,
 ) -> fmt::Result {
     match notaries.0.as_slice() {
-        [only] => tell_failed(only, f),
+        [only] => tell_failed(only, ask, f),
         _ => write!(
             f,
             "{notaries} has no answer that more than half of them gave: mend what is named next, and start again; what was answered is kept"
@@ -310,9 +322,9 @@ impl fmt::Display for Ending<'_, '_> {
         let target = &self.target;
         let moves = self.ask.uses_target();
         match self.status {
-            Status::DiskFault if target.error.is_some() => tell_failed(target, f),
-            Status::DiskFault => tell_failed(store, f),
-            Status::NotaryFault => tell_notaries_failed(notary, f),
+            Status::DiskFault if target.error.is_some() => tell_failed(target, self.ask, f),
+            Status::DiskFault => tell_failed(store, self.ask, f),
+            Status::NotaryFault => tell_notaries_failed(notary, self.ask, f),
             Status::ReadFault => {
                 let error = reason(self.input);
                 write!(
@@ -330,7 +342,7 @@ impl fmt::Display for Ending<'_, '_> {
             Status::NotAStore => tell_other(store, f),
             Status::Broken => write!(
                 f,
-                "{store} isn't what was filed with {notary}: keep both as they are, and `validate`"
+                "{store} isn't what was filed with {notary}: keep both as they are, and `validate`; docs/OPERATING.md"
             ),
             Status::SealMissing { .. } => write!(
                 f,

@@ -31,6 +31,7 @@ File and check
                     `unsealed`, `clean N`, `header altered N`, or `altered N from J`, J being a tile
   analyse ID ALG    reports which granules are altered, and since when, by the algorithm `mono`,
                     `tiled`, `tiled KAPPA` or `a3d`
+  run ID            takes these three as lines, without ID, and `audit`, which validates in pieces
 
 It ends with
   0  done                          7  the input failed          14  the clock is behind the store

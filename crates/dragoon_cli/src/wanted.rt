@@ -13,6 +13,7 @@ pub(crate) struct Wrong {
 #[derive(Clone, Copy)]
 pub(crate) enum Wanted {
     NoMark,
+    NoUtf16,
     NoSemicolon,
     NoTab,
     NoControl,
@@ -36,12 +37,13 @@ pub(crate) enum Wanted {
 
 /// What stands in a run and in a drill.
 const STATEMENTS: &str =
-    "create, insert, update, delete, get, scan, history, over, notarize, validate, analyse";
+    "create, insert, update, delete, get, scan, history, over, notarize, validate, audit, analyse";
 
 impl fmt::Display for Wanted {
     fn fmt<W: fmt::Write>(&self, f: &mut fmt::Formatter<W>) -> fmt::Result {
         let text = match self {
             Wanted::NoMark => "a byte order mark stands there: save the file without one",
+            Wanted::NoUtf16 => "the input is in UTF-16: save it as UTF-8",
             Wanted::NoSemicolon => "no statement ends in `;`",
             Wanted::NoTab => "a tab stands there, and only spaces separate words",
             Wanted::NoControl => "no text holds a tab or another byte below 0x20, nor 0x7F",

@@ -26,6 +26,17 @@ enum Warning<'a> {
         device: &'a Named<'a>,
         /// Whether something was filed later, and compared.
         is_compared: bool,
+        /// Whether something was written into it.
+        is_written: bool,
+    },
+    /// What was made stands in the place of these bytes.
+    Overwritten {
+        device: &'a Named<'a>,
+        bytes: u64,
+    },
+    /// The command doesn't use it.
+    Unused {
+        device: &'a Named<'a>,
     },
     /// A notary stood out among others.
     Odd {
@@ -44,6 +55,10 @@ enum Warning<'a> {
         ending: &'a Ending<'a, 'a>,
     },
     HeaderAlone,
+    /// An audit came to no verdict.
+    Auditing {
+        read: &'a str,
+    },
     Altered {
         ending: &'a Ending<'a, 'a>,
     },
@@ -54,6 +69,8 @@ enum Warning<'a> {
     },
     /// A report's span ends before it begins.
     SpanBack,
+    /// Lines of the generated script were refused.
+    Made,
     /// Lines were refused.
     Refused {
         ending: &'a Ending<'a, 'a>,
@@ -77,10 +94,15 @@ pub(crate) fn tell_warnings<R: Eprint>(rt: &R, ending: &Ending<'_, '_>) -> io::R
         say(rt, odd_in(ending, book))?;
     }
     let others = [
+        overwritten(ending),
+        unused(ending, &ending.store, ending.ask.uses_store()),
+        unused(ending, &ending.copy, false),
+        unused(ending, &ending.target, ending.ask.uses_target()),
         lost(ending),
         unnamed(ending),
         gone(ending),
         compared(ending),
+        auditing(ending),
         altered(ending),
         clock_of(ending),
         refused(ending),
@@ -129,11 +151,43 @@ fn nothing_in<'a>(ending: &'a Ending<'a, 'a>, device: &'a Named<'a>) -> Option<W
         .0
         .iter()
         .any(|book| matches!(&book.found, Found::Book { .. }));
+    let is_book = matches!(device.called, Called::Book);
     Some(Warning::Nothing {
         device,
         is_compared: is_later_compared(ending)
             || is_other_book && matches!(device.called, Called::Member { .. }),
+        is_written: device.was_made || is_book && ending.heard.is_filed,
     })
+}
+
+/// A device that is made anew, and held something that counts as nothing.
+fn overwritten<'a>(ending: &'a Ending<'a, 'a>) -> Option<Warning<'a>> {
+    let device = if ending.ask.uses_target() {
+        &ending.target
+    } else {
+        &ending.store
+    };
+    match device.found {
+        Found::Empty { bytes }
+            if bytes > 0
+                && is_done(ending)
+                && (ending.ask == Ask::Init || ending.ask.uses_target()) => {
+            Some(Warning::Overwritten { device, bytes })
+        }
+        _ => None,
+    }
+}
+
+fn unused<'a>(
+    ending: &'a Ending<'a, 'a>,
+    device: &'a Named<'a>,
+    is_used: bool,
+) -> Option<Warning<'a>> {
+    if is_done(ending) && device.path.is_some() && !is_used {
+        Some(Warning::Unused { device })
+    } else {
+        None
+    }
 }
 
 /// Whether it made the calls of a notary that the words speak of.
@@ -143,7 +197,7 @@ fn uses_notary(ending: &Ending<'_, '_>) -> bool {
 
 /// Whether it was missing, or empty.
 fn holds_nothing(device: &Named<'_>) -> bool {
-    matches!(&device.found, Found::Missing | Found::Empty)
+    matches!(&device.found, Found::Missing | Found::Empty { .. })
 }
 
 /// What more than half of the books say is then what new books say.
@@ -188,7 +242,7 @@ fn is_later_compared(ending: &Ending<'_, '_>) -> bool {
 fn has_store(ending: &Ending<'_, '_>) -> bool {
     !matches!(
         &ending.store.found,
-        Found::Missing | Found::Empty | Found::Unused
+        Found::Missing | Found::Empty { .. } | Found::Unused
     )
 }
 
@@ -248,6 +302,16 @@ fn compared<'a>(ending: &'a Ending<'a, 'a>) -> Option<Warning<'a>> {
     None
 }
 
+/// An audit is under way within one run alone.
+fn auditing<'a>(ending: &'a Ending<'a, 'a>) -> Option<Warning<'a>> {
+    let read = ending.heard.read_by_audit();
+    if ending.ask == Ask::Run && is_done(ending) && read != "" {
+        Some(Warning::Auditing { read })
+    } else {
+        None
+    }
+}
+
 fn altered<'a>(ending: &'a Ending<'a, 'a>) -> Option<Warning<'a>> {
     let is_altered = ending.heard.altered.text() != "";
     if is_altered && is_done(ending) && ending.ask.gives_verdict() && has_store(ending) {
@@ -298,6 +362,7 @@ fn open<'a>(ending: &'a Ending<'a, 'a>) -> Option<Warning<'a>> {
 fn refused<'a>(ending: &'a Ending<'a, 'a>) -> Option<Warning<'a>> {
     match ending.status {
         Status::Refused if ending.ask.takes_lines() => Some(Warning::Refused { ending }),
+        Status::Refused => Some(Warning::Made),
         _ => None,
     }
 }
@@ -305,19 +370,33 @@ fn refused<'a>(ending: &'a Ending<'a, 'a>) -> Option<Warning<'a>> {
 fn tell_nothing<W: fmt::Write>(
     device: &Named<'_>,
     is_compared: bool,
+    is_written: bool,
     f: &mut fmt::Formatter<W>,
 ) -> fmt::Result {
-    let is_missing = matches!(&device.found, Found::Missing);
-    let was = if is_missing { "missing" } else { "empty" };
-    write!(f, "{device} was {was}")?;
+    match device.found {
+        Found::Missing => write!(f, "{device} was missing")?,
+        Found::Empty { bytes } if bytes > 0 => tell_bytes(device, bytes, f)?,
+        _ => write!(f, "{device} was empty")?,
+    }
     if !is_compared {
         write!(f, ": nothing was compared")?;
     }
-    if device.was_made {
+    if is_written {
         write!(f, ", and it was made anew")
     } else {
         Ok(())
     }
+}
+
+fn tell_bytes<W: fmt::Write>(
+    device: &Named<'_>,
+    bytes: u64,
+    f: &mut fmt::Formatter<W>,
+) -> fmt::Result {
+    write!(
+        f,
+        "{device} held {bytes} bytes, neither a store nor a notary's book"
+    )
 }
 
 fn tell_odd<W: fmt::Write>(device: &Named<'_>, f: &mut fmt::Formatter<W>) -> fmt::Result {
@@ -426,7 +505,17 @@ impl fmt::Display for Warning<'_> {
             Warning::Nothing {
                 device,
                 is_compared,
-            } => tell_nothing(device, is_compared, f),
+                is_written,
+            } => tell_nothing(device, is_compared, is_written, f),
+            Warning::Overwritten { device, bytes } => {
+                tell_bytes(device, bytes, f)?;
+                write!(f, ", and they are gone")
+            }
+            Warning::Unused { device } => write!(f, "{device} isn't used by this command"),
+            Warning::Made => write!(
+                f,
+                "lines of the generated script were refused, as where a table `made` is there already"
+            ),
             Warning::Odd { device } => tell_odd(device, f),
             Warning::Lost => write!(
                 f,
@@ -441,6 +530,10 @@ impl fmt::Display for Warning<'_> {
             Warning::HeaderAlone => write!(
                 f,
                 "only the header was compared: no tile is filed yet, and no row is compared before its tile is"
+            ),
+            Warning::Auditing { read } => write!(
+                f,
+                "the audit has read {read} items and isn't at its end: nothing was compared, and the next run begins it anew"
             ),
             Warning::Altered { ending } => tell_altered(ending, f),
             Warning::ClockBehind { now, filed } => {

@@ -12,7 +12,21 @@ pub(crate) fn first_wrong(line: &[u8], is_drill: bool) -> Option<Wrong> {
             wanted: Wanted::NoMark,
         });
     }
+    if is_utf16(line) {
+        return Some(Wrong {
+            column: 1,
+            wanted: Wanted::NoUtf16,
+        });
+    }
     line_fits(Rest::of(line), is_drill).err()
+}
+
+/// Whether a line begins with the mark of UTF-16, or with a zero before or behind its first letter.
+fn is_utf16(line: &[u8]) -> bool {
+    line.starts_with(b"\xff\xfe".as_slice())
+        || line.starts_with(b"\xfe\xff".as_slice())
+        || line.first() == Some(&0)
+        || line.get(1) == Some(&0)
 }
 
 /// Whether a line that is in the grammar joins two tables.
@@ -108,6 +122,7 @@ fn session_fits(word: Token<'_>, rest: Rest<'_>) -> Result<(), Wrong> {
 fn is_of_notary(text: &[u8]) -> bool {
     text == b"notarize".as_slice()
         || text == b"validate".as_slice()
+        || text == b"audit".as_slice()
         || text == b"analyse".as_slice()
 }
 
@@ -125,10 +140,10 @@ fn statement_fits(word: Token<'_>, rest: Rest<'_>, wanted: Wanted) -> Result<(),
         scan_fits(rest.name()?)
     } else if text == b"over".as_slice() {
         over_fits(rest)
-    } else if text == b"notarize".as_slice() || text == b"validate".as_slice() {
-        rest.end()
     } else if text == b"analyse".as_slice() {
         analyse_fits(rest)
+    } else if is_of_notary(text) {
+        rest.end()
     } else if text == b"now".as_slice() {
         rest.digits(MOMENT)?.end()
     } else {
