@@ -8,6 +8,8 @@
 #[cfg(test)]
 mod analysed;
 #[cfg(test)]
+mod audited;
+#[cfg(test)]
 mod commands;
 #[cfg(test)]
 mod desk;

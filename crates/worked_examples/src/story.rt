@@ -1,8 +1,8 @@
 //! Stories: what is done to a store and a notary in memory, step by step, and what each step is told.
 //!
 //! A story is a text. Its first line says what it shows, and a `$` begins each of its steps. A blank line parts two
-//! stories, and `; ` two lines in one. `[3*ok; ]` is written three times, `&` stands for the tail, and `~` leaves the
-//! last line without an end.
+//! stories, and `; ` two lines in one. `[3*ok; ]` is written three times, and in `[2-4*ok #; ]` the `#` is each number from
+//! 2 to 4. `&` stands for the tail, and `~` leaves the last line without an end.
 //!
 //! | Step | What it says |
 //! |---|---|
@@ -53,7 +53,7 @@ fn numbers(alloc: Global, text: &str) -> Result<Vec<u64>, Fail> {
     Ok(numbers)
 }
 
-/// A text in which each `[N*PIECE]` is written so many times.
+/// A text in which each `[N*PIECE]` is written so many times, and each `[A-B*PIECE]` for each of these numbers.
 fn repeated(alloc: Global, text: &str) -> Result<String, Fail> {
     let mut whole = String::new(alloc);
     for part in text.split('[') {
@@ -62,12 +62,25 @@ fn repeated(alloc: Global, text: &str) -> Result<String, Fail> {
             continue;
         };
         let (times, piece) = bracket.split_once('*').ok_or("no number")?;
-        for _ in 0..times.parse::<u32>()? {
-            whole.push_str(piece)?;
+        let (first, last) = times.split_once('-').unwrap_or(("1", times));
+        for number in first.parse::<u32>()?..=last.parse::<u32>()? {
+            push_numbered(alloc, &mut whole, piece, number)?;
         }
         whole.push_str(behind)?;
     }
     Ok(whole)
+}
+
+/// The piece with this number in the place of each `#`.
+fn push_numbered(alloc: Global, whole: &mut String, piece: &str, number: u32) -> Result<(), Fail> {
+    let digits = format!(in alloc; "{number}")?;
+    let mut parts = piece.split('#');
+    whole.push_str(parts.next().unwrap_or(""))?;
+    for part in parts {
+        whole.push_str(&digits)?;
+        whole.push_str(part)?;
+    }
+    Ok(())
 }
 
 /// The lines of a text, each with its end.

@@ -7,7 +7,7 @@ use std::alloc::{AllocError, Global};
 use std::test::Fail;
 
 const LINES: &str =
-    "get t 1\ns3 begin\ns3 delete t 0\ns3 commit\nvalidate\nanalyse a3d\nnotarize\nget u 1\n";
+    "get t 1\ns3 begin\ns3 delete t 0\ns3 commit\nvalidate\naudit\nanalyse a3d\nnotarize\nget u 1\n";
 
 /// The words of a call, its input, and how it ends over eight sealed granules.
 const CALLS: [(&str, &str, u8); 15] = [
