@@ -1,12 +1,17 @@
-"""What a monitoring system asks of a store, read from its conf, its two files and what `job` left; and what `job` keeps of the book."""
+"""What a monitoring system asks of a store, read from its conf, its two files and what `job` or `serve` left; and what these two keep."""
 import collections
+import fcntl
 import hashlib
 import os
 import pathlib
 import re
 import struct
+import sys
 import time
 
+PROGRAM = os.environ.get("DRAGOON") or str(pathlib.Path(__file__).resolve().parents[2] / "dragoon")
+# how many seconds a command waits for others
+WAIT = os.environ.get("WAIT", "600")
 STORE_LIMIT, GRANULES = 67_108_864, 1_048_576
 OPEN, LONGEST_RECORD = 0xA7, 262_149
 KEYS = ("STORE", "BOOK", "ID", "ALG", "STATE")
@@ -18,10 +23,12 @@ Book = collections.namedtuple("Book", "content end tiles filed mark")
 Mark = collections.namedtuple("Mark", "moment outcome tiles bad")
 Ended = collections.namedtuple("Ended", "status moment answer")
 Kept = collections.namedtuple("Kept", "id tiles end digest moment")
+Sealed = collections.namedtuple("Sealed", "id tiles moment")
 
 CLEAN, ALTERED, HEADER_ALTERED = range(3)
 # the statuses of a command that say something of the store's file, of the notary, or of the history; all others are faults
 STORE_STATUSES, NOTARY_STATUSES, ALTERED_STATUSES = {4, 5}, {6, 11, 12, 19}, {1, 10}
+USAGE, STORE_FAULT, NOTARY_FAULT, CANNOT = 2, 5, 6, 70
 
 
 class Wrong(Exception):
@@ -167,24 +174,32 @@ def kept_file(conf):
     return pathlib.Path(conf.state) / f"{conf.name}.book"
 
 
+def sealed_file(conf):
+    """Here the number of sealed tiles stands once more, so that the loss of the other file is seen."""
+    return pathlib.Path(conf.state) / f"{conf.name}.sealed"
+
+
 def read_kept(conf):
-    """What was kept, or None where nothing was yet."""
+    """What was kept, or None where nothing was yet. Of what is lost the end is 0."""
     if conf.state is None:
         return None
+    # (in this order: the other one is written first)
+    most, kept = kept_in(sealed_file(conf), Sealed), kept_in(kept_file(conf), Kept)
+    if most and not kept:
+        return Kept(most.id, most.tiles, 0, digest(b"", 0), most.moment)
+    return kept._replace(tiles=max(kept.tiles, most.tiles)) if most and most.id == kept.id else kept
+
+
+def kept_in(file, kind):
+    """What was kept in a file, or None where it isn't there."""
     try:
-        id, tiles, end, was, moment = kept_file(conf).read_text().split()
-        return Kept(int(id), int(tiles), int(end), was, int(moment))
+        words = zip(kind._fields, file.read_text().split(), strict=True)
+        return kind(*(word if name == "digest" else int(word) for name, word in words))
     except FileNotFoundError:
-        return last_filed(conf)
+        return None
     except (OSError, ValueError) as error:
-        raise Wrong(f"{kept_file(conf)} can't be read, so nobody knows what the book was") from error
-
-
-def last_filed(conf):
-    """What the last `notarize` alone says of the book: how many tiles were sealed."""
-    ended = last_end(conf, "notarize")
-    said = ended and re.fullmatch("sealed ([0-9]+)", ended.answer)
-    return Kept(conf.id, int(said[1]), 0, digest(b"", 0), ended.moment) if said else None
+        both = f"{file.with_suffix('.book')} and {file.with_suffix('.sealed')}"
+        raise Wrong(f"{file} can't be read, so nobody knows what the book was: hold it against its copies, then remove {both}") from error
 
 
 def hold(conf, durable=False):
@@ -199,7 +214,17 @@ def hold(conf, durable=False):
         raise Rewritten(f"{conf.book} has {book.tiles} sealed tiles, and had {least} on {date(kept.moment)}")
     if not (kept and kept.end) and hidden(book):
         raise Rewritten(f"{conf.book} ends at byte {book.end + 1}, and {hidden(book)} bytes stand behind it: records may be hidden there")
+    if kept and not kept.end:
+        had = f"{kept.tiles} sealed tiles on {date(kept.moment)}"
+        raise Wrong(f"{kept_file(conf)} is lost, and {conf.book} had {had}: hold the book against its copies, then remove {sealed_file(conf)}")
     return book, kept
+
+
+def tell_begun(conf, book, kept):
+    """Says so where nothing was kept of a book that has batches: then it is believed."""
+    if not kept and book.filed is not None:
+        print(f"<4>dragoon store={conf.name} nothing was kept of {conf.book}, so its {book.tiles} sealed tiles are believed: "
+            "hold it against its copies", file=sys.stderr, flush=True)
 
 
 def sealed(conf, kept):
@@ -218,18 +243,13 @@ def keep_behind(conf, answer):
 
 def keep(conf, book, tiles):
     """Keeps what the book is now."""
-    write_kept(conf, Kept(conf.id, tiles, book.end, digest(book.content, book.end), int(time.time())))
+    now = int(time.time())
+    write_kept(kept_file(conf), Kept(conf.id, tiles, book.end, digest(book.content, book.end), now))
+    write_kept(sealed_file(conf), Sealed(conf.id, tiles, now))
 
 
-def keep_last_filed(conf):
-    """Keeps what the last `notarize` said, where nothing else is kept: so an alarm stays when the next one says another thing."""
-    kept = read_kept(conf)
-    if kept and not kept_file(conf).exists():
-        write_kept(conf, kept)
-
-
-def write_kept(conf, kept):
-    write_whole(kept_file(conf), " ".join(map(str, kept)) + "\n")
+def write_kept(file, kept):
+    write_whole(file, " ".join(map(str, kept)) + "\n")
 
 
 def write_whole(path, text):
@@ -247,13 +267,90 @@ def write_whole(path, text):
         os.close(folder)
 
 
-# ---- how `job` saw its commands end
+# ---- how commands ended
+
+
+def alone(conf, until):
+    """Waits until nothing else looks after this store. Nothing does while the file that is answered is open."""
+    lock = open(pathlib.Path(conf.state) / f"{conf.name}.lock", "a")
+    while True:
+        try:
+            fcntl.flock(lock, fcntl.LOCK_EX | fcntl.LOCK_NB)
+            return lock
+        except BlockingIOError as error:
+            if time.monotonic() >= until:
+                raise OSError(error.errno, "another job of this store runs", lock.name) from error
+        time.sleep(0.1)
+
+
+def call_of(conf, *words):
+    """A call of the program over the two files, as `subprocess` takes it. None runs what isn't proved."""
+    return {"args": [PROGRAM, f"store={conf.store}", f"notary={conf.book}", *words], "env": {**os.environ, "DRAGOON_PROVED": "1"}}
+
+
+def missing(conf):
+    """The status and the answer where one of the two files is missing, or None: the program would take it for an empty one."""
+    for path, status in ((conf.store, STORE_FAULT), (conf.book, NOTARY_FAULT)):
+        if not os.path.exists(path):
+            return status, f"no file {path}"
+    return None
+
+
+def status_of(process):
+    """The status with which a process ended, as a shell has it."""
+    return process.returncode if process.returncode >= 0 else 128 - process.returncode
+
+
+def hear(conf, told):
+    """Hands on what the program told on standard error, and keeps what it said of bytes behind the end of the store."""
+    print(told, end="", file=sys.stderr, flush=True)
+    behind = re.search("^dragoon: (the store .* bytes stand behind it):", told, re.MULTILINE)
+    if behind and not behind_store(conf):
+        write_whole(pathlib.Path(conf.state) / f"{conf.name}.behind", f"{date(int(time.time()))}: {behind[1]}\n")
+
+
+def between_looks(conf, ask):
+    """What is asked, as a status and an answer, between two looks at the book. The second one keeps what the book is then."""
+    try:
+        if os.path.exists(conf.book):
+            tell_begun(conf, *hold(conf))
+    except Wrong as why:
+        return NOTARY_FAULT, str(why)
+    status, answer = ask()
+    try:
+        if os.path.exists(conf.book):
+            keep_behind(conf, answer)
+    except Wrong as why:
+        return (status, answer) if status else (NOTARY_FAULT, str(why))
+    # where nothing was ever filed under the id, nobody looks after this store
+    return (NOTARY_FAULT, answer) if answer == "unsealed" and not status else (status, answer)
+
+
+def keep_end(conf, command, status, last):
+    """Keeps how a command ended. What it shows to be mended isn't kept any longer."""
+    write_whole(end_file(conf, command), f"{status} {int(time.time())} {last}\n")
+    run = last_end(conf, "run")
+    if command in ("notarize", "validate") and not status and run and run.status:
+        # store and book open again, after a run that failed
+        end_file(conf, "run").unlink(missing_ok=True)
+    if command == "validate" and not status:
+        # what an earlier analysis found
+        end_file(conf, "analyse").unlink(missing_ok=True)
+
+
+def end_file(conf, command):
+    return pathlib.Path(conf.state) / f"{conf.name}.{command}"
+
+
+def tell_alarm(name, command, status, last):
+    """One line, with the level that the journal reads."""
+    print(f"<2>dragoon alarm={alarm_of(status)} store={name} command={command} status={status} {last}", file=sys.stderr, flush=True)
 
 
 def last_end(conf, command):
     """How this command ended the last time, or None."""
     try:
-        status, moment, answer = (pathlib.Path(conf.state) / f"{conf.name}.{command}").read_text().rstrip("\n").split(" ", 2)
+        status, moment, answer = end_file(conf, command).read_text().rstrip("\n").split(" ", 2)
         return Ended(int(status), int(moment), answer)
     except (OSError, ValueError):
         return None
@@ -276,8 +373,8 @@ def behind_store(conf):
 
 
 def failed(conf, alarm):
-    """What the last notarize or validate said, where it ended with this alarm; of `altered` also the last analysis."""
-    for command in ("notarize", "validate", "analyse")[:3 if alarm == "altered" else 2]:
+    """What the last notarize, validate or run said, where it ended with this alarm; of `altered` also the last analysis."""
+    for command in ("notarize", "validate", "run", "analyse")[:4 if alarm == "altered" else 3]:
         ended = last_end(conf, command)
         if ended and ended.status and alarm_of(ended.status) == alarm:
             return f"{command} ended with {ended.status}, {ended.answer}"
