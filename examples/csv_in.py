@@ -237,7 +237,7 @@ def words():
 
     def table(word):
         if not NAME.fullmatch(word):
-            raise argparse.ArgumentTypeError(f"{word} isn't a table's name")
+            raise argparse.ArgumentTypeError(f"{word} isn't a table's name: at most 32 lower-case letters, digits and _, the first no digit")
         return word
 
     def delimiter(word):

@@ -18,7 +18,7 @@ import sys
 sys.dont_write_bytecode = True
 import verify
 from parts import moments
-from parts.book import Book, said
+from parts.book import Book, nothing_of, said
 from parts.script import Refused, counted, end, number, plain, words_of
 from parts.store import GRANULES, LIMIT, Frontier, Policy, Store, Tables, Transaction, hidden
 
@@ -59,7 +59,7 @@ def of_book(book, store, id):
         "header_is_filed": bool(header) and header == verify.digest(b"\x05", store.fields),
         "transactions_behind": len(behind), "bytes_of_them": sum(behind), "marks": len(marks),
         "last_mark": dict(marks[-1]._asdict(), says=said(marks[-1])) if marks else None,
-        "other_ids": [it for it in book.ids() if it != id], "behind_the_end": max(0, len(book.content) - book.gate() - 1),
+        "other_ids": [it for it in book.ids() if it != id], "without_record": None if book.filings else nothing_of(book), "behind_the_end": max(0, len(book.content) - book.gate() - 1),
     }
 
 
@@ -95,8 +95,8 @@ def store_lines(it, date):
 def book_lines(it, store, date):
     yield "book", f"{plain(it['book'])}, {counted(it['bytes'], 'byte')}"
     if not it["batches"]:
-        others = "the ids " + ", ".join(map(str, it["other_ids"])) if it["other_ids"] else "no other"
-        yield "filed", f"nothing under this id; the book has {others}"
+        others = "the book has the ids " + ", ".join(map(str, it["other_ids"])) if it["other_ids"] else f"of the book: {it['without_record']}"
+        yield "filed", f"nothing under this id; {others}"
     else:
         until = it["filed_before_moment"]
         before = f"before {date(store['first_second'] + until)}, moment {until}" if until else "no moment yet"

@@ -125,7 +125,7 @@ class Page:
     # ---- all of it
 
     def parts(self):
-        title, sentence = reports.verdict(self.report, self.asked.store, self.book.ids())
+        title, sentence = reports.verdict(self.report, self.asked.store, self.book)
         yield f"<h1>{page.safe(os.path.basename(self.given.store))}: is it what was filed?</h1>"
         yield f'<div class="verdict {COLOUR[self.report.verdict]}"><b>{title}</b>{page.safe(sentence)}</div>'
         yield page.heading("What was asked")

@@ -19,7 +19,7 @@ fi
 
 # where the program isn't proved, ./dragoon says what to do
 "$root/examples/on_copy" "store=$root/examples/worked.store" link >/dev/null || exit
-work=$(mktemp -d) || exit
+work=$(new_folder) || exit
 trap 'rm -rf "$work"' EXIT
 cp "$root"/examples/{ledger.script,sessions.script,worked.script,worked.store,worked.book,altered.store} "$work" && cd "$work" || exit
 

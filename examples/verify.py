@@ -246,6 +246,8 @@ def tell_little(verdict, name, store, id):
     if verdict == "unsealed":
         other = f"; {name} has the id {header[1]}" if header else ""
         print(f"verify: nothing was compared: the book has nothing that was filed under the id {id}{other}", file=sys.stderr)
+    elif verdict.startswith("header altered") and not store:
+        print(f"verify: nothing was compared: {name} is empty", file=sys.stderr)
     elif verdict == "clean 0":
         print("verify: only the header was compared: no tile is filed yet", file=sys.stderr)
 

@@ -17,11 +17,26 @@ refuse() { sed -n '/^#     /{s/^# */usage: /; s/   .*//; p; q}' "$0" >&2; exit 2
 
 # is_there -d|-r PATH: else says that no such folder, or no file that can be read, stands there, and ends with 2
 is_there() {
-    [ ! "$1" "$2" ] || return 0
+    [ ! "$1" "$2" ] || { [ "$1" = -r ] && [ -d "$2" ]; } || return 0
     local what='file that can be read'
     [ "$1" = -r ] || what=folder
     echo "${0##*/}: there is no $what $2" >&2
     exit 2
+}
+
+# new_file, new_folder [PATH]: makes one of a name of its own, PATH with some letters behind it or under TMPDIR, and prints that name
+new_file() { made_in "${TMPDIR:-/tmp}" 'let TMPDIR name one that you can write to'; }
+new_folder() {
+    if [ $# -eq 0 ]; then
+        made_in "${TMPDIR:-/tmp}" 'let TMPDIR name one that you can write to' -d
+    else
+        made_in "$(dirname -- "$1")" 'make it, or name one that you can write to' -d -- "$1.XXXXXX"
+    fi
+}
+made_in() {
+    mktemp "${@:3}" 2>/dev/null && return
+    echo "${0##*/}: nothing can be made in the folder $1: $2" >&2
+    return 1
 }
 
 # behind TOLD: what the program told of bytes that stand behind the end of a file. Then `clean` is no verdict.

@@ -180,7 +180,7 @@ def killed_filing(conf, seconds, length, rng):
 
 def kills(folder, count):
     conf = conf_in(folder / "killed")
-    book_file, store_file, kept = pathlib.Path(conf.book), pathlib.Path(conf.store), watched.kept_file(conf)
+    book_file, store_file = pathlib.Path(conf.book), pathlib.Path(conf.store)
     make_store(store_file, 400, 1, 0)
     dragoon(f"store={conf.store}", f"notary={conf.book}", "notarize", "7")
     content = book_file.read_bytes()
@@ -192,7 +192,7 @@ def kills(folder, count):
     def anew():
         store_file.write_bytes(store)
         book_file.write_bytes(short)
-        for known in (kept, kept.with_name("w.notarize")):
+        for known in (watched.kept_file(conf), watched.sealed_file(conf)):
             known.unlink(missing_ok=True)
         watched.keep(conf, watched.hold(conf)[0], 2)
 

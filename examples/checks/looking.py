@@ -164,7 +164,7 @@ def files(folder):
     shutil.copy(BOOK, folder / "book")
     policy = record(b"\x03" + bytes(8) + b"\x02\x03")
     for name, content in (("cut", worked[:65]), ("hides_all", worked[:64] + b"\xa6" + worked[65:]), ("policy", worked[:64] + policy + worked[64:]),
-                          ("empty", b""), ("zeros", bytes(500)), ("other_id", worked[:16] + b"\x08" + worked[17:]), ("wide", worked[:28] + b"\x3d" + worked[29:]),
+                          ("empty", b""), ("short", b"x\n"), ("zeros", bytes(500)), ("other_id", worked[:16] + b"\x08" + worked[17:]), ("wide", worked[:28] + b"\x3d" + worked[29:]),
                           ("closed", b"\0" + worked[1:]), ("text", b"this is a text, and no store\n" * 9), ("hidden", worked[:430] + b"\0" + worked[431:])):
         (folder / name).write_bytes(content)
 
@@ -178,7 +178,8 @@ SAYS = [
     ("look.py", ("cut", BOOK, "7"), 0, ("moment 480; the store ends BEFORE that",)),
     ("look.py", ("policy",), 0, ("policies        1 item that no program writes",)),
     ("look.py", ("wide", BOOK, "7"), 0, ("NOT the one that was filed",)),
-    ("look.py", (WORKED, "empty", "7"), 0, ("nothing under this id; the book has no other",)),
+    ("look.py", (WORKED, "empty", "7"), 0, ("nothing under this id; of the book: it is empty",)),
+    ("look.py", (WORKED, "short", "7"), 0, ("nothing under this id; of the book: its 2 bytes don't begin as those of a store or a book",)),
     ("look.py", (BOOK,), 3, ("is no store: it is a notary's book",)),
     ("look.py", (WORKED, WORKED, "7"), 3, ("is no notary's book: it is a store with the id 7",)),
     ("look.py", ("nowhere",), 3, ("nowhere can't be read: No such file",)),
@@ -203,6 +204,8 @@ SAYS = [
     ("explain", ("--alg", "tiled", ALTERED, BOOK, "7"), 1, ("Tile 0: granules 5, 7, changed between 1970-01-01 00:08:00 UTC",)),
     ("explain", (WORKED, BOOK, "9"), 0, ("Nothing was filed: ", "it is a store with the id 7")),
     ("explain", ("empty", BOOK, "7"), 1, ("Header altered: ", "it is empty")),
+    ("explain", (WORKED, "short", "7"), 0, ("Nothing was filed: ", "Of the book: its 2 bytes don't begin as those of a store or a book.")),
+    ("explain", (WORKED, "empty", "7"), 0, ("Nothing was filed: ", "Of the book: it is empty.")),
     ("explain", ("other_id", BOOK, "7"), 1, ("its id is 8, and not 7",)),
     ("explain", ("wide", BOOK, "7"), 1, ("Today's says granules of 61 s",)),
     ("explain", (WORKED, "text", "7"), 3, ("fault NotaryFault",)),
@@ -317,6 +320,15 @@ def kept(folder):
         if done.stdout.split("\n")[0] != verdict or says not in done.stderr:
             raise Wrong(f"case {' '.join(map(str, words))} doesn't say {says}: {done.stdout + done.stderr}")
         shutil.rmtree(folder / "odd case")
+    for name, status, place, room, says in (
+        ("on_copy", 70, folder, "/nowhere", "nothing can be made in the folder /nowhere: let TMPDIR name one that you can write to"),
+        ("on_copy", 70, folder / "nowhere", None, f"nothing can be made in the folder {folder}/nowhere: make it, or name one that you can write to"),
+        ("case", 3, folder / "nowhere", None, f"nothing can be made in the folder {folder}/nowhere: make it, or name one that you can write to"),
+    ):
+        words = [place / "none", WORKED, BOOK, "7"] if name == "case" else ["--keep", place / "none", f"store={WORKED}", "link"]
+        done = subprocess.run([EXAMPLES / name, *words], env={**os.environ, **({"TMPDIR": room} if room else {})}, stdin=subprocess.DEVNULL, capture_output=True, text=True)
+        if (done.returncode, done.stdout, done.stderr) != (status, "", f"{name}: {says}\n"):
+            raise Wrong(f"{name} in a folder that isn't there ends with {done.returncode}: {done.stdout + done.stderr}")
     left = {it.name for it in folder.iterdir() if it.is_dir()}
     if left != {"asked", "case", "clean"} or sums != [hashlib.sha256(it.read_bytes()).digest() for it in (ALTERED, BOOK, WORKED)]:
         raise Wrong(f"a half folder is left, or a file was changed: {left}")

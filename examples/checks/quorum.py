@@ -115,6 +115,8 @@ def table(folder):
         (1, "a: no book: No such file or directory\n", (None, whole, whole)),
         (1, "a: no book: its head is no book's\n", (b"x" * 99, whole, whole)),
         (1, "a: behind from byte 64: lacks 21 seals and 0 marks\n", (b"", whole, whole)),
+        (1, "a: behind from byte 64: lacks 21 seals and 0 marks; the file has 2 bytes, and is no notary's book\n", (b"x\n", whole, whole)),
+        (1, "b: the same; the file has 2 bytes, and is no notary's book\n", (b"", b"x\n", b"")),
         (1, "majority 3 of 3: 126 bytes, 1 seals, 0 marks\na: goes on alone from byte 125: 20 seals and 0 marks more\n", (whole, short, short)),
         (1, "majority 2 of 3: 126 bytes, 1 seals, 0 marks\n", (whole, None, short)),
         # two were lost and begun anew, and are empty, or filed since

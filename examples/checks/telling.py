@@ -44,6 +44,12 @@ def new_store():
     call(["store=new.store", "init", "7", "60", "3", "ta"], "")
 
 
+def many_items():
+    """The table of the new store is its first item of 300."""
+    new_store()
+    call(["store=new.store", "run", "7"], "create t k int\n" + "".join(f"insert t {key}\n" for key in range(299)))
+
+
 def later_book():
     """The second of the last filing is set far ahead."""
     put("worked.book", 125 + 5 + 13, (1 << 40).to_bytes(8, "big"))
@@ -87,7 +93,7 @@ ROWS = [
     ("algorithms in another order", None, ["init", "7", "60", "3", "at"], "", 2, "fault Usage\n",
      ["dragoon: `at` isn't what `init` takes there: ALGS, one of m, t, a and ta", "  init ID W K ALGS..", ".."]),
     ("a number out of its range", None, ["init", "7", "0", "3", "ta"], "", 2, "fault Usage\n",
-     ["dragoon: `0` isn't what `init` takes there: W, the seconds of a granule, 1 to 86400", "  init ID W K ALGS..", ".."]),
+     ["dragoon: `0` isn't what `init` takes there: W, the seconds of a granule, 1 to 86400, without zeros at its front", "  init ID W K ALGS..", ".."]),
     ("a word that is missing", None, [STORE, "validate"], "", 2, "fault Usage\n",
      ["dragoon: `validate` lacks a word: ID, a number of 64 bits, without a sign or zeros at its front", "  validate ID ..", ".."]),
     ("a word too many", None, [STORE, "analyse", "7", "mono", "3"], "", 2, "fault Usage\n",
@@ -149,6 +155,13 @@ ROWS = [
     ("a run that finds nothing odd", None, [STORE, BOOK, "run", "7"], "validate\nanalyse mono\n", 0, "clean 1\nreport mono id 7 tiles 1 clean\n", []),
     ("a run that asks of a header alone", new_store, ["store=new.store", "notary=new.book", "run", "7"], "validate\nnotarize\nvalidate\n", 0, "unsealed\nsealed 0\nclean 0\n",
      ["dragoon: the notary's book new.book was missing, and it was made anew", "dragoon: only the header was compared: .."]),
+    ("a run that ends within an audit", many_items, ["store=new.store", "run", "7"], "validate\naudit\nget t 1\n", 0, "unsealed\nauditing 256\nrow 1\n",
+     ["dragoon: nothing was compared: ..", "dragoon: the audit has read 256 items and isn't at its end: nothing was compared, and the next run begins it anew"]),
+    ("a run that ends behind an audit", many_items, ["store=new.store", "run", "7"], "audit\naudit\n", 0, "auditing 256\nunsealed\n",
+     ["dragoon: nothing was compared: .."]),
+    ("an audit as a command", None, [STORE, "audit", "7"], "", 2, "fault Usage\n", ["dragoon: `audit` begins a line, which `run ID` reads from its input, ..", ".."]),
+    ("an audit with a word behind it", None, [STORE, BOOK, "run", "7"], "audit 7\n", 3, "refused Syntax\n",
+     [f"dragoon: 1 of 1 {REFUSED} 1, `audit 7`: Syntax, at column 7: the line has to end there"]),
     ("a run that finds the store altered", None, ["store=altered.store", BOOK, "run", "7"], "validate\nanalyse mono\n", 0, None,
      [f"dragoon: the store altered.store {KEEP}; `analyse` says which granules, and since when; docs/OPERATING.md"]),
     ("a run whose report runs back", later_book, ["store=altered.store", BOOK, "run", "7"], "analyse mono\n", 0, None,
@@ -166,7 +179,21 @@ ROWS = [
     ("bytes of a drill that aren't hexadecimal", None, ["drill"], "init 7 60 3 ta\nalter 9 0g\n", 3, "ready 7\nrefused Syntax\n",
      [f"dragoon: 1 of 2 {REFUSED} 2, `alter 9 0g`: Syntax, at column 9: hexadecimal, two digits a byte, has to stand there"]),
     ("a drill with verdicts", None, ["drill"], "init 7 60 3 ta\nvalidate\n", 0, "ready 7\nunsealed\n", []),
-    ("a statement as a command", None, [STORE, "scan", "t"], "", 2, "fault Usage\n", ["dragoon: `scan` begins a statement, which `run ID` reads from its input, ..", ".."]),
+    ("a statement as a command", None, [STORE, "scan", "t"], "", 2, "fault Usage\n", ["dragoon: `scan` begins a line, which `run ID` reads from its input, ..", ".."]),
+    ("a line of a session as a command", None, [STORE, "s0", "commit"], "", 2, "fault Usage\n", ["dragoon: `s0` begins a line, which `run ID` reads from its input, ..", ".."]),
+    ("a store over a text", lambda: pathlib.Path("text").write_bytes(b"some notes of mine\n"), ["store=text", "init", "7", "60", "3", "ta"], "", 0, "ready 7\n",
+     ["dragoon: the store text held 19 bytes, neither a store nor a notary's book, and they are gone"]),
+    ("a text in the place of the store", lambda: pathlib.Path("text").write_bytes(b"some notes of mine\n"), ["store=text", "link"], "", 4, "fault NotAStore\n",
+     ["dragoon: the store text holds 19 bytes, neither a store nor a notary's book: make one by `init`, or name the right file and id"]),
+    ("a filing over a text", lambda: (new_store(), pathlib.Path("text").write_bytes(b"hello")), ["store=new.store", "notary=text", "notarize", "7"], "", 0, "sealed 0\n",
+     ["dragoon: the notary's book text held 5 bytes, neither a store nor a notary's book: nothing was compared, and it was made anew"]),
+    ("a filing with a book that is empty", lambda: (new_store(), pathlib.Path("none").touch()), ["store=new.store", "notary=none", "notarize", "7"], "", 0, "sealed 0\n",
+     ["dragoon: the notary's book none was empty: nothing was compared, and it was made anew"]),
+    ("files that aren't used", None, [STORE, "copy=a", "target=b", "link"], "", 0, None,
+     ["dragoon: the copy a isn't used by this command", "dragoon: the target b isn't used by this command"]),
+    ("a drill beside a store", None, [STORE, "drill"], "init 7 60 3 ta\n", 0, "ready 7\n", ["dragoon: the store worked.store isn't used by this command"]),
+    ("a script that is generated twice", lambda: (new_store(), call(["store=new.store", "make", "7", "1", "20"], "")), ["store=new.store", "notary=new.book", "make", "7", "1", "20"], "", 3, None,
+     ["dragoon: lines of the generated script were refused, as where a table `made` is there already"]),
     ("files and no command", None, [STORE, BOOK], "", 2, "fault Usage\n", ["dragoon: no command stands behind the words that name files: those are link, .."]),
     ("a device without `=`", None, ["store", "worked.store", "link"], "", 2, "fault Usage\n",
      ["dragoon: `store` is no command, and names no device: store=FILE does, and notary=FILE, and target=FILE, in lower case"]),
@@ -255,6 +282,7 @@ LINES = [
     ("a name in capitals", "get T 1\n", "Syntax, at column 5: words and names are in lower case", 1, "get T 1"),
     ("a semicolon", "insert t 9 9;\n", "Syntax, at column 12: no statement ends in `;`", 1, "insert t 9 9;"),
     ("a byte order mark", "\ufeffget t 1\n", "Syntax, at column 1: a byte order mark stands there: save the file without one", 1, ".."),
+    ("UTF-16", "\udcff\udcfeg\0e\0t\0\n", "Syntax, at column 1: the input is in UTF-16: save it as UTF-8", 1, "(bytes that are no text)"),
     ("a tab", "get\tt 1\n", "Syntax, at column 4: a tab stands there, and only spaces separate words", 1, "get\\tt 1"),
     ("no statement", "select t\n", "Syntax, at column 1: a statement begins with create, ..", 1, "select t"),
     ("a text that isn't ended", "insert t 9 'a\n", "Syntax, at column 12: a text begins there and isn't ended by `'`; ..", 1, "insert t 9 'a"),

@@ -54,6 +54,11 @@ def is_empty(content):
     return len(content) <= 1 or len(content) <= 65 and content[0] != verify.OPEN
 
 
+def nothing_of(book):
+    """What a book without any record is, in words."""
+    return what_is(book.content) if is_empty(book.content) else "it has no record yet"
+
+
 def said(mark):
     """What a validation found."""
     return ("clean", f"altered, and tile {mark.bad} the first bad one", "another header")[mark.outcome] + ", of " + counted(mark.tiles, "tile")

@@ -5,6 +5,7 @@ from collections import namedtuple
 
 import verify
 from . import moments
+from .book import nothing_of
 from .script import Refused, counted, plain
 from .store import Create, Tables, what_is
 
@@ -88,11 +89,12 @@ def headed(found):
     return f"Tile {found.tile}: {said}" if found.tile is not None else said.capitalize()
 
 
-def verdict(report, content, ids):
-    """The verdict in a few words, and in a sentence. `ids` are those under which the book has something."""
+def verdict(report, content, book):
+    """The verdict in a few words, and in a sentence."""
     tiles = counted(report.tiles, "tile")
     if report.verdict == "unsealed":
-        filed = f"Under {' and '.join(map(str, ids[:9]))} something is filed." if ids else "The book is empty."
+        ids = book.ids()
+        filed = f"Under {' and '.join(map(str, ids[:9]))} something is filed." if ids else f"Of the book: {nothing_of(book)}."
         compared = f"Nothing was filed under the id {report.id}, so nothing was compared."
         return "Nothing was filed", f"{compared} {filed} Of the file that was asked: {what_is(content)}."
     if report.verdict == "clean" and not report.tiles:

@@ -12,8 +12,9 @@ import verify
 
 HEAD = b"\xa7DRAGBOK1" + bytes(55)
 
-# the payloads of a book's records; `why` says in words why the file is no book
-Book = collections.namedtuple("Book", "path payloads behind why")
+# the payloads of a book's records; `why` says in words why the file is no book. `odd` counts the bytes of a file that is taken for an
+# empty book, and isn't empty
+Book = collections.namedtuple("Book", "path payloads behind why odd", defaults=[0])
 
 
 class Missing(Exception):
@@ -46,7 +47,7 @@ def read(path):
     except OSError as error:
         return Book(path, [], 0, error.strerror)
     if len(content) < 2 or len(content) <= 65 and content[0] != verify.OPEN:
-        return Book(path, [], 0, None)
+        return Book(path, [], 0, None, len(content))
     if len(content) < 65 or content[:64] != HEAD:
         return Book(path, [], 0, "its head is no book's")
     payloads = [payload for _, payload in verify.records(content, *verify.BOOK)]
@@ -125,4 +126,6 @@ def standing(book, majority):
         text = f"differs from byte {place} on, where the majority's has {seals_of(lacks)} seals and {marks_of(lacks)} marks"
         if earlier := filed_before(mine, majority):
             text += "; it filed batch {1} under the id {0} BEFORE the majority did, as where those were begun anew: look at anchors".format(*earlier)
+    if book.odd:
+        text += f"; the file has {book.odd} byte{'s' * (book.odd != 1)}, and is no notary's book"
     return text + (f"; {book.behind} bytes stand behind its end" if book.behind else "")
