@@ -16,9 +16,9 @@ ghost use Rattle.tt_table.specs.Tables.{state_at, AreVersions};
 
 use crate::columns::{column_named, is_same_kind};
 use crate::error::OverFail;
+use crate::lending::{LentPieces, LentRow};
 use crate::listing::Listing;
 use crate::merging::Merging;
-use crate::piece::Pieces;
 use crate::reaching::reaching;
 use crate::span::Span;
 use crate::table::shown_table;
@@ -45,33 +45,13 @@ fn are_joining(places: Places, left: &[Value], right: &[Value]) -> bool
     }
 }
 
-fn push_values(alloc: Global, values: &mut Vec<Value>, more: &[Value]) -> Result<(), AllocError>
-    ensures value { OnOk result (values.new.items ≡ values.old.items ++ more.now) }
-{
-    for value in more {
-        values.push(value.copy(alloc)?)?;
-    }
-    Ok(())
-}
-
-// A left row with a right row behind it.
-fn join_rows(alloc: Global, left: &[Value], right: &[Value]) -> Result<Row, AllocError>
-    ensures value { IfOk result (λ row. row ≡ left.now ++ right.now) }
-{
-    let mut values = Vec::with_capacity(alloc, left.len() + right.len())?;
-    push_values(alloc, &mut values, left)?;
-    push_values(alloc, &mut values, right)?;
-    Ok(Row::from_vec(values))
-}
-
 // Adds a left row with a right version, during its part of a span, if they join.
-fn add_right_version(
-    alloc: Global,
-    merging: &mut Merging,
+fn add_right_version<'a>(
+    merging: &mut Merging<'a>,
     span: Span,
     places: Places,
-    left: &Row,
-    right: &Version,
+    left: &'a Row,
+    right: &'a Version,
 ) -> Result<(), AllocError>
     ensures value { OnOk result (AddsTo merging.old (cell span right.now (joined_row places.left places.right left.now right.now.row)) merging.new) }
 {
@@ -80,108 +60,102 @@ fn add_right_version(
     }
     match span.part_of(right) {
         Some(part) => {
-            let row = join_rows(alloc, left.as_slice(), right.row.as_slice())?;
-            merging.add(part, row)
+            let (left, right) = (left.as_slice(), right.row.as_slice());
+            merging.add(part, LentRow { left, right })
         }
         None => Ok(()),
     }
 }
 
 // Adds a left row with each of these right versions.
-fn add_reaching(
-    alloc: Global,
-    merging: &mut Merging,
+fn add_reaching<'a>(
+    merging: &mut Merging<'a>,
     span: Span,
     places: Places,
-    left: &Row,
-    rights: &[Version],
+    left: &'a Row,
+    rights: &'a [Version],
 ) -> Result<(), AllocError>
     ensures value { OnOk result (AddsTo merging.old (join_in places.left places.right left.now rights.now (Some span)) merging.new) }
 {
     for right in rights {
-        add_right_version(alloc, merging, span, places, left, right)?;
+        add_right_version(merging, span, places, left, right)?;
     }
     Ok(())
 }
 
 // Adds a left row with each right version. Those that do not reach into the span have nothing to add.
-fn add_rights(
-    alloc: Global,
-    merging: &mut Merging,
+fn add_rights<'a>(
+    merging: &mut Merging<'a>,
     span: Span,
     places: Places,
-    left: &Row,
-    rights: &[Version],
+    left: &'a Row,
+    rights: &'a [Version],
 ) -> Result<(), AllocError>
     requires { AreVersions rights.now }
     ensures value { OnOk result (AddsTo merging.old (join_in places.left places.right left.now rights.now (Some span)) merging.new) }
 {
-    add_reaching(alloc, merging, span, places, left, reaching(rights, span))
+    add_reaching(merging, span, places, left, reaching(rights, span))
 }
 
 // Adds a left version, during its part of a span, with each right version.
-fn add_left_version(
-    alloc: Global,
-    merging: &mut Merging,
+fn add_left_version<'a>(
+    merging: &mut Merging<'a>,
     span: Span,
     places: Places,
-    left: &Version,
-    rights: &[Version],
+    left: &'a Version,
+    rights: &'a [Version],
 ) -> Result<(), AllocError>
     requires { AreVersions rights.now }
     ensures value { OnOk result (AddsTo merging.old (join_in places.left places.right left.now.row rights.now (part_of span left.now)) merging.new) }
 {
     match span.part_of(left) {
-        Some(part) => add_rights(alloc, merging, part, places, &left.row, rights),
+        Some(part) => add_rights(merging, part, places, &left.row, rights),
         None => Ok(()),
     }
 }
 
 // Adds a left key with a right key.
-fn add_pair(
-    alloc: Global,
-    merging: &mut Merging,
+fn add_pair<'a>(
+    merging: &mut Merging<'a>,
     span: Span,
     places: Places,
-    lefts: &[Version],
-    rights: &[Version],
+    lefts: &'a [Version],
+    rights: &'a [Version],
 ) -> Result<(), AllocError>
     requires { AreVersions rights.now }
     ensures value { OnOk result (AddsTo merging.old (join_cells span places.left places.right lefts.now rights.now) merging.new) }
 {
     for left in lefts {
-        add_left_version(alloc, merging, span, places, left, rights)?;
+        add_left_version(merging, span, places, left, rights)?;
     }
     Ok(())
 }
 
 // Adds a left key with the right key at a place.
-fn add_place(
-    alloc: Global,
-    merging: &mut Merging,
+fn add_place<'a>(
+    merging: &mut Merging<'a>,
     span: Span,
     places: Places,
-    lefts: &[Version],
-    rights: &[&Versions],
+    lefts: &'a [Version],
+    rights: &[&'a Versions],
     place: usize,
 ) -> Result<(), AllocError>
     requires { AllByRecursion (λ r. AreVersions r.now) rights.now }
     ensures value { OnOk result (AddsTo merging.old (cells_at span places.left places.right lefts.now (map (λ r. r.now) rights.now) place) merging.new) }
 {
     match rights.get(place) {
-        Some(right) => add_pair(alloc, merging, span, places, lefts, right.as_slice()),
+        Some(right) => add_pair(merging, span, places, lefts, right.as_slice()),
         None => Ok(()),
     }
 }
 
 // Adds a left key with the right keys at these places.
-fn add_wanted(
-    alloc: Global,
-    merging: &mut Merging,
+fn add_wanted<'a>(
+    merging: &mut Merging<'a>,
     span: Span,
     places: Places,
-    lefts: &[Version],
-    rights: &[&Versions],
+    lefts: &'a [Version],
+    rights: &[&'a Versions],
     wanted: &BTreeSet<usize>,
 ) -> Result<(), AllocError>
     requires { AllByRecursion (λ r. AreVersions r.now) rights.now }
@@ -189,19 +163,19 @@ fn add_wanted(
     ensures rising { IsStrictlySortedBy nat_cmp wanted.now.keys }
 {
     for place in wanted.iter() {
-        add_place(alloc, merging, span, places, lefts, rights, *place)?;
+        add_place(merging, span, places, lefts, rights, *place)?;
     }
     Ok(())
 }
 
 // Adds a left key with each right key. Those with which it shares no value have nothing to add.
-fn add_left_key(
+fn add_left_key<'a>(
     alloc: Global,
-    merging: &mut Merging,
+    merging: &mut Merging<'a>,
     span: Span,
     places: Places,
-    lefts: &[Version],
-    rights: &[&Versions],
+    lefts: &'a [Version],
+    rights: &[&'a Versions],
     listing: &Listing,
 ) -> Result<(), AllocError>
     requires versions { AllByRecursion (λ r. AreVersions r.now) rights.now }
@@ -209,7 +183,7 @@ fn add_left_key(
     ensures value { OnOk result (AddsTo merging.old (join_key span places.left places.right (map (λ r. r.now) rights.now) lefts.now) merging.new) }
 {
     let wanted = wanted_by(alloc, listing, places.left, lefts)?;
-    add_wanted(alloc, merging, span, places, lefts, rights, &wanted)
+    add_wanted(merging, span, places, lefts, rights, &wanted)
 }
 
 // The versions of each key, in the keys' order.
@@ -224,13 +198,13 @@ fn versions_of_keys<'a>(alloc: Global, keys: Keys<'a>) -> Result<Vec<&'a Version
 }
 
 // The pieces of all keys.
-fn join_keys(
+fn join_keys<'a>(
     alloc: Global,
     span: Span,
     places: Places,
-    left_keys: Keys<'_>,
-    right_keys: Keys<'_>,
-) -> Result<Pieces, AllocError>
+    left_keys: Keys<'a>,
+    right_keys: Keys<'a>,
+) -> Result<LentPieces<'a>, AllocError>
     requires { AllByRecursion (λ k. AreVersions k.1) right_keys }
     ensures value { IfOk result (λ pieces. pieces ≡ merged (join_all span places.left places.right (map (λ k. k.1) left_keys.entry) (map (λ k. k.1) right_keys.entry))) }
 {
@@ -281,16 +255,16 @@ fn joining_places(
 ///
 /// NoSpan where there is no such moment, then NoTable, then NoColumn, then BadType of the right column
 /// where the two have different kinds.
-pub fn over_join(
+pub fn over_join<'a>(
     alloc: Global,
-    tables: &Tables,
+    tables: &'a Tables,
     left: &Word,
     left_column: &Word,
     right: &Word,
     right_column: &Word,
     from: u64,
     to: u64,
-) -> Result<Pieces, OverFail>
+) -> Result<LentPieces<'a>, OverFail>
     ensures value { IfOk result (IsJoin tables.now left.now left_column.now right.now right_column.now from to) }
     ensures answer { Answers (join_over (columns_in tables.now) (state_at tables.now) left.now left_column.now right.now right_column.now from to) result }
 {

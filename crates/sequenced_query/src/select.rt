@@ -9,8 +9,8 @@ ghost use Rattle.sequenced_query.specs.Spans.{IsSelect, select_over, Answers};
 ghost use Rattle.tt_table.specs.Tables.{state_at};
 
 use crate::error::{OverFail, of_filter};
+use crate::lending::{LentPieces, LentRow};
 use crate::merging::Merging;
-use crate::piece::Pieces;
 use crate::span::Span;
 use crate::table::shown_table;
 use asof_query::{filter_place, is_passing_row};
@@ -19,11 +19,10 @@ use tt_table::{Keys, Tables, Version};
 use tuple_bytes::{Filter, Word};
 
 // Adds a version's part of the span, if its row passes.
-fn add_version(
-    alloc: Global,
-    merging: &mut Merging,
+fn add_version<'a>(
+    merging: &mut Merging<'a>,
     span: Span,
-    version: &Version,
+    version: &'a Version,
     filter: Option<&Filter>,
     place: usize,
 ) -> Result<(), AllocError>
@@ -33,48 +32,40 @@ fn add_version(
         return Ok(());
     }
     match span.part_of(version) {
-        Some(part) => merging.add(part, version.row.copy(alloc)?),
+        Some(part) => merging.add(part, LentRow::of(version.row.as_slice())),
         None => Ok(()),
     }
 }
 
 // Adds those of a key.
-fn add_key(
-    alloc: Global,
-    merging: &mut Merging,
+fn add_key<'a>(
+    merging: &mut Merging<'a>,
     span: Span,
-    versions: &[Version],
+    versions: &'a [Version],
     filter: Option<&Filter>,
     place: usize,
 ) -> Result<(), AllocError>
     ensures value { OnOk result (AddsTo merging.old (select_cells span place (option_copied filter.entry) versions.now) merging.new) }
 {
     for version in versions {
-        add_version(alloc, merging, span, version, filter, place)?;
+        add_version(merging, span, version, filter, place)?;
     }
     Ok(())
 }
 
 // The pieces of all keys.
-fn select_keys(
+fn select_keys<'a>(
     alloc: Global,
     span: Span,
-    keys: Keys<'_>,
+    keys: Keys<'a>,
     filter: Option<&Filter>,
     place: usize,
-) -> Result<Pieces, AllocError>
+) -> Result<LentPieces<'a>, AllocError>
     ensures value { IfOk result (λ pieces. pieces ≡ merged (select_all span place (option_copied filter.entry) (map (λ k. k.1) keys.entry))) }
 {
     let mut merging = Merging::new(alloc);
     for (_key, versions) in keys {
-        add_key(
-            alloc,
-            &mut merging,
-            span,
-            versions.as_slice(),
-            filter,
-            place,
-        )?;
+        add_key(&mut merging, span, versions.as_slice(), filter, place)?;
     }
     merging.into_pieces()
 }
@@ -82,14 +73,14 @@ fn select_keys(
 /// The rows of a table that pass, at all moments from `from` up to, and not including, `to`.
 ///
 /// NoSpan where there is no such moment, then NoTable, then NoColumn and BadType of the filter.
-pub fn over_select(
+pub fn over_select<'a>(
     alloc: Global,
-    tables: &Tables,
+    tables: &'a Tables,
     table: &Word,
     filter: Option<&Filter>,
     from: u64,
     to: u64,
-) -> Result<Pieces, OverFail>
+) -> Result<LentPieces<'a>, OverFail>
     ensures value { IfOk result (IsSelect tables.now table.now (option_copied filter.entry) from to) }
     ensures answer { Answers (select_over (columns_in tables.now) (state_at tables.now) table.now (option_copied filter.entry) from to) result }
 {

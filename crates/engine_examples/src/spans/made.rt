@@ -1,6 +1,6 @@
 //! Lines carried out on tables in memory, and the answers over spans as text.
 
-use sequenced_query::{OverFail, Pieces, over_join, over_select};
+use sequenced_query::{LentPieces, OverFail, over_join, over_select};
 use std::alloc::Global;
 use std::test::Fail;
 use stmt_text::{Line, Stmt, parse_line, print_row};
@@ -28,8 +28,8 @@ fn change(alloc: Global, tables: &mut Tables, moment: u64, write: Write) -> Resu
     Ok(())
 }
 
-fn add_pieces(alloc: Global, told: &mut String, pieces: &Pieces) -> Result<(), Fail> {
-    for piece in pieces.as_slice() {
+fn add_pieces(alloc: Global, told: &mut String, pieces: &LentPieces<'_>) -> Result<(), Fail> {
+    for piece in pieces.copy(alloc)?.as_slice() {
         let (start, stop) = (piece.start, piece.stop);
         told.push_str(format!(in alloc; "during {start} {stop} ")?.as_str())?;
         for byte in print_row(alloc, &piece.row)?.as_slice() {
@@ -37,7 +37,7 @@ fn add_pieces(alloc: Global, told: &mut String, pieces: &Pieces) -> Result<(), F
         }
         told.push_str("\n")?;
     }
-    let count = pieces.as_slice().len();
+    let count = pieces.len();
     told.push_str(format!(in alloc; "pieces {count}\n")?.as_str())?;
     Ok(())
 }
@@ -45,7 +45,7 @@ fn add_pieces(alloc: Global, told: &mut String, pieces: &Pieces) -> Result<(), F
 fn add_answer(
     alloc: Global,
     told: &mut String,
-    answer: Result<Pieces, OverFail>,
+    answer: Result<LentPieces<'_>, OverFail>,
 ) -> Result<(), Fail> {
     match answer {
         Ok(pieces) => add_pieces(alloc, told, &pieces),
