@@ -3,6 +3,7 @@ use Rattle.std.proofs.Common.{◌≡◌, ◌⊎◌, inl, inr, ℕ, zero, suc, �
 use Rattle.std.specs.BTreeMap.{is_at}
 use Rattle.std.specs.Map.{lookup}
 use Rattle.std.specs.Option.{unwrap_or}
+use Rattle.std.specs.Ordering.{is_eq}
 use Rattle.std.proofs.lemmas.List.{drop_all, length-append}
 use Rattle.tuple_bytes.specs.Order.{name_cmp, value_cmp}
 use Rattle.tuple_bytes.specs.declared.value.Value.{Value}
@@ -15,17 +16,15 @@ use Rattle.history_model.specs.Answers.{write_key, write_name}
 use Rattle.history_model.specs.Values.{key_of, same_name, same_key}
 use Rattle.history_model.proofs.Pending.{equal_of}
 use Rattle.tt_table.specs.Known.{is_of_key, NoneOfKey}
+use Rattle.stmt_text.specs.declared.stmt.Stmt.{Stmt}
+use Rattle.stmt_text.specs.declared.stmt.Stmt.TheVariants as stmts
 use Rattle.store_engine.specs.declared.fail.StoreFail.{StoreFail}
 use Rattle.session_model.specs.declared.place.Place.{Place}
-use Rattle.session_model.specs.declared.place.Place.TheVariants.{Key}
+use Rattle.session_model.specs.declared.place.Place.TheVariants.{Key, Existence}
 use Rattle.session_model.specs.PlaceOrder.{place_cmp}
 use Rattle.session_model.specs.Statements.{pend, pended, size_fault}
 use Rattle.session_index.proofs.Noting.{same_is}
-use Rattle.session_core.specs.Noted.{Lasts, AreLasts, HasKeyOf, IsUpTo, KeepsLasts, SetsLasts, last_at}
-
-pub absent : (o : Option ℕ) (b : Bool) → b ≡ is_some o → b ≡ false → o ≡ None
-absent None b is none = refl
-absent (Some n) b is none = absurd cc
+use Rattle.session_core.specs.Noted.{Lasts, AreLasts, HasKeyOf, HasNamed, IsRead, IsUpTo, IsUpToRead, KeepsLasts, NoneOfRead, SetsLasts, last_at}
 
 pub keeps_both : (old between new : Lasts) → KeepsLasts old between → KeepsLasts between new → KeepsLasts old new
 keeps_both old between new first later q = later q ∙ first q
@@ -57,6 +56,18 @@ module _ (place : Place) (n : ℕ) (old new : Lasts) (puts : (q : Place) → loo
       by true e = at_by q true e ∙ zeroed ∙ sym (ap (λ (o : Option ℕ). unwrap_or o 0) (subst (λ (p : Place). lookup (is_at (place_cmp p)) old ≡ None) (same_is place q e) none))
       by false e = at_by q false e
 
+-- ---- what was read
+
+-- a place that was found is there, and one that was not is not
+pub found_read : (lasts : Lasts) (place : Place) (o : Option ℕ) (n : ℕ) → o ≡ lookup (is_at (place_cmp place)) lasts → o ≡ Some n → IsRead lasts place
+found_read lasts place o n is some = ap is_some (sym is ∙ some)
+
+-- the table that was named last
+pub named_read : (lasts : Lasts) (named : Option (List ℕ)) (name table : List ℕ) → HasNamed lasts named → named ≡ Some name → is_eq (name_cmp name table) ≡ true → IsRead lasts (Existence table)
+named_read lasts named name table has is same =
+    subst (λ (t : List ℕ). IsRead lasts (Existence t)) (names_exact name table (equal_of (name_cmp name table) same))
+    (subst (λ (o : Option (List ℕ)). HasNamed lasts o) is has)
+
 -- ---- the operations
 
 module _ (n : ℕ) (old : Lasts) (pending : List Op) (behind : length pending ≤ n) (are : AreLasts old pending) where
@@ -70,6 +81,10 @@ module _ (n : ℕ) (old : Lasts) (pending : List Op) (behind : length pending �
   pub none_behind : (last : ℕ) (change : Write) → IsUpTo n old last change → NoneOfKey (write_name change) (write_key change) (drop last pending)
   none_behind last change (inl at) = subst (λ (k : ℕ). NoneOfKey (write_name change) (write_key change) (drop k pending)) (sym at) (are (write_name change) (write_key change))
   none_behind last change (inr all) = subst (λ (l : List Op). NoneOfKey (write_name change) (write_key change) l) (sym (drop_all last pending (omega arith))) tt
+
+pub none_read : (lasts : Lasts) (pending : List Op) → AreLasts lasts pending → (stmt : Stmt) (last : ℕ) → IsUpToRead lasts stmt last → NoneOfRead pending stmt last
+none_read lasts pending are (stmts.Get table key moment) last at = subst (λ (k : ℕ). NoneOfKey table key (drop k pending)) (sym at) (are table key)
+none_read lasts pending are stmt last at = tt
 
 module _ (n : ℕ) (lasts : Lasts) (name : List ℕ) (key : Value) where
   same_place : (t : List ℕ) (k : Value) → last_at lasts (Key t k) ≡ n → (a : Bool) → same_name t name ≡ a → (b : Bool) → same_key k key ≡ b → (a && b) ≡ true → last_at lasts (Key name key) ≡ n

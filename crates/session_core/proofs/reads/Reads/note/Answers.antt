@@ -13,3 +13,9 @@ returns-in-Update-clause-value c = subst (λ (s : Stmt). OnOk c.set_row-in-Updat
 
 pub returns-in-Delete-clause-value : goal.returns-in-Delete-clause-value
 returns-in-Delete-clause-value c = subst (λ (s : Stmt). OnOk c.set_key.result (AreSameReads (keys_of c.set_key.new.self) (keys_of c.args.self.now ++ reads_of s))) (sym c.in-Delete.is) c.set_key.ensures.value
+
+pub returns-in-Get-clause-value : goal.returns-in-Get-clause-value
+returns-in-Get-clause-value c = subst (λ (s : Stmt). OnOk c.add_key.result (AreSameReads (keys_of c.add_key.new.self) (keys_of c.args.self.now ++ reads_of s))) (sym c.in-Get.is) c.add_key.ensures.value
+
+pub returns-in-History-clause-value : goal.returns-in-History-clause-value
+returns-in-History-clause-value c = subst (λ (s : Stmt). OnOk c.add_key-in-History.result (AreSameReads (keys_of c.add_key-in-History.new.self) (keys_of c.args.self.now ++ reads_of s))) (sym c.in-History.is) c.add_key-in-History.ensures.value
