@@ -6,7 +6,7 @@ use Rattle.outside_words.proofs.Told.{told_map}
 use Rattle.tuple_bytes.specs.declared.header.Header.{Header}
 use Rattle.tuple_bytes.specs.declared.item.Item.{Item}
 use Rattle.history_model.specs.declared.stored.Stored.{Stored}
-use Rattle.history_model.specs.History.{History, history}
+use Rattle.history_model.specs.History.{History, history, txns}
 use Rattle.history_model.specs.Stored.{stored}
 use Rattle.notary_link.specs.declared.notary.NotaryLimits.{NotaryLimits}
 use Rattle.notary_link.specs.Notary.{Lists, Entry}
@@ -18,7 +18,7 @@ use Rattle.validator.specs.Verdicts.{Validates}
 use Rattle.validator.proofs.Validated.{has_history}
 use Rattle.audit_steps.specs.declared.auditing.Auditing.{Auditing}
 use Rattle.audit_steps.specs.declared.next.Next.TheVariants as nexts
-use Rattle.audit_steps.specs.Auditing.{AreChainsOf, GranulesRise, IsAuditOf}
+use Rattle.audit_steps.specs.Auditing.{AreTakenOrNone, GranulesRise, IsAuditOf}
 use Rattle.audit_steps.specs.Pieces.{HasMore}
 use Rattle.audit_steps.specs.Steps.{HasReadAll, IsAtEnd, NextIs}
 use Rattle.audit_steps.proofs.KeptLinks.{chain_of}
@@ -38,7 +38,7 @@ module _ (id now tiles : ℕ) (limits : NotaryLimits) (was is : Option (List Ent
   by_chains a c (Some bytes) some are told = λ at_end.
       let all : HasReadAll id bytes a = subst (IsAtEnd id bytes) some at_end in
       let h = history a.header (stored bytes).items in
-      let chain : IsChainOf c h = chain_of a.header (stored bytes).items c (subst (AreChainsOf a.header (stored bytes).items) are all.chains) in
+      let chain : IsChainOf c h = chain_of a.header (stored bytes).items c (subst (AreTakenOrNone a.header (stored bytes).items) are all.chains) in
       told_map o z _ _ told (λ lists later next count. next (stored bytes) h (has_history id (stored bytes) a.header all.header all.id_is) chain count)
 
   -- no history
@@ -59,7 +59,7 @@ fell None items header is fall rise = cc is
 none_rise : (id : ℕ) (audit : Option Auditing) (a : Auditing) (bytes : List ℕ) → audit ≡ Some a → a.chains ≡ None → IsAtEnd id bytes audit → GranulesRise bytes → ⊥
 none_rise id audit a bytes some none at_end rise =
     let all : HasReadAll id bytes a = subst (IsAtEnd id bytes) some at_end in
-    fell (stored bytes).header (stored bytes).items a.header all.header (subst (AreChainsOf a.header (stored bytes).items) none all.chains) rise
+    fell (stored bytes).header (stored bytes).items a.header all.header (subst (AreTakenOrNone a.header (stored bytes).items) none all.chains) rise
 
 pub told_fell : (P : Type 0) (id : ℕ) (audit : Option Auditing) (a : Auditing) (reads : Option (List ℕ)) → audit ≡ Some a → a.chains ≡ None → IfSome reads (λ bytes. IsAtEnd id bytes audit → GranulesRise bytes → P)
 told_fell P id audit a None some none = tt
@@ -94,6 +94,20 @@ module _ (id : ℕ) (w b : Option Auditing) where
           elim_few : mid ≤ old + 512 → (GranulesRise bytes → new ≡ mid) → Going ⊎ GranulesRise bytes → new ≤ old + 512
           elim_few most is (inl going) = absurd (never going)
           elim_few most is (inr rise) = (let at = is rise in omega (arith, most, at))
+
+  -- whether granules fall or not
+  pub within_most : (old mid : ℕ) (reads : Option (List ℕ)) → IfSome reads (λ bytes. IsAuditOf id w bytes → mid ≤ old + 512) → IfSome reads (λ bytes. IsAuditOf id w bytes → mid ≤ old + (512 + length (txns (stored bytes).items)))
+  within_most old mid None few = tt
+  within_most old mid (Some bytes) few = λ audit. (let most = few audit in omega (arith, most))
+
+  pub ends_most : (old mid new : ℕ) (reads near : Option (List ℕ)) → near ≡ reads → IfSome reads (λ bytes. IsAuditOf id w bytes → mid ≤ old + 512)
+      → IfSome near (λ bytes. new ≤ mid + length (txns (stored bytes).items)) → IfSome reads (λ bytes. IsAuditOf id w bytes → new ≤ old + (512 + length (txns (stored bytes).items)))
+  ends_most old mid new reads near same few more = by reads few (subst (λ (o : Option (List ℕ)). IfSome o (λ bytes. new ≤ mid + length (txns (stored bytes).items))) same more)
+    where
+      by : (reads : Option (List ℕ)) → IfSome reads (λ bytes. IsAuditOf id w bytes → mid ≤ old + 512) → IfSome reads (λ bytes. new ≤ mid + length (txns (stored bytes).items))
+          → IfSome reads (λ bytes. IsAuditOf id w bytes → new ≤ old + (512 + length (txns (stored bytes).items)))
+      by None few more = tt
+      by (Some bytes) few more = λ audit. (let most = few audit in omega (arith, most, more))
 
   pub ends_nowhere : (P : Type 0) (reads : Option (List ℕ)) → IfSome reads Ends → (b ≡ None → P) → IfSome reads (λ bytes. IsAuditOf id w bytes → history_with id (stored bytes) ≡ None → P)
   ends_nowhere P None ends by = tt

@@ -11,7 +11,7 @@ use Rattle.validator.proofs.Validated as validated
 use Rattle.audit_steps.specs.declared.auditing.Auditing.{Auditing}
 use Rattle.audit_steps.specs.declared.piece.Piece.{Piece}
 use Rattle.audit_steps.specs.declared.next.Next.TheVariants as nexts
-use Rattle.audit_steps.specs.Auditing.{AreChainsOf, IsAuditOf, IsUnderWay, read_by}
+use Rattle.audit_steps.specs.Auditing.{AreTakenOrNone, IsAuditOf, IsUnderWay, read_by}
 use Rattle.audit_steps.specs.Steps.{IsPieceOf, NextIs}
 
 -- a history is stored under the id
@@ -27,8 +27,8 @@ module _ (id : ℕ) (x : List ℕ) (w : Option Auditing) (a : Auditing) (p : Pie
     record {
       header = u.header ∙ ap Some (sym piece.header);
       id_is = ap (λ (h : Header). h.id) piece.header ∙ u.id_is;
-      chains = subst (λ (h : Header). AreChainsOf h (stored x).items p.auditing.chains) (sym piece.header)
-          (subst (λ (items : List Item). AreChainsOf a.header items p.auditing.chains) (take_all (a.read + 256) (stored x).items (few is)) piece.chains);
+      chains = subst (λ (h : Header). AreTakenOrNone h (stored x).items p.auditing.chains) (sym piece.header)
+          (subst (λ (items : List Item). AreTakenOrNone a.header items p.auditing.chains) (take_all (a.read + 256) (stored x).items (few is)) piece.chains);
     },
     λ more. (let left = more.left in let most = few is in omega (arith, left, most, begun)),
   )

@@ -13,7 +13,7 @@ use Rattle.segment_file.specs.Places.{IsPlaceOf}
 use Rattle.segment_file.specs.Parts.{IsPartOf}
 use Rattle.segment_file.proofs.FirstPlace.{first_place}
 use Rattle.audit_steps.specs.declared.auditing.Auditing.{Auditing}
-use Rattle.audit_steps.specs.Auditing.{AreChainsOf, IsUnderWay}
+use Rattle.audit_steps.specs.Auditing.{AreTakenOrNone, IsUnderWay}
 use Rattle.audit_steps.specs.Steps.{IsPieceOf}
 
 -- ---- at the head
@@ -22,13 +22,13 @@ header_some : (o : Option Header) (found : List (List ℕ) × ℕ) (h : Header) 
 header_some (Some g) found h is = refl
 header_some None found h is = absurd (cc is)
 
-module _ (id : ℕ) (h : Header) (a : Auditing) (ours : h.id ≡ id) (head : a.header ≡ h) (none : a.read ≡ 0) (at : a.place ≡ 64) (chains : AreChainsOf h [] a.chains) where
+module _ (id : ℕ) (h : Header) (a : Auditing) (ours : h.id ≡ id) (head : a.header ≡ h) (none : a.read ≡ 0) (at : a.place ≡ 64) (chains : AreTakenOrNone h [] a.chains) where
   under_way : (bytes : List ℕ) → Some h ≡ (stored bytes).header → IsUnderWay id bytes a
   under_way bytes is = record {
     header = sym is ∙ ap Some (sym head);
     id_is = ap (λ (x : Header). x.id) head ∙ ours;
     place = subst (λ (n : ℕ). IsPlaceOf n a.place bytes) (sym none) (subst (λ (p : ℕ). IsPlaceOf 0 p bytes) (sym at) (first_place bytes (header_some (front_header bytes) (found_behind bytes) h is)));
-    chains = subst (λ (x : Header). AreChainsOf x (take a.read (stored bytes).items) a.chains) (sym head) (subst (λ (n : ℕ). AreChainsOf h (take n (stored bytes).items) a.chains) (sym none) chains);
+    chains = subst (λ (x : Header). AreTakenOrNone x (take a.read (stored bytes).items) a.chains) (sym head) (subst (λ (n : ℕ). AreTakenOrNone h (take n (stored bytes).items) a.chains) (sym none) chains);
   }
 
   pub told_begun : (reads : Option (List ℕ)) → IfSome reads (λ bytes. Some h ≡ (stored bytes).header) → IfSome reads (λ bytes. IsUnderWay id bytes a × (a.read ≡ 0))
@@ -71,7 +71,7 @@ module _ (a : Auditing) (p : Part) where
   told_steps None old new few parts = tt
   told_steps (Some bytes) old new few parts = λ id u. let part = parts a.read u.place in let most = few_steps 256 (drop a.read (stored bytes).items) p.items part.items in omega (arith, few, most)
 
-  module _ (read : ℕ) (chains : Option Chained) (more : read ≡ a.read + 256) (takes : (header : Header) (taken : List Item) → AreChainsOf header taken a.chains → AreChainsOf header (taken ++ p.items) chains) where
+  module _ (read : ℕ) (chains : Option Chained) (more : read ≡ a.read + 256) (takes : (header : Header) (taken : List Item) → AreTakenOrNone header taken a.chains → AreTakenOrNone header (taken ++ p.items) chains) where
     abbrev later : Auditing
     later = record { header = a.header; read = read; place = p.end; chains = chains }
 
@@ -79,8 +79,8 @@ module _ (a : Auditing) (p : Part) where
       front : take a.read (stored bytes).items ++ p.items ≡ take (a.read + 256) (stored bytes).items
       front = ap (λ (l : List Item). take a.read (stored bytes).items ++ l) part.items ∙ take_then a.read 256 (stored bytes).items
 
-      taken : AreChainsOf a.header (take (a.read + 256) (stored bytes).items) chains
-      taken = subst (λ (l : List Item). AreChainsOf a.header l chains) front (takes a.header (take a.read (stored bytes).items) u.chains)
+      taken : AreTakenOrNone a.header (take (a.read + 256) (stored bytes).items) chains
+      taken = subst (λ (l : List Item). AreTakenOrNone a.header l chains) front (takes a.header (take a.read (stored bytes).items) u.chains)
 
       piece : IsPieceOf id bytes a (record { auditing = later; last = p.last })
       piece = record {
@@ -89,7 +89,7 @@ module _ (a : Auditing) (p : Part) where
           header = u.header;
           id_is = u.id_is;
           place = subst (λ (n : ℕ). IsPlaceOf n p.end bytes) (sym more) (part.goes_on e);
-          chains = subst (λ (n : ℕ). AreChainsOf a.header (take n (stored bytes).items) chains) (sym more) taken;
+          chains = subst (λ (n : ℕ). AreTakenOrNone a.header (take n (stored bytes).items) chains) (sym more) taken;
         };
         read = λ e. more;
         header = refl;

@@ -7,7 +7,7 @@ use Rattle.history_model.specs.Stored.{front_header, found_behind, items_of, sto
 use Rattle.segment_file.specs.Places.{KeepsPlaces}
 use Rattle.segment_file.proofs.Accepted.{items_count, found_accepted}
 use Rattle.audit_steps.specs.declared.auditing.Auditing.{Auditing}
-use Rattle.audit_steps.specs.Auditing.{AreChainsOf, IsUnderWay, IsAuditOf, AuditStays, read_by}
+use Rattle.audit_steps.specs.Auditing.{AreTakenOrNone, IsUnderWay, IsAuditOf, AuditStays, read_by}
 
 -- no more items are read than are stored
 few_under : (o : Option Header) (found : List (List ℕ) × ℕ) (a : Auditing) → (stored_under o found).header ≡ Some a.header → a.read ≤ length (items_of found.0) → a.read ≤ length (stored_under o found).items
@@ -33,7 +33,7 @@ module _ (id : ℕ) (a : Auditing) (x c : List ℕ) (more : List Item) (u : IsUn
     header = header ∙ u.header;
     id_is = u.id_is;
     place = keeps.each a.read a.place u.place;
-    chains = subst (λ (l : List Item). AreChainsOf a.header l a.chains) front u.chains;
+    chains = subst (λ (l : List Item). AreTakenOrNone a.header l a.chains) front u.chains;
   }
 
 pub audit_stays : AuditStays

@@ -17,7 +17,7 @@ use Rattle.history_model.specs.Stored.{IsStorable}
 use Rattle.policy_eras.specs.Policy.{policy_of}
 use Rattle.chain_state.specs.Chained.{Chained, AreTaken, IsItemTaken, IsItemRefused, steps_of, open_of, are_chained}
 use Rattle.chain_state.proofs.Gathering.{taken_more, refused_from, none_later, not_chained, steps_more, steps_in}
-use Rattle.audit_steps.specs.Auditing.{AreChainsOf}
+use Rattle.audit_steps.specs.Auditing.{AreTakenOrNone}
 
 pub when : (b : Bool) (P Q : Type 0) → b ≡ true → MatchBool b P Q → P
 when true P Q e p = p
@@ -50,11 +50,11 @@ module _ (items : List Item) (spelled : List (List ℕ)) (i : ℕ) (b : List ℕ
   pub steps_few : steps_of (take (i + 1) items) ≤ steps_of items
   steps_few = (let le = steps_in (take (i + 1) items) (drop (i + 1) items) in let all = ap steps_of (take-append-drop (i + 1) items) in omega (arith, le, all))
 
-  module _ (header : Header) (taken : List Item) (c : Chained) (were : AreChainsOf header (taken ++ take i items) (Some c)) where
+  module _ (header : Header) (taken : List Item) (c : Chained) (were : AreTakenOrNone header (taken ++ take i items) (Some c)) where
     behind : (taken ++ take i items) ++ item ∷ [] ≡ taken ++ take (i + 1) items
     behind = append_assoc taken (take i items) (item ∷ []) ∙ ap (λ (l : List Item). taken ++ l) (sym more)
 
-    pub next_taken : (next : Chained) → IsItemTaken item c next → AreChainsOf header (taken ++ take (i + 1) items) (Some next)
+    pub next_taken : (next : Chained) → IsItemTaken item c next → AreTakenOrNone header (taken ++ take (i + 1) items) (Some next)
     next_taken next took = subst (λ (l : List Item). AreTaken header (policy_of (history header taken)) l next) behind (taken_more header (policy_of (history header taken)) (taken ++ take i items) c were item next took)
 
     pub next_refused : IsItemRefused item c → are_chained (history header (taken ++ items)) ≡ false
@@ -70,9 +70,9 @@ no_open (Some n) e = absurd (false≢true (sym e))
 no_open None e = refl
 
 -- where the chains fell they stay so
-pub none_taken : (header : Header) (taken items : List Item) (chains : Option Chained) → chains ≡ None → AreChainsOf header taken chains → are_chained (history header (taken ++ items)) ≡ false
+pub none_taken : (header : Header) (taken items : List Item) (chains : Option Chained) → chains ≡ None → AreTakenOrNone header taken chains → are_chained (history header (taken ++ items)) ≡ false
 none_taken header taken items chains none were =
-    let fell : are_chained (history header taken) ≡ false = subst (AreChainsOf header taken) none were in
+    let fell : are_chained (history header taken) ≡ false = subst (AreTakenOrNone header taken) none were in
     not_chained header (taken ++ items) (none_later header taken items (no_open (open_of (history header taken)) fell))
 
 -- what takes an item stays under its header

@@ -9,21 +9,17 @@ use Rattle.chain_state.specs.Chained.{Chained, AreTaken, are_chained}
 use Rattle.segment_file.specs.Places.{IsPlaceOf, KeepsPlaces}
 use Rattle.audit_steps.specs.declared.auditing.Auditing.{Auditing}
 
--- how many items a piece reads at most
-abbrev pub piece : ℕ
-piece = 256
-
 -- the chains of these items under a header; there are none where a granule fell or was too great
-abbrev pub AreChainsOf : Header → List Item → Option Chained → Type 0
-AreChainsOf header taken (Some c) = AreTaken header (policy_of (history header taken)) taken c
-AreChainsOf header taken None = are_chained (history header taken) ≡ false
+abbrev pub AreTakenOrNone : Header → List Item → Option Chained → Type 0
+AreTakenOrNone header taken (Some c) = AreTaken header (policy_of (history header taken)) taken c
+AreTakenOrNone header taken None = are_chained (history header taken) ≡ false
 
 -- an audit under way has read the first items of these bytes, and stands behind them
 pub record IsUnderWay (id : ℕ) (x : List ℕ) (a : Auditing) : Type 0 where
   pub header : (stored x).header ≡ Some a.header
   pub id_is : a.header.id ≡ id
   pub place : IsPlaceOf a.read a.place x
-  pub chains : AreChainsOf a.header (take a.read (stored x).items) a.chains
+  pub chains : AreTakenOrNone a.header (take a.read (stored x).items) a.chains
 
 -- it is as new, or under way in these bytes
 abbrev pub IsAuditOf : ℕ → Option Auditing → List ℕ → Type 0

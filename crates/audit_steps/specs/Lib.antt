@@ -1,3 +1,4 @@
 pub mod Auditing
+pub mod PieceSize
 pub mod Pieces
 pub mod Steps

@@ -9,7 +9,8 @@ use Rattle.validator.specs.Verdicts.{questions}
 use Rattle.audit_steps.specs.declared.auditing.Auditing.{Auditing}
 use Rattle.audit_steps.specs.declared.audit.Audit.{Audit}
 use Rattle.audit_steps.specs.declared.audit.Audit.TheVariants as audits
-use Rattle.audit_steps.specs.Auditing.{piece, read_by}
+use Rattle.audit_steps.specs.Auditing.{read_by}
+use Rattle.audit_steps.specs.PieceSize.{piece}
 
 -- the bytes have a header with the id, and more items are left than a piece reads
 pub record HasMore (id : ℕ) (a : Option Auditing) (x : List ℕ) : Type 0 where

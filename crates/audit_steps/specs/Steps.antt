@@ -7,7 +7,8 @@ use Rattle.audit_steps.specs.declared.auditing.Auditing.{Auditing}
 use Rattle.audit_steps.specs.declared.piece.Piece.{Piece}
 use Rattle.audit_steps.specs.declared.next.Next.{Next}
 use Rattle.audit_steps.specs.declared.next.Next.TheVariants as nexts
-use Rattle.audit_steps.specs.Auditing.{piece, read_by, AreChainsOf, IsUnderWay}
+use Rattle.audit_steps.specs.Auditing.{read_by, AreTakenOrNone, IsUnderWay}
+use Rattle.audit_steps.specs.PieceSize.{piece}
 use Rattle.audit_steps.specs.Pieces.{HasMore}
 
 -- ---- what is kept
@@ -25,7 +26,7 @@ pub record IsPieceOf (id : ℕ) (x : List ℕ) (a : Auditing) (p : Piece) : Type
   pub goes_on : p.last ≡ false → IsUnderWay id x p.auditing
   pub read : p.last ≡ false → p.auditing.read ≡ a.read + piece
   pub header : p.auditing.header ≡ a.header
-  pub chains : AreChainsOf a.header (take (a.read + piece) (stored x).items) p.auditing.chains
+  pub chains : AreTakenOrNone a.header (take (a.read + piece) (stored x).items) p.auditing.chains
 
 -- ---- what follows
 
@@ -39,7 +40,7 @@ pub record IsNext (id : ℕ) (x : List ℕ) (a : Option Auditing) (b : Auditing)
 pub record HasReadAll (id : ℕ) (x : List ℕ) (a : Auditing) : Type 0 where
   pub header : (stored x).header ≡ Some a.header
   pub id_is : a.header.id ≡ id
-  pub chains : AreChainsOf a.header (stored x).items a.chains
+  pub chains : AreTakenOrNone a.header (stored x).items a.chains
 
 -- the audit at its end; there is none where the bytes have no header with the id
 abbrev pub IsAtEnd : ℕ → List ℕ → Option Auditing → Type 0

@@ -1,18 +1,20 @@
 //! The auditor.
 
-ghost use Rattle.std.specs.Prelude.{◌≡◌, ◌⊎◌, ◌≤◌, ◌+◌, ⊤, None, IfSome, IfOk, IfErr};
+ghost use Rattle.std.specs.Prelude.{◌≡◌, ◌⊎◌, ◌≤◌, ◌+◌, ⊤, None, IfSome, IfOk, IfErr, length};
 ghost use Rattle.outside_words.specs.Faults.{HasCause};
 ghost use Rattle.outside_words.specs.Shown.{ShowsFaults};
 ghost use Rattle.outside_words.specs.Told.{WhereTold};
 ghost use Rattle.disk_words.specs.Disk as disks;
 ghost use Rattle.notary_link.specs.Notary as notaries;
+ghost use Rattle.history_model.specs.History.{txns};
 ghost use Rattle.history_model.specs.Stored.{stored};
 ghost use Rattle.audit_model.specs.Altered.{history_with};
 ghost use Rattle.validator.specs.declared.fail.AuditFail.TheVariants.{DiskFault, NotaryFault};
 ghost use Rattle.validator.specs.Fails.{disk_in_doubt, notary_in_doubt};
 ghost use Rattle.validator.specs.Desk.{KeepsSound, desk};
 ghost use Rattle.validator.specs.Verdicts.{Validates, MakesMark, IsOfValidation, ValidatesNone};
-ghost use Rattle.audit_steps.specs.Auditing.{IsAuditOf, GranulesRise, read_by, piece};
+ghost use Rattle.audit_steps.specs.Auditing.{IsAuditOf, GranulesRise, read_by};
+ghost use Rattle.audit_steps.specs.PieceSize.{piece};
 ghost use Rattle.audit_steps.specs.Pieces.{HasMore, IsGoing, GoesOnWith, WhereLast, StandsAt, asks};
 
 use crate::audit::Audit;
@@ -82,6 +84,7 @@ impl Auditor {
             (desk (D.state disk.old) (N.state notary.old)) (desk (D.state disk.new) (N.state notary.new)) }
         ensures asked { IfOk result (λ audit. (N.state notary.new).asked ≤ (N.state notary.old).asked + asks audit) }
         ensures steps { IfSome (D.state disk.old).reads (λ bytes. IsAuditOf id self.old bytes → IsGoing result ⊎ GranulesRise bytes → steps.new ≤ steps.old + 512) }
+        ensures most { IfSome (D.state disk.old).reads (λ bytes. IsAuditOf id self.old bytes → steps.new ≤ steps.old + (512 + length (txns (stored bytes).items))) }
         ensures disk_frame { disks.GoesOn (D.state disk.old) (D.state disk.new) }
         ensures notary_frame { notaries.GoesOn (N.state notary.old) (N.state notary.new) }
         ensures disk_cause { HasCause DiskFault (D.state disk.old).faults (D.state disk.new).faults result }

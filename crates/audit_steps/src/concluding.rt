@@ -8,7 +8,7 @@ ghost use Rattle.disk_words.specs.Disk as disks;
 ghost use Rattle.notary_link.specs.Notary as notaries;
 ghost use Rattle.tuple_bytes.specs.Spelling.{FitsHeader};
 ghost use Rattle.history_model.specs.declared.stored.Stored.{Stored};
-ghost use Rattle.history_model.specs.History.{History};
+ghost use Rattle.history_model.specs.History.{History, txns};
 ghost use Rattle.history_model.specs.Stored.{stored};
 ghost use Rattle.audit_model.specs.Altered.{history_with};
 ghost use Rattle.chain_state.specs.Chained.{IsChainOf};
@@ -26,11 +26,10 @@ use disk_model::Disk;
 use history_model::Spelled;
 use notary_link::Notary;
 use policy_eras::Eras;
-use segment_file::read_any;
 use std::alloc::Global;
 use step_count::{Ledger, Steps};
 use tuple_bytes::Header;
-use validator::{AuditFail, Verdict, judge, judge_links, judge_nowhere};
+use validator::{AuditFail, Verdict, judge_file, judge_links, judge_nowhere};
 
 /// What a validation of the bytes answers, by an audit that has read all.
 pub(crate) fn conclude<D: Disk, N: Notary, L: Ledger>(
@@ -54,6 +53,7 @@ pub(crate) fn conclude<D: Disk, N: Notary, L: Ledger>(
     ensures same { disks.Unchanged (D.state disk.old) (D.state disk.new) }
     ensures asked { IfOk result (λ verdict. (N.state notary.new).asked ≤ (N.state notary.old).asked + questions verdict) }
     ensures steps { IfSome (D.state disk.old).reads (λ bytes. IsAtEnd id bytes audit → GranulesRise bytes → steps.new ≡ steps.old) }
+    ensures most { IfSome (D.state disk.old).reads (λ bytes. steps.new ≤ steps.old + length (txns (stored bytes).items)) }
     ensures disk_frame { disks.GoesOn (D.state disk.old) (D.state disk.new) }
     ensures notary_frame { notaries.GoesOn (N.state notary.old) (N.state notary.new) }
     ensures disk_cause { HasCause DiskFault (D.state disk.old).faults (D.state disk.new).faults result }
@@ -94,6 +94,7 @@ fn conclude_sealed<D: Disk, N: Notary, L: Ledger>(
     ensures same { disks.Unchanged (D.state disk.old) (D.state disk.new) }
     ensures asked { IfOk result (λ verdict. (N.state notary.new).asked ≤ (N.state notary.old).asked + questions verdict) }
     ensures steps { IfSome (D.state disk.old).reads (λ bytes. IsAtEnd id bytes audit → GranulesRise bytes → steps.new ≡ steps.old) }
+    ensures most { IfSome (D.state disk.old).reads (λ bytes. steps.new ≤ steps.old + length (txns (stored bytes).items)) }
     ensures disk_frame { disks.GoesOn (D.state disk.old) (D.state disk.new) }
     ensures notary_frame { notaries.GoesOn (N.state notary.old) (N.state notary.new) }
     ensures disk_cause { HasCause DiskFault (D.state disk.old).faults (D.state disk.new).faults result }
@@ -106,7 +107,7 @@ fn conclude_sealed<D: Disk, N: Notary, L: Ledger>(
             let header = auditing.header;
             match auditing.chains {
                 Some(chains) => judge_chains(alloc, notary, id, &header, chains, tiles, now),
-                None => judge_all(alloc, disk, notary, id, tiles, now, steps),
+                None => judge_file(alloc, disk, notary, id, tiles, now, steps),
             }
         }
         None => judge_nowhere(notary, id, tiles, now),
@@ -140,34 +141,4 @@ fn judge_chains<N: Notary>(
     let eras = Eras::of(header, &Spelled::new(alloc));
     let links = link_ends(alloc, chains, &eras, tiles)?;
     judge_links(notary, id, header, &eras, &links, tiles, now)
-}
-
-/// By all items, read once more: there are no chains.
-fn judge_all<D: Disk, N: Notary, L: Ledger>(
-    alloc: Global,
-    disk: &mut D,
-    notary: &mut N,
-    id: u64,
-    tiles: u32,
-    now: u64,
-    steps: &mut Steps<L>,
-) -> Result<Verdict, AuditFail>
-    ensures told { IfSome (D.state disk.old).reads (λ bytes.
-        WhereTold (N.state notary.old).lists (N.state notary.new).lists (λ lists later. length (lists.batches id) ≡ tiles + 1
-        → Validates id now (N.state notary.old).limits (stored bytes) result
-        (N.state notary.old).trace (N.state notary.new).trace lists later)) }
-    ensures none_other { IfErr result IsOfValidation }
-    ensures batches { WhereTold (N.state notary.old).lists (N.state notary.new).lists KeepsBatches }
-    ensures trace { WhereTold (N.state notary.old).trace (N.state notary.new).trace (MakesMark id now result) }
-    ensures same { disks.Unchanged (D.state disk.old) (D.state disk.new) }
-    ensures asked { IfOk result (λ verdict. (N.state notary.new).asked ≤ (N.state notary.old).asked + questions verdict) }
-    ensures disk_frame { disks.GoesOn (D.state disk.old) (D.state disk.new) }
-    ensures notary_frame { notaries.GoesOn (N.state notary.old) (N.state notary.new) }
-    ensures disk_cause { HasCause DiskFault (D.state disk.old).faults (D.state disk.new).faults result }
-    ensures disk_counted { ShowsFaults disk_in_doubt (D.state disk.old).faults (D.state disk.new).faults result }
-    ensures notary_cause { HasCause NotaryFault (N.state notary.old).faults (N.state notary.new).faults result }
-    ensures notary_counted { notaries.IsCounted notary_in_doubt (N.state notary.old) (N.state notary.new) result }
-{
-    let stored = read_any(alloc, disk)?;
-    judge(alloc, &stored, notary, id, tiles, now, steps)
 }

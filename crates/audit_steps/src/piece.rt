@@ -13,7 +13,7 @@ ghost use Rattle.audit_model.specs.Altered.{history_with};
 ghost use Rattle.chain_state.specs.Chained.{steps_of};
 ghost use Rattle.segment_file.specs.declared.fail.SegmentFail.TheVariants as segments;
 ghost use Rattle.segment_file.specs.Fail as segment_fails;
-ghost use Rattle.audit_steps.specs.Auditing.{AreChainsOf, IsUnderWay};
+ghost use Rattle.audit_steps.specs.Auditing.{AreTakenOrNone, IsUnderWay};
 ghost use Rattle.audit_steps.specs.Steps.{FitsTogether, IsPieceOf};
 
 use crate::auditing::Auditing;
@@ -69,7 +69,7 @@ fn at_head(alloc: Global, header: &Header) -> Result<Auditing, AllocError>
     ensures header { IfOk result (λ a. a.header ≡ header.now) }
     ensures read { IfOk result (λ a. a.read ≡ 0) }
     ensures place { IfOk result (λ a. a.place ≡ 64) }
-    ensures chains { IfOk result (λ a. AreChainsOf header.now [] a.chains) }
+    ensures chains { IfOk result (λ a. AreTakenOrNone header.now [] a.chains) }
     ensures fits { IfOk result FitsTogether }
 {
     let eras = Eras::of(header, &Spelled::new(alloc));
@@ -89,7 +89,7 @@ fn take_items<L: Ledger>(
     steps: &mut Steps<L>,
 ) -> Result<Option<Chains>, AllocError>
     requires storable { All IsStorable items.now }
-    ensures value { (header : Header) (taken : List Item) → AreChainsOf header taken chains → IfOk result (AreChainsOf header (taken ++ items.now)) }
+    ensures value { (header : Header) (taken : List Item) → AreTakenOrNone header taken chains → IfOk result (AreTakenOrNone header (taken ++ items.now)) }
     ensures under { (header : Header) → IfSome chains (λ c. c.header ≡ header) → IfOk result (λ later. IfSome later (λ c. c.header ≡ header)) }
     ensures steps { steps.new ≤ steps.old + steps_of items.now }
 {
@@ -112,8 +112,8 @@ fn take_all<L: Ledger>(
     steps: &mut Steps<L>,
 ) -> Result<bool, AllocError>
     requires storable { All IsStorable items.now }
-    ensures value { (header : Header) (taken : List Item) → AreChainsOf header taken (Some chains.old)
-        → IfOk result (λ b. MatchBool b (AreChainsOf header (taken ++ items.now) (Some chains.new)) (AreChainsOf header (taken ++ items.now) None)) }
+    ensures value { (header : Header) (taken : List Item) → AreTakenOrNone header taken (Some chains.old)
+        → IfOk result (λ b. MatchBool b (AreTakenOrNone header (taken ++ items.now) (Some chains.new)) (AreTakenOrNone header (taken ++ items.now) None)) }
     ensures under { chains.new.header ≡ chains.old.header }
     ensures steps { steps.new ≤ steps.old + steps_of items.now }
 {

@@ -26,7 +26,7 @@ use Rattle.store_world.specs.Found.{Found}
 use Rattle.store_world.specs.World.{World}
 use Rattle.store_world.specs.Standing.{OpenWorld, StoreIsIn}
 use Rattle.store_world.specs.Steps as world_steps
-use Rattle.store_world.specs.Steps.{intent_in, validated, has_more, audited}
+use Rattle.store_world.specs.Steps.{intent_in, validated, has_more, piece_audited}
 use Rattle.store_world.specs.Finding.{MayFile, MayFind}
 use Rattle.store_world.specs.LineCalls.{unless, filing_calls, notarize_calls, notary_calls, disk_calls, appends, items_added, end_of_store}
 use Rattle.store_world.proofs.LineItems.{none_added}
@@ -156,7 +156,7 @@ module _ (w : World) (now : ℕ) (found : Found) (bytes : List ℕ) where
   unfolding notary_calls world_steps.step
   of_other (lines.Plain stmts.Notarize) other some = absurd (other refl)
   of_other (lines.Plain stmts.Validate) other some = nothing_stored (validated w now found.verdict found.refusal) (with_validated w now found.verdict found.refusal).same.store
-  of_other (lines.Plain stmts.Audit) other some = nothing_stored (audited (has_more w) w now found.verdict found.refusal) (with_audit (has_more w) w now found.verdict found.refusal).same.store
+  of_other (lines.Plain stmts.Audit) other some = nothing_stored (piece_audited (has_more w) w now found.verdict found.refusal) (with_audit (has_more w) w now found.verdict found.refusal).same.store
   of_other line other some = absurd (some refl)
 
 pub none_before : (t : Scene) (id : Option ℕ) (line : Line) → (line ≡ notarize → ⊥) → ComeBefore 0 t id line

@@ -32,7 +32,7 @@ module _ (stores : Type 0) where
 
   pub ends_wanting : (line : Line) (w : World) (now : ℕ) (result : Result (List ℕ) LineFail) → IfErr result (λ fail. fail ≡ fails.NoMemory) → IfErr result (MayEndOn line w now stores)
   ends_wanting line w now (Ok text) only = tt
-  ends_wanting line w now (Err fail) only = subst (MayEndOn line w now stores) (sym only) (wanting (line_kind line), tt)
+  ends_wanting line w now (Err fail) only = subst (MayEndOn line w now stores) (sym only) (wanting (line_kind line), tt, tt)
 
   pub ends_refused : (result : Result (List ℕ) LineFail) → IfErr result (λ fail. fail ≡ fails.NoMemory) → IfErr result (IsOfStoring stores)
   ends_refused (Ok text) only = tt

@@ -19,7 +19,7 @@ use Rattle.forensic_report.specs.declared.fail.AnalyseFail.{AnalyseFail}
 use Rattle.forensic_report.specs.Analysis.{Analysis}
 use Rattle.store_world.specs.Found.{Found}
 use Rattle.store_world.specs.World.{World}
-use Rattle.store_world.specs.Steps.{Step, step, unless, on_tables, intent_in, carried_out, notarized, marked, validated, has_more, audited, analysed, algorithm_of}
+use Rattle.store_world.specs.Steps.{Step, step, unless, on_tables, intent_in, carried_out, notarized, marked, validated, has_more, piece_audited, analysed, algorithm_of}
 use Rattle.store_world.proofs.Validating.{validated_anew}
 use Rattle.store_world.proofs.Acknowledging.{by_line}
 use Rattle.line_runs.specs.Running.{Running, Timed, carry, answered, said_by, set_moment, seconds_of}
@@ -51,7 +51,7 @@ module _ (w : World) where
   of_validate now (Ok verdict) refusal = of_mark (mark_of verdict now) refusal (verdict_text verdict)
   of_validate now (Err fail) refusal = refl
 
-  of_audit : (b : Bool) (now : ℕ) (found : Result Verdict AuditFail) (refusal : Option AuditFail) → Keeps (audited b w now found refusal)
+  of_audit : (b : Bool) (now : ℕ) (found : Result Verdict AuditFail) (refusal : Option AuditFail) → Keeps (piece_audited b w now found refusal)
   of_audit true now found refusal = refl
   of_audit false now found refusal = subst Keeps (sym (validated_anew w 0 now found refusal)) (of_validate now found refusal)
 

@@ -176,7 +176,7 @@ module _ (line : Line) (now : ℕ) (runner last : Runner) (old new : Desk) where
           files = beside_map r.world _ _ s.files (λ lists later files. same_done _ _ _ _ before after later (IsOk {T = Answered} {E = LineFail} (Err fail)) (IsOk {T = List ℕ} {E = LineFail} (Err fail)) (λ ok. let never : false ≡ true = ok in absurd cc) files);
           sound = told_map old.notary.lists new.notary.lists _ _ h.1 (λ lists later k id only was. k id (stands_of r.world.id r.world.store r.world.sessions runner.world before at.stands.store) only was);
         };
-        only = (s.only, s.timely);
+        only = (s.only, s.timely, s.unasked);
       })
 
 -- ---- by what the line asks for
@@ -313,5 +313,5 @@ replies_none bytes runner last s filed clock still = from_same runner (desk s fi
   may = tt;
   finds = beside_any r.world (desk s filed) (desk s filed) (λ lists later. nothing_finds MayFind (λ w now. tt) runner.is_scripted r);
   goes = goes_still r (carry runner.is_scripted r nothing) (Err line_fails.NoMemory) runner last s filed all still at (ap (λ (x : Running). x.world) (carry_nothing runner.is_scripted r)) tt tt;
-  only = subst (λ (x : Result Line ParseFail). MayEndBy x r.world (seconds_of runner.is_scripted r nothing.second) (HasStored r (carry runner.is_scripted r nothing)) line_fails.NoMemory) (sym (blank_answer [] blank_nothing)) (tt, tt);
+  only = subst (λ (x : Result Line ParseFail). MayEndBy x r.world (seconds_of runner.is_scripted r nothing.second) (HasStored r (carry runner.is_scripted r nothing)) line_fails.NoMemory) (sym (blank_answer [] blank_nothing)) (tt, tt, tt);
 })

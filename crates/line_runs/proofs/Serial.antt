@@ -36,7 +36,7 @@ use Rattle.validator.specs.Verdicts.{mark_of}
 use Rattle.validator.specs.Texts.{verdict_text}
 use Rattle.store_world.specs.World.{World}
 use Rattle.store_world.specs.Found.{Found}
-use Rattle.store_world.specs.Steps.{Step, step, on_tables, after_statement, notarized, unless, carried_out, intent_in, reached, validated, has_more, audited, marked, algorithm_of}
+use Rattle.store_world.specs.Steps.{Step, step, on_tables, after_statement, notarized, unless, carried_out, intent_in, reached, validated, has_more, piece_audited, marked, algorithm_of}
 use Rattle.store_world.proofs.Validating.{with_audit}
 use Rattle.store_world.proofs.Acknowledging.{by_line}
 use Rattle.store_world.proofs.Analysing.{analysed_stays}
@@ -185,7 +185,7 @@ module _ (w : World) (logs : Logs) (s : Stays w logs) where
   validated_stays now (Ok verdict) refusal = marked_stays (mark_of verdict now) refusal (verdict_text verdict)
   validated_stays now (Err fail) refusal = s
 
-  audited_stays : (b : Bool) (now : ℕ) (found : Result Verdict AuditFail) (refusal : Option AuditFail) → Stays (audited b w now found refusal).world logs
+  audited_stays : (b : Bool) (now : ℕ) (found : Result Verdict AuditFail) (refusal : Option AuditFail) → Stays (piece_audited b w now found refusal).world logs
   audited_stays b now found refusal = let leaves = with_audit b w now found refusal in same_stays _ leaves.same.store leaves.same.sessions
 
   pub step_stays : (line : Line) (now : ℕ) (found : Found) → Stays (step w line now found).world (logged_in w line (step w line now found).text logs)

@@ -27,7 +27,7 @@ use Rattle.validator.specs.Texts.{verdict_text}
 use Rattle.store_world.specs.World.{World}
 use Rattle.store_world.specs.Found.{Found}
 use Rattle.validator.specs.Notarizing.{Heard}
-use Rattle.store_world.specs.Steps.{Step, step, on_tables, intent_in, notarized, unless, carried_out, validated, has_more, audited, analysed, algorithm_of, marked, reached, why_none}
+use Rattle.store_world.specs.Steps.{Step, step, on_tables, intent_in, notarized, unless, carried_out, validated, has_more, piece_audited, analysed, algorithm_of, marked, reached, why_none}
 use Rattle.store_world.specs.Acknowledged.{HasTxn, ok_text}
 use Rattle.store_world.specs.Appending.{IsStored, Extends, OnlyAppends, StepsAcknowledge, StepsOnlyAppend}
 use Rattle.store_world.proofs.Texts.{SaysOk, says_ok, reply_ok, refusal_no, notarized_no, validated_no, audited_no, analysed_no}
@@ -38,7 +38,7 @@ use Rattle.store_world.proofs.Analysing.{analysed_stays}
 -- a line is a notarization, a validation, a piece of an audit or an analysis, or goes to the tables
 pub by_line : (P : Line → Step → Type 0) (w : World) (line : Line) (now : ℕ) (found : Found)
     → ((line : Line) → P line (on_tables w w.store line now)) → P (lines.Plain stmts.Notarize) (notarized w w.store now found.heard found.refusal) → P (lines.Plain stmts.Validate) (validated w now found.verdict found.refusal)
-    → P (lines.Plain stmts.Audit) (audited (has_more w) w now found.verdict found.refusal)
+    → P (lines.Plain stmts.Audit) (piece_audited (has_more w) w now found.verdict found.refusal)
     → ((algorithm : LineAlgorithm) → P (lines.Plain (stmts.Analyse algorithm)) (analysed w (algorithm_of algorithm) found.analysis found.body)) → P line (step w line now found)
 unfolding step
 by_line P w (lines.Plain stmts.Notarize) now found tables notarizes validates audits analyses = notarizes
@@ -90,8 +90,8 @@ module _ (w : World) where
   validated_appends now (Ok verdict) refusal = marked_appends (mark_of verdict now) refusal (verdict_text verdict)
   validated_appends now (Err fail) refusal = appends_none w.store
 
-  audited_appends : (b : Bool) (now : ℕ) (found : Result Verdict AuditFail) (refusal : Option AuditFail) → Appends (audited b w now found refusal)
-  audited_appends b now found refusal = none_stored (audited b w now found refusal) (with_audit b w now found refusal).same.store
+  audited_appends : (b : Bool) (now : ℕ) (found : Result Verdict AuditFail) (refusal : Option AuditFail) → Appends (piece_audited b w now found refusal)
+  audited_appends b now found refusal = none_stored (piece_audited b w now found refusal) (with_audit b w now found refusal).same.store
 
 pub steps_append : StepsOnlyAppend
 steps_append w line now found = by_line (λ line s. Appends w s) w line now found (λ line. tables_append w w.store refl line now) (notarized_appends w w.store refl now found.heard found.refusal) (validated_appends w now found.verdict found.refusal)
@@ -140,5 +140,5 @@ module _ (w : World) (digits : List ℕ) where
 pub steps_acknowledge : StepsAcknowledge
 steps_acknowledge w line now found digits = by_line (λ line s. Acknowledges digits s) w line now found (λ line. tables_acknowledge w digits w.store line now)
     (says_else w digits (notarized w w.store now found.heard found.refusal) (notarized_no w w.store now found.heard found.refusal)) (says_else w digits (validated w now found.verdict found.refusal) (validated_no w now found.verdict found.refusal))
-    (says_else w digits (audited (has_more w) w now found.verdict found.refusal) (audited_no (has_more w) w now found.verdict found.refusal))
+    (says_else w digits (piece_audited (has_more w) w now found.verdict found.refusal) (audited_no (has_more w) w now found.verdict found.refusal))
     (λ algorithm. says_else w digits (analysed w (algorithm_of algorithm) found.analysis found.body) (analysed_no w (algorithm_of algorithm) found.analysis found.body))

@@ -1,5 +1,5 @@
 -- An analysis does to the world what the definition says: nothing, and its report is told.
-use Rattle.std.proofs.Common.{◌≡◌, ℕ, List, ◌∷◌, ◌++◌, length, Option, Some, None, Result, Ok, Err, refl, sym, ap, subst, ◌∙◌}
+use Rattle.std.proofs.Common.{◌≡◌, ℕ, false, List, ◌∷◌, ◌++◌, length, Option, Some, None, Result, Ok, Err, refl, sym, ap, subst, ◌∙◌}
 use Rattle.std.specs.Prelude.{⊤, IfSome, IfOk, IfErr, IsOk, OnOk, []}
 use Rattle.outside_words.specs.Told.{WhereTold}
 use Rattle.outside_words.proofs.Told.{told_map, told_same}
@@ -46,7 +46,7 @@ use Rattle.store_world.specs.Stepping.{IsReply, Goes, Steps}
 use Rattle.store_world.proofs.Between.{keeps_then}
 use Rattle.store_world.proofs.Left.{given, same_world, left, files_still, beside_by, beside_told}
 use Rattle.store_world.proofs.CallsTold.{calls_none}
-use Rattle.store_world.proofs.Faults.{ends_anyhow, ends_any_time}
+use Rattle.store_world.proofs.Faults.{ends_anyhow, ends_any_time, ends_asking}
 use Rattle.store_world.proofs.LineKinds.{shown, analyse_step, analyse_none}
 use Rattle.store_world.proofs.Replies.{replied}
 use Rattle.store_world.proofs.Validating.{world_history, none_stored, told_put, replies_as, told_unchanged}
@@ -139,6 +139,8 @@ module _ (algorithm : LineAlgorithm) (now : ℕ) (old new : State) (same : Uncha
               (left w held old new bytes i same only_now (analysed w (algorithm_of algorithm) f report) result (same_world w _ stays) (ap (λ (x : World). x.audited) stays) reply);
           only = ends_anyhow result;
           timely = ends_any_time None refl result;
+          quiet = tt;
+          unasked = ends_asking false refl result;
           finds = finds;
           files = beside_told w (desk old filed) (desk new filed_later) _ _ unchanged.lists (λ lists later beside keeps. subst (λ (x : Step). ListsGo w x.world (IsOk result) old new bytes bytes later) (sym is)
               (files_still w (analysed w (algorithm_of algorithm) f report).world (IsOk result) old new bytes bytes later (ap (λ (x : World). x.lists) stays) (keeps_then w.lists lists later beside.lists keeps)));

@@ -2,6 +2,7 @@
 use Rattle.std.proofs.Common.{◌≡◌, ℕ, ◌<◌, Bool, true, false, List, length, Option, Some, None, IfSome, Result, Ok, Err, IsOk, OnOk, IfOk, IfErr, refl, sym, ap, subst, ◌∙◌, arith}
 use Rattle.std.specs.Prelude.{◌+◌, nat_lt, ◌==◌, if◌then◌else◌}
 use Rattle.std.specs.Bool.{OnFalse}
+use Rattle.std.proofs.lemmas.Bool.{OnTrue_from}
 use Rattle.std.proofs.lemmas.Bool.Decides.{nat_tests}
 use Rattle.outside_words.specs.Told.{WhereTold}
 use Rattle.outside_words.proofs.Told.{told_same}
@@ -25,7 +26,8 @@ use Rattle.validator.specs.Verdicts.{Validates, MakesMark, IsOfValidation, Valid
 use Rattle.audit_steps.specs.declared.auditing.Auditing.{Auditing}
 use Rattle.audit_steps.specs.declared.audit.Audit.{Audit}
 use Rattle.audit_steps.specs.declared.audit.Audit.TheVariants.{Going, Found}
-use Rattle.audit_steps.specs.Auditing.{piece, read_by, IsAuditOf}
+use Rattle.audit_steps.specs.Auditing.{read_by, IsAuditOf}
+use Rattle.audit_steps.specs.PieceSize.{piece}
 use Rattle.audit_steps.specs.Pieces.{HasMore, IsGoing, GoesOnWith, WhereLast, StandsAt}
 use Rattle.store_world.specs.declared.answered.Answered.{Answered}
 use Rattle.store_world.specs.declared.fail.LineFail.{LineFail}
@@ -33,17 +35,18 @@ use Rattle.store_world.specs.declared.fail.LineFail.TheVariants as line_fails
 use Rattle.store_world.specs.World.{World, history_of}
 use Rattle.store_world.specs.Standing.{OpenWorld, IsIn}
 use Rattle.store_world.specs.Lists.{ListsGo}
-use Rattle.store_world.specs.Answers.{said, IsAnswer, audit_text}
+use Rattle.store_world.specs.Answers.{said, Replies, IsAnswer, audit_text}
+use Rattle.store_world.specs.Faults.{EndsUnasked}
 use Rattle.store_world.specs.CallsMade.{MakesLineCalls}
 use Rattle.store_world.specs.Finding.{MayBeValidated, FindsVerdict}
 use Rattle.store_world.specs.LineCalls.{audit_calls}
 use Rattle.store_world.specs.Parts.{StepsAuditing, with_auditing}
-use Rattle.store_world.specs.Steps.{Step, is_more_left, has_more, audited, audits_on, auditing_text}
+use Rattle.store_world.specs.Steps.{Step, is_more_left, has_more, piece_audited, audits_on, auditing_text}
 use Rattle.store_world.specs.Stepping.{Goes, Steps}
 use Rattle.store_world.proofs.LineKinds.{none_found, audit_step, audit_notes}
 use Rattle.store_world.proofs.Replies.{replied}
 use Rattle.store_world.proofs.CallsTold.{calls_none}
-use Rattle.store_world.proofs.Faults.{ends_anyhow, ends_any_time}
+use Rattle.store_world.proofs.Faults.{ends_anyhow, ends_any_time, ends_replied}
 use Rattle.store_world.proofs.Left.{given, left_auditing, files_still, beside_by, beside_same}
 use Rattle.store_world.proofs.Validating.{replies_as, world_history, told_unchanged, judges, last_piece}
 
@@ -103,9 +106,9 @@ module _ (now : ℕ) (w : World) (held : OpenWorld) (old new : State) (bytes : L
 
   -- it goes on, and the notary is left
   goes_on : has_more w ≡ true → filed_later ≡ filed → (result : Result Answered LineFail) (auditing : Option Auditing) → OnOk result (IsAuditOf w.id auditing bytes × (read_by auditing ≡ w.audited + piece))
-      → IfOk result (λ answered. answered ≡ said (auditing_text (w.audited + piece))) → To auditing result
-  goes_on more quiet result auditing stands reply =
-      let is = audit_step w now none_found.verdict none_found.refusal ∙ ap (λ (b : Bool). audited b w now none_found.verdict none_found.refusal) more in
+      → IfOk result (λ answered. answered ≡ said (auditing_text (w.audited + piece))) → IfErr result (EndsUnasked (has_more w)) → To auditing result
+  goes_on more quiet result auditing stands reply ends =
+      let is = audit_step w now none_found.verdict none_found.refusal ∙ ap (λ (b : Bool). piece_audited b w now none_found.verdict none_found.refusal) more in
       let none = audit_notes w now none_found.verdict none_found.refusal ∙ ap (λ (b : Bool). audit_calls b w now none_found.verdict) more in
       record {
         found = none_found;
@@ -116,6 +119,8 @@ module _ (now : ℕ) (w : World) (held : OpenWorld) (old new : State) (bytes : L
             (replies_as (audits_on w) (said (auditing_text (w.audited + piece))) result refl refl reply));
         only = ends_anyhow result;
         timely = ends_any_time None refl result;
+        quiet = OnTrue_from (has_more w) (filed_later ≡ filed) (λ goes. quiet);
+        unasked = ends;
         finds = beside_by w (desk old filed) (desk new filed_later) _ (λ lists later was told beside. subst (λ (b : Bool). OnFalse b (FindsVerdict w now none_found)) (sym more) tt);
         files = beside_same w (desk old filed) (desk new filed_later) (ap (λ (s : notaries.State). s.lists) quiet) _ (λ lists beside. subst (λ (x : Step). ListsGo w x.world (IsOk result) old new bytes bytes lists) (sym is)
             (files_still w (audits_on w).world (IsOk result) old new bytes bytes lists refl beside.lists));
@@ -133,18 +138,19 @@ module _ (now : ℕ) (w : World) (held : OpenWorld) (old new : State) (bytes : L
 
   -- where more is left
   module _ (more : has_more w ≡ true) (quiet : filed_later ≡ filed) (auditing : Option Auditing) (stays : IsAuditOf w.id auditing bytes) where
-    failed : (fail : LineFail) (result : Result Answered LineFail) → result ≡ Err fail → To auditing result
-    failed fail result is = subst (To auditing) (sym is) (goes_on more quiet (Err fail) auditing tt tt)
+    failed : (fail : LineFail) → EndsUnasked (has_more w) fail → (result : Result Answered LineFail) → result ≡ Err fail → To auditing result
+    failed fail ends result is = subst (To auditing) (sym is) (goes_on more quiet (Err fail) auditing tt tt ends)
 
-    of_going : (read : ℕ) (result : Result Answered LineFail) → IfOk result (λ answered. answered ≡ said (auditing_text read)) → read ≡ w.audited + piece → read_by auditing ≡ read → To auditing result
-    of_going read result reply is stands = goes_on more quiet result auditing (given result (stays, stands ∙ is))
-        (subst (λ (n : ℕ). IfOk result (λ answered. answered ≡ said (auditing_text n))) is reply)
+    of_going : (read : ℕ) (result : Result Answered LineFail) → Replies (said (auditing_text read)) result → read ≡ w.audited + piece → read_by auditing ≡ read → To auditing result
+    of_going read result replies is stands = goes_on more quiet result auditing (given result (stays, stands ∙ is))
+        (subst (λ (n : ℕ). IfOk result (λ answered. answered ≡ said (auditing_text n))) is (replied (said (auditing_text read)) result replies))
+        (ends_replied (has_more w) (said (auditing_text read)) result replies)
 
     pub going : (a : Result Audit AuditFail) (result : Result Answered LineFail) → IsAnswer audit_text a result → GoesOnWith (w.audited + piece) a → StandsAt a auditing → To auditing result
-    going (Ok (Going read)) result reply goes stands = of_going read result (replied (said (auditing_text read)) result reply) goes stands
+    going (Ok (Going read)) result reply goes stands = of_going read result reply goes stands
     going (Ok (Found verdict)) result reply goes stands = absurd goes
-    going (Err fails.DiskFault) result reply goes stands = failed line_fails.DiskFault result reply
-    going (Err fails.NoMemory) result reply goes stands = failed line_fails.NoMemory result reply
+    going (Err fails.DiskFault) result reply goes stands = failed line_fails.DiskFault tt result reply
+    going (Err fails.NoMemory) result reply goes stands = failed line_fails.NoMemory tt result reply
     going (Err fails.NotaryFault) result reply goes stands = absurd goes
     going (Err (fails.ClockBack last)) result reply goes stands = absurd goes
     going (Err fails.TooLate) result reply goes stands = absurd goes

@@ -14,7 +14,7 @@ use Rattle.store_world.specs.declared.answered.Answered.{Answered}
 use Rattle.store_world.specs.declared.fail.LineFail.{LineFail}
 use Rattle.store_world.specs.declared.fail.LineFail.TheVariants as fails
 use Rattle.store_world.specs.Answers.{refusal, Replies, IsAnswer}
-use Rattle.store_world.specs.Faults.{IsOfStoring, MayEndIn, EndsTimely}
+use Rattle.store_world.specs.Faults.{IsOfStoring, MayEndIn, EndsTimely, EndsUnasked}
 
 -- the notary answers
 pub ends_anyhow : (result : Result Answered LineFail) → IfErr result (λ fail. Unit {0})
@@ -106,3 +106,23 @@ ends_timely {A = A} text t b now r result answer early = by (early_fault t b now
     by : (e : Option AuditFail) → early_fault t b now ≡ e → IsEarly e r → IfErr result (EndsTimely e)
     by None is none = ends_any_time None refl result
     by (Some fail) is same = of_clock text (Some fail) result fail (early_of_clock t b now fail is) (subst (λ (x : Result A AuditFail). IsAnswer text x result) same answer)
+
+-- ---- while an audit goes on
+
+-- none does
+pub ends_asking : (goes_on : Bool) → goes_on ≡ false → (result : Result Answered LineFail) → IfErr result (EndsUnasked goes_on)
+ends_asking goes_on none (Ok answered) = tt
+ends_asking goes_on none (Err fails.DiskFault) = tt
+ends_asking goes_on none (Err fails.NotaryFault) = none
+ends_asking goes_on none (Err fails.NoMemory) = tt
+
+pub ends_wanting_unasked : (goes_on : Bool) (result : Result Answered LineFail) → IfErr result (λ fail. fail ≡ fails.NoMemory) → IfErr result (EndsUnasked goes_on)
+ends_wanting_unasked goes_on (Ok answered) only = tt
+ends_wanting_unasked goes_on (Err fail) only = subst (EndsUnasked goes_on) (sym only) tt
+
+-- what is replied wants memory at most
+pub ends_replied : (goes_on : Bool) (answer : Answered) (result : Result Answered LineFail) → Replies answer result → IfErr result (EndsUnasked goes_on)
+ends_replied goes_on answer (Ok answered) replies = tt
+ends_replied goes_on answer (Err fails.NoMemory) replies = tt
+ends_replied goes_on answer (Err fails.DiskFault) replies = absurd replies
+ends_replied goes_on answer (Err fails.NotaryFault) replies = absurd replies

@@ -1,5 +1,5 @@
 -- What kind of line a line is.
-use Rattle.std.proofs.Common.{◌≡◌, ℕ, List, [], Option, None, Result, Ok, refl, ap}
+use Rattle.std.proofs.Common.{◌≡◌, ℕ, false, List, [], Option, None, Result, Ok, refl, ap}
 use Rattle.stmt_text.specs.declared.stmt.LineAlgorithm.{LineAlgorithm}
 use Rattle.stmt_text.specs.declared.stmt.Stmt.{Stmt}
 use Rattle.stmt_text.specs.declared.stmt.Stmt.TheVariants as stmts
@@ -16,10 +16,10 @@ use Rattle.stmt_text.specs.Kinds.{line_kind}
 use Rattle.store_world.specs.World.{World}
 use Rattle.store_world.specs.Found.{Found}
 use Rattle.store_world.specs.LineCalls.{notarize_calls, validate_calls, audit_calls, notary_calls}
-use Rattle.store_world.specs.Faults.{early_of}
+use Rattle.store_world.specs.Faults.{early_of, audit_goes_on}
 use Rattle.validator.specs.Notarizing.{Heard}
 use Rattle.validator.specs.Steps.{counted}
-use Rattle.store_world.specs.Steps.{step, on_tables, notarized, validated, has_more, audited, analysed, algorithm_of}
+use Rattle.store_world.specs.Steps.{step, on_tables, notarized, validated, has_more, piece_audited, analysed, algorithm_of}
 use Rattle.store_world.specs.Finding.{MayTell, MayFind}
 
 -- what stands for a find where nothing is looked for
@@ -37,13 +37,14 @@ judged verdict refusal = record none_found { verdict = verdict; refusal = refusa
 abbrev pub shown : Result Analysis AnalyseFail → List ℕ → Found
 shown analysis body = record none_found { analysis = analysis; body = body }
 
--- it goes to the tables or to a session, finds nothing, calls no notary, and nothing speaks early against it
+-- it goes to the tables or to a session, finds nothing, calls no notary, nothing speaks early against it, and it is no piece of an audit
 pub record GoesToTables (line : Line) : Type 0 where
   pub steps : (w : World) (now : ℕ) (found : Found) → step w line now found ≡ on_tables w w.store line now
   pub tells : (w : World) (found : Found) → MayTell w line found
   pub may : (w : World) (now : ℕ) (found : Found) → MayFind w line now found
   pub calls : (w : World) (now : ℕ) (found : Found) → notary_calls w line now found ≡ []
   pub early : (w : World) (now : ℕ) → early_of w line now ≡ None
+  pub pieces : (w : World) → audit_goes_on w line ≡ false
   pub kind : IsOfStore (line_kind line)
 
 stmt_goes : (stmt : Stmt) → IsStatementLine (lines.Plain stmt) → GoesToTables (lines.Plain stmt)
@@ -56,13 +57,13 @@ stmt_goes stmts.Validate on = absurd on
 stmt_goes stmts.Audit on = absurd on
 stmt_goes (stmts.Analyse algorithm) on = absurd on
 stmt_goes (stmts.Now moment) on = absurd on
-stmt_goes stmt on = record { steps = λ w now found. refl; tells = λ w found. tt; may = λ w now found. tt; calls = λ w now found. refl; early = λ w now. refl; kind = tt }
+stmt_goes stmt on = record { steps = λ w now found. refl; tells = λ w found. tt; may = λ w now found. tt; calls = λ w now found. refl; early = λ w now. refl; pieces = λ w. refl; kind = tt }
 
 pub goes_to_tables : (line : Line) → IsStatementLine line → GoesToTables line
 unfolding step notary_calls
 goes_to_tables (lines.Plain stmt) on = stmt_goes stmt on
 goes_to_tables lines.Blank on = absurd on
-goes_to_tables (lines.InSession session stmt) on = record { steps = λ w now found. refl; tells = λ w found. tt; may = λ w now found. tt; calls = λ w now found. refl; early = λ w now. refl; kind = tt }
+goes_to_tables (lines.InSession session stmt) on = record { steps = λ w now found. refl; tells = λ w found. tt; may = λ w now found. tt; calls = λ w now found. refl; early = λ w now. refl; pieces = λ w. refl; kind = tt }
 goes_to_tables (lines.Drill event) on = absurd on
 
 -- ---- the other lines of a world
@@ -84,7 +85,7 @@ module _ (w : World) (now : ℕ) where
   unfolding notary_calls
   validate_notes verdict refusal = refl
 
-  pub audit_step : (verdict : Result Verdict AuditFail) (refusal : Option AuditFail) → step w (lines.Plain stmts.Audit) now (judged verdict refusal) ≡ audited (has_more w) w now verdict refusal
+  pub audit_step : (verdict : Result Verdict AuditFail) (refusal : Option AuditFail) → step w (lines.Plain stmts.Audit) now (judged verdict refusal) ≡ piece_audited (has_more w) w now verdict refusal
   unfolding step
   audit_step verdict refusal = refl
 

@@ -59,7 +59,7 @@ use Rattle.store_world.proofs.Between.{keeps_then, filed_keeps, filed_between}
 use Rattle.store_world.proofs.LineKinds.{heard_so, notarize_step}
 use Rattle.store_world.proofs.LineItems.{carried_world}
 use Rattle.store_world.proofs.Intents.{does_in, early_in}
-use Rattle.store_world.proofs.Faults.{ends_anyhow, ends_timely}
+use Rattle.store_world.proofs.Faults.{ends_anyhow, ends_timely, ends_asking}
 use Rattle.store_world.proofs.Left.{given, stays_same, left, files_still, beside_by}
 use Rattle.store_world.proofs.NotaryCalls.{notarization_makes}
 use Rattle.store_world.proofs.Sessions.{stands_still}
@@ -452,6 +452,8 @@ module _ (now : ℕ) (s later_s : Opened) (old new : State) (filed later : notar
       only = ends_anyhow result;
       timely = subst (λ (e : Option AuditFail). IfErr result (EndsTimely e)) (sym (ap (λ (o : Option statements.Database). early_over o now) has.is))
           (subst (λ (e : Option AuditFail). IfErr result (EndsTimely e)) (early_in now mine s before has.stands is_open) (ends_timely sealed_text (tail_of s) s.at.is_closed now r result answer early));
+      quiet = tt;
+      unasked = ends_asking false refl result;
       finds = beside_by w (desk old filed) (desk new later) _ (λ lists later_lists was is beside. finds lists later_lists was is beside);
       files = beside_by w (desk old filed) (desk new later) _ (λ lists later_lists was is beside. subst (λ (x : Step). ListsGo w x.world (IsOk result) old new before after later_lists) (sym step_is)
           (files_by now s later_s old new before after header only_now reads w kept_sessions auditing i has heard r result answer filed later does lists later_lists beside (files lists later_lists was is beside) aim.fault refl));

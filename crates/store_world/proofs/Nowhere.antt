@@ -1,6 +1,7 @@
 -- A line where there is no store.
 use Rattle.std.proofs.Common.{◌≡◌, ◌≢◌, ℕ, Bool, List, [], Option, Some, None, Result, IfOk, IfErr, IfSome, IsOk, refl, sym, ap, subst, ◌∙◌}
 use Rattle.std.specs.Option.{is_some}
+use Rattle.std.proofs.lemmas.Bool.{OnTrue_from}
 use Rattle.outside_words.proofs.Told.{told_same}
 use Rattle.disk_words.specs.Disk.{State, turn}
 use Rattle.notary_link.specs.Notary as notaries
@@ -22,7 +23,7 @@ use Rattle.store_world.specs.World.{World}
 use Rattle.store_world.specs.Standing.{IsIn, StoreIsIn}
 use Rattle.store_world.specs.Answers.{refusal}
 use Rattle.store_world.specs.Finding.{MayTell, MayFile, MayFind}
-use Rattle.store_world.specs.Faults.{early_of}
+use Rattle.store_world.specs.Faults.{early_of, audit_goes_on}
 use Rattle.store_world.specs.Parts.{no_store}
 use Rattle.store_world.specs.ByBytes.{NeedsStore}
 use Rattle.store_world.specs.Steps.{Step, step, why_none, has_no_store, on_tables, notarized}
@@ -30,7 +31,7 @@ use Rattle.store_world.specs.LineCalls.{notary_calls}
 use Rattle.store_world.specs.CallsMade.{MakesLineCalls}
 use Rattle.store_world.specs.Stepping.{Goes, StepsFor}
 use Rattle.store_world.proofs.CallsTold.{calls_none}
-use Rattle.store_world.proofs.Faults.{ends_wanting, ends_wanting_early}
+use Rattle.store_world.proofs.Faults.{ends_wanting, ends_wanting_early, ends_wanting_unasked}
 use Rattle.store_world.proofs.LineKinds.{none_found, GoesToTables, goes_to_tables, notarize_step, notarize_none}
 use Rattle.store_world.proofs.Left.{given, stays_same, left, files_still, beside_by, beside_same}
 use Rattle.store_world.proofs.Validating.{replies_as}
@@ -113,6 +114,8 @@ nowhere line needs id is_old now old only_now filed result reply only_memory aud
           (subst (λ (b : Bool). IfOk result (λ answered. answered ≡ refusal (why_none b))) i.is_old reply)));
       only = ends_wanting ((step w line now none_found).world.store ≢ w.store) (line_kind line) result only_memory;
       timely = ends_wanting_early (early_of w line now) result only_memory;
+      quiet = OnTrue_from (audit_goes_on w line) (filed ≡ filed) (λ goes. refl);
+      unasked = ends_wanting_unasked (audit_goes_on w line) result only_memory;
       finds = beside_by w (desk old filed) (desk old filed) _ (λ lists later was is beside. r.may);
       files = beside_same w (desk old filed) (desk old filed) refl _ (λ lists beside. files_still w (step w line now none_found).world (IsOk result) old old bytes bytes lists (ap (λ (x : Step). x.world.lists) r.step_is) beside.lists);
       makes = beside_by w (desk old filed) (desk old filed) _ (λ lists later was is beside. subst (λ (x : Step). MakesLineCalls w line now none_found x result (desk old filed) (desk old filed) bytes) (sym r.step_is)

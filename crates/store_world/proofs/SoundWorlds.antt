@@ -37,7 +37,7 @@ use Rattle.forensic_report.specs.Finding.{IsAnalysisIn, IsSoundAnalysis}
 use Rattle.forensic_report.proofs.Sound.{sound_in}
 use Rattle.store_world.specs.World.{World, with_store, history_or, history_of}
 use Rattle.store_world.specs.Found.{Found}
-use Rattle.store_world.specs.Steps.{Step, step, filed, filed_for, reached, carried_out, intent_in, unless, notarized, marked, validated, has_more, audited, analysed, algorithm_of, on_tables}
+use Rattle.store_world.specs.Steps.{Step, step, filed, filed_for, reached, carried_out, intent_in, unless, notarized, marked, validated, has_more, piece_audited, analysed, algorithm_of, on_tables}
 use Rattle.store_world.specs.Finding.{MayFile, FindsVerdict, MayFind}
 use Rattle.store_world.specs.Laws.{HoldsFiled, IsSoundWorld, HasFitHeader, SoundWorldsStaySound}
 use Rattle.store_world.specs.NoAlteration.{IsSoundVerdict, TellsNoAlteration}
@@ -205,7 +205,7 @@ module _ (w : World) (fits : HasFitHeader w) (sound : IsSoundWorld w) where
 
   -- ---- a piece of an audit
 
-  of_audit : (b : Bool) (now : ℕ) (found : Result Verdict AuditFail) (refusal : Option AuditFail) → IsSoundAndFit (audited b w now found refusal).world
+  of_audit : (b : Bool) (now : ℕ) (found : Result Verdict AuditFail) (refusal : Option AuditFail) → IsSoundAndFit (piece_audited b w now found refusal).world
   of_audit true now found refusal = (sound, fits)
   of_audit false now found refusal = subst (λ (s : Step). IsSoundAndFit s.world) (sym (validated_anew w 0 now found refusal)) (of_validation now found refusal)
 

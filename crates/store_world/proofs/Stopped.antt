@@ -1,19 +1,24 @@
 -- What a line does where a store is open: the store stays, or after a failure it is no matter where it stands.
-use Rattle.std.proofs.Common.{◌≡◌, ℕ, Bool, false, List, Option, Some, None, Result, Ok, Err, ap, sym, subst, ◌∙◌}
+use Rattle.std.proofs.Common.{◌≡◌, ℕ, Bool, false, List, Option, Some, None, IfSome, Result, Ok, Err, ap, sym, subst, ◌∙◌}
 use Rattle.std.specs.Prelude.{IsErr}
 use Rattle.outside_words.proofs.Told.{told_map}
 use Rattle.disk_words.specs.Disk.{State}
 use Rattle.notary_link.specs.Notary as notaries
+use Rattle.stmt_text.specs.declared.stmt.Stmt.{Stmt}
+use Rattle.stmt_text.specs.declared.stmt.Stmt.TheVariants as stmts
 use Rattle.stmt_text.specs.declared.line.Line.{Line}
+use Rattle.stmt_text.specs.declared.line.Line.TheVariants as lines
 use Rattle.validator.specs.Desk.{Desk, KeepsSound, desk}
 use Rattle.store_world.specs.declared.fail.LineFail.{LineFail}
 use Rattle.audit_steps.specs.declared.auditing.Auditing.{Auditing}
+use Rattle.audit_steps.specs.Auditing.{IsAuditOf}
 use Rattle.store_world.specs.declared.open_store.OpenStore.{OpenStore}
 use Rattle.store_world.specs.declared.answered.Answered.{Answered}
 use Rattle.store_world.specs.World.{World}
 use Rattle.store_world.specs.Standing.{OpenWorld, StandsOver, IsIn}
 use Rattle.store_world.specs.Parts.{alone, no_store}
 use Rattle.store_world.specs.Stepping.{Steps, StepsFor}
+use Rattle.store_world.specs.ByBytes.{TellsPiece, GoesByBytes}
 
 -- what is held is this open store under its id, and this audit
 pub record Holds (o : OpenStore) (auditing : Option Auditing) (held : OpenWorld) : Type 0 where
@@ -55,7 +60,7 @@ module _ (line : Line) (now : ℕ) (old new : State) (filed filed_later : notari
       told_map old.reads new.reads (StepsOn fail held later) (StepsOn fail held other) told
       (λ before after steps w i.
       let s = steps w i in
-      record { found = s.found; may = s.may; turn = tt; goes = record { reply = tt; stands = tt; settled = λ only. tt; images = s.goes.images; kept = s.goes.kept; same = λ stays. tt }; only = s.only; timely = s.timely; finds = s.finds; files = s.files; makes = s.makes })
+      record { found = s.found; may = s.may; turn = tt; goes = record { reply = tt; stands = tt; settled = λ only. tt; images = s.goes.images; kept = s.goes.kept; same = λ stays. tt }; only = s.only; timely = s.timely; quiet = s.quiet; unasked = s.unasked; finds = s.finds; files = s.files; makes = s.makes })
 
   stops : (fail : LineFail) (first later held other : OpenWorld) → held ≡ first → StepsFor line now (Err fail) first later (desk old filed) (desk new filed_later) → StepsFor line now (Err fail) held other (desk old filed) (desk new filed_later)
   stops fail first later held other is told = subst (λ (h : OpenWorld). StepsFor line now (Err fail) h other (desk old filed) (desk new filed_later)) (sym is) (anywhere fail first later other told)
@@ -78,3 +83,54 @@ module _ (line : Line) (now : ℕ) (old new : State) (filed filed_later : notari
 
 pub stays_sound_open : (o : OpenStore) (auditing : Option Auditing) (held : OpenWorld) (old new : Desk) → Holds o auditing held → KeepsSound (StandsOver (with_store o auditing)) old new → KeepsSound (StandsOver held) old new
 stays_sound_open o auditing held old new h sound = subst (λ (x : OpenWorld). KeepsSound (StandsOver x) old new) (sym (held_alone o auditing held h)) sound
+
+-- ---- what is said by the bytes
+
+module _ (id now : ℕ) (from to : Option Auditing) (fail : LineFail) (old new : Desk) where
+  new_stays : (o : Option (List ℕ)) → IfSome o (λ bytes. IsAuditOf id from bytes → IsAuditOf id None bytes)
+  new_stays None = tt
+  new_stays (Some bytes) = λ is. tt
+
+  piece_stops : TellsPiece id from to now (Err fail) old new → TellsPiece id from None now (Err fail) old new
+  piece_stops p = record {
+    answer = p.answer;
+    audits = record {
+      same = p.audits.same;
+      none_other = p.audits.none_other;
+      more = p.audits.more;
+      going = p.audits.going;
+      quiet = p.audits.quiet;
+      unasked = p.audits.unasked;
+      goes_on = new_stays old.disk.reads;
+      found = p.audits.found;
+      trace = p.audits.trace;
+      asked = p.audits.asked;
+    };
+    reply = p.reply;
+    stands = tt;
+  }
+
+  stmt_stops : (stmt : Stmt) → GoesByBytes (lines.Plain stmt) id from to now (Err fail) old new → GoesByBytes (lines.Plain stmt) id from None now (Err fail) old new
+  stmt_stops stmts.Validate told = told
+  stmt_stops stmts.Audit told = piece_stops told
+  stmt_stops (stmts.Analyse algorithm) told = told
+  stmt_stops stmt told = tt
+
+  line_stops : (line : Line) → GoesByBytes line id from to now (Err fail) old new → GoesByBytes line id from None now (Err fail) old new
+  line_stops (lines.Plain stmt) told = stmt_stops stmt told
+  line_stops line told = tt
+
+-- of what is held
+pub bytes_stay : (line : Line) (i id now : ℕ) (f from to : Option Auditing) (result : Result Answered LineFail) (old new : Desk) → i ≡ id → f ≡ from
+    → GoesByBytes line id from to now result old new → GoesByBytes line i f to now result old new
+bytes_stay line i id now f from to result old new own under told =
+    subst (λ (n : ℕ). GoesByBytes line n f to now result old new) (sym own)
+    (subst (λ (a : Option Auditing). GoesByBytes line id a to now result old new) (sym under) told)
+
+-- after a failure the audit begins anew
+pub bytes_stop : (line : Line) (i id now : ℕ) (f from to a : Option Auditing) (result : Result Answered LineFail) (old new : Desk) → IsErr result → i ≡ id → f ≡ from → a ≡ None
+    → GoesByBytes line id from to now result old new → GoesByBytes line i f a now result old new
+bytes_stop line i id now f from to a (Ok answered) old new failed own under none told = absurd cc
+bytes_stop line i id now f from to a (Err fail) old new failed own under none told =
+    bytes_stay line i id now f from a (Err fail) old new own under
+    (subst (λ (x : Option Auditing). GoesByBytes line id from x now (Err fail) old new) (sym none) (line_stops id now from to fail old new line told))

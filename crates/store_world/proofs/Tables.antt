@@ -1,5 +1,6 @@
 -- A statement on tables and a line of a session do to the world what they do to the store and its sessions.
 use Rattle.std.proofs.Common.{◌≡◌, ◌≢◌, ℕ, Bool, List, ◌++◌, ◌∷◌, [], length, length-append, Option, Some, None, Result, Ok, Err, IsOk, IfErr, inl, inr, refl, sym, ap, subst, ◌∙◌, arith}
+use Rattle.std.proofs.lemmas.Bool.{OnTrue_from}
 use Rattle.outside_words.specs.Told.{WhereTold}
 use Rattle.outside_words.proofs.Told.{told_map, told_same}
 use Rattle.disk_words.specs.Disk as disks
@@ -45,7 +46,7 @@ use Rattle.store_world.specs.Found.{Found}
 use Rattle.store_world.specs.ItemsMore.{items_added, end_of_store}
 use Rattle.store_world.specs.LineCalls.{appends, notary_calls}
 use Rattle.store_world.specs.CallsMade.{MakesOfDisk, MakesOfNotary, MakesLineCalls}
-use Rattle.store_world.specs.Faults.{IsOfStoring, MayEndIn, early_of}
+use Rattle.store_world.specs.Faults.{IsOfStoring, MayEndIn, early_of, audit_goes_on}
 use Rattle.store_world.specs.Parts.{alone, StepsBeside}
 use Rattle.store_world.specs.Steps.{Step, step, on_tables, after_statement}
 use Rattle.store_world.specs.Stepping.{StoresEither, Goes, Steps}
@@ -53,7 +54,7 @@ use Rattle.store_world.proofs.Left.{given, beside_by, beside_same, files_still}
 use Rattle.store_world.proofs.Adding.{step_adds, added_extends}
 use Rattle.store_world.proofs.Kept.{audit_kept}
 use Rattle.store_world.proofs.CallsTold.{none_made, statement_calls}
-use Rattle.store_world.proofs.Faults.{ends_storing, ends_any_time}
+use Rattle.store_world.proofs.Faults.{ends_storing, ends_any_time, ends_asking}
 use Rattle.store_world.proofs.LineKinds.{none_found, goes_to_tables}
 
 -- the world of an open store, with its sessions
@@ -179,6 +180,8 @@ module _ (kept later_kept : Machine) (s later : Opened) (header : later.header �
               (goes w b a i has next r result (added_extends has.world next.world.store (step_adds before line now)) done answers);
           only = subst (λ (x : Step). IfErr result (MayEndIn (line_kind line) (x.world.store ≢ w.store))) (sym is) (ends_storing (Some next.world.store ≢ w.store) (line_kind line) goes_on.kind result (only w b a i has next r result done answers));
           timely = ends_any_time (early_of w line now) (goes_on.early w now) result;
+          quiet = OnTrue_from (audit_goes_on w line) (filed ≡ filed) (λ goes. refl);
+          unasked = ends_asking (audit_goes_on w line) (goes_on.pieces w) result;
           finds = beside_by w (desk old filed) (desk new filed) _ (λ lists later_lists was is beside. goes_on.may w now none_found);
           files = beside_same w (desk old filed) (desk new filed) refl _ (λ lists beside. files_still w (step w line now none_found).world (IsOk result) old new b a lists (ap (λ (x : Step). x.world.lists) is) beside.lists);
           makes = beside_by w (desk old filed) (desk new filed) _ (λ lists later_lists was_told is_told beside. subst (λ (x : Step). MakesLineCalls w line now none_found x result (desk old filed) (desk new filed) b) (sym is)

@@ -18,7 +18,7 @@ use Rattle.forensic_report.specs.Analysis.{Analysis}
 use Rattle.forensic_report.specs.Texts.{head_line}
 use Rattle.validator.specs.Notarizing.{Heard}
 use Rattle.store_world.specs.World.{World, with_audited}
-use Rattle.store_world.specs.Steps.{Step, refuses, unless, intent_in, carried_out, notarized, validated, audited, analysed, marked}
+use Rattle.store_world.specs.Steps.{Step, refuses, unless, intent_in, carried_out, notarized, validated, piece_audited, analysed, marked}
 use Rattle.store_world.specs.Acknowledged.{ok_text}
 
 -- it begins as `ok` and a number
@@ -75,7 +75,7 @@ validated_no w now (Ok verdict) refusal ok = by (mark_of verdict now) ok
     by None ok = verdict_no verdict ok
     by (Some mark) ok = unless_no refusal w _ (verdict_no verdict) ok
 
-pub audited_no : (b : Bool) (w : World) (now : ℕ) (found : Result Verdict AuditFail) (refusal : Option AuditFail) → SaysOk (audited b w now found refusal).text → ⊥
+pub audited_no : (b : Bool) (w : World) (now : ℕ) (found : Result Verdict AuditFail) (refusal : Option AuditFail) → SaysOk (piece_audited b w now found refusal).text → ⊥
 audited_no true w now found refusal ok = (let first = ok.first in omega (arith, first))
 audited_no false w now found refusal ok = validated_no (with_audited w 0) now found refusal ok
 

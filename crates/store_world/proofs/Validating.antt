@@ -1,7 +1,7 @@
 -- A validation does to the world what the definition says, and so does the last piece of an audit.
 use Rattle.std.proofs.Common.{◌≡◌, ℕ, ◌<◌, Bool, true, false, List, [], ◌∷◌, length, Option, Some, None, IfSome, Result, Ok, Err, IsOk, IfOk, IfErr, inl, inr, refl, sym, ap, subst, ◌∙◌, arith}
 use Rattle.std.specs.Prelude.{◌+◌, nat_lt, nat_le, if◌then◌else◌}
-use Rattle.std.specs.Bool.{OnFalse}
+use Rattle.std.specs.Bool.{OnTrue, OnFalse}
 use Rattle.std.proofs.lemmas.Bool.{eq-eqb, ne_eqb}
 use Rattle.std.proofs.lemmas.Bool.Decides.{nat_tests}
 use Rattle.outside_words.specs.Told.{WhereTold}
@@ -41,7 +41,7 @@ use Rattle.notary_link.specs.declared.answer.Answer.TheVariants.{Same, Differs, 
 use Rattle.digest_model.specs.Layout.{layout, first_granule, max_granules}
 use Rattle.validator.proofs.Telling.{if_both}
 use Rattle.validator.specs.Verdicts.{IsFound, IsFoundIn, IsFoundBy, IsFoundWithin, IsFoundAt, IsOfValidation, ValidatesNone, mark_of, IsMarked, IsNotMarked, MayBeMarked, MakesNone, MakesMark, Validates}
-use Rattle.audit_steps.specs.Auditing.{piece}
+use Rattle.audit_steps.specs.PieceSize.{piece}
 use Rattle.store_world.specs.declared.answered.Answered.{Answered}
 use Rattle.store_world.specs.declared.fail.LineFail.{LineFail}
 use Rattle.store_world.specs.World.{World, HasNoStore, history_or, history_of, old_in, old_under, with_audited}
@@ -53,7 +53,7 @@ use Rattle.store_world.specs.Answers.{said, refusal, Replies, IsAnswer}
 use Rattle.store_world.specs.LineCalls.{noting, validate_calls, audit_calls}
 use Rattle.store_world.specs.CallsMade.{IsAnswered, MakesOfNotary, MakesLineCalls}
 use Rattle.store_world.specs.Parts.{StepsWithout, with_auditing}
-use Rattle.store_world.specs.Steps.{Step, says, refuses, marked, validated, has_more, audited, filed_for}
+use Rattle.store_world.specs.Steps.{Step, says, refuses, marked, validated, has_more, piece_audited, filed_for}
 use Rattle.store_world.specs.Stepping.{IsReply, Goes, Steps}
 use Rattle.store_world.proofs.Between.{keeps_then, noted_keeps, noted_between, unmarked_yet}
 use Rattle.validator.proofs.SomethingFound.{something_is_found}
@@ -61,7 +61,7 @@ use Rattle.store_world.proofs.LineKinds.{judged, validate_step, validate_notes, 
 use Rattle.store_world.proofs.Replies.{replied}
 use Rattle.store_world.proofs.CallsTold.{none_made, all_replied, some_made, calls_beside}
 use Rattle.store_world.proofs.MarkCalls.{was_marked, found_no_room, has_failed}
-use Rattle.store_world.proofs.Faults.{ends_anyhow, ends_any_time}
+use Rattle.store_world.proofs.Faults.{ends_anyhow, ends_any_time, ends_asking}
 use Rattle.store_world.proofs.Left.{given, StaysSame, stays_same, left, left_auditing, files_left, files_still, beside_told}
 
 pub replies_as : (next : Step) (x : Answered) (result : Result Answered LineFail) → x.text ≡ next.text → x.refused ≡ next.is_refused → IfOk result (λ answered. answered ≡ x) → IfOk result (IsReply next)
@@ -159,7 +159,7 @@ validated_anew w n now (Ok verdict) refusal = by (mark_of verdict now) refusal
 leaves_anew : (w : World) (n : ℕ) (x : World) → LeavesStore w x → LeavesStore w (with_audited x n)
 leaves_anew w n x l = record { same = record { id = l.same.id; store = l.same.store; old = l.same.old; sessions = l.same.sessions }; batches = l.batches }
 
-pub with_audit : (b : Bool) (w : World) (now : ℕ) (found : Result Verdict AuditFail) (refusal : Option AuditFail) → LeavesStore w (audited b w now found refusal).world
+pub with_audit : (b : Bool) (w : World) (now : ℕ) (found : Result Verdict AuditFail) (refusal : Option AuditFail) → LeavesStore w (piece_audited b w now found refusal).world
 with_audit true w now found refusal = leaves_anew w (w.audited + piece) w (same_store w)
 with_audit false w now found refusal = subst (λ (s : Step). LeavesStore w s.world) (sym (validated_anew w 0 now found refusal)) (leaves_anew w 0 (validated w now found refusal).world (with_validated w now found refusal))
 
@@ -256,6 +256,8 @@ module _ (now : ℕ) (w : World) (held : OpenWorld) (old new : State) (bytes : L
         goes = subst (λ (x : Step). Goes w x result held old new bytes bytes) (sym is) (left w held old new bytes i same only_now next result leaves.same (validated_audited w now j.verdict j.refusal) j.reply);
         only = ends_anyhow result;
         timely = ends_any_time None refl result;
+        quiet = tt;
+        unasked = ends_asking false refl result;
         finds = beside_told w (desk old filed) (desk new filed_later) _ _ j.adds (λ lists later beside adds. ((adds beside).found, (adds beside).mark));
         files = beside_told w (desk old filed) (desk new filed_later) _ _ j.adds (λ lists later beside adds. subst (λ (x : Step). ListsGo w x.world (IsOk result) old new bytes bytes later) (sym is) (adds beside).files);
         makes = beside_told w (desk old filed) (desk new filed_later) _ _ j.adds (λ lists later beside adds.
@@ -278,7 +280,7 @@ module _ (now : ℕ) (w : World) (held : OpenWorld) (old new : State) (bytes : L
       let told = validated w now j.verdict j.refusal in
       let next = anew 0 told in
       let leaves = leaves_anew w 0 told.world (with_validated w now j.verdict j.refusal) in
-      let is = audit_step w now j.verdict j.refusal ∙ ap (λ (b : Bool). audited b w now j.verdict j.refusal) none ∙ validated_anew w 0 now j.verdict j.refusal in
+      let is = audit_step w now j.verdict j.refusal ∙ ap (λ (b : Bool). piece_audited b w now j.verdict j.refusal) none ∙ validated_anew w 0 now j.verdict j.refusal in
       let notes = audit_notes w now j.verdict j.refusal ∙ ap (λ (b : Bool). audit_calls b w now j.verdict) none in
       record {
         found = judged j.verdict j.refusal;
@@ -288,6 +290,8 @@ module _ (now : ℕ) (w : World) (held : OpenWorld) (old new : State) (bytes : L
             (left_auditing w held old new bytes i same only_now next result None leaves.same (given result (tt, refl)) (reply_anew 0 told result j.reply));
         only = ends_anyhow result;
         timely = ends_any_time None refl result;
+        quiet = subst (λ (b : Bool). OnTrue b (filed_later ≡ filed)) (sym none) tt;
+        unasked = ends_asking (has_more w) none result;
         finds = beside_told w (desk old filed) (desk new filed_later) _ _ j.adds (λ lists later beside adds. subst (λ (b : Bool). OnFalse b (FindsVerdict w now (judged j.verdict j.refusal))) (sym none) ((adds beside).found, (adds beside).mark));
         files = beside_told w (desk old filed) (desk new filed_later) _ _ j.adds (λ lists later beside adds. subst (λ (x : Step). ListsGo w x.world (IsOk result) old new bytes bytes later) (sym is)
             (record { keeps = (adds beside).files.keeps; between = (adds beside).files.between; ordered = (adds beside).files.ordered }));

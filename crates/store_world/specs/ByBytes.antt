@@ -1,5 +1,5 @@
 -- What a line does whatever world it is, also after a failure, where no store is held.
-use Rattle.std.specs.Prelude.{◌≡◌, ◌≤◌, ◌+◌, ℕ, Bool, Option, Result, IfOk, IfErr, IfSome}
+use Rattle.std.specs.Prelude.{◌≡◌, ◌≤◌, ◌+◌, ℕ, Bool, Option, Result, IfOk, IfErr, IfSome, OnOk}
 use Rattle.outside_words.specs.Told.{WhereTold}
 use Rattle.disk_words.specs.Disk as disks
 use Rattle.history_model.specs.Stored.{stored}
@@ -13,8 +13,9 @@ use Rattle.validator.specs.Texts.{verdict_text}
 use Rattle.validator.specs.Verdicts.{Validates, MakesMark, IsOfValidation}
 use Rattle.audit_steps.specs.declared.auditing.Auditing.{Auditing}
 use Rattle.audit_steps.specs.declared.audit.Audit.{Audit}
-use Rattle.audit_steps.specs.Auditing.{piece, read_by, IsAuditOf}
-use Rattle.audit_steps.specs.Pieces.{HasMore, IsGoing, GoesOnWith, WhereLast, asks}
+use Rattle.audit_steps.specs.Auditing.{read_by, IsAuditOf}
+use Rattle.audit_steps.specs.PieceSize.{piece}
+use Rattle.audit_steps.specs.Pieces.{HasMore, IsGoing, GoesOnWith, WhereLast, StandsAt, asks}
 use Rattle.forensic_report.specs.declared.algorithm.Algorithm.{Algorithm}
 use Rattle.forensic_report.specs.declared.report.Report.{Report}
 use Rattle.forensic_report.specs.declared.fail.AnalyseFail.{AnalyseFail}
@@ -46,23 +47,28 @@ pub record TellsVerdict (id now : ℕ) (result : Result Answered LineFail) (old 
 
 -- a piece of an audit at this second, over a disk that is as it was: while it goes on the notary is as it was, too, and the last
 -- piece is a validation
-pub record Audits (id now : ℕ) (auditing : Option Auditing) (answer : Result Audit AuditFail) (old new : Desk) : Type 0 where
+pub record Audits (id now : ℕ) (auditing later : Option Auditing) (answer : Result Audit AuditFail) (old new : Desk) : Type 0 where
   pub same : disks.Unchanged old.disk new.disk
   pub none_other : IfErr answer IsOfValidation
   -- it goes on where more items are left than it reads, and only there
   pub more : IfSome old.disk.reads (λ bytes. IsAuditOf id auditing bytes → HasMore id auditing bytes → GoesOnWith (read_by auditing + piece) answer)
   pub going : IfSome old.disk.reads (λ bytes. IsAuditOf id auditing bytes → IsGoing answer → HasMore id auditing bytes)
   pub quiet : IsGoing answer → new.notary ≡ old.notary
+  -- nor is it asked where more is left, and the disk or memory fails
+  pub unasked : IfSome old.disk.reads (λ bytes. IsAuditOf id auditing bytes → HasMore id auditing bytes → new.notary ≡ old.notary)
+  -- the auditor is one of the bytes behind it, too
+  pub goes_on : IfSome old.disk.reads (λ bytes. IsAuditOf id auditing bytes → IsAuditOf id later bytes)
   pub found : IfSome old.disk.reads (λ bytes. IsAuditOf id auditing bytes → WhereTold old.notary.lists new.notary.lists (λ lists later.
       WhereLast (λ verdict. Validates id now old.notary.limits (stored bytes) verdict old.notary.trace new.notary.trace lists later) answer))
   pub trace : WhereTold old.notary.trace new.notary.trace (λ was is. WhereLast (λ verdict. MakesMark id now verdict was is) answer)
   pub asked : IfOk answer (λ audit. new.notary.asked ≤ old.notary.asked + asks audit)
 
--- what a piece of an audit came to is told
-pub record TellsPiece (id : ℕ) (auditing : Option Auditing) (now : ℕ) (result : Result Answered LineFail) (old new : Desk) : Type 0 where
+-- what a piece of an audit came to is told, and then the auditor stands where it says
+pub record TellsPiece (id : ℕ) (auditing later : Option Auditing) (now : ℕ) (result : Result Answered LineFail) (old new : Desk) : Type 0 where
   pub answer : Result Audit AuditFail
-  pub audits : Audits id now auditing answer old new
+  pub audits : Audits id now auditing later answer old new
   pub reply : IsAnswer audit_text answer result
+  pub stands : OnOk result (StandsAt answer later)
 
 -- what an analysis came to is told
 pub record TellsReport (id : ℕ) (algorithm : Algorithm) (now : ℕ) (result : Result Answered LineFail) (old new : Desk) : Type 0 where
@@ -71,8 +77,8 @@ pub record TellsReport (id : ℕ) (algorithm : Algorithm) (now : ℕ) (result : 
   pub reply : IsReported answer result
 
 -- A validation and an analysis go by the stored bytes and what is filed alone, and a piece of an audit by what was read before, too.
-abbrev pub GoesByBytes : Line → ℕ → Option Auditing → ℕ → Result Answered LineFail → Desk → Desk → Type 0
-GoesByBytes (lines.Plain stmts.Validate) id auditing now result old new = TellsVerdict id now result old new
-GoesByBytes (lines.Plain stmts.Audit) id auditing now result old new = TellsPiece id auditing now result old new
-GoesByBytes (lines.Plain (stmts.Analyse algorithm)) id auditing now result old new = TellsReport id (algorithm_of algorithm) now result old new
-GoesByBytes line id auditing now result old new = Unit {0}
+abbrev pub GoesByBytes : Line → ℕ → Option Auditing → Option Auditing → ℕ → Result Answered LineFail → Desk → Desk → Type 0
+GoesByBytes (lines.Plain stmts.Validate) id auditing later now result old new = TellsVerdict id now result old new
+GoesByBytes (lines.Plain stmts.Audit) id auditing later now result old new = TellsPiece id auditing later now result old new
+GoesByBytes (lines.Plain (stmts.Analyse algorithm)) id auditing later now result old new = TellsReport id (algorithm_of algorithm) now result old new
+GoesByBytes line id auditing later now result old new = Unit {0}

@@ -1,5 +1,5 @@
 -- In which faults a line may end.
-use Rattle.std.specs.Prelude.{◌≡◌, ℕ, false, Option, Some, None}
+use Rattle.std.specs.Prelude.{◌≡◌, ℕ, Bool, false, Option, Some, None}
 use Rattle.stmt_text.specs.declared.stmt.Stmt.TheVariants as stmts
 use Rattle.stmt_text.specs.declared.line.Line.{Line}
 use Rattle.stmt_text.specs.declared.line.Line.TheVariants as lines
@@ -12,6 +12,7 @@ use Rattle.statement_core.specs.Database as statements
 use Rattle.validator.specs.declared.fail.AuditFail.{AuditFail}
 use Rattle.validator.specs.Notarizing.{early_fault}
 use Rattle.store_world.specs.World.{World}
+use Rattle.store_world.specs.Steps.{has_more}
 
 -- in one of the disk, and only where it stores
 abbrev pub IsOfStoring : Type 0 → LineFail → Type 0
@@ -41,3 +42,15 @@ early_of w line now = None
 abbrev pub EndsTimely : Option AuditFail → LineFail → Type 0
 EndsTimely early fails.NoMemory = Unit {0}
 EndsTimely early fail = early ≡ None
+
+-- ---- while an audit goes on
+
+-- the line is a piece of an audit behind which some items are left: it asks the notary nothing
+abbrev pub audit_goes_on : World → Line → Bool
+audit_goes_on w (lines.Plain stmts.Audit) = has_more w
+audit_goes_on w line = false
+
+-- So a fault of the notary comes only where no audit goes on.
+abbrev pub EndsUnasked : Bool → LineFail → Type 0
+EndsUnasked goes_on fails.NotaryFault = goes_on ≡ false
+EndsUnasked goes_on fail = Unit {0}

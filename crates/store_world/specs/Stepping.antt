@@ -1,5 +1,6 @@
 -- A line over an open store and a notary: it does to the world that they stand for what the definition says.
 use Rattle.std.specs.Prelude.{◌≡◌, ◌≢◌, ◌⊎◌, ℕ, true, List, None, option_map, Result, Ok, Err, IsOk, OnOk, IfOk, IfErr, IfSome}
+use Rattle.std.specs.Bool.{OnTrue}
 use Rattle.disk_words.specs.Disk as disks
 use Rattle.disk_model.specs.Moments.{EveryImage}
 use Rattle.stmt_text.specs.declared.line.Line.{Line}
@@ -18,7 +19,7 @@ use Rattle.store_world.specs.Found.{Found}
 use Rattle.store_world.specs.Steps.{Step, step}
 use Rattle.store_world.specs.Finding.{MayTell, MayFind}
 use Rattle.store_world.specs.CallsMade.{MakesLineCalls}
-use Rattle.store_world.specs.Faults.{MayEndIn, early_of, EndsTimely}
+use Rattle.store_world.specs.Faults.{MayEndIn, early_of, EndsTimely, audit_goes_on, EndsUnasked}
 
 -- bytes store what one of two worlds has
 abbrev pub StoresEither : World → World → List ℕ → Type 0
@@ -52,6 +53,9 @@ pub record Steps (line : Line) (now : ℕ) (w : World) (result : Result Answered
   pub only : IfErr result (MayEndIn (line_kind line) ((step w line now found).world.store ≢ w.store))
   -- and comes where nothing speaks early against the line
   pub timely : IfErr result (EndsTimely (early_of w line now))
+  -- while an audit goes on the notary is as it was, and the fault is not the notary's
+  pub quiet : OnTrue (audit_goes_on w line) (new.notary ≡ old.notary)
+  pub unasked : IfErr result (EndsUnasked (audit_goes_on w line))
   -- ---- what the notary's lists add, where it tells them
   pub finds : WhereBeside w old new (λ lists later_lists. MayFind w line now found)
   pub files : WhereBeside w old new (λ lists later_lists. ListsGo w (step w line now found).world (IsOk result) old.disk new.disk before after later_lists)

@@ -30,7 +30,7 @@ use Rattle.forensic_report.specs.declared.fail.AnalyseFail.{AnalyseFail}
 use Rattle.forensic_report.specs.Analysis.{Analysis}
 use Rattle.forensic_report.specs.Texts.{head_line}
 use Rattle.forensic_report.specs.Fails as reports
-use Rattle.audit_steps.specs.Auditing.{piece}
+use Rattle.audit_steps.specs.PieceSize.{piece}
 use Rattle.store_world.specs.Found.{Found}
 use Rattle.store_world.specs.World.{World, with_store, with_sessions, with_lists, with_batches, with_mark, with_audited, history_of}
 
@@ -143,9 +143,9 @@ abbrev pub audits_on : World → Step
 audits_on w = says (with_audited w (w.audited + piece)) (auditing_text (w.audited + piece))
 
 -- where it doesn't go on, what was found is told and marked, and it begins anew
-abbrev pub audited : Bool → World → ℕ → Result Verdict AuditFail → Option AuditFail → Step
-audited true w now found refusal = audits_on w
-audited false w now found refusal = validated (with_audited w 0) now found refusal
+abbrev pub piece_audited : Bool → World → ℕ → Result Verdict AuditFail → Option AuditFail → Step
+piece_audited true w now found refusal = audits_on w
+piece_audited false w now found refusal = validated (with_audited w 0) now found refusal
 
 -- ---- an analysis
 
@@ -167,7 +167,7 @@ analysed w algorithm (Err fail) body = refuses w (reports.refusal_text fail)
 unfoldable pub step : World → Line → ℕ → Found → Step
 step w (lines.Plain stmts.Notarize) now found = notarized w w.store now found.heard found.refusal
 step w (lines.Plain stmts.Validate) now found = validated w now found.verdict found.refusal
-step w (lines.Plain stmts.Audit) now found = audited (has_more w) w now found.verdict found.refusal
+step w (lines.Plain stmts.Audit) now found = piece_audited (has_more w) w now found.verdict found.refusal
 step w (lines.Plain (stmts.Analyse algorithm)) now found = analysed w (algorithm_of algorithm) found.analysis found.body
 step w line now found = on_tables w w.store line now
 

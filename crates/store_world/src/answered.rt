@@ -62,7 +62,7 @@ pub(crate) fn found(alloc: Global, verdict: Verdict) -> Result<Answered, AllocEr
 }
 
 /// What a piece of an audit came to.
-pub(crate) fn audited(alloc: Global, audit: Audit) -> Result<Answered, AllocError>
+pub(crate) fn piece_told(alloc: Global, audit: Audit) -> Result<Answered, AllocError>
     ensures value { IfOk result (λ answered. answered ≡ said (audit_text audit)) }
 {
     match audit {

@@ -41,9 +41,11 @@
 //! | where no store is held, whatever is told, all but `validate`, `audit` and `analyse` are refused, by what opening came to, and call nothing | `none` of `World::line`, `is_old` of `World::enter` |
 //! | a validation goes by the stored bytes and what is filed alone, and leaves the disk | `bytes` of `World::line`, by `Judges` |
 //! | so does an analysis, which leaves the notary, too; its report shows what is altered of each history that was filed so | `bytes` of `World::line`, by `Reports` |
-//! | a piece of an audit goes by the stored bytes and by what was read before; where it is not the last, it asks nothing | `bytes` of `World::line`, by `Audits` |
+//! | a piece of an audit goes by the stored bytes and by what was read before; where more is left than it reads, it asks nothing, whatever it comes to | `bytes` of `World::line`, by `Audits` |
+//! | an auditor of the bytes is one of them behind each piece, and behind a reply it stands where that says | `bytes` of `World::line`, by `goes_on` of `Audits` and `stands` of `TellsPiece` |
 //! | a failure is a fault of the disk or of the notary, or want of memory; behind a reply, a refusal too, the disk counted no fault, nor a notary that shows its faults | `disk_cause` and `notary_cause`, `disk_counted` and `notary_counted` |
 //! | only a line that the notary answers ends in a fault of the notary; only such a line, or one that stores, in one of the disk | `only` of `World::line` and of `told`, by `MayEndIn` |
+//! | a piece of an audit that goes on leaves the notary as it was, and ends in no fault of it | `quiet`, `unasked` of `told`, by `EndsUnasked` |
 //! | where the clock speaks against a notarization before anything is asked, it ends in no fault | `timely` of `told`, by `EndsTimely` |
 //! | any notary allows `notarize` the refusals `Broken`, `SealMissing`, `Full` and `OutOfTurn`; `validate` and the last piece of an audit a verdict, `SealMissing` and `Full`; `analyse` an analysis or a refusal of its algorithm. Without a history a verdict or an analysis tells only that nothing was filed or that the header is altered, or there is `Full` | `MayTell` |
 //! | the store of the id is opened, or there is none | `value` of `World::enter` |

@@ -60,7 +60,7 @@ pub(crate) fn answer_with_store<D: Disk, N: Notary>(
     requires fits { FitsParts line.now }
     ensures open { OnOk result (store.new.at.is_closed ≡ false) }
     ensures header { store.new.header ≡ store.old.header }
-    ensures bytes { GoesByBytes line.now store.old.header.id auditor.old now result
+    ensures bytes { GoesByBytes line.now store.old.header.id auditor.old auditor.new now result
         (desk (D.state disk.old) (N.state notary.old)) (desk (D.state disk.new) (N.state notary.new)) }
     ensures unasked { IsStatementLine line.now → N.state notary.new ≡ N.state notary.old }
     ensures only { IfErr result (MayEndIn (line_kind line.now) ⊤) }
@@ -116,7 +116,7 @@ pub(crate) fn answer_without_store<D: Disk, N: Notary>(
     requires is_line { IsWorldLine line.now }
     ensures none { NeedsStore line.now → IsToldNone is_old result
         (desk (D.state disk.old) (N.state notary.old)) (desk (D.state disk.new) (N.state notary.new)) }
-    ensures bytes { GoesByBytes line.now id auditor.old now result
+    ensures bytes { GoesByBytes line.now id auditor.old auditor.new now result
         (desk (D.state disk.old) (N.state notary.old)) (desk (D.state disk.new) (N.state notary.new)) }
     ensures only { IfErr result (MayEndIn (line_kind line.now) ⊤) }
     ensures told { StepsFor line.now now result (no_store id is_old auditor.old) (no_store id is_old auditor.new)

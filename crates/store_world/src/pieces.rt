@@ -11,7 +11,7 @@ ghost use Rattle.store_world.specs.Stepping.{HidesNone};
 ghost use Rattle.store_world.specs.Parts.{StepsAuditing};
 ghost use Rattle.store_world.specs.ByBytes.{TellsPiece};
 
-use crate::answered::{Answered, audited};
+use crate::answered::{Answered, piece_told};
 use crate::audits::answer_to;
 use crate::fail::LineFail;
 use audit_steps::Auditor;
@@ -30,7 +30,7 @@ pub(crate) fn answer_audit<D: Disk, N: Notary>(
     id: u64,
     now: u64,
 ) -> Result<Answered, LineFail>
-    ensures piece { TellsPiece id auditor.old now result
+    ensures piece { TellsPiece id auditor.old auditor.new now result
         (desk (D.state disk.old) (N.state notary.old)) (desk (D.state disk.new) (N.state notary.new)) }
     ensures told { StepsAuditing now result id auditor.old auditor.new
         (desk (D.state disk.old) (N.state notary.old)) (desk (D.state disk.new) (N.state notary.new)) }
@@ -57,7 +57,7 @@ fn audit_counted<D: Disk, N: Notary, L: Ledger>(
     blank: Blank,
 ) -> Result<Answered, LineFail>
     requires blank { IsBlankOf L.name L.parts blank }
-    ensures piece { TellsPiece id auditor.old now result
+    ensures piece { TellsPiece id auditor.old auditor.new now result
         (desk (D.state disk.old) (N.state notary.old)) (desk (D.state disk.new) (N.state notary.new)) }
     ensures told { StepsAuditing now result id auditor.old auditor.new
         (desk (D.state disk.old) (N.state notary.old)) (desk (D.state disk.new) (N.state notary.new)) }
@@ -72,7 +72,7 @@ fn audit_counted<D: Disk, N: Notary, L: Ledger>(
 {
     let mut steps = Steps::<L>::new(blank);
     match auditor.step(alloc, disk, notary, id, now, &mut steps) {
-        Ok(audit) => Ok(audited(alloc, audit)?),
+        Ok(audit) => Ok(piece_told(alloc, audit)?),
         Err(fail) => answer_to(alloc, fail),
     }
 }

@@ -124,7 +124,7 @@ impl World {
         ensures own { IfSome self.new.opened (λ o. o.store.header.id ≡ self.old.id) }
         ensures none { self.old.opened ≡ None → NeedsStore line.now → IsToldNone self.old.is_old result
             (desk (D.state disk.old) (N.state notary.old)) (desk (D.state disk.new) (N.state notary.new)) }
-        ensures bytes { GoesByBytes line.now self.old.id self.old.auditing now result
+        ensures bytes { GoesByBytes line.now self.old.id self.old.auditing self.new.auditing now result
             (desk (D.state disk.old) (N.state notary.old)) (desk (D.state disk.new) (N.state notary.new)) }
         ensures unasked { IsStatementLine line.now → N.state notary.new ≡ N.state notary.old }
         ensures only { IfErr result (MayEndIn (line_kind line.now) ⊤) }

@@ -37,7 +37,7 @@ use Rattle.store_world.specs.Found.{Found}
 use Rattle.store_world.specs.World as worlds
 use Rattle.store_world.specs.World.{with_audited, with_mark, history_or, is_new, old_under}
 use Rattle.store_world.specs.Steps as world_steps
-use Rattle.store_world.specs.Steps.{on_tables, validated, algorithm_of, marked, has_more, audits_on, audited}
+use Rattle.store_world.specs.Steps.{on_tables, validated, algorithm_of, marked, has_more, audits_on, piece_audited}
 use Rattle.store_world.specs.Finding.{FindsVerdict}
 use Rattle.store_world.proofs.Analysing.{analysed_stays}
 use Rattle.store_world.proofs.LineKinds.{GoesToTables}
@@ -288,7 +288,7 @@ module _ (id i : ℕ) (t : Scene) (line : Line) (found : Found) where
         by (Some mark) mark_is = by_room mark mark_is found.refusal
 
     -- a piece that goes on finds nothing
-    audits : (b : Bool) → OnFalse b (FindsVerdict w t.clock found) → ActsEither id t (over_world t w line found (audited b w t.clock found.verdict found.refusal))
+    audits : (b : Bool) → OnFalse b (FindsVerdict w t.clock found) → ActsEither id t (over_world t w line found (piece_audited b w t.clock found.verdict found.refusal))
     audits true may = left (audits_on w) refl refl
     audits false may = validates 0 found.verdict may.0
 

@@ -48,7 +48,7 @@ use Rattle.stmt_text.specs.declared.line.Line.TheVariants as lines
 use Rattle.store_world.specs.Found.{Found as FoundOf}
 use Rattle.store_world.specs.World.{World, with_audited, history_or, old_under}
 use Rattle.store_world.specs.Steps as world_steps
-use Rattle.store_world.specs.Steps.{algorithm_of, intent_in, unless, carried_out, notarized, marked, validated, has_more, audited, analysed}
+use Rattle.store_world.specs.Steps.{algorithm_of, intent_in, unless, carried_out, notarized, marked, validated, has_more, piece_audited, analysed}
 use Rattle.store_world.specs.Finding.{MayFile, MayMark, FindsVerdict, MayFind, full_unless}
 use Rattle.timeline_model.specs.Scene.{Scene, nothing_yet, store_in, world_of, held, batches_of}
 use Rattle.timeline_model.specs.Timeline.{Event, after, IsTimeline}
@@ -308,7 +308,7 @@ module _ (w : World) (now : ℕ) where
 
   -- an audit that goes on does the same whatever is found
   audited_one : {C : Type 0} (b : Bool) (one other : FoundOf) → OnFalse b (FindsVerdict w now one) → OnFalse b (FindsVerdict w now other) → (FindsVerdict w now one → FindsVerdict w now other → (one.verdict ≡ other.verdict) ⊎ C)
-      → (OnFalse b (one.verdict ≡ other.verdict) × (audited b w now one.verdict one.refusal ≡ audited b w now other.verdict other.refusal)) ⊎ C
+      → (OnFalse b (one.verdict ≡ other.verdict) × (piece_audited b w now one.verdict one.refusal ≡ piece_audited b w now other.verdict other.refusal)) ⊎ C
   audited_one true one other x y verdicts = inl (tt, refl)
   audited_one false one other x y verdicts = elim (verdicts x y) [ inl same ↦ inl (same, validated_same 0 one other x y same) | inr clash ↦ inr clash ]
 

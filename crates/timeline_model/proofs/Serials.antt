@@ -35,7 +35,7 @@ use Rattle.store_world.specs.Found.{Found}
 use Rattle.store_world.specs.World as worlds
 use Rattle.store_world.specs.World.{no_sessions}
 use Rattle.store_world.specs.Steps as world_steps
-use Rattle.store_world.specs.Steps.{reached, notarized, validated, has_more, audited, on_tables, algorithm_of}
+use Rattle.store_world.specs.Steps.{reached, notarized, validated, has_more, piece_audited, on_tables, algorithm_of}
 use Rattle.store_world.proofs.Acknowledging.{by_line}
 use Rattle.store_world.proofs.Analysing.{analysed_stays}
 use Rattle.timeline_model.specs.Scene.{Scene, Crash, nothing_yet, entered_anew, sessions_over, store_in, world_with, world_of}
@@ -110,7 +110,7 @@ module _ (w : worlds.World) (now : ℕ) (logs : Logs) where
   step_held line found held = by_line (λ line s. HeldIn (store_of s.world) (told_more logs (store_of w) (Ok line) now)) w line now found (λ line. tables_held w.store refl line held)
       (plain_held stmts.Notarize (notarized w w.store now found.heard found.refusal).world (notarized_held found.heard found.refusal w.store refl held))
       (plain_held stmts.Validate (validated w now found.verdict found.refusal).world (stays_held (validated w now found.verdict found.refusal).world (with_validated w now found.verdict found.refusal).same.store (validated_rest w w.audited now found.verdict found.refusal).sessions held))
-      (plain_held stmts.Audit (audited (has_more w) w now found.verdict found.refusal).world (stays_held (audited (has_more w) w now found.verdict found.refusal).world (with_audit (has_more w) w now found.verdict found.refusal).same.store (audited_rest (has_more w) w now found.verdict found.refusal).sessions held))
+      (plain_held stmts.Audit (piece_audited (has_more w) w now found.verdict found.refusal).world (stays_held (piece_audited (has_more w) w now found.verdict found.refusal).world (with_audit (has_more w) w now found.verdict found.refusal).same.store (audited_rest (has_more w) w now found.verdict found.refusal).sessions held))
       (λ algorithm. plain_held (stmts.Analyse algorithm) (world_steps.analysed w (algorithm_of algorithm) found.analysis found.body).world
       (subst (λ (x : worlds.World). HeldIn (store_of x) logs) (sym (analysed_stays w (algorithm_of algorithm) found.analysis found.body)) held))
 

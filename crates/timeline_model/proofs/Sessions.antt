@@ -34,7 +34,7 @@ use Rattle.store_world.specs.Found.{Found}
 use Rattle.store_world.specs.World as worlds
 use Rattle.store_world.specs.World.{no_sessions, with_audited}
 use Rattle.store_world.specs.Steps as world_steps
-use Rattle.store_world.specs.Steps.{Step, notarized, intent_in, carried_out, unless, validated, has_more, audited, algorithm_of, marked, on_tables}
+use Rattle.store_world.specs.Steps.{Step, notarized, intent_in, carried_out, unless, validated, has_more, piece_audited, algorithm_of, marked, on_tables}
 use Rattle.store_world.proofs.Acknowledging.{by_line}
 use Rattle.store_world.proofs.Analysing.{analysed_stays}
 use Rattle.timeline_model.specs.Scene.{Scene, sessions_over, world_of, store_in}
@@ -121,7 +121,7 @@ validated_rest w read now (Ok verdict) refusal = by (mark_of verdict now)
     by None = read_rest w read
     by (Some mark) = unless_rest w refusal (with_audited w read) _ (read_rest w read) (record { id = refl; old = refl; limits = refl; sessions = refl; store = refl })
 
-pub audited_rest : (b : Bool) (w : worlds.World) (now : ℕ) (found : Result Verdict AuditFail) (refusal : Option AuditFail) → KeepsRest w (audited b w now found refusal).world
+pub audited_rest : (b : Bool) (w : worlds.World) (now : ℕ) (found : Result Verdict AuditFail) (refusal : Option AuditFail) → KeepsRest w (piece_audited b w now found refusal).world
 audited_rest true w now found refusal = read_rest w _
 audited_rest false w now found refusal = validated_rest w 0 now found refusal
 
@@ -156,7 +156,7 @@ tables_under w (Some store) line now fits = record { id = refl; old = refl; limi
 pub step_under : (w : worlds.World) (line : Line) (now : ℕ) (found : Found) → FitsParts line → StaysUnder w (world_steps.step w line now found).world
 step_under w line now found = by_line (λ line s. FitsParts line → StaysUnder w s.world) w line now found (λ line. tables_under w w.store line now)
     (λ fits. stays_under w (notarized w w.store now found.heard found.refusal).world (notarized_rest w w.store refl now found.heard found.refusal)) (λ fits. stays_under w (validated w now found.verdict found.refusal).world (validated_rest w w.audited now found.verdict found.refusal))
-    (λ fits. stays_under w (audited (has_more w) w now found.verdict found.refusal).world (audited_rest (has_more w) w now found.verdict found.refusal))
+    (λ fits. stays_under w (piece_audited (has_more w) w now found.verdict found.refusal).world (audited_rest (has_more w) w now found.verdict found.refusal))
     (λ algorithm fits. subst (StaysUnder w) (sym (analysed_stays w (algorithm_of algorithm) found.analysis found.body)) (stays_under w w (rest_same w)))
 
 -- ---- the world of a scene

@@ -49,7 +49,7 @@ use Rattle.store_world.proofs.SoundWorlds.{sound_worlds}
 use Rattle.store_world.specs.World as worlds
 use Rattle.store_world.specs.World.{history_or, old_under}
 use Rattle.store_world.specs.Steps as world_steps
-use Rattle.store_world.specs.Steps.{notarized, intent_in, carried_out, validated, has_more, audited, analysed, algorithm_of, reached}
+use Rattle.store_world.specs.Steps.{notarized, intent_in, carried_out, validated, has_more, piece_audited, analysed, algorithm_of, reached}
 use Rattle.store_world.specs.Finding.{MayFile, MayFind}
 use Rattle.store_world.proofs.LineKinds.{goes_to_tables}
 use Rattle.store_world.proofs.Analysing.{analysed_stays}
@@ -114,12 +114,12 @@ unfolding world_of world_steps.step
 validate_sound t None found = quiet_sound [] t (refuses t (codes "NotAStore")) refl refl
 validate_sound t (Some i) found = validate_by i t found (store_in i t.bytes)
 
-audit_by : (i : ℕ) (t : Scene) (found : Found) → (o : Option statements.Database) → let w = world_with t i o in let s = audited (has_more w) w t.clock found.verdict found.refusal in SoundEither (items_added o s.world.store) t (over_world t w (lines.Plain stmts.Audit) found s)
+audit_by : (i : ℕ) (t : Scene) (found : Found) → (o : Option statements.Database) → let w = world_with t i o in let s = piece_audited (has_more w) w t.clock found.verdict found.refusal in SoundEither (items_added o s.world.store) t (over_world t w (lines.Plain stmts.Audit) found s)
 unfolding notary_calls
 audit_by i t found o =
     let w = world_with t i o in
     let parts = with_audit (has_more w) w t.clock found.verdict found.refusal in
-    asked_by i t (lines.Plain stmts.Audit) found o (audited (has_more w) w t.clock found.verdict found.refusal) parts.same.store parts.batches (λ n id. audited_batches (has_more w) n w t.clock found.verdict t.lists id)
+    asked_by i t (lines.Plain stmts.Audit) found o (piece_audited (has_more w) w t.clock found.verdict found.refusal) parts.same.store parts.batches (λ n id. audited_batches (has_more w) n w t.clock found.verdict t.lists id)
 
 audit_sound : (t : Scene) (o : Option ℕ) (found : Found) → SoundEither (stored_by o t (Ok (lines.Plain stmts.Audit)) found) t (over_store t o (lines.Plain stmts.Audit) found)
 unfolding world_of world_steps.step

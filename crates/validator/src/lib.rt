@@ -1,7 +1,7 @@
 //! Filing the digests of a store with a notary, and holding the store against them later.
 //!
 //! [`validate`] reads the store, and hashes each transaction at most once: the chain alone is computed
-//! (`judge`: `steps`; that it is called once is by the body alone). It asks for the header, and searches the chain by halves for the first bad tile.
+//! (`judge_file`: `steps`; that it is called once is by the body alone). It asks for the header, and searches the chain by halves for the first bad tile.
 //!
 //! | Found | Where |
 //! |---|---|
@@ -22,10 +22,10 @@
 //! | a fault is answered only where the disk or the notary counted it | `disk_cause`, `notary_cause` |
 //! | behind Ok neither counted a fault, nor behind a refusal but its own fault and want of memory: no failed call was tried again | `disk_counted`, `notary_counted` |
 //!
-//! A caller that has counted the batches, and has at hand what is stored, finds the verdict and adds its mark by
-//! [`judge`]. Where it has the values of the chain at the ends of the sealed tiles it calls [`judge_links`], which
-//! hashes no transaction, and where no history is stored under the id [`judge_nowhere`]. Each answers what
-//! `validate` does (`told`).
+//! A caller that has counted the batches finds the verdict and adds its mark by [`judge_file`], which reads the
+//! store once and counts its steps for the caller. Where it has at hand what is stored it calls [`judge`], where it
+//! has the values of the chain at the ends of the sealed tiles [`judge_links`], which hashes no transaction, and
+//! where no history is stored under the id [`judge_nowhere`]. Each answers what `validate` does (`told`).
 //!
 //! [`notarize`] reads the store anew, and holds what is filed already against it. Where a batch is to be filed
 //! and the last moment has not reached the end of the last tile that has ended, it stores a Frontier, and only
@@ -94,5 +94,5 @@ pub use judging::{judge, judge_links, judge_nowhere};
 pub use laws::{broken_is_altered, missing_is_clash, sound_is_clean, sound_is_not_refused};
 pub use notarizing::notarize;
 pub use printing::{put_refusal, put_verdict};
-pub use validating::validate;
+pub use validating::{judge_file, validate};
 pub use verdict::Verdict;

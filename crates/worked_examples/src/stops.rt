@@ -100,27 +100,29 @@ fn a_notary_that_fails_is_asked_again(rt: HostRuntime) -> Result<(), Fail> {
     Ok(())
 }
 
-/// The words of a call over sealed granules, its input, how many reading calls of the disk it makes, and how it ends.
-const READS: [(&str, &str, u64, u8); 9] = [
-    ("link", "", 4, 0),
-    ("init 7 60 3 ta", "", 1, 13),
-    ("run 7", "insert t 9 9\n", 5, 0),
-    ("run 8", "", 1, 4),
-    ("notarize 7", "", 9, 0),
-    ("validate 7", "", 4, 0),
-    ("analyse 7 mono", "", 4, 0),
-    ("analyse 7 tiled", "", 4, 0),
-    ("analyse 7 a3d", "", 4, 0),
+/// The words of a call, its input, over how many sealed granules, how many reading calls of the disk it makes, and how
+/// it ends. Of 301 items a piece of an audit leaves some.
+const READS: [(&str, &str, u32, u64, u8); 10] = [
+    ("link", "", 2, 4, 0),
+    ("init 7 60 3 ta", "", 2, 1, 13),
+    ("run 7", "insert t 9 9\n", 2, 5, 0),
+    ("run 7", "audit\n", 300, 9, 0),
+    ("run 8", "", 2, 1, 4),
+    ("notarize 7", "", 2, 9, 0),
+    ("validate 7", "", 2, 4, 0),
+    ("analyse 7 mono", "", 2, 4, 0),
+    ("analyse 7 tiled", "", 2, 4, 0),
+    ("analyse 7 a3d", "", 2, 4, 0),
 ];
 
 /// A reading call of the disk fails, the store is as it was, and the next call ends as if there had been none before.
 #[test]
 fn a_disk_that_cannot_be_read_is_left_as_it_was(rt: HostRuntime) -> Result<(), Fail> {
     let alloc = rt.alloc();
-    for (words, input, reads, status) in READS {
+    for (words, input, granules, reads, status) in READS {
         for failing in 1..=reads.saturating_add(1) {
             let mut filed = notary(alloc);
-            let mut store = sealed(alloc, "init 7 60 3 ta", 2, &mut filed)?;
+            let mut store = sealed(alloc, "init 7 60 3 ta", granules, &mut filed)?;
             let before = store.bytes().to_vec(alloc)?;
             store.failing([failing].to_vec(alloc)?, Vec::new(alloc));
             let told = audit(alloc, &mut store, &mut filed, words, input, &[960])?;

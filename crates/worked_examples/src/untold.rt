@@ -4,6 +4,7 @@ use crate::desk::{audit, notary, sealed};
 use disk_model::{Disk, Untold};
 use notary_link::{Notary, Untold as UntoldNotary};
 use std::alloc::{AllocError, Global};
+use std::process::Abort;
 use std::test::Fail;
 
 const LINES: &str =
@@ -44,23 +45,36 @@ fn told<D: Disk, N: Notary>(
     Ok((status, text))
 }
 
+/// The call ends so over these sealed granules, and as well where nothing is told.
+fn ends_alike(
+    rt: &impl Abort,
+    alloc: Global,
+    granules: u32,
+    (words, input, status): (&str, &str, u8),
+) -> Result<(), Fail> {
+    let mut filed = notary(alloc);
+    let mut store = sealed(alloc, "init 7 60 3 ta", granules, &mut filed)?;
+    let shown = told(alloc, &mut store, &mut filed, words, input)?;
+    assert_eq!(rt; shown.0, status, "{words}");
+    let mut filed = notary(alloc);
+    let store = sealed(alloc, "init 7 60 3 ta", granules, &mut filed)?;
+    let (mut store, mut filed) = (Untold::new(store), UntoldNotary::new(filed));
+    let hidden = told(alloc, &mut store, &mut filed, words, input)?;
+    assert_eq!(rt;
+        (hidden.0, hidden.1.as_slice()),
+        (shown.0, shown.1.as_slice()),
+        "{words}"
+    );
+    Ok(())
+}
+
 #[test]
 fn devices_that_tell_nothing_are_served_alike(rt: HostRuntime) -> Result<(), Fail> {
     let alloc = rt.alloc();
-    for (words, input, status) in CALLS {
-        let mut filed = notary(alloc);
-        let mut store = sealed(alloc, "init 7 60 3 ta", 8, &mut filed)?;
-        let shown = told(alloc, &mut store, &mut filed, words, input)?;
-        assert_eq!(rt; shown.0, status, "{words}");
-        let mut filed = notary(alloc);
-        let store = sealed(alloc, "init 7 60 3 ta", 8, &mut filed)?;
-        let (mut store, mut filed) = (Untold::new(store), UntoldNotary::new(filed));
-        let hidden = told(alloc, &mut store, &mut filed, words, input)?;
-        assert_eq!(rt;
-            (hidden.0, hidden.1.as_slice()),
-            (shown.0, shown.1.as_slice()),
-            "{words}"
-        );
+    for call in CALLS {
+        ends_alike(&rt, alloc, 8, call)?;
     }
-    Ok(())
+    // of 301 items the first piece of an audit leaves some
+    let pieces = "audit\nget t 1\naudit\naudit\n";
+    ends_alike(&rt, alloc, 300, ("run 7", pieces, 0))
 }

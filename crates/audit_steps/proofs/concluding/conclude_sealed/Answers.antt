@@ -14,11 +14,11 @@ pub returns-in-Some-chains-clause-disk_frame : goal.returns-in-Some-chains-claus
 returns-in-Some-chains-clause-disk_frame g c = disks.goes_on_same (g.D.Disk.state c.args.disk.now)
 
 pub returns-in-None-chains-clause-told : goal.returns-in-None-chains-clause-told
-returns-in-None-chains-clause-told g c = as_read _ _ (g.D.Disk.state c.args.disk.now).reads c.judge_all.ensures.told (λ bytes is at_end. is)
+returns-in-None-chains-clause-told g c = as_read _ _ (g.D.Disk.state c.args.disk.now).reads c.judge_file.ensures.told (λ bytes is at_end. is)
 
 pub returns-in-None-chains-clause-steps : goal.returns-in-None-chains-clause-steps
 returns-in-None-chains-clause-steps g c =
-    told_fell (c.judge_all.new.steps ≡ c.args.steps.now) c.args.id c.args.audit c.in-Some.auditing (g.D.Disk.state c.args.disk.now).reads c.in-Some.is c.in-None-chains.is
+    told_fell (c.judge_file.new.steps ≡ c.args.steps.now) c.args.id c.args.audit c.in-Some.auditing (g.D.Disk.state c.args.disk.now).reads c.in-Some.is c.in-None-chains.is
 
 pub returns-in-None-clause-told : goal.returns-in-None-clause-told
 returns-in-None-clause-told g c =

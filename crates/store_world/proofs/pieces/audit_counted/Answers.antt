@@ -4,8 +4,8 @@ use Rattle.store_world.specs.declared.fail.LineFail.TheVariants.{NoMemory}
 use Rattle.store_world.proofs.Auditing.{audits, piece_of}
 use Rattle.store_world.proofs.pieces.audit_counted.Goals as goal
 
-pub returns-in_err-audited-in-Ok-clause-told : goal.returns-in_err-audited-in-Ok-clause-told
-returns-in_err-audited-in-Ok-clause-told g c =
+pub returns-in_err-piece_told-in-Ok-clause-told : goal.returns-in_err-piece_told-in-Ok-clause-told
+returns-in_err-piece_told-in-Ok-clause-told g c =
     let S = g.D.Disk.state in
     let N = g.N.Notary.state in
     let e = c.in-Ok.ensures in
@@ -19,8 +19,8 @@ returns-in-Ok-clause-told g c =
     let S = g.D.Disk.state in
     let N = g.N.Notary.state in
     let e = c.in-Ok.ensures in
-    audits c.args.id c.args.now c.args.auditor.now c.step.new.self (Ok c.in-Ok.audit) (Ok c.in_ok-audited-in-Ok.field-0) (S c.args.disk.now) (S c.step.new.disk) (N c.args.notary.now) (N c.step.new.notary) e.same
-    (g.met.D.Disk.only_now c.args.disk.now) c.in_ok-audited-in-Ok.ensures.value tt e.stands e.trace
+    audits c.args.id c.args.now c.args.auditor.now c.step.new.self (Ok c.in-Ok.audit) (Ok c.in_ok-piece_told-in-Ok.field-0) (S c.args.disk.now) (S c.step.new.disk) (N c.args.notary.now) (N c.step.new.notary) e.same
+    (g.met.D.Disk.only_now c.args.disk.now) c.in_ok-piece_told-in-Ok.ensures.value tt e.stands e.trace
     (piece_of c.args.id c.args.now c.args.auditor.now c.step.new.self (Ok c.in-Ok.audit) (N c.args.notary.now) (N c.step.new.notary) (S c.args.disk.now).reads e.more e.going e.unasked e.told e.goes_on e.nowhere)
 
 pub returns-clause-told : goal.returns-clause-told

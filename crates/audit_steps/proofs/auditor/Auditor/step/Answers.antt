@@ -8,7 +8,7 @@ use Rattle.validator.proofs.Sound.{kept_sound}
 use Rattle.audit_steps.specs.declared.next.Next.TheVariants as nexts
 use Rattle.audit_steps.specs.Auditing.{IsAuditOf}
 use Rattle.audit_steps.specs.Steps.{NextIs}
-use Rattle.audit_steps.proofs.Ending.{at_end, ends_more, ends_few, ends_nowhere, same_auditing}
+use Rattle.audit_steps.proofs.Ending.{at_end, ends_more, ends_few, ends_most, within_most, ends_nowhere, same_auditing}
 use Rattle.audit_steps.proofs.auditor.Auditor.step.Goals as goal
 
 pub returns-in_err-auditing-clause-notary_frame : goal.returns-in_err-auditing-clause-notary_frame
@@ -148,3 +148,41 @@ returns-in_err-verdict-in-Last-clause-sound g c =
     kept_sound (Unit {0}) (D c.args.disk.now) (D c.conclude.new.disk) L L (g.N.Notary.state c.conclude.new.notary).lists
     (unchanged_then (D c.args.disk.now) (D c.read_next.new.disk) (D c.conclude.new.disk) c.in_ok-auditing.ensures.same c.conclude.ensures.same)
     c.conclude.ensures.notary_frame.told.untold (told_same L L Keeps refl keeps_same) c.conclude.ensures.batches
+
+pub returns-in_err-auditing-clause-most : goal.returns-in_err-auditing-clause-most
+returns-in_err-auditing-clause-most g c =
+    let reads = (g.D.Disk.state c.args.disk.now).reads in
+    let id = c.args.id in
+    let v = c.args.self.now in
+    let own = c.replace-under_way.ensures.value ∙ c.self.view_is in
+    let few = same_auditing (λ o bytes. IsAuditOf id o bytes → c.read_next.new.steps ≤ c.args.steps.now + 512) c.replace-under_way.result v reads own c.read_next.ensures.steps in
+    within_most id v v c.args.steps.now c.read_next.new.steps reads few
+
+pub returns-in-Going-clause-most : goal.returns-in-Going-clause-most
+returns-in-Going-clause-most g c =
+    let reads = (g.D.Disk.state c.args.disk.now).reads in
+    let id = c.args.id in
+    let v = c.args.self.now in
+    let own = c.replace-under_way.ensures.value ∙ c.self.view_is in
+    let few = same_auditing (λ o bytes. IsAuditOf id o bytes → c.read_next.new.steps ≤ c.args.steps.now + 512) c.replace-under_way.result v reads own c.read_next.ensures.steps in
+    within_most id v v c.args.steps.now c.read_next.new.steps reads few
+
+pub returns-in_ok-verdict-in-Last-clause-most : goal.returns-in_ok-verdict-in-Last-clause-most
+returns-in_ok-verdict-in-Last-clause-most g c =
+    let reads = (g.D.Disk.state c.args.disk.now).reads in
+    let near = (g.D.Disk.state c.read_next.new.disk).reads in
+    let id = c.args.id in
+    let v = c.args.self.now in
+    let own = c.replace-under_way.ensures.value ∙ c.self.view_is in
+    let few = same_auditing (λ o bytes. IsAuditOf id o bytes → c.read_next.new.steps ≤ c.args.steps.now + 512) c.replace-under_way.result v reads own c.read_next.ensures.steps in
+    ends_most id v c.in-Last.auditing c.args.steps.now c.read_next.new.steps c.conclude.new.steps reads near c.in_ok-auditing.ensures.same.reads few c.conclude.ensures.most
+
+pub returns-in_err-verdict-in-Last-clause-most : goal.returns-in_err-verdict-in-Last-clause-most
+returns-in_err-verdict-in-Last-clause-most g c =
+    let reads = (g.D.Disk.state c.args.disk.now).reads in
+    let near = (g.D.Disk.state c.read_next.new.disk).reads in
+    let id = c.args.id in
+    let v = c.args.self.now in
+    let own = c.replace-under_way.ensures.value ∙ c.self.view_is in
+    let few = same_auditing (λ o bytes. IsAuditOf id o bytes → c.read_next.new.steps ≤ c.args.steps.now + 512) c.replace-under_way.result v reads own c.read_next.ensures.steps in
+    ends_most id v c.in-Last.auditing c.args.steps.now c.read_next.new.steps c.conclude.new.steps reads near c.in_ok-auditing.ensures.same.reads few c.conclude.ensures.most
