@@ -14,7 +14,8 @@ was stored. So after a crash of either side, also between `ok N` and its reading
 drain asks for that row first. Before changes are sent, their number is made durable in the database, together with all that
 stands before it. A row that is none of the two numbers says that one side was put back from a copy, and nothing is sent.
 
-It ends with 0 if all was taken, 1 if it had to stop, 6 where records stand hidden in the book, and 2 on other words. DRAGOON names another program than ./dragoon.
+It ends with 0 if all was taken, 1 if it had to stop, 6 where records stand hidden in the book or it has nothing of the store (the first
+`notarize` is made by hand), and 2 on other words. DRAGOON names another program than ./dragoon.
 """
 import argparse
 import os
@@ -30,7 +31,7 @@ DRAGOON = os.environ.get("DRAGOON") or str(pathlib.Path(__file__).resolve().pare
 HOLD = pathlib.Path(__file__).resolve().parents[1] / "operate" / "hold"
 CHANGES, WEIGHT = 255, 32_000
 # at the end the program names the first line that it refused: these are refused where nothing is wrong, and their replies are read
-EXPECTED = rb"dragoon: [0-9]+ of [0-9]+ lines were refused; the first one is line [0-9]+, `(get mirrored 0`: NoTable|s0 insert .*: RowExists)"
+EXPECTED = rb"dragoon: .* (is a refusal, that|are refusals, the first one) to line [0-9]+, `(get mirrored 0`: NoTable|s0 insert .*: RowExists)"
 
 
 class Stopped(Exception):
@@ -140,6 +141,20 @@ def drain(db, program, most):
     return taken
 
 
+def not_to_be_filed(books, id):
+    """Why nothing may be filed with these books, or None. A filing would write over records that stand hidden behind the end of one, and
+    a book that is lost must not come back empty: more than half of several have to know the id."""
+    lost = []
+    for book in books:
+        filed = subprocess.run([HOLD, "--filed", book, id], stdout=subprocess.PIPE, text=True)
+        if filed.returncode:
+            held = subprocess.run([HOLD, book, id], stdout=subprocess.PIPE, text=True)
+            if held.returncode:
+                return held.stdout.strip() or "nobody could look into the book"
+            lost.append(filed.stdout.strip())
+    return lost[0] if 2 * len(lost) >= len(books) else None
+
+
 def id_of(word):
     if not re.fullmatch("0|[1-9][0-9]{0,19}", word) or int(word) >= 1 << 64:
         raise argparse.ArgumentTypeError(f"{word} is no id")
@@ -163,12 +178,10 @@ def main():
         print(f"drain: there is no file {options.database}", file=sys.stderr)
         return 1
     if options.notary:
-        # a filing would write over records that stand hidden behind the end of the book
-        for book in options.notary.split(","):
-            held = subprocess.run([HOLD, book, str(options.id)], stdout=subprocess.PIPE, text=True)
-            if held.returncode:
-                print(f"drain: nothing is taken and nothing is filed: {held.stdout.strip() or 'nobody could look into the book'}", file=sys.stderr)
-                return 6
+        why = not_to_be_filed(options.notary.split(","), options.id)
+        if why:
+            print(f"drain: nothing is taken and nothing is filed: {why}", file=sys.stderr)
+            return 6
     devices = [f"store={options.store}"] + ([f"notary={options.notary}"] if options.notary else [])
     try:
         db = sqlite3.connect(f"file:{quote(options.database)}?mode=rw", uri=True, isolation_level=None, timeout=60)

@@ -45,14 +45,36 @@ impl Ask {
         self.only_asks() || self == Ask::Run
     }
 
+    /// Whether it takes no store of the first format.
+    pub(crate) fn adds(self) -> bool {
+        self == Ask::Run || self == Ask::Make || self == Ask::Notarize
+    }
+
+    /// The id that its words give of a store that is there.
+    pub(crate) fn id(self, call: &[String]) -> Option<u64> {
+        if !self.uses_store() || self == Ask::Link || self == Ask::Init {
+            return None;
+        }
+        call.get(1)?.as_str().parse::<u64>().ok()
+    }
+
+    /// Whether it holds what is stored against what is filed by the seconds of the clock.
+    pub(crate) fn uses_clock(self, call: &[String]) -> bool {
+        match self {
+            Ask::Notarize | Ask::Validate | Ask::Analyse => true,
+            Ask::Run => call.len() == 2,
+            _ => false,
+        }
+    }
+
     /// Whether it holds one thing against another, or says what is there.
     pub(crate) fn compares(self) -> bool {
-        self.only_asks() || self == Ask::Notarize || self == Ask::Run
+        self.only_asks() || self == Ask::Notarize || self == Ask::Run || self == Ask::Make
     }
 
     /// Whether what it replies may be a verdict over a file.
     pub(crate) fn gives_verdict(self) -> bool {
-        self == Ask::Validate || self == Ask::Analyse || self == Ask::Run
+        self == Ask::Validate || self == Ask::Analyse || self == Ask::Run || self == Ask::Make
     }
 
     pub(crate) fn takes_lines(self) -> bool {

@@ -34,6 +34,7 @@ pub(crate) struct Ballot {
     /// What was said in the call that is under way.
     said: Cell<[Option<Said>; MOST]>,
     odd: Cell<[Odd; MOST]>,
+    has_begun: Cell<bool>,
 }
 
 impl Ballot {
@@ -42,7 +43,17 @@ impl Ballot {
             members,
             said: Cell::new([None; MOST]),
             odd: Cell::new([Odd::No; MOST]),
+            has_begun: Cell::new(false),
         }
+    }
+
+    /// A member filed the first batch of an id.
+    pub(crate) fn begin(&self) {
+        self.has_begun.set(true);
+    }
+
+    pub(crate) fn has_begun(&self) -> bool {
+        self.has_begun.get()
     }
 
     /// What the member of this place says. A call ends with the last member.

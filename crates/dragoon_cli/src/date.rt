@@ -6,6 +6,21 @@ use std::fmt;
 #[derive(Clone, Copy)]
 pub(crate) struct Date(pub(crate) u64);
 
+/// So many seconds behind the first second of a store.
+#[derive(Clone, Copy)]
+pub(crate) struct Moment {
+    pub(crate) epoch: u64,
+    pub(crate) second: u64,
+}
+
+impl fmt::Display for Moment {
+    fn fmt<W: fmt::Write>(&self, f: &mut fmt::Formatter<W>) -> fmt::Result {
+        let second = self.second;
+        let date = Date(self.epoch.saturating_add(second));
+        write!(f, "second {second}, {date}")
+    }
+}
+
 /// The year, month and day of so many days since 1970-01-01. Years begin in March here, so that a leap day ends one.
 fn civil(days: u64) -> (u64, u64, u64) {
     // days since 0000-03-01, in eras of 400 years

@@ -10,6 +10,9 @@ const FRONT: usize = 80;
 /// How the reply of a piece of an audit begins, behind which some items are left.
 const PIECE: &str = "auditing ";
 
+/// How the reply to a line that is refused begins.
+const REFUSED: &str = "refused ";
+
 /// The front of a text.
 #[derive(Clone, Copy)]
 pub(crate) struct Front {
@@ -53,7 +56,11 @@ pub(crate) struct Heard<'a> {
     left: usize,
     pub(crate) replies: u64,
     pub(crate) refused: u64,
-    pub(crate) first_refusal: Front,
+    first_refusal: Front,
+    /// The first refusal that says that store and book don't go together.
+    alarm: Front,
+    /// How many lines of a generated script were refused, with what came behind it.
+    pub(crate) refused_of_made: u64,
     /// The last verdict of `validate` or `analyse`, and the first one that says altered.
     pub(crate) verdict: Front,
     pub(crate) altered: Front,
@@ -73,6 +80,8 @@ impl<'a> Heard<'a> {
             replies: 0,
             refused: 0,
             first_refusal: Front::new(),
+            alarm: Front::new(),
+            refused_of_made: 0,
             verdict: Front::new(),
             altered: Front::new(),
             piece: Front::new(),
@@ -89,25 +98,52 @@ impl<'a> Heard<'a> {
         self.left = piece.len().saturating_sub(count);
     }
 
-    fn begin(&mut self, reply: &[u8]) {
-        let front = Front::of(reply);
-        if let Some(refusal) = front.text().strip_prefix("refused ") {
-            if self.refused == 0 {
-                self.first_refusal = front;
-                self.shared.first_refused.set(Some(self.replies));
+    /// Of a generated script the last replies stand in one text, behind what says so.
+    fn begin(&mut self, text: &[u8]) {
+        if text.starts_with(b"made ".as_slice()) {
+            for reply in text.split(|byte| *byte == b'\n') {
+                if !reply.is_empty() {
+                    self.begin_reply(reply);
+                }
             }
-            self.refused = self.refused.saturating_add(1);
-            self.shared.sessions.refuse(self.replies, refusal);
+        } else {
+            self.begin_reply(text);
+        }
+    }
+
+    /// A fault's line is no reply.
+    fn begin_reply(&mut self, reply: &[u8]) {
+        let front = Front::of(reply);
+        if front.text().starts_with("fault ") {
+            return;
+        }
+        if let Some(refusal) = front.text().strip_prefix(REFUSED) {
+            self.hear_refusal(front, refusal);
         }
         self.hear(front);
         self.goes_back = self.goes_back || goes_back(reply);
         self.replies = self.replies.saturating_add(1);
     }
 
+    fn hear_refusal(&mut self, reply: Front, refusal: &str) {
+        if self.refused == 0 {
+            self.first_refusal = reply;
+            self.shared.first_refused.set(Some(self.replies));
+        }
+        if self.alarm.length == 0 && is_alarm(refusal) {
+            self.alarm = reply;
+        }
+        self.refused = self.refused.saturating_add(1);
+        self.shared.sessions.refuse(self.replies, refusal);
+    }
+
     /// What the notary was given or asked by a line with this reply.
     fn hear(&mut self, reply: Front) {
         let text = reply.text();
         self.is_filed = self.is_filed || text.starts_with("sealed ") || is_of_validate(text);
+        if let Some(refused) = refused_of_made(text) {
+            self.refused_of_made = refused;
+        }
         if text.starts_with(PIECE) {
             self.piece = reply;
         } else if text == "unsealed" || is_of_validate(text) {
@@ -125,6 +161,18 @@ impl<'a> Heard<'a> {
         &self.shared.sessions
     }
 
+    /// Its name, and what stands behind that in the reply.
+    pub(crate) fn first_refusal(&self) -> &str {
+        self.first_refusal
+            .text()
+            .strip_prefix(REFUSED)
+            .unwrap_or("")
+    }
+
+    pub(crate) fn alarm(&self) -> &str {
+        self.alarm.text().strip_prefix(REFUSED).unwrap_or("")
+    }
+
     /// Whether the last verdict compared nothing.
     pub(crate) fn is_unsealed(&self) -> bool {
         self.verdict.text().ends_with("unsealed")
@@ -139,6 +187,19 @@ impl<'a> Heard<'a> {
     pub(crate) fn uses_notary(&self) -> bool {
         self.is_filed || self.verdict.length > 0
     }
+}
+
+/// Whether a line of a notary was refused so, and whoever watches has to look.
+fn is_alarm(refusal: &str) -> bool {
+    refusal == "Broken"
+        || refusal.starts_with("SealMissing ")
+        || refusal.starts_with("NotaryInconsistent ")
+}
+
+/// Of `made N refused R txns T` the number R.
+fn refused_of_made(reply: &str) -> Option<u64> {
+    let mut words = reply.strip_prefix("made ")?.split(' ');
+    words.nth(2)?.parse::<u64>().ok()
 }
 
 /// Of a store of which something is filed.

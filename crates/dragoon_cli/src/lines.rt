@@ -2,8 +2,11 @@
 
 use std::alloc::{AllocError, Global};
 
-/// As many bytes are kept of a line that isn't whole yet: one more than a line may have.
-const FRONT: usize = 65_537;
+/// As many bytes a line may have, and behind them a carriage return.
+pub(crate) const LONGEST: usize = 65_536;
+
+/// As many bytes are kept of a line that isn't whole yet: more than a line may have.
+const FRONT: usize = LONGEST + 2;
 
 /// The first line that was refused.
 #[derive(Drop)]
@@ -106,6 +109,11 @@ fn find(
         replies = replies.saturating_add(1);
     }
     Ok(None)
+}
+
+pub(crate) fn is_too_long(line: &[u8]) -> bool {
+    let line = line.strip_suffix(b"\r".as_slice()).unwrap_or(line);
+    line.len() > LONGEST
 }
 
 /// Whether a line has no reply: nothing but spaces, or `#` at its front.

@@ -12,6 +12,7 @@
 //! | which sessions are left without a commit | `sessions` |
 //! | which notary of a quorum failed, or differed | `ballot`, told by `members` |
 //! | why a call ended with a fault | `telling` |
+//! | what is odd about the files, each oddity by itself | `oddities` |
 //! | what else output and status don't say | `warnings`, with `refusal`, and `wording` over `tokens` |
 //! | words that are no command | `nearest` |
 //!
@@ -26,10 +27,12 @@ mod ask;
 mod ballot;
 mod date;
 mod device;
+mod faults;
 mod heard;
 mod lines;
 mod members;
 mod nearest;
+mod oddities;
 mod peek;
 mod progress;
 mod refusal;
@@ -350,7 +353,9 @@ fn carry_out<'a, R: Runtime + Files<File = File> + AllocGlobal + Drop>(
         &mut out,
     );
     named_store.error = store.below().error();
+    named_store.was_written = store.is_written();
     named_target.error = target.below().error();
+    named_target.was_written = target.is_written();
     for (place, (named, member)) in named_books
         .iter_mut()
         .zip(notary.into_members())
@@ -359,10 +364,12 @@ fn carry_out<'a, R: Runtime + Files<File = File> + AllocGlobal + Drop>(
         let disk = member.into_below().into_disk();
         named.error = disk.below().error();
         named.was_made = disk.below().was_made();
+        named.was_written = disk.is_written();
         named.odd = shared.ballot.odd(place);
     }
     let ending = Ending {
         ask,
+        call,
         status,
         store: named_store,
         copy: named_copy,
@@ -372,9 +379,10 @@ fn carry_out<'a, R: Runtime + Files<File = File> + AllocGlobal + Drop>(
         output: out.below().error(),
         heard: &out.heard,
         refused: input.lines.first.as_ref(),
+        has_begun: shared.ballot.has_begun(),
         now: clock.now(),
     };
-    let _ = tell(rt, call, &ending);
+    let _ = tell(rt, &ending);
     Ok(status)
 }
 

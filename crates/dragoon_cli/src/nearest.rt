@@ -221,7 +221,9 @@ fn wrong_of(alloc: Global, call: &[String]) -> Wrong<'_> {
     if word.as_bytes().contains(&b'=') || DEVICES.contains(&word) {
         return Wrong::Almost { word };
     }
-    if STATEMENTS.iter().any(|statement| *statement == word)
+    if STATEMENTS
+        .iter()
+        .any(|statement| statement.eq_ignore_ascii_case(word))
         || session_of(word.as_bytes()).is_some()
     {
         return Wrong::Statement { word };
@@ -307,9 +309,15 @@ const STATEMENTS: [&str; 13] = [
 
 const COMMANDS: &str = "link, init, run, make, drill, notarize, validate, analyse and migrate";
 
-/// The command that is nearest, where two changes of a letter lead to it. Without memory it is none.
+/// The command that is nearest: in other letters, or where two changes of a letter lead to it. Without memory it is none.
 fn nearest(alloc: Global, word: &str) -> Option<&'static str> {
-    let mut found = None;
+    let mut found = FORMS
+        .iter()
+        .map(|form| form.word)
+        .find(|command| command.eq_ignore_ascii_case(word));
+    if found.is_some() {
+        return found;
+    }
     let mut least = 3;
     for form in FORMS.iter() {
         let distance = levenshtein(alloc, word, form.word).unwrap_or(usize::MAX);
@@ -334,6 +342,9 @@ impl fmt::Display for Wrong<'_> {
             Wrong::Command { word, nearest } => {
                 let word = Shown(word);
                 match nearest {
+                    _ if word.0.is_empty() => {
+                        write!(f, "an empty word is no command: those are {COMMANDS}")
+                    }
                     Some(command) => write!(f, "`{word}` is no command: is `{command}` meant?"),
                     None => write!(f, "`{word}` is no command: those are {COMMANDS}"),
                 }

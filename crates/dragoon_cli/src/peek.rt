@@ -6,8 +6,9 @@ ghost use Rattle.outside_words.specs.Faults.{HasCause, HidesNoFault};
 ghost use Rattle.disk_words.specs.declared.DiskFail.TheVariants.{Failed, NoMemory};
 ghost use Rattle.disk_model.specs.Untold.{untold_state};
 
+use crate::faults::counted;
 use disk_model::{Disk, DiskFail};
-use history_model::Format;
+use history_model::{Format, Front};
 use notary_book::BookShape;
 use segment_file::{SegmentRecords, read_front};
 use std::alloc::Global;
@@ -26,9 +27,11 @@ pub(crate) enum Found {
     /// Nothing, or so many bytes as a making leaves that was cut off: it counts as empty.
     Empty {
         bytes: u64,
+        letters: Letters,
     },
     Store {
         header: Header,
+        format: Format,
         behind: Option<Behind>,
     },
     Book {
@@ -36,9 +39,32 @@ pub(crate) enum Found {
         filed: Option<u64>,
         behind: Option<Behind>,
     },
-    Other,
+    Other {
+        letters: Letters,
+    },
     /// It is no plain file, or it couldn't be read.
     Unread,
+}
+
+/// Of which format the letters are that stand behind the first byte of a file without a head.
+#[derive(Clone, Copy, PartialEq, Eq)]
+pub(crate) enum Letters {
+    Store,
+    Book,
+    None,
+}
+
+impl Letters {
+    fn of(head: &[u8]) -> Letters {
+        let letters = head.get(1..).unwrap_or(&[]);
+        if letters.starts_with(b"DRAGOON".as_slice()) {
+            Letters::Store
+        } else if letters.starts_with(b"DRAGBOK".as_slice()) {
+            Letters::Book
+        } else {
+            Letters::None
+        }
+    }
 }
 
 /// Bytes behind the last closed gate that an append which was cut off doesn't leave.
@@ -57,29 +83,14 @@ struct Peek {
 }
 
 impl Peek {
-    fn counted<T>(&mut self, outcome: io::Result<T>) -> Result<T, DiskFail>
-        ensures value { IfOk result (λ value. outcome ≡ Ok value) }
-        ensures frame { self.old.faults ≤ self.new.faults }
-        ensures cause { HasCause Failed self.old.faults self.new.faults result }
-        ensures counted { HidesNoFault self.old.faults self.new.faults result }
-        ensures memory { ¬ IsErrOf result NoMemory }
-    {
-        match outcome {
-            Ok(value) => Ok(value),
-            Err(_) => {
-                self.faults = self.faults.saturating_add(1);
-                Err(DiskFail::Failed)
-            }
-        }
-    }
-
     fn refused(&mut self) -> Result<(), DiskFail>
         ensures frame { self.old.faults ≤ self.new.faults }
         ensures cause { HasCause Failed self.old.faults self.new.faults result }
         ensures counted { HidesNoFault self.old.faults self.new.faults result }
         ensures memory { ¬ IsErrOf result NoMemory }
     {
-        self.counted(Err(ErrorKind::Unsupported.into()))
+        let outcome: io::Result<()> = Err(ErrorKind::Unsupported.into());
+        counted(&mut self.faults, outcome)
     }
 }
 
@@ -113,12 +124,12 @@ impl Disk for Peek {
 
     fn length(&mut self) -> Result<u64, DiskFail> {
         let outcome = length_of(&self.file);
-        self.counted(outcome)
+        counted(&mut self.faults, outcome)
     }
 
     fn read_at(&mut self, place: u64, into: &mut [u8]) -> Result<usize, DiskFail> {
         let outcome = read_on(&mut self.file, place, into);
-        self.counted(outcome)
+        counted(&mut self.faults, outcome)
     }
 
     fn write_at(&mut self, _place: u64, _bytes: &[u8]) -> Result<(), DiskFail> {
@@ -163,14 +174,22 @@ fn look_into(alloc: Global, disk: &mut Peek) -> Result<Found, DiskFail> {
         return Ok(Found::Book { filed, behind });
     }
     if let Some(front) = read_front(disk)? {
-        let header = front.header;
-        let behind = walk_store(alloc, disk, length, front.format)?;
-        return Ok(Found::Store { header, behind });
+        let Front { format, header } = front;
+        let behind = walk_store(alloc, disk, length, format)?;
+        return Ok(Found::Store {
+            header,
+            format,
+            behind,
+        });
     }
+    let letters = Letters::of(head.as_slice());
     if is_free(disk)? {
-        Ok(Found::Empty { bytes: length })
+        Ok(Found::Empty {
+            bytes: length,
+            letters,
+        })
     } else {
-        Ok(Found::Other)
+        Ok(Found::Other { letters })
     }
 }
 

@@ -58,34 +58,31 @@ const MEANINGS: [(&str, &str); 30] = [
         "Conflict",
         "the transaction of that number changed what the session has read: begin it anew",
     ),
-    (
-        "ClockBack",
-        "the clock is behind the store's last moment, which is that one",
-    ),
-    (
-        "TooLate",
-        "the clock is beyond what this store can tell: go on with another store",
-    ),
+    ("ClockBack", "the clock is behind the store's last moment"),
+    ("TooLate", "the clock is beyond what this store can tell"),
     ("TooManyOps", "a session stores at most 256 operations"),
     ("TooLong", "a transaction has at most 32,768 bytes"),
     ("StoreFull", "the store is full: go on with another one"),
     ("Full", "the notary has no room: go on with another book"),
     (
         "Broken",
-        "what is filed isn't what is stored: keep store and book as they are",
+        "what is filed isn't what is stored: keep store and book as they are, and `validate`; docs/OPERATING.md",
     ),
     (
         "SealMissing",
-        "the notary lacks that seal: keep store and book as they are",
+        "the notary lacks that seal: it is another store's, or was cut; keep store and book as they are",
     ),
-    ("OutOfTurn", "somebody else filed meanwhile"),
+    (
+        "OutOfTurn",
+        "somebody else filed meanwhile: `notarize` again",
+    ),
     (
         "NotSealedSo",
-        "the store lacks the chains of this algorithm",
+        "the store has none of the chains that this analysis needs",
     ),
     (
         "NotaryInconsistent",
-        "the notary contradicts itself: keep its book as it is",
+        "the notary contradicts itself, as no store's digests do: keep its book as it is, and tell whoever keeps it",
     ),
     (
         "NotAStore",

@@ -3,16 +3,19 @@
 
 use crate::ask::Ask;
 use crate::ballot::Odd;
-use crate::date::Date;
+use crate::date::{Date, Moment};
 use crate::heard::Heard;
 use crate::lines::Refused;
 use crate::nearest::tell_usage;
-use crate::peek::Found;
+use crate::oddities::tell_oddities;
+use crate::peek::{Found, Letters};
 use crate::shown::Shown;
 use crate::warnings::tell_warnings;
 use dragoon_app::Status;
+use history_model::Format;
 use std::io::ErrorKind;
 use std::{fmt, io};
+use tuple_bytes::Header;
 
 /// What a device is called.
 #[derive(Clone, Copy)]
@@ -28,8 +31,8 @@ pub(crate) enum Called {
 }
 
 /// A device as whoever runs the program knows it: what it is called, its file where one was named, what was found there
-/// before the call, why its last call that failed did so, whether it was missing and was made, and how a notary stood out
-/// among others.
+/// before the call, why its last call that failed did so, whether it was missing and was made, whether something was
+/// written to it, and how a notary stood out among others.
 #[derive(Clone, Copy)]
 pub(crate) struct Named<'a> {
     pub(crate) called: Called,
@@ -37,6 +40,7 @@ pub(crate) struct Named<'a> {
     pub(crate) found: Found,
     pub(crate) error: Option<io::Error>,
     pub(crate) was_made: bool,
+    pub(crate) was_written: bool,
     pub(crate) odd: Odd,
 }
 
@@ -48,6 +52,7 @@ impl<'a> Named<'a> {
             found,
             error: None,
             was_made: false,
+            was_written: false,
             odd: Odd::No,
         }
     }
@@ -68,6 +73,8 @@ impl Notaries<'_> {
 #[derive(Drop)]
 pub(crate) struct Ending<'a, 'w> {
     pub(crate) ask: Ask,
+    /// The words behind those that name devices.
+    pub(crate) call: &'w [String],
     pub(crate) status: Status,
     pub(crate) store: Named<'w>,
     pub(crate) copy: Named<'w>,
@@ -77,26 +84,59 @@ pub(crate) struct Ending<'a, 'w> {
     pub(crate) output: Option<io::Error>,
     pub(crate) heard: &'a Heard<'a>,
     pub(crate) refused: Option<&'a Refused>,
+    /// Whether a notary has filed the first batch of the id.
+    pub(crate) has_begun: bool,
     /// The clock's second at the end.
     pub(crate) now: u64,
 }
 
+/// A store that has another id than the words give.
+#[derive(Clone, Copy)]
+pub(crate) struct OtherId<'a> {
+    store: &'a Named<'a>,
+    id: u64,
+    asked: u64,
+}
+
+impl Ending<'_, '_> {
+    /// The id that the words give of a store that is there.
+    pub(crate) fn id(&self) -> Option<u64> {
+        self.ask.id(self.call)
+    }
+
+    pub(crate) fn other_id(&self) -> Option<OtherId<'_>> {
+        let store = &self.store;
+        match (self.id(), store.found) {
+            (Some(asked), Found::Store { header, .. }) if header.id != asked => {
+                let id = header.id;
+                Some(OtherId { store, id, asked })
+            }
+            _ => None,
+        }
+    }
+}
+
+/// Whether the call was carried out to its end.
+pub(crate) fn is_done(ending: &Ending<'_, '_>) -> bool {
+    matches!(
+        &ending.status,
+        Status::Ok | Status::Altered | Status::Refused
+    )
+}
+
 /// Says how the run ended, in one line where it ended with a fault, and then what else there is to say.
-pub(crate) fn tell<R: Eprint + AllocGlobal>(
-    rt: &R,
-    call: &[String],
-    ending: &Ending<'_, '_>,
-) -> io::Result<()> {
+pub(crate) fn tell<R: Eprint + AllocGlobal>(rt: &R, ending: &Ending<'_, '_>) -> io::Result<()> {
     match ending.status {
         Status::Usage => {
             let is_device_named = ending.store.path.is_some()
                 || ending.target.path.is_some()
                 || !ending.notaries.are_in_memory();
-            return tell_usage(rt, call, is_device_named);
+            return tell_usage(rt, ending.call, is_device_named);
         }
         Status::Ok | Status::Altered | Status::Refused => {}
         _ => eprintln!(rt; "dragoon: {ending}")?,
     }
+    tell_oddities(rt, ending)?;
     tell_warnings(rt, ending)
 }
 
@@ -146,30 +186,91 @@ fn reason(error: Option<io::Error>) -> io::Error {
     error.unwrap_or(ErrorKind::Other.into())
 }
 
+impl fmt::Display for OtherId<'_> {
+    fn fmt<W: fmt::Write>(&self, f: &mut fmt::Formatter<W>) -> fmt::Result {
+        let OtherId { store, id, asked } = *self;
+        write!(f, "{store} has the id {id}, and not {asked}")
+    }
+}
+
 /// What a file is that isn't what it should be.
 #[derive(Clone, Copy)]
-struct Kind(Found);
+pub(crate) struct Kind(pub(crate) Found);
 
 impl fmt::Display for Kind {
     fn fmt<W: fmt::Write>(&self, f: &mut fmt::Formatter<W>) -> fmt::Result {
         match self.0 {
-            Found::Store { header, .. } => {
+            Found::Store { header, format, .. } => {
                 let id = header.id;
                 let begin = Date(header.epoch);
-                write!(f, "holds a store with the id {id}, which begins at {begin}")
+                let of = match format {
+                    Format::One => " of the first format",
+                    Format::Two => "",
+                };
+                write!(
+                    f,
+                    "holds a store{of} with the id {id}, which begins at {begin}"
+                )
             }
             Found::Book { .. } => write!(f, "holds a notary's book"),
             Found::Missing => write!(f, "is missing"),
-            Found::Empty { bytes: 0 } => write!(f, "is empty"),
-            Found::Empty { bytes } => {
-                write!(
-                    f,
-                    "holds {bytes} bytes, neither a store nor a notary's book"
-                )
+            Found::Empty { bytes: 0, .. } => write!(f, "is empty"),
+            Found::Empty { bytes, letters } => {
+                let (count, what) = (Bytes(bytes), What(letters));
+                write!(f, "holds {count}, {what}")
             }
-            Found::Unused | Found::Other | Found::Unread => {
-                write!(f, "holds neither a store nor a notary's book")
+            Found::Unread => write!(f, "is no plain file, or can't be read"),
+            Found::Other { letters } => {
+                let what = What(letters);
+                write!(f, "holds {what}")
             }
+            Found::Unused => write!(f, "isn't named"),
+        }
+    }
+}
+
+/// What a file was that counted as empty.
+#[derive(Clone, Copy)]
+pub(crate) struct Was(pub(crate) Found);
+
+impl fmt::Display for Was {
+    fn fmt<W: fmt::Write>(&self, f: &mut fmt::Formatter<W>) -> fmt::Result {
+        match self.0 {
+            Found::Missing => write!(f, "was missing"),
+            Found::Empty { bytes, letters } if bytes > 0 => {
+                let (count, what) = (Bytes(bytes), What(letters));
+                write!(f, "held {count}, {what}")
+            }
+            _ => write!(f, "was empty"),
+        }
+    }
+}
+
+/// So many bytes.
+#[derive(Clone, Copy)]
+struct Bytes(u64);
+
+impl fmt::Display for Bytes {
+    fn fmt<W: fmt::Write>(&self, f: &mut fmt::Formatter<W>) -> fmt::Result {
+        let count = self.0;
+        if count == 1 {
+            write!(f, "1 byte")
+        } else {
+            write!(f, "{count} bytes")
+        }
+    }
+}
+
+/// What the bytes of a file without a head are.
+#[derive(Clone, Copy)]
+struct What(Letters);
+
+impl fmt::Display for What {
+    fn fmt<W: fmt::Write>(&self, f: &mut fmt::Formatter<W>) -> fmt::Result {
+        match self.0 {
+            Letters::Store => write!(f, "the front of a store, cut or damaged"),
+            Letters::Book => write!(f, "the front of a notary's book, cut or damaged"),
+            Letters::None => write!(f, "neither a store nor a notary's book"),
         }
     }
 }
@@ -185,14 +286,13 @@ fn tell_failed<W: fmt::Write>(
             f,
             "{device} {LOCKED}: start again when it is free"
         ),
-        Some(error) if is_not_writable(error) && ask.may_only_ask() => write!(
-            f,
-            "{device}: {error}; mend this and start again, what was answered is kept. Asking opens a file for writing, too: examples/on_copy asks over a copy"
-        ),
-        Some(error) => write!(
-            f,
-            "{device}: {error}; mend this and start again, what was answered is kept"
-        ),
+        Some(error) => {
+            let hint = hint(device, error, ask);
+            write!(
+                f,
+                "{device}: {error}; mend this and start again, what was answered is kept{hint}"
+            )
+        }
         None => tell_odd(device, f),
     }
 }
@@ -202,11 +302,15 @@ const LOCKED: &str = "is locked by another process, or named twice in one call";
 // Of a notary that failed, whatever the others did.
 pub(crate) fn tell_member_failed<W: fmt::Write>(
     device: &Named<'_>,
+    ask: Ask,
     f: &mut fmt::Formatter<W>,
 ) -> fmt::Result {
     match device.error {
         Some(error) if error.kind() == ErrorKind::WouldBlock => write!(f, "{device} {LOCKED}"),
-        Some(error) => write!(f, "{device}: {error}"),
+        Some(error) => {
+            let hint = hint(device, error, ask);
+            write!(f, "{device}: {error}{hint}")
+        }
         None => tell_odd(device, f),
     }
 }
@@ -226,6 +330,19 @@ fn tell_notaries_failed<W: fmt::Write>(
     }
 }
 
+// What a file is opened for that nothing is written to.
+fn hint(device: &Named<'_>, error: io::Error, ask: Ask) -> &'static str {
+    if !is_not_writable(error) {
+        ""
+    } else if ask.may_only_ask() {
+        ". Asking opens a file for writing, too: examples/on_copy asks over a copy"
+    } else if ask.uses_target() && matches!(device.called, Called::Store) {
+        ". `migrate` opens it for writing, too: take a copy of it"
+    } else {
+        ""
+    }
+}
+
 fn is_not_writable(error: io::Error) -> bool {
     error.kind() == ErrorKind::PermissionDenied || error.kind() == ErrorKind::ReadOnlyFilesystem
 }
@@ -241,27 +358,73 @@ fn tell_odd<W: fmt::Write>(device: &Named<'_>, f: &mut fmt::Formatter<W>) -> fmt
             let kind = Kind(found);
             write!(
                 f,
-                "{device} {kind}; it stays as it is, so look for copies of the book first (docs/OPERATING.md)"
+                "{device} {kind}; it stays as it is: name the right file, or look for copies of the book (docs/OPERATING.md)"
             )
         }
     }
 }
 
+/// What nothing is added to.
+pub(crate) const IS_OLD: &str =
+    "is a file of the first format, to which nothing is added: `target=FILE migrate ID` writes what it holds to a new one";
+
 // Of a store that none of this id stands in.
-fn tell_other<W: fmt::Write>(store: &Named<'_>, f: &mut fmt::Formatter<W>) -> fmt::Result {
-    match store.found {
-        Found::Unused | Found::Unread => write!(
-            f,
-            "{store} is no store, or has another id: make one by `init`, or name the right file and id"
-        ),
-        found => {
-            let kind = Kind(found);
+fn tell_other<W: fmt::Write>(ending: &Ending<'_, '_>, f: &mut fmt::Formatter<W>) -> fmt::Result {
+    let store = &ending.store;
+    let kind = Kind(store.found);
+    match (ending.other_id(), store.found) {
+        (Some(other), Found::Store { header, .. }) => {
+            let begin = Date(header.epoch);
             write!(
                 f,
-                "{store} {kind}: make one by `init`, or name the right file and id"
+                "{other}, and begins at {begin}: name the right file and id"
             )
         }
+        (_, Found::Unused) => write!(
+            f,
+            "no store=FILE was named: name one, which `init` makes if it is new"
+        ),
+        (_, Found::Missing | Found::Empty { bytes: 0, .. }) => {
+            write!(
+                f,
+                "{store} {kind}: make one by `init`, or name the right file"
+            )
+        }
+        (
+            _,
+            Found::Empty {
+                letters: Letters::Store,
+                ..
+            }
+            | Found::Other {
+                letters: Letters::Store,
+            },
+        ) => write!(
+            f,
+            "{store} {kind}: a making that was cut off leaves such bytes, and so does whoever damages a store. Keep it as it is, and look for copies; docs/OPERATING.md"
+        ),
+        _ => write!(f, "{store} {kind}: name the right file"),
     }
+}
+
+/// The analyses of which a store that was found has the chains.
+#[derive(Clone, Copy)]
+pub(crate) struct Analyses(pub(crate) Found);
+
+impl fmt::Display for Analyses {
+    fn fmt<W: fmt::Write>(&self, f: &mut fmt::Formatter<W>) -> fmt::Result {
+        match self.0 {
+            Found::Store { header, .. } if header.algs == 1 => write!(f, "`mono` or `tiled`"),
+            Found::Store { header, .. } if header.algs == 2 => write!(f, "`mono` or `a3d`"),
+            _ => write!(f, "`mono`"),
+        }
+    }
+}
+
+/// Where what a store can tell ends.
+pub(crate) fn end_of(header: Header) -> Date {
+    let granules = u64::from(header.width).saturating_mul(1_048_576);
+    Date(header.epoch.saturating_add(granules))
 }
 
 // Of the clock of a store, whose last moment is so many seconds behind its first.
@@ -272,10 +435,13 @@ fn tell_clock_back<W: fmt::Write>(
 ) -> fmt::Result {
     match store.found {
         Found::Store { header, .. } => {
-            let moment = Date(header.epoch.saturating_add(last));
+            let moment = Moment {
+                epoch: header.epoch,
+                second: last,
+            };
             write!(
                 f,
-                "the clock is behind {store}, whose last moment is second {last}, {moment}: set it right and start again"
+                "the clock is behind {store}, whose last moment is {moment}: set it right and start again"
             )
         }
         _ => write!(
@@ -288,17 +454,13 @@ fn tell_clock_back<W: fmt::Write>(
 fn tell_too_late<W: fmt::Write>(store: &Named<'_>, f: &mut fmt::Formatter<W>) -> fmt::Result {
     match store.found {
         Found::Store { header, .. } => {
-            let granules = u64::from(header.width).saturating_mul(1_048_576);
-            let end = Date(header.epoch.saturating_add(granules));
+            let end = end_of(header);
             write!(
                 f,
                 "the clock is beyond what {store} can tell, which ends at {end}: set it right, or make another store by `init`"
             )
         }
-        _ => write!(
-            f,
-            "the clock is beyond what a store can tell: set it right, or make another store by `init`"
-        ),
+        _ => write!(f, "the clock is beyond what a store can tell: set it right"),
     }
 }
 
@@ -339,7 +501,7 @@ impl fmt::Display for Ending<'_, '_> {
                     "the output: {error}; what was stored stays, so look before you start again"
                 )
             }
-            Status::NotAStore => tell_other(store, f),
+            Status::NotAStore => tell_other(self, f),
             Status::Broken => write!(
                 f,
                 "{store} isn't what was filed with {notary}: keep both as they are, and `validate`; docs/OPERATING.md"
@@ -359,22 +521,26 @@ impl fmt::Display for Ending<'_, '_> {
                 f,
                 "{target} has no room for all that {store} holds: keep that one, which is read as before"
             ),
+            Status::Full if self.ask == Ask::Validate => write!(
+                f,
+                "{notary} has no room for another mark: go on with another book"
+            ),
             Status::Full => write!(
                 f,
                 "{store} or {notary} is full: go on with another store and another book"
             ),
-            Status::NotSealedSo => write!(
-                f,
-                "{store} has none of the chains that this analysis needs: take another algorithm"
-            ),
+            Status::NotSealedSo => {
+                let others = Analyses(store.found);
+                write!(
+                    f,
+                    "{store} has none of the chains that this analysis needs: take {others}"
+                )
+            }
             Status::NotaryInconsistent { .. } => write!(
                 f,
                 "{notary} contradicts itself, as no store's digests do: keep it as it is, and tell whoever keeps it"
             ),
-            Status::OldFormat => write!(
-                f,
-                "{store} is a file of the first format, to which nothing is added: `target=FILE migrate ID` writes what it holds to a new one"
-            ),
+            Status::OldFormat => write!(f, "{store} {IS_OLD}"),
             Status::InputLimit => write!(
                 f,
                 "the input is too long: give the lines that have no answer in another run"

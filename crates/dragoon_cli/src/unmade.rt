@@ -1,10 +1,10 @@
 //! A file that is missing, and that the first change makes. So a call that changes nothing leaves none behind.
 
-ghost use Rattle.std.specs.Prelude.{◌≡◌, ◌≤◌, false, IfOk, IsErrOf};
-ghost use Rattle.outside_words.specs.Faults.{HasCause, HidesNoFault};
-ghost use Rattle.disk_words.specs.declared.DiskFail.TheVariants.{Failed, NoMemory};
+ghost use Rattle.std.specs.Prelude.{◌≡◌, ◌≤◌, false, IfOk};
+ghost use Rattle.disk_words.specs.declared.DiskFail.TheVariants.{Failed};
 ghost use Rattle.disk_model.specs.Untold.{untold_state, TellsOnly};
 
+use crate::faults::counted;
 use disk_model::{Disk, DiskFail, FileDisk};
 use std::fs::File;
 use std::io::{self, ErrorKind};
@@ -43,23 +43,6 @@ impl<R: Files<File = File> + Drop> Unmade<R> {
             Some(ErrorKind::WouldBlock.into())
         } else {
             self.file.error()
-        }
-    }
-
-    // What the file answered, where each failure counts as a fault.
-    fn counted<T>(&mut self, outcome: Result<T, DiskFail>) -> Result<T, DiskFail>
-        ensures value { IfOk result (λ value. outcome ≡ Ok value) }
-        ensures frame { self.old.faults ≤ self.new.faults }
-        ensures cause { HasCause Failed self.old.faults self.new.faults result }
-        ensures counted { HidesNoFault self.old.faults self.new.faults result }
-        ensures memory { ¬ IsErrOf result NoMemory }
-    {
-        match outcome {
-            Ok(value) => Ok(value),
-            Err(_) => {
-                self.faults = self.faults.saturating_add(1);
-                Err(DiskFail::Failed)
-            }
         }
     }
 
@@ -123,7 +106,7 @@ impl<R: Files<File = File> + Drop> Disk for Unmade<R> {
         } else {
             self.answer(0)
         };
-        self.counted(outcome)
+        counted(&mut self.faults, outcome)
     }
 
     fn read_at(&mut self, place: u64, into: &mut [u8]) -> Result<usize, DiskFail> {
@@ -132,17 +115,17 @@ impl<R: Files<File = File> + Drop> Disk for Unmade<R> {
         } else {
             self.answer(0)
         };
-        self.counted(outcome)
+        counted(&mut self.faults, outcome)
     }
 
     fn write_at(&mut self, place: u64, bytes: &[u8]) -> Result<(), DiskFail> {
         let outcome = self.try_write(place, bytes);
-        self.counted(outcome)
+        counted(&mut self.faults, outcome)
     }
 
     fn cut(&mut self, length: u64) -> Result<(), DiskFail> {
         let outcome = self.try_cut(length);
-        self.counted(outcome)
+        counted(&mut self.faults, outcome)
     }
 
     fn sync(&mut self) -> Result<(), DiskFail> {
@@ -151,6 +134,6 @@ impl<R: Files<File = File> + Drop> Disk for Unmade<R> {
         } else {
             self.answer(())
         };
-        self.counted(outcome)
+        counted(&mut self.faults, outcome)
     }
 }

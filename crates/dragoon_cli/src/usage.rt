@@ -31,7 +31,8 @@ File and check
                     `unsealed`, `clean N`, `header altered N`, or `altered N from J`, J being a tile
   analyse ID ALG    reports which granules are altered, and since when, by the algorithm `mono`,
                     `tiled`, `tiled KAPPA` or `a3d`
-  run ID            takes these three as lines, without ID, and `audit`, which validates in pieces
+  run ID            takes notarize, validate and analyse as lines, without ID, and `audit`, which
+                    validates in pieces
 
 It ends with
   0  done                          7  the input failed          14  the clock is behind the store
@@ -43,7 +44,9 @@ It ends with
   6  the notary failed            13  the file is taken         20  the store is of the old format
 
 docs/COMMANDS.md  the statements, the replies and the statuses
+docs/DRILLS.md    how to write a drill
 docs/CRASHES.md   what a crash leaves, and what a lock covers
 docs/NOTARY.md    where to keep the notary's book
 docs/ANALYSIS.md  how to read a report
+docs/OPERATING.md what to do about an alarm or a fault
 ";

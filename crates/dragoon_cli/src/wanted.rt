@@ -39,6 +39,8 @@ pub(crate) enum Wanted {
 const STATEMENTS: &str =
     "create, insert, update, delete, get, scan, history, over, notarize, validate, audit, analyse";
 
+const SESSION: &str = "the name of a session, s0 to s15";
+
 impl fmt::Display for Wanted {
     fn fmt<W: fmt::Write>(&self, f: &mut fmt::Formatter<W>) -> fmt::Result {
         let text = match self {
@@ -53,11 +55,14 @@ impl fmt::Display for Wanted {
             Wanted::Utf8 => "a text is in UTF-8",
             Wanted::EvenDigits => "between the quotes stands an even number of hexadecimal digits",
             Wanted::OtherName => "the table has a column of this name already",
-            Wanted::Statement => return write!(f, "a statement begins with {STATEMENTS} or now"),
+            Wanted::Statement => return write!(
+                f,
+                "a line begins with {STATEMENTS}, now or {SESSION}"
+            ),
             Wanted::InDrill => {
                 return write!(
                     f,
-                    "a line of a drill begins with init, crash, alter, cut, {STATEMENTS} or now"
+                    "a line of a drill begins with init, crash, alter, cut, {STATEMENTS}, now or {SESSION}"
                 );
             }
             Wanted::OfDrill => "init, crash, alter and cut are lines of a drill alone",

@@ -29,6 +29,10 @@ impl<'a, D: Disk + Drop, R: Runtime> WatchedDisk<'a, D, R> {
         }
     }
 
+    pub(crate) fn is_written(&self) -> bool {
+        self.written > 0
+    }
+
     /// Takes the line of progress away, and gives the disk below.
     pub(crate) fn below(&self) -> &D {
         self.progress.clear();
