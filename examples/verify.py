@@ -6,16 +6,29 @@
 It computes every digest that is planned for the sealed tiles, and compares each with the one that was filed under ID. The
 first line is the verdict, as `validate` words it: `unsealed`, `clean N`, `altered N from P` or `header altered N`. N is the
 number of sealed tiles, and P the first one with a digest that differs. Behind `altered` stands a line for each name: `NAME`
-where the digest differs, else `NAME is not filed` or `NAME is not planned`. It writes no file, and
+where the digest differs, else `NAME is not filed` or `NAME is not planned`. Where only a digest of the book was altered, standard error
+says so; `validate` compares fewer, and may say `clean` then. It writes no file, and
 ends with 0 if nothing differs, 1 if something does, 2 on other words, and 3 if a file can't be read or is no book.
 """
+import functools
 import hashlib
 import re
 import sys
+from collections import Counter, namedtuple
 from itertools import zip_longest
 
 OPEN, FIRST_GATE, GRANULES = 0xA7, 64, 1_048_576
 SEGMENT, SEGMENTS, LETTERS = 65_536, 1_024, {b"DRAGOON1": 1, b"DRAGOON2": 2}
+
+# what a notary was given: `seals` is how that many of them are spelled
+Batch = namedtuple("Batch", "id index moment count seals")
+Mark = namedtuple("Mark", "id moment tiles outcome bad")
+CLEAN, ALTERED, HEADER_ALTERED = range(3)
+MOST_SEALS, MOST_MARKS, LONGEST_RECORD = 16_777_216, 65_536, 262_149
+# of each kind of name the lengths of its numbers, and how it is printed
+NAMES = [((), "header"), ((4,), "cum {}"), ((4, 1), "tile {} bit {}"), ((1, 4), "node {} {}"), ((4,), "era {}"), ((4, 1, 4), "node {} {} {}")]
+# a name, and a digest
+SEAL = rb"(\x00|[\x01\x04].{4}|\x02.{4}[\x00-\x09\xff]|\x03[\x00-\x14].{4}|\x05.{4}[\x00-\x14].{4})(.{32})"
 
 
 class Source:
@@ -71,26 +84,35 @@ class Source:
                     self.value()
         return moment if kind == 1 else None
 
-    def name(self):
-        kind = self.number(1, 0, 5)
-        if kind == 4:
-            return f"era {self.number(4)}"
-        if kind == 3 or kind == 5:
-            era = f"{self.number(4)} " if kind == 5 else ""
-            return f"node {era}{self.number(1, 0, 20)} {self.number(4)}"
-        tile, part = self.number(4 if kind else 0), self.number(1) if kind == 2 else 0
-        if 9 < part < 255:
-            raise ValueError("no part")
-        return ("header", f"cum {tile}", f"tile {tile} " + ("whole" if part == 255 else f"bit {part}"))[kind]
-
     def filing(self):
-        """The id, the index and the seals of a batch, or None for a mark."""
+        """A batch or a mark."""
         kind, id = self.number(1, 1, 2), self.number(8)
         if kind == 1:
-            index, _moment = self.number(4), self.number(8)
-            return id, index, [(self.name(), self.take(32)) for _ in range(self.number(2, 1, 4_096))]
-        _moment, _tiles, outcome = self.number(8), self.number(4), self.number(1, 0, 2)
-        self.number(4, 0, 0xFFFF_FFFF if outcome == 1 else 0)
+            index, moment, count = self.number(4), self.number(8), self.number(2, 1, 4_096)
+            return Batch(id, index, moment, count, self.seals(count))
+        moment, tiles, outcome = self.number(8), self.number(4), self.number(1, 0, 2)
+        return Mark(id, moment, tiles, outcome, self.number(4, 0, 0xFFFF_FFFF if outcome == ALTERED else 0))
+
+    def seals(self, count):
+        spelled = self.take(len(self.content) - self.place)
+        if not spelling(count).fullmatch(spelled):
+            raise ValueError("no seals")
+        return spelled
+
+
+@functools.lru_cache(4_096)
+def spelling(count):
+    return re.compile(b"(?:%b){%d}" % (SEAL, count), re.DOTALL)
+
+
+def seals_of(batch):
+    """Each name, as it is printed, and its digest."""
+    return [(printed(name), digest) for name, digest in re.findall(SEAL, batch.seals, re.DOTALL)]
+
+
+def printed(spelled):
+    lengths, text = NAMES[spelled[0]]
+    return text.format(*map(Source(spelled[1:]).number, lengths)).replace("bit 255", "whole")
 
 
 def ranges(content, file_limit):
@@ -150,10 +172,24 @@ def behind_ends(content, kind):
     return len(behind) if any(behind) else 0, sum(len(content[gate + 1 : limit].rstrip(b"\0")) for gate, limit in segments)
 
 
+def hidden(content, end):
+    """How many bytes stand behind the end of a book that an append which was cut off doesn't leave. The program counts them so, too."""
+    behind = memoryview(content)[end + 1 :]
+    length, payload = int.from_bytes(behind[:4], "big"), bytes(behind[4:])
+    is_piece = len(payload) <= length or payload[:1] not in (b"\1", b"\2")
+    return 0 if content[end] == 0 and len(behind) <= LONGEST_RECORD and is_piece else len(behind)
+
+
+def plain(text):
+    """The text, with each letter spelled out that steers a terminal."""
+    return "".join(it if it.isprintable() else f"\\u{{{ord(it):x}}}" for it in str(text))
+
+
 def tell_hidden(name, content, kind):
     """Says on standard error where bytes stand behind a gate that ends records."""
     behind, within = behind_ends(content, kind)
     why = "a crash leaves such bytes, and so does whoever hides records"
+    name = plain(name)
     if behind:
         print(f"verify: {name} ends at byte {len(content) - behind}, and {behind} bytes stand behind it: {why}", file=sys.stderr)
     if within:
@@ -209,17 +245,37 @@ def plan(content, tiles):
         yield {f"cum {tile}": cum, **(chains if algorithms & 1 else {}), **(nodes if algorithms & 2 else {})}
 
 
+def is_book(content):
+    """Whether the head is a book's."""
+    return len(content) > FIRST_GATE and content[:FIRST_GATE] == b"\xa7DRAGBOK1" + bytes(55)
+
+
+def in_turn(filings):
+    """The same batches and marks. A ValueError says why they are no book."""
+    batches, seals, marks = Counter(), 0, 0
+    for filing in filings:
+        if isinstance(filing, Mark):
+            marks += 1
+        elif filing.index != batches[filing.id]:
+            raise ValueError(f"a batch under the id {filing.id} is out of turn")
+        else:
+            batches[filing.id] += 1
+            seals += filing.count
+        if seals > MOST_SEALS or marks > MOST_MARKS:
+            raise ValueError("it has more seals or marks than a book may have")
+        yield filing
+
+
 def batches_of(content, id):
     """The batches that are filed under the id, each as a list of seals."""
-    batches = {}
-    if len(content) <= FIRST_GATE or content[:FIRST_GATE] != b"\xa7DRAGBOK1" + bytes(55):
-        raise ValueError("the second file is no notary's book")
-    filings = (filing for filing, _ in records(content, *BOOK) if filing)
-    for under, index, seals in filings:
-        if index != len(batches.setdefault(under, [])):
-            raise ValueError("the second file is no notary's book: a batch is out of turn")
-        batches[under].append(seals)
-    return batches.get(id, [])
+    if not is_book(content):
+        front = ": it begins as one, and its front is cut or damaged" if content[1:9] == b"DRAGBOK1" else ""
+        raise ValueError(f"the second file is no notary's book{front}")
+    try:
+        filings = list(in_turn(filing for filing, _ in records(content, *BOOK)))
+    except ValueError as why:
+        raise ValueError(f"the second file is no notary's book: {why}") from why
+    return [seals_of(it) for it in filings if isinstance(it, Batch) and it.id == id]
 
 
 def differences(planned, filed):
@@ -240,14 +296,24 @@ def report(store, batches, id):
     return [f"altered {tiles} from {bad[0]}" if bad else f"clean {tiles}", *(name for names in found for name in names)]
 
 
+def tell_of_book(store, lines):
+    """Says on standard error where a digest of the book alone differs, so that the store is what was filed."""
+    verdict, *names = lines
+    if not names or any(name.endswith("ed") for name in names):
+        return
+    is_right = f"cum {int(verdict.split()[1]) - 1}" not in names
+    if is_right or header_of(store)[4] and all(name.startswith("cum ") for name in names):
+        print("verify: other digests over the same transactions don't differ: what was altered is the book, and not the store", file=sys.stderr)
+
+
 def tell_little(verdict, name, store, id):
     """Says on standard error where a verdict is of less than it may seem."""
     header = header_of(store)
     if verdict == "unsealed":
-        other = f"; {name} has the id {header[1]}" if header else ""
+        other = f"; {plain(name)} has the id {header[1]}" if header else ""
         print(f"verify: nothing was compared: the book has nothing that was filed under the id {id}{other}", file=sys.stderr)
     elif verdict.startswith("header altered") and not store:
-        print(f"verify: nothing was compared: {name} is empty", file=sys.stderr)
+        print(f"verify: nothing was compared: {plain(name)} is empty", file=sys.stderr)
     elif verdict == "clean 0":
         print("verify: only the header was compared: no tile is filed yet", file=sys.stderr)
 
@@ -265,6 +331,8 @@ def say(text, name="verify"):
 def main(words):
     if len(words) != 3 or not re.fullmatch(r"0|[1-9][0-9]{0,19}", words[2]) or int(words[2]) >= 1 << 64:
         print(__doc__, file=sys.stdout if words == ["--help"] else sys.stderr)
+        if len(words) == 3:
+            print(f"verify: {plain(words[2])} is no number from 0 to {(1 << 64) - 1} without a zero in front", file=sys.stderr)
         return 0 if words == ["--help"] else 2
     try:
         store, book = (open(name, "rb").read() for name in words[:2])
@@ -272,8 +340,9 @@ def main(words):
         tell_hidden(words[0], store, STORE)
         tell_hidden(words[1], book, BOOK)
         tell_little(lines[0], words[0], store, words[2])
+        tell_of_book(store, lines)
     except (OSError, ValueError) as fault:
-        print(f"verify: {fault.filename}: {fault.strerror}" if isinstance(fault, OSError) else f"verify: {fault}", file=sys.stderr)
+        print(f"verify: {plain(fault.filename)}: {fault.strerror}" if isinstance(fault, OSError) else f"verify: {fault}", file=sys.stderr)
         return 3
     say("\n".join(lines))
     return 1 if "altered" in lines[0] else 0

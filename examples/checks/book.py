@@ -5,11 +5,14 @@
 
 It is 100 times if no number is given. The book has its head, two batches and a mark. Each of its bits is turned, it is cut at each
 length, and put back as it was earlier, swapped, and gone on with. What it says then is read by verify.py: where that is another
-thing than before, an alarm has to be raised. Some of these are given to `job` itself, which may not touch the book. Then kill -9
-ends a filing of many batches, at moments all along it: the job, the program, or both. No alarm may follow, and the next job files
-the rest.
+thing than before, an alarm has to be raised. Some of these are given to `job` itself, which may not touch the book. Where nothing was
+kept of the book, an alarm is raised for each byte that hides a record when it is turned, and the program says the same of some. Then
+kill -9 ends a filing of many batches, at moments all along it: the job, the program, or both. No alarm may follow, and the next job
+files the rest.
 """
+import concurrent.futures
 import fcntl
+import itertools
 import os
 import pathlib
 import random
@@ -70,7 +73,7 @@ def said_by(content):
     """All that a book says, as verify.py reads it."""
     try:
         verify.batches_of(content, 7)
-        return [spelled for _, spelled in verify.records(content, verify.Source.filing, 262_144, 1 << 31)]
+        return [spelled for _, spelled in verify.records(content, *verify.BOOK)]
     except ValueError:
         return None
 
@@ -94,6 +97,37 @@ def attacks(book, earlier, other, gone_on):
     yield "put back, and gone on with", gone_on
     yield "a piece behind the gate, as of a crash", [crashed, crashed[:-5], crashed[:-1] + b"\xa7"]
     yield "grown", [book[:-1] + b"\xa7" + struct.pack(">IBQQIBI", 26, 2, 7, 900, 1, 0, 0) + b"\0"]
+
+
+# of what is asked of the program: the kind of a batch, its count of seals, the kinds of names, a part, a moment and a digest; then, from the
+# end on, a mark's gate, kind, tiles, outcome and bad tile
+ASKED_BIT, ASKED = 8, [69, 91, 92, 130, 152, 153, 190, 195, 150, 170, -32, -27, -7, -6, -2]
+
+
+def without_past(folder, conf, book):
+    """Where nothing was kept of the book, what hides a record raises an alarm, and nothing else does. The program says so, too."""
+    conf, told, tried, raised = conf._replace(state=None, book=str(folder / "turned")), said_by(book), 0, set()
+    for place, bit in itertools.product(range(len(book)), (1, ASKED_BIT, 128)):
+        content, tried = book[:place] + bytes([book[place] ^ bit]) + book[place + 1:], tried + 1
+        pathlib.Path(conf.book).write_bytes(content)
+        why, says = alarm(conf), said_by(content)
+        if (why is None) != (says is not None and len(says) == len(told)):
+            raise Wrong(f"nothing kept, and byte {place} turned by {bit}: the alarm is {why}")
+        if why:
+            raised.add((place, bit))
+    with concurrent.futures.ThreadPoolExecutor(4) as at_once:
+        list(at_once.map(lambda place: ask_of(folder, book, place % len(book), raised), ASKED))
+    print(f"book: a bit turned, and nothing kept: {tried} tries, {len(raised)} alarms; of {len(ASKED)} the program says the same")
+
+
+def ask_of(folder, book, place, raised):
+    """The program says that something is hidden, or that this is no book, exactly where an alarm is raised."""
+    file = folder / f"turned.{place}"
+    file.write_bytes(book[:place] + bytes([book[place] ^ ASKED_BIT]) + book[place + 1:])
+    words = [DRAGOON, f"store={folder / 'none'}", f"notary={file}", "analyse", "7", "mono"]
+    told = subprocess.run(words, capture_output=True, text=True).stderr
+    if ("stand behind it" in told or "is damaged" in told) != ((place, ASKED_BIT) in raised):
+        raise Wrong(f"nothing kept, and byte {place} turned by {ASKED_BIT}: the program says {told}")
 
 
 def tries(folder):
@@ -130,6 +164,7 @@ def tries(folder):
         for content in given[-2:]:
             refused(conf, content, kind)
         print(f"book: {kind}: {count} tries, {raised} alarms, and none was missed")
+    without_past(folder, conf, book)
     for content in (b"", None):
         book_file.unlink(missing_ok=True)
         if content is not None:

@@ -167,6 +167,9 @@ def files(folder):
                           ("empty", b""), ("short", b"x\n"), ("zeros", bytes(500)), ("other_id", worked[:16] + b"\x08" + worked[17:]), ("wide", worked[:28] + b"\x3d" + worked[29:]),
                           ("closed", b"\0" + worked[1:]), ("text", b"this is a text, and no store\n" * 9), ("hidden", worked[:430] + b"\0" + worked[431:])):
         (folder / name).write_bytes(content)
+    book = BOOK.read_bytes()
+    for name, place, byte in (("hides_filings", 64, b"\xa6"), ("other_kind", 130, b"\3"), ("other_digest", 160, b"\0"), ("other_front", 40, b"\1")):
+        (folder / name).write_bytes(book[:place] + byte + book[place + 1:])
 
 
 # the words, the status, and what has to be said
@@ -206,6 +209,9 @@ SAYS = [
     ("explain", ("empty", BOOK, "7"), 1, ("Header altered: ", "it is empty")),
     ("explain", (WORKED, "short", "7"), 0, ("Nothing was filed: ", "Of the book: its 2 bytes don't begin as those of a store or a book.")),
     ("explain", (WORKED, "empty", "7"), 0, ("Nothing was filed: ", "Of the book: it is empty.")),
+    ("explain", (WORKED, "hides_filings", "7"), 0, ("Nothing was filed: ", "File nothing and validate nothing with this book: 848 bytes")),
+    ("explain", (WORKED, "other_kind", "7"), 0, ("Clean so far: ", "File nothing and validate nothing with this book: 787 bytes")),
+    ("explain", ("hidden", BOOK, "7"), 0, ("Clean: ", "Store nothing and file nothing: bytes stand behind the store's end")),
     ("explain", ("other_id", BOOK, "7"), 1, ("its id is 8, and not 7",)),
     ("explain", ("wide", BOOK, "7"), 1, ("Today's says granules of 61 s",)),
     ("explain", (WORKED, "text", "7"), 3, ("fault NotaryFault",)),
@@ -218,6 +224,11 @@ SAYS = [
     ("report_page.py", ("zeros", BOOK, "7"), 0, ("<b>Header altered</b>", "its 500 bytes are zeros")),
     ("report_page.py", (WORKED, BOOK, "9"), 0, ("<b>Nothing was filed</b>",)),
     ("report_page.py", (WORKED, BOOK, "7", "--alg", "a3"), 2, ("usage: report_page.py",)),
+    ("report_page.py", (WORKED, "hides_filings", "7"), 0, ("<b>Nothing was filed</b>", "File nothing and validate nothing with this book: 848 bytes")),
+    ("verify.py", (WORKED, "other_digest", "7"), 1, ("altered 1 from 0\ncum 0\n", "what was altered is the book, and not the store")),
+    ("verify.py", (WORKED, "other_front", "7"), 3, ("it begins as one, and its front is cut or damaged",)),
+    ("report_page.py", ("hidden", BOOK, "7"), 0, ("<b>Clean</b>", "Store nothing and file nothing")),
+    ("verify.py", (WORKED, "\x1b[31m", "7"), 3, ("verify: \\u{1b}[31m: No such file",)),
     ("timeline_page.py", ("--notary", BOOK, WORKED, "7", "t", "5"), 0, ("<b>1 version</b>", "2 filings", "batch 1 filed")),
     ("timeline_page.py", ("hidden", "7", "t", "1"), 0, ("14 bytes: a crash leaves such bytes",)),
     ("timeline_page.py", (WORKED, "7", "t", "99"), 0, ("There never was such a row.",)),

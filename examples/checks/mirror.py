@@ -143,6 +143,18 @@ def compare(folder):
     return len(statements)
 
 
+def files_by_hand_first(folder):
+    """A book that is missing doesn't come back empty: the first filing is made by hand."""
+    words = "mirror/drain.py", "--notary", folder / "book", folder / "shop.db", folder / "store", "7"
+    status, said, told = script(*words)
+    if status != 6 or said or "book is missing: the first `notarize` is made by hand" not in told or (folder / "book").exists():
+        raise Wrong(f"a drain with a book that is missing ends with {status}: {said}{told}")
+    dragoon(f"store={folder / 'store'}", f"notary={folder / 'book'}", "notarize", "7")
+    status, said, told = script(*words)
+    if status or not said.startswith("drained 0\nsealed "):
+        raise Wrong(f"a drain that files ends with {status}: {said}{told}")
+
+
 def main(words):
     count, rng = count_of(words, 100, __doc__), random.Random()
     with tempfile.TemporaryDirectory() as name:
@@ -165,6 +177,7 @@ def main(words):
             status, said, told = script("mirror/drain.py", folder / "shop.db", folder / "store", "7")
             if (status, said, told) != (0, wanted, ""):
                 raise Wrong(f"a drain where nothing is wrong ends with {status}: {said}{told}")
+        files_by_hand_first(folder)
         killed = [one_time(folder, rng) for _ in range(count)]
         for _ in range(50):
             status, _, told = script("mirror/drain.py", folder / "shop.db", folder / "store", "7")

@@ -1,5 +1,6 @@
 """What a monitoring system asks of a store, read from its conf, its two files and what `job` or `serve` left; and what these two keep."""
 import collections
+import contextlib
 import fcntl
 import hashlib
 import os
@@ -9,23 +10,26 @@ import struct
 import sys
 import time
 
+sys.path.insert(1, str(pathlib.Path(__file__).resolve().parents[1]))
+import verify
+
 PROGRAM = os.environ.get("DRAGOON") or str(pathlib.Path(__file__).resolve().parents[2] / "dragoon")
 # how many seconds a command waits for others
 WAIT = os.environ.get("WAIT", "600")
 STORE_LIMIT, GRANULES = 67_108_864, 1_048_576
-OPEN, LONGEST_RECORD = 0xA7, 262_149
+OPEN = verify.OPEN
 KEYS = ("STORE", "BOOK", "ID", "ALG", "STATE")
+COMMANDS = ("notarize", "validate", "run", "analyse")
 
 Conf = collections.namedtuple("Conf", "name store book id alg state")
 Header = collections.namedtuple("Header", "bytes_left granules_left full_at tile_seconds")
-# `end` is the place of the closed gate: all bytes in front of it stay as they are
+# `end` is the place of the gate that ends the records: all bytes in front of it stay as they are
 Book = collections.namedtuple("Book", "content end tiles filed mark")
-Mark = collections.namedtuple("Mark", "moment outcome tiles bad")
 Ended = collections.namedtuple("Ended", "status moment answer")
 Kept = collections.namedtuple("Kept", "id tiles end digest moment")
 Sealed = collections.namedtuple("Sealed", "id tiles moment")
 
-CLEAN, ALTERED, HEADER_ALTERED = range(3)
+CLEAN, ALTERED = verify.CLEAN, verify.ALTERED
 # the statuses of a command that say something of the store's file, of the notary, or of the history; all others are faults
 STORE_STATUSES, NOTARY_STATUSES, ALTERED_STATUSES = {4, 5}, {6, 11, 12, 19}, {1, 10}
 USAGE, STORE_FAULT, NOTARY_FAULT, CANNOT = 2, 5, 6, 70
@@ -33,6 +37,10 @@ USAGE, STORE_FAULT, NOTARY_FAULT, CANNOT = 2, 5, 6, 70
 
 class Wrong(Exception):
     """Something can't be read or isn't what it has to be, and why."""
+
+
+class Unknown(Wrong):
+    """What is left in STATE can't be read by this account, or doesn't say how a command ended."""
 
 
 class Rewritten(Wrong):
@@ -87,6 +95,8 @@ def wrong_line(line, said):
         return f"{key} is none of {', '.join(KEYS)}"
     if key in said:
         return f"{key} stands there twice"
+    if not value.isprintable():
+        return f"a byte of the value of {key} can't be printed"
     if value[:1] in "'\"" or value[-1:] in "'\"":
         return "a value stands without quotes" if value else f"{key} has no value"
     if value != value.strip():
@@ -128,32 +138,25 @@ def read_book(conf, content):
     """What these bytes of a book hold under the id."""
     if len(content) < 2 or len(content) <= 65 and content[0] != OPEN:
         raise Wrong(f"{conf.book} is empty: the first `notarize` is made by hand")
-    if len(content) < 65 or content[:64] != b"\xa7DRAGBOK1" + bytes(55):
+    if not verify.is_book(content):
         raise Wrong(f"{conf.book} is no book")
-    place, batches, filed, mark = 64, 0, None, None
-    while content[place] == OPEN:
-        length = int.from_bytes(content[place + 1:place + 5], "big")
-        payload, place = memoryview(content)[place + 5:place + 5 + length], place + 5 + length
-        if place >= len(content):
-            raise Wrong(f"{conf.book} ends within a record")
-        try:
-            kind, of = struct.unpack_from(">BQ", payload)
-            if of == conf.id and kind == 1:
-                batches, filed = batches + 1, struct.unpack_from(">Q", payload, 13)[0]
-            elif of == conf.id and kind == 2:
-                moment, tiles, outcome, bad = struct.unpack_from(">QIBI", payload, 9)
-                mark = Mark(moment, outcome, tiles, bad)
-        except struct.error as error:
-            raise Wrong(f"{conf.book} has a damaged record") from error
-    return Book(content, place, max(0, batches - 1), filed, mark)
+    end, batches, filed, mark = verify.FIRST_GATE, 0, None, None
 
+    def read():
+        nonlocal end
+        for filing, payload in verify.records(content, *verify.BOOK):
+            end += 5 + len(payload)
+            yield filing
 
-def hidden(book):
-    """How many bytes stand behind the closed gate that an append which was cut off doesn't leave. The program counts them so, too."""
-    behind = memoryview(book.content)[book.end + 1:]
-    length, payload = int.from_bytes(behind[:4], "big"), bytes(behind[4:])
-    is_piece = len(payload) <= length or payload[:1] not in (b"\1", b"\2")
-    return 0 if book.content[book.end] == 0 and len(behind) <= LONGEST_RECORD and is_piece else len(behind)
+    try:
+        for filing in verify.in_turn(read()):
+            if filing.id == conf.id and isinstance(filing, verify.Mark):
+                mark = filing
+            elif filing.id == conf.id:
+                batches, filed = batches + 1, filing.moment
+    except ValueError as why:
+        raise Wrong(f"{conf.book} is no book: {why}") from why
+    return Book(content, end, max(0, batches - 1), filed, mark)
 
 
 def verdict(mark):
@@ -193,38 +196,58 @@ def read_kept(conf):
 def kept_in(file, kind):
     """What was kept in a file, or None where it isn't there."""
     try:
-        words = zip(kind._fields, file.read_text().split(), strict=True)
-        return kind(*(word if name == "digest" else int(word) for name, word in words))
+        words = left_in(file).split()
+        if len(words) != len(kind._fields):
+            raise ValueError("other words")
+        return kind(*(word if name == "digest" else int(word) for name, word in zip(kind._fields, words)))
     except FileNotFoundError:
         return None
-    except (OSError, ValueError) as error:
+    except ValueError as error:
         both = f"{file.with_suffix('.book')} and {file.with_suffix('.sealed')}"
-        raise Wrong(f"{file} can't be read, so nobody knows what the book was: hold it against its copies, then remove {both}") from error
+        raise Wrong(f"{file} is garbled, so nobody knows what the book was: hold it against its copies, then remove {both}") from error
+
+
+def left_in(file):
+    """What was left in a file of STATE. A FileNotFoundError says that nothing was, and a ValueError that this is no text."""
+    try:
+        return file.read_text()
+    except FileNotFoundError:
+        raise
+    except OSError as error:
+        raise Unknown(f"{file}: {error.strerror}") from error
 
 
 def hold(conf, durable=False):
-    """The book, held against what was kept of it; and that. Where its bytes weren't kept, no record may stand behind its end."""
+    """The book, held against what was kept of it; and that. Where its bytes weren't kept, no record may stand behind its end. A gate that
+    is open has a whole record behind it in any case."""
     kept, (content, _) = read_kept(conf), content_of(conf.book, durable=durable)
     if kept and len(content) <= kept.end:
         raise Rewritten(f"{conf.book} was cut: it has {len(content)} bytes, and had more than {kept.end} on {date(kept.moment)}")
     if kept and digest(content, kept.end) != kept.digest:
         raise Rewritten(f"{conf.book} was rewritten: its first {kept.end} bytes aren't those of {date(kept.moment)}")
     book, least = read_book(conf, content), sealed(conf, kept)
+    ends, hidden = f"{conf.book} ends at byte {book.end + 1}", verify.hidden(content, book.end)
+    if content[book.end] == OPEN:
+        raise Rewritten(f"{ends}, in a record that was cut or altered, and {hidden} bytes stand behind it: records may be hidden there (docs/NOTARY.md)")
     if book.tiles < least:
         raise Rewritten(f"{conf.book} has {book.tiles} sealed tiles, and had {least} on {date(kept.moment)}")
-    if not (kept and kept.end) and hidden(book):
-        raise Rewritten(f"{conf.book} ends at byte {book.end + 1}, and {hidden(book)} bytes stand behind it: records may be hidden there")
+    if not (kept and kept.end) and hidden:
+        raise Rewritten(f"{ends}, and {hidden} bytes stand behind it: records may be hidden there (docs/NOTARY.md)")
     if kept and not kept.end:
         had = f"{kept.tiles} sealed tiles on {date(kept.moment)}"
         raise Wrong(f"{kept_file(conf)} is lost, and {conf.book} had {had}: hold the book against its copies, then remove {sealed_file(conf)}")
     return book, kept
 
 
-def tell_begun(conf, book, kept):
-    """Says so where nothing was kept of a book that has batches: then it is believed."""
-    if not kept and book.filed is not None:
-        print(f"<4>dragoon store={conf.name} nothing was kept of {conf.book}, so its {book.tiles} sealed tiles are believed: "
-            "hold it against its copies", file=sys.stderr, flush=True)
+def begin(conf, book, kept):
+    """Where nothing was kept of a book, it is kept as it is found, and its batches are believed, which is told. One without any is another book."""
+    if kept:
+        return
+    if book.filed is None:
+        raise Wrong(f"{conf.book} has no batch of the id {conf.id}: the first `notarize` is made by hand")
+    keep(conf, book, book.tiles)
+    print(f"<4>dragoon store={conf.name} nothing was kept of {conf.book}, so its {book.tiles} sealed tiles are believed: "
+        "hold it against its copies", file=sys.stderr, flush=True)
 
 
 def sealed(conf, kept):
@@ -255,11 +278,18 @@ def write_kept(file, kept):
 def write_whole(path, text):
     """Whatever stops it, the file is the old one or the new one."""
     new = path.with_name(path.name + ".new")
-    with open(new, "w") as file:
-        file.write(text)
-        file.flush()
-        os.fsync(file.fileno())
-    os.replace(new, path)
+    try:
+        with open(new, "w") as file:
+            file.write(text)
+            file.flush()
+            os.fsync(file.fileno())
+        os.replace(new, path)
+    except OSError as error:
+        # (a write says no name)
+        error.filename = str(path)
+        with contextlib.suppress(OSError):
+            new.unlink(missing_ok=True)
+        raise
     folder = os.open(path.parent, os.O_RDONLY)
     try:
         os.fsync(folder)
@@ -301,19 +331,22 @@ def status_of(process):
     return process.returncode if process.returncode >= 0 else 128 - process.returncode
 
 
-def hear(conf, told):
+def hear(conf, command, told):
     """Hands on what the program told on standard error, and keeps what it said of bytes behind the end of the store."""
     print(told, end="", file=sys.stderr, flush=True)
     behind = re.search("^dragoon: (the store .* bytes stand behind it):", told, re.MULTILINE)
-    if behind and not behind_store(conf):
-        write_whole(pathlib.Path(conf.state) / f"{conf.name}.behind", f"{date(int(time.time()))}: {behind[1]}\n")
+    file = pathlib.Path(conf.state) / f"{conf.name}.behind"
+    if behind and not os.path.exists(file):
+        is_kept(conf, command, lambda: write_whole(file, f"{date(int(time.time()))}: {behind[1]}\n"))
 
 
 def between_looks(conf, ask):
     """What is asked, as a status and an answer, between two looks at the book. The second one keeps what the book is then."""
     try:
         if os.path.exists(conf.book):
-            tell_begun(conf, *hold(conf))
+            begin(conf, *hold(conf, durable=True))
+    except Unknown as why:
+        return CANNOT, str(why)
     except Wrong as why:
         return NOTARY_FAULT, str(why)
     status, answer = ask()
@@ -322,15 +355,45 @@ def between_looks(conf, ask):
             keep_behind(conf, answer)
     except Wrong as why:
         return (status, answer) if status else (NOTARY_FAULT, str(why))
+    except OSError as error:
+        why = f"{error.filename}: {error.strerror}"
+        return (status, answer) if status else (CANNOT, f"{answer}, and that can't be kept: {why}")
     # where nothing was ever filed under the id, nobody looks after this store
     return (NOTARY_FAULT, answer) if answer == "unsealed" and not status else (status, answer)
 
 
+def is_kept(conf, command, write):
+    """Whether this could be written. Where it couldn't, that is told."""
+    try:
+        write()
+        return True
+    except OSError as error:
+        tell_alarm(conf.name, command, CANNOT, f"{error.filename}: {error.strerror}")
+        return False
+
+
+def is_end_kept(conf, command, status, last):
+    """The same of how a command ended. Where it couldn't, the end is written over the older one, which takes no room; or none stands there."""
+    if is_kept(conf, command, lambda: keep_end(conf, command, status, last)):
+        return True
+    file = end_file(conf, command)
+    try:
+        with open(file, "r+") as older:
+            older.write(spelled_end(status, last))
+            older.truncate()
+    except OSError:
+        is_kept(conf, command, lambda: file.unlink(missing_ok=True))
+    return False
+
+
+def spelled_end(status, last):
+    return f"{status} {int(time.time())} {last}\n"
+
+
 def keep_end(conf, command, status, last):
     """Keeps how a command ended. What it shows to be mended isn't kept any longer."""
-    write_whole(end_file(conf, command), f"{status} {int(time.time())} {last}\n")
-    run = last_end(conf, "run")
-    if command in ("notarize", "validate") and not status and run and run.status:
+    write_whole(end_file(conf, command), spelled_end(status, last))
+    if command in ("notarize", "validate") and not status and not ended_well(conf, "run"):
         # store and book open again, after a run that failed
         end_file(conf, "run").unlink(missing_ok=True)
     if command == "validate" and not status:
@@ -348,12 +411,15 @@ def tell_alarm(name, command, status, last):
 
 
 def last_end(conf, command):
-    """How this command ended the last time, or None."""
+    """How this command ended the last time, or None where it never did."""
+    file = end_file(conf, command)
     try:
-        status, moment, answer = end_file(conf, command).read_text().rstrip("\n").split(" ", 2)
+        status, moment, answer = left_in(file).rstrip("\n").split(" ", 2)
         return Ended(int(status), int(moment), answer)
-    except (OSError, ValueError):
+    except FileNotFoundError:
         return None
+    except ValueError as error:
+        raise Unknown(f"{file} is garbled, so nobody knows how the last {command} ended: the next one writes it anew") from error
 
 
 def alarm_of(status):
@@ -364,18 +430,39 @@ def alarm_of(status):
 
 def behind_store(conf):
     """What the program said of bytes that stand behind the end of the store, or None. It stays until somebody removes the file."""
+    file = pathlib.Path(conf.state) / f"{conf.name}.behind"
     try:
-        return (pathlib.Path(conf.state) / f"{conf.name}.behind").read_text().rstrip("\n")
+        return left_in(file).rstrip("\n")
     except FileNotFoundError:
         return None
-    except (OSError, ValueError) as error:
-        raise Wrong(f"{conf.state}/{conf.name}.behind can't be read") from error
+    except ValueError as error:
+        raise Wrong(f"{file} is garbled") from error
+
+
+def ended_well(conf, command):
+    """Whether it never ended otherwise than with 0, the last time."""
+    try:
+        ended = last_end(conf, command)
+        return not ended or not ended.status
+    except Unknown:
+        return False
 
 
 def failed(conf, alarm):
     """What the last notarize, validate or run said, where it ended with this alarm; of `altered` also the last analysis."""
-    for command in ("notarize", "validate", "run", "analyse")[:4 if alarm == "altered" else 3]:
-        ended = last_end(conf, command)
-        if ended and ended.status and alarm_of(ended.status) == alarm:
-            return f"{command} ended with {ended.status}, {ended.answer}"
+    for command in COMMANDS[:4 if alarm == "altered" else 3]:
+        with contextlib.suppress(Unknown):
+            ended = last_end(conf, command)
+            if ended and ended.status and alarm_of(ended.status) == alarm:
+                return f"{command} ended with {ended.status}, {ended.answer}"
+    return None
+
+
+def unknown_end(conf):
+    """Why nobody knows how one of them ended, or None."""
+    for command in COMMANDS:
+        try:
+            last_end(conf, command)
+        except Unknown as why:
+            return str(why)
     return None

@@ -1,43 +1,28 @@
-"""What stands in a notary's book: batches and marks, with their moments."""
-from collections import namedtuple
-
+"""What stands in a notary's book: batches and marks, with their moments. How they are read stands in verify.py."""
 import verify
+from verify import ALTERED, BOOK, CLEAN, HEADER_ALTERED, Batch, Mark
 from .script import Refused, content_of, counted, plain
 from .store import what_is
-
-Batch = namedtuple("Batch", "id index moment seals")
-Mark = namedtuple("Mark", "id moment tiles outcome bad")
-CLEAN, ALTERED, HEADER_ALTERED = range(3)
-FRONT = b"\xa7DRAGBOK1" + bytes(55)
-
-
-def filing_of(source):
-    if source.number(1, 1, 2) == 2:
-        mark = Mark(source.number(8), source.number(8), source.number(4), source.number(1, 0, 2), source.number(4))
-        if mark.bad and mark.outcome != ALTERED:
-            raise ValueError("a tile stands where none is bad")
-        return mark
-    id, index, moment = source.number(8), source.number(4), source.number(8)
-    return Batch(id, index, moment, [(source.name(), source.take(32)) for _ in range(source.number(2, 1, 4_096))])
-
-
-# how a batch or a mark is read, and how long a payload and a book may be
-RECORDS = filing_of, 262_144, 2_147_483_648
 
 
 class Book:
     def __init__(self, path, content=None):
         self.path, self.content = path, content_of(path) if content is None else content
-        if not is_empty(self.content) and (len(self.content) < 65 or self.content[:64] != FRONT):
+        if not is_empty(self.content) and not verify.is_book(self.content):
             raise Refused(f"{plain(path)} is no notary's book: {what_is(self.content)}")
-        self.filings = [] if is_empty(self.content) else [filing for filing, _ in verify.records(self.content, *RECORDS)]
-        for id in self.ids():
-            if any(batch.index != at for at, batch in enumerate(self.batches(id))):
-                raise Refused(f"{plain(path)} is no notary's book: a batch under the id {id} is out of turn")
+        filings = () if is_empty(self.content) else (filing for filing, _ in verify.records(self.content, *BOOK))
+        try:
+            self.filings = [with_seals(it) for it in verify.in_turn(filings)]
+        except ValueError as why:
+            raise Refused(f"{plain(path)} is no notary's book: {why}") from why
 
     def gate(self):
         """The place of the gate that ends the book."""
-        return max(0, len(self.content) - 1) if is_empty(self.content) else verify.end_of(self.content, RECORDS)
+        return max(0, len(self.content) - 1) if is_empty(self.content) else verify.end_of(self.content, BOOK)
+
+    def hidden(self):
+        """How many bytes stand behind that gate, where no append that was cut off left them."""
+        return 0 if is_empty(self.content) else verify.hidden(self.content, self.gate())
 
     def batches(self, id):
         return [it for it in self.filings if isinstance(it, Batch) and it.id == id]
@@ -47,6 +32,11 @@ class Book:
 
     def ids(self):
         return sorted({it.id for it in self.filings})
+
+
+def with_seals(filing):
+    """A batch with the list of its seals, each a name and a digest; or a mark as it is."""
+    return filing._replace(seals=verify.seals_of(filing)) if isinstance(filing, Batch) else filing
 
 
 def is_empty(content):

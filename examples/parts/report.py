@@ -7,7 +7,7 @@ import verify
 from . import moments
 from .book import nothing_of
 from .script import Refused, counted, plain
-from .store import Create, Tables, what_is
+from .store import Create, Tables, hidden, what_is
 
 # granules are ranges, each with its first and its last; `tile` is one that fails, or None
 Found = namedtuple("Found", "ranges tile since until")
@@ -146,8 +146,22 @@ def cannot_say(report):
     yield "All of this is only as good as the book: hold it against the copies and sums that others have."
 
 
-def what_next(report):
-    """What to do next, a sentence each. docs/OPERATING.md has the steps."""
+def what_next(report, book, told):
+    """What to do next, a sentence each; `told` is what the program told. docs/OPERATING.md has the steps."""
+    is_hidden = re.search("^dragoon: the store .* bytes stand behind it:", told, re.MULTILINE)
+    if is_hidden:
+        yield "Store nothing and file nothing: bytes stand behind the store's end, and the next record is written over them."
+        yield "Hold the store against its copies, and against what its writers were answered: `Bytes behind a store's end` in docs/OPERATING.md."
+    if behind := book.hidden():
+        yield f"File nothing and validate nothing with this book: {hidden(behind)}. They stand behind its end, and each call would write over them."
+        yield "Look for copies of the book first, and hold it against them: `Bytes behind the end` in docs/NOTARY.md has the steps."
+    if (is_hidden or behind) and report.verdict in ("unsealed", "clean"):
+        return
+    yield from what_next_by(report)
+
+
+def what_next_by(report):
+    """The same, where both files end whole."""
     if report.verdict == "unsealed":
         return ["Make sure that the id and the book are the right ones.", "File with `notarize`, and validate again."]
     if report.verdict == "clean":

@@ -130,6 +130,8 @@ def what_is(content):
         return "it is a store whose header's gate is closed"
     if content[1:9] in verify.LETTERS:
         return "it begins as a store, and " + ("ends within the header" if len(content) < 65 else "its header has a field that no store has")
+    if len(content) == 1:
+        return "it has 1 byte"
     if not any(content):
         return f"its {len(content)} bytes are zeros"
     return f"its {len(content)} bytes don't begin as those of a store or a book"
