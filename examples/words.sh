@@ -20,7 +20,7 @@ is_there() {
     [ ! "$1" "$2" ] || { [ "$1" = -r ] && [ -d "$2" ]; } || return 0
     local what='file that can be read'
     [ "$1" = -r ] || what=folder
-    echo "${0##*/}: there is no $what $2" >&2
+    echo "${0##*/}: there is no $what ${2//[^[:print:]]/?}" >&2
     exit 2
 }
 
@@ -35,7 +35,7 @@ new_folder() {
 }
 made_in() {
     mktemp "${@:3}" 2>/dev/null && return
-    echo "${0##*/}: nothing can be made in the folder $1: $2" >&2
+    echo "${0##*/}: nothing can be made in the folder ${1//[^[:print:]]/?}: $2" >&2
     return 1
 }
 
