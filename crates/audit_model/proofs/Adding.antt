@@ -1,11 +1,11 @@
 -- A history that grows stays the notarized one; a batch more is filed.
 use Rattle.std.proofs.Common.{◌≡◌, ℕ, ◌+◌, ◌*◌, ◌/◌, ◌<◌, ◌≤◌, false, List, [], ◌∷◌, ◌++◌, map, filter, refl, sym, ap, subst, ◌∙◌, arith}
 use Rattle.std.specs.Prelude.{nat_eq}
-use Rattle.std.specs.List.{range_with_len}
+use Rattle.std.specs.List.{All, range_with_len}
 use Rattle.std.proofs.lemmas.Bool.{ne_eqb}
 use Rattle.std.proofs.lemmas.Nat.{le-div}
 use Rattle.std.proofs.lemmas.List.{append-nil, map-append}
-use Rattle.std.proofs.lemmas.List.Elements.{filter-append, filter_map-append}
+use Rattle.std.proofs.lemmas.List.Elements.{All-nil, All-cons, filter-append, filter_map-append}
 use Rattle.std.proofs.lemmas.List.Sums.{fold-append}
 use Rattle.std.proofs.lemmas.List.FromFn.{map-range_with_len_more}
 use Rattle.tuple_bytes.specs.declared.header.Header.{Header}
@@ -16,9 +16,11 @@ use Rattle.notary_link.specs.declared.seal.Seal.{Seal}
 use Rattle.notary_link.specs.Batches.{Batch}
 use Rattle.history_model.specs.History.{history, txn_in, txns, is_in_granule, rows, last_moment, after_last, MayFollow}
 use Rattle.digest_model.specs.Layout.{layout, first_granule}
+use Rattle.digest_model.specs.Eras.{IsBehindTiles}
 use Rattle.audit_model.specs.Names.{batch}
 use Rattle.audit_model.specs.Filing.{AddedStaysNotarized, FrontierStaysFiled, FrontierFilesSame, FilingBegins, FilingExtends}
 use Rattle.digest_model.proofs.Layouts as layouts
+use Rattle.digest_model.proofs.EraLaws.{tiles_stay}
 use Rattle.audit_model.proofs.Filed.{same_batch, same_batches}
 
 -- the rows of a history that grows, where none of the new item is among them
@@ -47,13 +49,16 @@ later_rows header is (items.Txn t) g limit last some below behind follows =
     let other : nat_eq (t.moment / header.width) g ≡ false = ne_eqb (t.moment / header.width) g (lies_behind header.width t.moment g limit some below (omega arith)) in
     rows_stay header is (items.Txn t) g (rw other refl)
 
+one_behind : (n : ℕ) (item : Item) → IsBehindTiles n item → All (IsBehindTiles n) (item ∷ [])
+one_behind n item behind = All-cons (IsBehindTiles n) item [] behind (All-nil (IsBehindTiles n))
+
 pub added_stays : AddedStaysNotarized
-added_stays batches id n header is item fits notarized follows =
+added_stays batches id n header is item fits notarized follows behind =
     let width = fits.width.0 in
     let reached = notarized.reached in
     let last : last_moment (is ++ item ∷ []) ≡ after_last (last_moment is) item = fold-append after_last 0 is (item ∷ []) in
-    let begin = layouts.same_begins (layout (history header is)) (layout (history header (is ++ item ∷ []))) n (layouts.tiles_stay header is (item ∷ []) n) in
-    let same = same_batches (history header is) (history header (is ++ item ∷ [])) 0 n refl (layouts.tiles_stay header is (item ∷ []) (0 + n)) (λ g below. later_rows header is item g (first_granule (layout (history header is)) n) (last_moment is) (omega (arith, width)) (let none : 0 + n ≡ n = omega arith in subst (λ (m : ℕ). g < first_granule (layout (history header is)) m) none below) reached follows) in
+    let begin = layouts.same_begins (layout (history header is)) (layout (history header (is ++ item ∷ []))) n (tiles_stay header is (item ∷ []) n (one_behind n item behind)) in
+    let same = same_batches (history header is) (history header (is ++ item ∷ [])) 0 n refl (let none : 0 + n ≡ n = omega arith in rw none (tiles_stay header is (item ∷ []) n (one_behind n item behind))) (λ g below. later_rows header is item g (first_granule (layout (history header is)) n) (last_moment is) (omega (arith, width)) (let none : 0 + n ≡ n = omega arith in subst (λ (m : ℕ). g < first_granule (layout (history header is)) m) none below) reached follows) in
     record {
       filed = record { seals = notarized.filed.seals ∙ same; header = notarized.filed.header; within = (let within = notarized.filed.within in omega (arith, within, begin)) };
       reached = rw last (subst (λ (g : ℕ). g * header.width ≤ after_last (last_moment is) item) begin (omega (arith, reached)));
@@ -61,12 +66,12 @@ added_stays batches id n header is item fits notarized follows =
 
 pub frontier_filed : FrontierStaysFiled
 frontier_filed batches id n header is moment filed =
-    let begin = layouts.same_begins (layout (history header is)) (layout (history header (is ++ items.Frontier moment ∷ []))) n (layouts.tiles_stay header is (items.Frontier moment ∷ []) n) in
-    let same = same_batches (history header is) (history header (is ++ items.Frontier moment ∷ [])) 0 n refl (layouts.tiles_stay header is (items.Frontier moment ∷ []) (0 + n)) (λ g below. frontier_rows header is moment g) in
+    let begin = layouts.same_begins (layout (history header is)) (layout (history header (is ++ items.Frontier moment ∷ []))) n (tiles_stay header is (items.Frontier moment ∷ []) n (one_behind n (items.Frontier moment) tt)) in
+    let same = same_batches (history header is) (history header (is ++ items.Frontier moment ∷ [])) 0 n refl (tiles_stay header is (items.Frontier moment ∷ []) (0 + n) (one_behind (0 + n) (items.Frontier moment) tt)) (λ g below. frontier_rows header is moment g) in
     record { seals = filed.seals ∙ same; header = filed.header; within = (let within = filed.within in omega (arith, within, begin)) }
 
 pub frontier_same : FrontierFilesSame
-frontier_same header is moment i = sym (same_batch (history header is) (history header (is ++ items.Frontier moment ∷ [])) i refl (layouts.tiles_stay header is (items.Frontier moment ∷ []) i) (λ g below. frontier_rows header is moment g))
+frontier_same header is moment i = sym (same_batch (history header is) (history header (is ++ items.Frontier moment ∷ [])) i refl (tiles_stay header is (items.Frontier moment ∷ []) i (one_behind i (items.Frontier moment) tt)) (λ g below. frontier_rows header is moment g))
 
 -- ---- a batch more
 

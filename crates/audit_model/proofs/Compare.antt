@@ -12,6 +12,7 @@ use Rattle.notary_link.specs.declared.seal.Seal.{Seal}
 use Rattle.notary_link.specs.declared.answer.Answer.TheVariants.{Same, Differs, Absent}
 use Rattle.history_model.specs.History.{History}
 use Rattle.notary_link.specs.Batches.{Batch, same_name, filed, compared, answer_by, answer}
+use Rattle.notary_link.proofs.Names.{same_is}
 use Rattle.digest_model.specs.Layout.{layout}
 use Rattle.notary_link.proofs.Names.{same_is, is_itself}
 use Rattle.audit_model.specs.Laws.{AnswersCompare, BatchesAreCounted, NotarizedIsSame, OthersAreAbsent}
@@ -58,17 +59,26 @@ all_seals batches id h n is =
     ∙ flat_map-map (λ (xs : List Seal). xs) (λ i. map (seal h) (batch_names (layout h) i)) (range_with_len 0 (n + 1))
     ∙ mapped_parts (seal h) (batch_names (layout h)) (range_with_len 0 (n + 1))
 
-pub compare : AnswersCompare
+-- of whatever digest
+pub asked_compare : (batches : List Batch) (id : ℕ) (h : History) (n : ℕ) (name : Name) (ours : List ℕ) → NotaryOf batches id h n
+    → Contains (planned (layout h) n) name → answer batches name ours ≡ compared ours (digest h name)
 unfolding filed answer
-compare batches id h s n name is in' =
-    ap (λ (o : Option Seal). answer_by o (digest s name))
+asked_compare batches id h n name ours is in' =
+    ap (λ (o : Option Seal). answer_by o ours)
     (ap (find (λ (x : Seal). same_name x.name name)) (all_seals batches id h n is) ∙ found_seal h (planned (layout h) n) name in')
 
-pub absent : OthersAreAbsent
+pub asked_absent : (batches : List Batch) (id : ℕ) (h : History) (n : ℕ) (name : Name) (ours : List ℕ) → NotaryOf batches id h n
+    → (Contains (planned (layout h) n) name → ⊥) → answer batches name ours ≡ Absent
 unfolding filed answer
-absent batches id h s n name is out' =
-    ap (λ (o : Option Seal). answer_by o (digest s name))
+asked_absent batches id h n name ours is out' =
+    ap (λ (o : Option Seal). answer_by o ours)
     (ap (find (λ (x : Seal). same_name x.name name)) (all_seals batches id h n is) ∙ no_seal h (planned (layout h) n) name out')
+
+pub compare : AnswersCompare
+compare batches id h s n name is in' = asked_compare batches id h n name (digest s name) is in'
+
+pub absent : OthersAreAbsent
+absent batches id h s n name is out' = asked_absent batches id h n name (digest s name) is out'
 
 -- a name is answered by comparing the two digests, or is absent
 pub compared_or_absent : (batches : List Batch) (id : ℕ) (h s : History) (n : ℕ) (name : Name) → NotaryOf batches id h n

@@ -1,5 +1,5 @@
 -- How what is filed stays as a history grows, and grows with its tiles.
-use Rattle.std.specs.Prelude.{◌≡◌, ℕ, ◌+◌, ◌≤◌, List, [], ◌∷◌, ◌++◌}
+use Rattle.std.specs.Prelude.{◌≡◌, ℕ, ◌+◌, ◌≤◌, List, [], ◌∷◌, ◌++◌, length}
 use Rattle.tuple_bytes.specs.declared.header.Header.{Header}
 use Rattle.tuple_bytes.specs.declared.item.Item.{Item}
 use Rattle.tuple_bytes.specs.declared.item.Item.TheVariants.{Frontier}
@@ -7,15 +7,17 @@ use Rattle.tuple_bytes.specs.Spelling.{FitsHeader}
 use Rattle.notary_link.specs.Batches.{Batch, IsBatch}
 use Rattle.history_model.specs.History.{History, history, last_moment, MayFollow}
 use Rattle.digest_model.specs.Layout.{layout, first_granule, max_granules}
+use Rattle.digest_model.specs.Eras.{IsBehindTiles}
+use Rattle.digest_model.specs.Spelled.{HasSpelling}
 use Rattle.audit_model.specs.Names.{batch}
 use Rattle.audit_model.specs.Notary.{NotaryOf}
 use Rattle.audit_model.specs.Sound.{IsNotarized}
 
--- A notarized history stays so with an item that is not before its last moment.
+-- A notarized history stays so with an item that is not before its last moment, and that leaves its sealed tiles.
 abbrev pub AddedStaysNotarized : Type 0
 AddedStaysNotarized = (batches : List Batch) (id n : ℕ) (header : Header) (items : List Item) (item : Item) → FitsHeader header
     → IsNotarized batches id n (history header items)
-    → MayFollow (last_moment items) item
+    → MayFollow (last_moment items) item → IsBehindTiles n item
     → IsNotarized batches id n (history header (items ++ item ∷ []))
 
 -- A frontier, of any moment, leaves what is filed.
@@ -42,4 +44,8 @@ FilingExtends = (batches : List Batch) (id : ℕ) (h : History) (n : ℕ) (b : B
 
 -- Each batch may be filed.
 abbrev pub BatchesMayBeFiled : Type 0
-BatchesMayBeFiled = (h : History) (i : ℕ) → FitsHeader h.header → IsBatch (batch h i)
+BatchesMayBeFiled = (h : History) (i : ℕ) → HasSpelling h → IsBatch (batch h i)
+
+-- None has more seals than this: 255 eras, a chain, eleven parts, and the nodes of the first tile of a tree.
+abbrev pub BatchesAreShort : Type 0
+BatchesAreShort = (h : History) (i : ℕ) → HasSpelling h → length (batch h i) ≤ 2314

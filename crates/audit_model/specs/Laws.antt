@@ -2,7 +2,7 @@
 use Rattle.std.specs.Prelude.{◌≡◌, ◌≢◌, ◌↔◌, ◌⊎◌, ℕ, suc, ◌+◌, ◌*◌, ◌^◌, ◌<◌, ◌≤◌, true, List, Contains, length, Option, Some}
 use Rattle.std.specs.List.Sorted.{IsStrictlyIncreasing}
 use Rattle.notary_link.specs.declared.name.Name.{Name}
-use Rattle.notary_link.specs.declared.name.Name.TheVariants.{Cum, Tile, Node}
+use Rattle.notary_link.specs.declared.name.Name.TheVariants.{Cum, Tile}
 use Rattle.notary_link.specs.declared.answer.Answer.{Answer}
 use Rattle.notary_link.specs.declared.answer.Answer.TheVariants.{Same, Differs, Absent}
 use Rattle.notary_link.specs.Batches.{Batch, compared}
@@ -21,7 +21,8 @@ use Rattle.audit_model.specs.Sound.{HoldsNotarized}
 use Rattle.audit_model.specs.Mono.{BeginsRegion, IsFirstBad, IsStep}
 pub use Rattle.audit_model.specs.Mono.{IfSomeOrNever}
 use Rattle.audit_model.specs.Tree.{IsFound, IsConsistent, found, checks, digit_count}
-pub use Rattle.audit_model.specs.Tree.{HasTree}
+pub use Rattle.audit_model.specs.Tree.{IsTree, leaves}
+pub use Rattle.audit_model.specs.Notary.{nodes_of}
 use Rattle.audit_model.specs.Tiled.{IsCandidate, IsCandidateAmong, IsTarget, candidates_of, exactly_of}
 
 -- The candidates are the numbers that have every bit of the target.
@@ -95,30 +96,30 @@ CandidatesHaveAltered = (batches : List Batch) (id : ℕ) (h s : History) (n til
     → IsAltered h (Some s) n (first_granule (layout h) tile + number)
     → IsCandidate (exponent (layout h) tile) (λ part. answers batches s (Tile tile part)) number ⊎ HashClash h (Some s) n
 
--- An altered granule is a leaf that is reached and differs.
+-- An altered granule of a tree is a leaf that is reached and differs.
 abbrev pub DescentHasAltered : Type 0
-DescentHasAltered = (batches : List Batch) (id : ℕ) (h s : History) (n g : ℕ) → IsAudit batches id h s n → HasTree h n
-    → IsAltered h (Some s) n g
-    → IsFound (first_granule (layout h) n) (λ level index. answers batches s (Node level index)) g ⊎ HashClash h (Some s) n
+DescentHasAltered = (batches : List Batch) (id : ℕ) (h s : History) (n era a b g : ℕ) → IsAudit batches id h s n → IsTree h n era a b
+    → g < leaves h a b → IsAltered h (Some s) n (first_granule (layout h) a + g)
+    → IsFound (leaves h a b) (nodes_of batches s era) g ⊎ HashClash h (Some s) n
 
 -- A leaf that is reached and differs is an altered granule.
 abbrev pub DescentIsAltered : Type 0
-DescentIsAltered = (batches : List Batch) (id : ℕ) (h s : History) (n g : ℕ) → IsAudit batches id h s n → HasTree h n
-    → IsFound (first_granule (layout h) n) (λ level index. answers batches s (Node level index)) g
-    → IsAltered h (Some s) n g
+DescentIsAltered = (batches : List Batch) (id : ℕ) (h s : History) (n era a b g : ℕ) → IsAudit batches id h s n → IsTree h n era a b
+    → IsFound (leaves h a b) (nodes_of batches s era) g
+    → IsAltered h (Some s) n (first_granule (layout h) a + g)
 
--- The header's answer shows whether the file has the notarized header.
+-- The header's answer shows whether the file has the notarized header, and the eras of the sealed tiles.
 abbrev pub HeaderIsShown : Type 0
 HeaderIsShown = (batches : List Batch) (id : ℕ) (h s : History) (n : ℕ) → NotaryOf batches id h n → HasSpelling h → HasSpelling s
     → header_answer batches s n ≡ Same
     → HasPlacesOf h s n ⊎ HashClash h (Some s) n
 
--- A file has the notarized header or another one.
+-- A file has the notarized header and eras, or other ones.
 abbrev pub HeadersAreOneOrOther : Type 0
 HeadersAreOneOrOther = (h s : History) (n : ℕ) → FitsHeader h.header → FitsHeader s.header
     → HasPlacesOf h s n ⊎ HasOtherHeader h (Some s) n
 
--- Where the header's answer differs, the file has another one, without exception.
+-- Where the header's answer differs, the file has another one or other eras, without exception.
 abbrev pub RefusedHeaderIsOther : Type 0
 RefusedHeaderIsOther = (batches : List Batch) (id : ℕ) (h s : History) (n : ℕ) → NotaryOf batches id h n
     → header_answer batches s n ≡ Differs
@@ -145,14 +146,14 @@ FailingTileIsAltered = (batches : List Batch) (id : ℕ) (h s : History) (n tile
 
 -- Below a node that differs a child differs, without exception.
 abbrev pub TreeIsConsistent : Type 0
-TreeIsConsistent = (batches : List Batch) (id : ℕ) (h s : History) (n : ℕ) → IsAudit batches id h s n → HasTree h n
-    → IsConsistent (first_granule (layout h) n) (λ level index. answers batches s (Node level index))
+TreeIsConsistent = (batches : List Batch) (id : ℕ) (h s : History) (n era a b : ℕ) → IsAudit batches id h s n → IsTree h n era a b
+    → IsConsistent (leaves h a b) (nodes_of batches s era)
 
 -- A node that differs, of whatever history, has a child that is not the same, without exception.
 abbrev pub NodesAreConsistent : Type 0
-NodesAreConsistent = (batches : List Batch) (id : ℕ) (h s : History) (n level index : ℕ) → NotaryOf batches id h n
-    → answers batches s (Node (suc level) index) ≡ Differs
-    → (answers batches s (Node level (2 * index)) ≢ Same) ⊎ (answers batches s (Node level (2 * index + 1)) ≢ Same)
+NodesAreConsistent = (batches : List Batch) (id : ℕ) (h s : History) (n era level index : ℕ) → NotaryOf batches id h n
+    → nodes_of batches s era (suc level) index ≡ Differs
+    → (nodes_of batches s era level (2 * index) ≢ Same) ⊎ (nodes_of batches s era level (2 * index + 1) ≢ Same)
 
 -- Where the answers are the same up to a tile and differ from there on, the region begins there and nowhere else.
 abbrev pub StepIsRegion : Type 0

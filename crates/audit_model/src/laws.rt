@@ -1,7 +1,7 @@
 //! What the answers of a notary show, each law the contract of a function that does nothing.
 
 ghost use Rattle.audit_model.specs.Examples.{WorkedExamples};
-ghost use Rattle.audit_model.specs.Filing.{AddedStaysNotarized, FrontierStaysFiled, FrontierFilesSame, FilingBegins, FilingExtends, BatchesMayBeFiled};
+ghost use Rattle.audit_model.specs.Filing.{AddedStaysNotarized, FrontierStaysFiled, FrontierFilesSame, FilingBegins, FilingExtends, BatchesMayBeFiled, BatchesAreShort};
 ghost use Rattle.audit_model.specs.Laws.{CandidatesAreExact, CandidatesAmongAreExact, FoundAreExact, ChecksAreFew, AnswersCompare, OthersAreAbsent, BatchesAreCounted, OtherHeaderIsAltered, SameChainIsClean, RegionHasAltered, CandidatesHaveAltered, DescentHasAltered, DescentIsAltered, HeaderIsShown, RegionBeginsAltered, FailingTileIsAltered, ChangedChainHasAltered, TreeIsConsistent, NodesAreConsistent, HeadersAreOneOrOther, RefusedHeaderIsOther, StepIsRegion, CandidatesAmongHaveAltered, FoundAscend, NotarizedIsSame, HeldIsSame};
 
 /// The candidates of a tile are the numbers that have every bit of the target.
@@ -74,17 +74,17 @@ pub fn descent_is_altered()
     ensures { DescentIsAltered }
 {}
 
-/// The header's answer shows the header, unless two inputs clash.
+/// The header's answer shows the header and the sealed eras, unless two inputs clash.
 pub fn header_is_shown()
     ensures { HeaderIsShown }
 {}
 
-/// A file has the notarized header or another one.
+/// A file has the notarized header and eras, or others.
 pub fn headers_are_one_or_other()
     ensures { HeadersAreOneOrOther }
 {}
 
-/// A header whose answer differs is another one.
+/// Where the header's answer differs, it or an era is another one.
 pub fn refused_header_is_other()
     ensures { RefusedHeaderIsOther }
 {}
@@ -167,4 +167,9 @@ pub fn filing_extends()
 /// Each batch may be filed: it has at most 4,096 seals, of names that a notary takes.
 pub fn batches_may_be_filed()
     ensures { BatchesMayBeFiled }
+{}
+
+/// None has more than 2,314 seals.
+pub fn batches_are_short()
+    ensures { BatchesAreShort }
 {}

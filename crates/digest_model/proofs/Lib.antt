@@ -17,3 +17,7 @@ pub mod Picked
 pub mod Steps
 pub mod Chains
 pub mod Layouts
+pub mod EraLaws
+pub mod Eras
+pub mod ErasApart
+pub mod Restored

@@ -1,15 +1,15 @@
 -- What equal digests say, unless two inputs clash; and that digests go by the transactions.
-use Rattle.std.specs.Prelude.{◌≡◌, ◌⊎◌, ℕ, ◌+◌, ◌<◌, List, [], ◌∷◌}
+use Rattle.std.specs.Prelude.{◌≡◌, ◌⊎◌, ℕ, ◌+◌, ◌<◌, List, [], ◌∷◌, Some}
 use Rattle.std.specs.List.{All}
 use Rattle.tuple_bytes.specs.declared.header.Header.{Header}
 use Rattle.tuple_bytes.specs.Spelling.{spell_fields, FitsHeader}
 use Rattle.history_model.specs.History.{History, txns, rows}
 use Rattle.history_model.specs.StoredHistory.{IsHistory}
-use Rattle.digest_model.specs.Layout.{layout, SameTiles, end_granule, part_granules}
+use Rattle.digest_model.specs.Layout.{Era, policy_of, era_at, layout, SameTiles, end_granule, part_granules}
 use Rattle.digest_model.specs.Roots.{IsUnder}
-use Rattle.digest_model.specs.Digests.{link_of_spelled, link_of, header_digest, header_input, granule_digest, tile_digest, node_digest, cum}
+use Rattle.digest_model.specs.Digests.{link_of_spelled, link_of, header_digest, header_input, era_digest, granule_digest, tile_digest, node_digest, cum}
 pub use Rattle.digest_model.specs.Spelled.{HasSpelling}
-use Rattle.digest_model.specs.Inputs.{Clash, link_inputs_of_spelled, link_inputs, cum_inputs, hashed, tile_inputs, node_inputs}
+use Rattle.digest_model.specs.Inputs.{Clash, era_inputs, link_inputs_of_spelled, link_inputs, cum_inputs, hashed, tile_inputs, node_inputs}
 
 -- such is each history that a file can hold
 abbrev pub HistoriesHaveSpellings : Type 0
@@ -20,6 +20,13 @@ abbrev pub HeadersTellApart : Type 0
 HeadersTellApart = (a b : Header) → FitsHeader a → FitsHeader b
     → header_digest a ≡ header_digest b
     → (a ≡ b) ⊎ Clash (header_input a ∷ []) (header_input b ∷ [])
+
+-- equal digests of an era are of one era
+abbrev pub ErasTellApart : Type 0
+ErasTellApart = (h s : History) (number : ℕ) (a b : Era) → HasSpelling h → HasSpelling s
+    → era_at (policy_of h) number ≡ Some a → era_at (policy_of s) number ≡ Some b
+    → era_digest h number ≡ era_digest s number
+    → (a ≡ b) ⊎ Clash (era_inputs h number) (era_inputs s number)
 
 -- equal links are of the same header fields and one list of spellings
 abbrev pub LinksTellApart : Type 0

@@ -1,4 +1,5 @@
 pub mod Layout
+pub mod Eras
 pub mod Digests
 pub mod Inputs
 pub mod Laws

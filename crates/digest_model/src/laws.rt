@@ -1,7 +1,8 @@
 //! What equal digests say, each law the contract of a function that does nothing.
 
+ghost use Rattle.digest_model.specs.Eras.{LaterItemsLeaveTiles, SealedErasComeFirst, EqualErasHaveEqualTiles, TilesOfAnEraAreEven, ErasAreRestored};
 ghost use Rattle.digest_model.specs.Roots.{RootsCover, WorkedRoots};
-ghost use Rattle.digest_model.specs.Laws.{HistoriesHaveSpellings, HeadersTellApart, LinksTellApart, StoresTellApart, CumsTellApart, GranulesTellApart, TilesTellApart, NodesTellApart, SameDigests};
+ghost use Rattle.digest_model.specs.Laws.{HistoriesHaveSpellings, HeadersTellApart, ErasTellApart, LinksTellApart, StoresTellApart, CumsTellApart, GranulesTellApart, TilesTellApart, NodesTellApart, SameDigests};
 
 /// The header and the items of a history that a file can hold have spellings.
 pub fn histories_have_spellings()
@@ -11,6 +12,11 @@ pub fn histories_have_spellings()
 /// Equal header digests are of one header, unless the two inputs clash.
 pub fn headers_tell_apart()
     ensures { HeadersTellApart }
+{}
+
+/// Equal digests of an era are of one era, unless the two inputs clash.
+pub fn eras_tell_apart()
+    ensures { ErasTellApart }
 {}
 
 /// Equal links are of one header and one list of spellings, unless two inputs clash.
@@ -56,4 +62,29 @@ pub fn roots_cover()
 /// The roots over twelve and over 168 granules.
 pub fn worked_roots()
     ensures { WorkedRoots }
+{}
+
+/// Items that leave the first tiles leave them where they were.
+pub fn later_items_leave_tiles()
+    ensures { LaterItemsLeaveTiles }
+{}
+
+/// The eras of the first tiles are those that begin there, and come before all others.
+pub fn sealed_eras_come_first()
+    ensures { SealedErasComeFirst }
+{}
+
+/// One header, and the same eras of the first tiles, place these tiles alike.
+pub fn equal_eras_have_equal_tiles()
+    ensures { EqualErasHaveEqualTiles }
+{}
+
+/// Within an era each tile has as many granules.
+pub fn tiles_of_an_era_are_even()
+    ensures { TilesOfAnEraAreEven }
+{}
+
+/// Policies that name the eras of more tiles as they begin in another history restore them.
+pub fn eras_are_restored()
+    ensures { ErasAreRestored }
 {}

@@ -1,2 +1,3 @@
-pub mod Even
+pub mod Reaching
 pub mod Histories
+pub mod Payloads
