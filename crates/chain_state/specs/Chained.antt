@@ -1,34 +1,30 @@
 -- What kept chains stand for.
-use Rattle.std.specs.Prelude.{◌≡◌, ℕ, ◌*◌, ◌≤◌, length, ◌&&◌, nat_le, nat_lt, Bool, List, [], ◌∷◌, ◌++◌, map, fold, Option, Some, None, if◌then◌else◌, max}
+use Rattle.std.specs.Prelude.{◌≡◌, ℕ, ◌*◌, ◌≤◌, length, ◌&&◌, nat_le, nat_lt, Bool, List, [], ◌∷◌, ◌++◌, fold, Option, Some, None, if◌then◌else◌, max}
 use Rattle.std.specs.Option.{is_some}
 use Rattle.tuple_bytes.specs.declared.header.Header.{Header}
 use Rattle.tuple_bytes.specs.declared.item.Item.{Item}
 use Rattle.tuple_bytes.specs.declared.item.Item.TheVariants as items
 use Rattle.tuple_bytes.specs.declared.item.Txn.{Txn}
 use Rattle.history_model.specs.History.{History, history, txns, granule_of, last_moment}
-use Rattle.digest_model.specs.Layout.{layout, tile_of, max_granules}
-use Rattle.policy_eras.specs.Policy.{Policy, policy_of}
+use Rattle.digest_model.specs.Layout.{layout, policy_of, tile_of, max_granules}
 
--- transactions under a header, the number of the open granule, and one more than the last granule that there is room for
+-- the transactions and policies under a header in file order, the number of the open granule, and one more than the last granule that
+-- there is room for
 pub record Chained : Type 0 where
   pub header : Header
-  pub eras : Policy
-  pub txns : List Txn
+  pub items : List Item
   pub granule : ℕ
   pub room : ℕ
 
--- the history of these transactions alone
-abbrev pub history_of_txns : Header → List Txn → History
-history_of_txns header ts = history header (map items.Txn ts)
-
+-- the history of these items alone
 abbrev pub history_of : Chained → History
-history_of c = history_of_txns c.header c.txns
+history_of c = history c.header c.items
 
--- the chains stand for the transactions of a history
+-- the chains stand for the transactions and the eras of a history
 pub record IsChainOf (c : Chained) (h : History) : Type 0 where
   pub header : c.header ≡ h.header
-  pub eras : c.eras ≡ policy_of h
-  pub txns : c.txns ≡ txns h.items
+  pub txns : txns c.items ≡ txns h.items
+  pub eras : policy_of (history_of c) ≡ policy_of h
 
 -- how many tiles have ended where the open granule begins
 abbrev pub ended : Chained → ℕ
@@ -36,7 +32,11 @@ ended c = tile_of (layout (history_of c)) c.granule
 
 -- with one transaction more, in whose granule the chains stand from then on
 abbrev pub with_chained : Txn → Chained → Chained
-with_chained t c = record c { txns = c.txns ++ t ∷ []; granule = granule_of c.header.width t.moment }
+with_chained t c = record c { items = c.items ++ items.Txn t ∷ []; granule = granule_of c.header.width t.moment }
+
+-- with one policy more
+abbrev pub with_turned : Item → Chained → Chained
+with_turned item c = record c { items = c.items ++ item ∷ [] }
 
 -- with the granules below a number closed
 abbrev pub with_closed : ℕ → Chained → Chained
@@ -68,11 +68,11 @@ pub record IsTaken (t : Txn) (before after : Chained) : Type 0 where
   pub value : after ≡ record (with_chained t before) { room = after.room }
   pub granule_is : open_after before.header.width (Some before.granule) t ≡ Some after.granule
 
--- an item was taken: of those without a transaction nothing is kept
+-- an item was taken: of a Frontier nothing is kept
 abbrev pub IsItemTaken : Item → Chained → Chained → Type 0
 IsItemTaken (items.Txn t) before after = IsTaken t before after
 IsItemTaken (items.Frontier moment) before after = after ≡ before
-IsItemTaken (items.Policy tile granule k algs) before after = after ≡ before
+IsItemTaken (items.Policy tile granule k algs) before after = after ≡ with_turned (items.Policy tile granule k algs) before
 
 -- its granule falls or is too great
 abbrev pub IsItemRefused : Item → Chained → Type 0
@@ -85,9 +85,7 @@ abbrev pub steps_of : List Item → ℕ
 steps_of taken = 2 * length (txns taken)
 
 -- the chains of the first items
-pub record AreTaken (header : Header) (eras : Policy) (taken : List Item) (c : Chained) : Type 0 where
-  pub header_is : c.header ≡ header
-  pub eras_are : c.eras ≡ eras
-  pub txns_are : c.txns ≡ txns taken
+pub record AreTaken (header : Header) (taken : List Item) (c : Chained) : Type 0 where
+  pub chain : IsChainOf c (history header taken)
   pub granule_is : open_of (history header taken) ≡ Some c.granule
   pub reached : c.granule * header.width ≤ last_moment taken

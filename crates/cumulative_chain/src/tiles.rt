@@ -4,8 +4,7 @@ ghost use Rattle.std.specs.Prelude.{◌≡◌, ◌≤◌, ◌+◌, ℕ, List, If
 ghost use Rattle.std.specs.List.{range_with_len};
 ghost use Rattle.std.specs.List.Sorted.{IsStrictlyIncreasing};
 ghost use Rattle.digest_model.specs.Digests.{next_link};
-ghost use Rattle.digest_model.specs.Layout.{first_granule, end_granule, max_granules};
-ghost use Rattle.policy_eras.specs.Policy.{layout_by};
+ghost use Rattle.digest_model.specs.Layout.{layout_by, first_granule, end_granule, max_granules};
 ghost use Rattle.cumulative_chain.specs.Tiles.{numbers_of, spelled_below, link_below, link_at, Ascend, last_end, front, AreBelow, IsSplit};
 
 use crate::{link, seed};

@@ -1,17 +1,16 @@
 //! Tile after tile, over the links and the digests of the granules.
 
-ghost use Rattle.std.specs.Prelude.{◌≡◌, ◌≢◌, ◌≤◌, ◌+◌, ◌-◌, IfOk, length, map, take, drop};
+ghost use Rattle.std.specs.Prelude.{◌≡◌, ◌≤◌, ◌+◌, ◌-◌, true, IfOk, length, map, take, drop};
 ghost use Rattle.std.specs.List.{range_with_len};
 ghost use Rattle.tuple_bytes.specs.Spelling.{FitsHeader};
 ghost use Rattle.history_model.specs.History.{history};
 ghost use Rattle.history_model.specs.Stored.{items_of};
-ghost use Rattle.digest_model.specs.Layout.{layout, first_granule, max_granules};
+ghost use Rattle.digest_model.specs.Layout.{policy_of, layout_by, layout, first_granule, max_granules};
 ghost use Rattle.digest_model.specs.Digests.{cum};
-ghost use Rattle.policy_eras.specs.Policy.{policy_of, layout_by};
+ghost use Rattle.policy_eras.specs.Policy.{has_leaves};
 ghost use Rattle.tile_seals.specs.Kept.{planned_of};
 ghost use Rattle.tile_seals.specs.Places.{leaves_of};
 
-use history_model::Spelled;
 use policy_eras::Eras;
 use std::alloc::{AllocError, Global};
 use tile_seals::{Tiles, Told};
@@ -38,20 +37,15 @@ pub(crate) fn leaves_of_tile<'a>(eras: &Eras, leaves: &'a [[u8; 32]], tile: u32)
 }
 
 /// The same, where a chain takes them.
-fn taken_leaves<'a>(
-    header: &Header,
-    eras: &Eras,
-    leaves: &'a [[u8; 32]],
-    tile: u32,
-) -> &'a [[u8; 32]]
+fn taken_leaves<'a>(eras: &Eras, leaves: &'a [[u8; 32]], tile: u32) -> &'a [[u8; 32]]
     requires within { first_granule (layout_by eras.now) (tile + 1) ≤ max_granules }
-    requires long { header.now.algs ≢ 0 → first_granule (layout_by eras.now) (tile + 1) ≤ length leaves.now }
-    ensures value { header.now.algs ≢ 0 → result.now ≡ take (first_granule (layout_by eras.now) (tile + 1) - first_granule (layout_by eras.now) tile) (drop (first_granule (layout_by eras.now) tile) leaves.now) }
+    requires long { has_leaves eras.now ≡ true → first_granule (layout_by eras.now) (tile + 1) ≤ length leaves.now }
+    ensures value { has_leaves eras.now ≡ true → result.now ≡ take (first_granule (layout_by eras.now) (tile + 1) - first_granule (layout_by eras.now) tile) (drop (first_granule (layout_by eras.now) tile) leaves.now) }
 {
-    if header.algs == 0 {
-        leaves
-    } else {
+    if eras.has_leaves() {
         leaves_of_tile(eras, leaves, tile)
+    } else {
+        leaves
     }
 }
 
@@ -59,21 +53,22 @@ fn taken_leaves<'a>(
 pub(crate) fn fold(
     alloc: Global,
     header: &Header,
+    eras: Eras,
     told: &Told,
     tiles: u32,
     links: &[[u8; 32]],
     leaves: &[[u8; 32]],
 ) -> Result<Tiles, AllocError>
     requires fits { FitsHeader header.now }
+    requires eras { eras ≡ policy_of (history header.now (items_of told.now.spellings)) }
     requires within { first_granule (layout (history header.now (items_of told.now.spellings))) tiles ≤ max_granules }
     requires links { links.now ≡ map (cum (history header.now (items_of told.now.spellings))) (range_with_len 0 tiles) }
-    requires leaves { header.now.algs ≢ 0 → leaves.now ≡ leaves_of (history header.now (items_of told.now.spellings)) (first_granule (layout (history header.now (items_of told.now.spellings))) tiles) }
+    requires leaves { has_leaves eras ≡ true → leaves.now ≡ leaves_of (history header.now (items_of told.now.spellings)) (first_granule (layout (history header.now (items_of told.now.spellings))) tiles) }
     ensures value { IfOk result (λ folded. folded ≡ planned_of (history header.now (items_of told.now.spellings)) tiles) }
 {
-    let eras = Eras::of(header, &Spelled::new(alloc));
-    let mut folded = Tiles::new(alloc, header, Eras::of(header, &Spelled::new(alloc)), told)?;
+    let mut folded = Tiles::new(alloc, header, eras, told)?;
     for tile in 0..tiles {
-        let own = taken_leaves(header, &eras, leaves, tile);
+        let own = taken_leaves(folded.eras(), leaves, tile);
         folded = folded.grow(alloc, told, own, &links[tile as usize])?;
     }
     Ok(folded)

@@ -1,13 +1,13 @@
 //! The digests of granules.
 
-ghost use Rattle.std.specs.Prelude.{◌≡◌, ◌≤◌, ◌+◌, ◌≢◌, IfOk, length, map};
+ghost use Rattle.std.specs.Prelude.{◌≡◌, ◌≤◌, ◌+◌, true, IfOk, length, map};
 ghost use Rattle.std.specs.List.{All, flat_map};
 ghost use Rattle.history_model.specs.History.{history, txns};
 ghost use Rattle.history_model.specs.StoredHistory.{IsHistory};
-ghost use Rattle.digest_model.specs.Layout.{layout, first_granule, max_granules};
+ghost use Rattle.digest_model.specs.Layout.{policy_of, layout, first_granule, max_granules};
 ghost use Rattle.digest_model.specs.Digests.{granule_over};
 ghost use Rattle.digest_model.specs.Plain.{IsShort};
-ghost use Rattle.policy_eras.specs.Policy.{policy_of};
+ghost use Rattle.policy_eras.specs.Policy.{has_leaves};
 ghost use Rattle.tile_seals.specs.Places.{leaves_of};
 
 use crate::grouping::group_tiles;
@@ -38,15 +38,15 @@ fn granule_digests<L: Ledger>(
 /// The digest of each granule, where a chain takes them.
 pub(crate) fn leaves<L: Ledger>(
     alloc: Global,
-    header: &Header,
+    eras: &Eras,
     granules: &Granules,
     steps: &mut Steps<L>,
 ) -> Result<Vec<[u8; 32]>, AllocError>
     requires { All (λ g. All IsShort g.1) granules.now }
-    ensures value { IfOk result (λ digests. header.now.algs ≢ 0 → digests.items ≡ map (λ g. granule_over g.0 g.1) granules.now) }
+    ensures value { IfOk result (λ digests. has_leaves eras.now ≡ true → digests.items ≡ map (λ g. granule_over g.0 g.1) granules.now) }
     ensures steps { steps.new ≤ steps.old + length (flat_map (λ g. g.1) granules.now) }
 {
-    if header.algs == 0 {
+    if !eras.has_leaves() {
         return Ok(Vec::new(alloc));
     }
     granule_digests(alloc, granules, steps)

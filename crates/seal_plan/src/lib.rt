@@ -1,13 +1,13 @@
 //! All digests of the sealed tiles of a history, and the batches that a notary is given.
 //!
 //! A plan is made once from a header, the spelled items of a file and a number of tiles. It holds the digest of
-//! each planned name: the header's, the chain's value at each tile's end, where the header has tile
-//! chains each tile's whole and bit chains, and where it has the tree each node. The moments of the
+//! each planned name: the header's, the chain's value at each tile's end, the whole and the bit chains of each tile that has
+//! tile chains, the nodes over the tiles that have the tree, and the eras that begin at the tiles. The moments of the
 //! items may fall: a granule has its transactions in file order, and the granules go one after another.
 //!
 //! | Asked for | Made | Hashed |
 //! |---|---|---|
-//! | all digests | `Plan` | each transaction for its link, and where a chain takes it once more for its granule |
+//! | all digests | `Plan` | each transaction for its link, and where some era has a chain once more for its granule |
 //! | tiles and their bit chains | `TilePlan` | each transaction for its granule |
 //! | nodes | `TreePlan` | each transaction for its granule |
 //! | the chain | `links_of` | each transaction for its link |
@@ -15,7 +15,7 @@
 //! | Batch | Seals, in order |
 //! |---|---|
 //! | 0 | the header |
-//! | j + 1 | `cum j`; with tile chains: tile j whole, its bit chains from 0 up; with the tree: each node whose last granule lies in tile j, by the last granule and then by the level |
+//! | j + 1 | each era but the first that begins at tile j, by number; `cum j`; with tile chains: tile j whole, its bit chains from 0 up; with the tree: each node whose last leaf lies in tile j, by the last leaf and then by the level |
 //!
 //! What a layer above may rely on:
 //!
@@ -52,4 +52,5 @@ pub use links::links_of;
 pub use plan::Plan;
 pub use scope::Scope;
 pub use tile_plan::TilePlan;
+pub use tile_seals::node_name;
 pub use tree_plan::TreePlan;

@@ -1,15 +1,15 @@
 //! The plan: made once, then only read.
 
-ghost use Rattle.std.specs.Prelude.{◌≡◌, ◌≤◌, ◌+◌, ◌*◌, ◌↔◌, ◌≢◌, IfOk, IfSome, IsSome, length, map};
+ghost use Rattle.std.specs.Prelude.{◌≡◌, ◌≤◌, ◌+◌, ◌*◌, ◌↔◌, true, IfOk, IfSome, IsSome, length, map};
 ghost use Rattle.std.specs.List.{Contains, range_with_len};
 ghost use Rattle.history_model.specs.History.{history, txns};
 ghost use Rattle.history_model.specs.StoredHistory.{IsHistory};
-ghost use Rattle.digest_model.specs.Layout.{layout, first_granule, max_granules};
+ghost use Rattle.digest_model.specs.Layout.{policy_of, layout, first_granule, max_granules};
 ghost use Rattle.digest_model.specs.Digests.{cum};
 ghost use Rattle.notary_link.specs.Batches.{IsBatch};
 ghost use Rattle.audit_model.specs.Names.{planned, digest, batch};
 ghost use Rattle.tuple_bytes.specs.Spelling.{FitsHeader};
-ghost use Rattle.policy_eras.specs.Policy.{policy_of};
+ghost use Rattle.policy_eras.specs.Policy.{has_leaves};
 ghost use Rattle.tile_seals.specs.Places.{leaves_of};
 ghost use Rattle.seal_plan.specs.Plan.{planned_of};
 
@@ -54,12 +54,12 @@ fn hash_txns<L: Ledger>(
     requires eras { eras.now ≡ policy_of (history header.now items.now) }
     requires within { first_granule (layout (history header.now items.now)) tiles ≤ max_granules }
     ensures links { IfOk result (λ r. r.0.items ≡ map (cum (history header.now items.now)) (range_with_len 0 tiles)) }
-    ensures leaves { IfOk result (λ r. header.now.algs ≢ 0 → r.1.items ≡ leaves_of (history header.now items.now) (first_granule (layout (history header.now items.now)) tiles)) }
+    ensures leaves { IfOk result (λ r. has_leaves eras.now ≡ true → r.1.items ≡ leaves_of (history header.now items.now) (first_granule (layout (history header.now items.now)) tiles)) }
     ensures steps { steps.new ≤ steps.old + 2 * length (txns items.now) }
 {
     let granules = group_tiles(alloc, header, eras, items, tiles)?;
     let links = links_at_tiles(alloc, header, eras, &granules, tiles, steps)?;
-    let digests = leaves(alloc, header, &granules, steps)?;
+    let digests = leaves(alloc, eras, &granules, steps)?;
     Ok((links, digests))
 }
 
@@ -77,10 +77,10 @@ impl Plan {
         ensures value { IfOk result (λ plan. plan ≡ planned_of (history header.now items.now) tiles) }
         ensures steps { steps.new ≤ steps.old + 2 * length (txns items.now) }
     {
-        let eras = Eras::of(header, items);
+        let eras = Eras::of(alloc, header, items)?;
         let (links, digests) = hash_txns(alloc, header, &eras, items, tiles, steps)?;
         let told = tell(items);
-        let folded = fold(alloc, header, &told, tiles, &links, &digests)?;
+        let folded = fold(alloc, header, eras, &told, tiles, &links, &digests)?;
         Ok(Plan { tiles: folded })
     }
 

@@ -3,8 +3,7 @@
 ghost use Rattle.std.specs.Prelude.{◌≡◌, ◌≤◌};
 ghost use Rattle.tuple_bytes.specs.Spelling.{FitsHeader};
 ghost use Rattle.history_model.specs.History.{history};
-ghost use Rattle.digest_model.specs.Layout.{layout, first_granule, max_granules};
-ghost use Rattle.policy_eras.specs.Policy.{policy_of};
+ghost use Rattle.digest_model.specs.Layout.{policy_of, layout, first_granule, max_granules};
 ghost use Rattle.seal_plan.specs.Plan.{planned_of};
 
 use history_model::Spelled;

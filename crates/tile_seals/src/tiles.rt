@@ -1,25 +1,24 @@
 //! The kept digests of the first tiles.
 
-ghost use Rattle.std.specs.Prelude.{◌≡◌, ◌≤◌, ◌<◌, ◌+◌, ◌*◌, ◌↔◌, ◌≢◌, ℕ, [], IfOk, IfSome, IsSome, length, map, slice_index_or};
+ghost use Rattle.std.specs.Prelude.{◌≡◌, ◌≤◌, ◌<◌, ◌+◌, ◌↔◌, ℕ, true, IfOk, IfSome, IsSome, map};
 ghost use Rattle.std.specs.List.{Contains, range_with_len};
 ghost use Rattle.history_model.specs.History.{History, history};
 ghost use Rattle.history_model.specs.Stored.{items_of};
 ghost use Rattle.digest_model.specs.Laws.{SameBelow};
-ghost use Rattle.digest_model.specs.Layout.{layout, first_granule, tile_size, max_granules};
+ghost use Rattle.digest_model.specs.Layout.{policy_of, layout, first_granule, max_granules};
 ghost use Rattle.digest_model.specs.Digests.{cum};
 ghost use Rattle.audit_model.specs.Names.{planned, digest};
 ghost use Rattle.tuple_bytes.specs.Spelling.{FitsHeader};
-ghost use Rattle.policy_eras.specs.Policy.{policy_of, layout_by};
 ghost use Rattle.tile_seals.specs.Kept.{planned_of, retold};
-ghost use Rattle.tile_seals.specs.Places.{leaves_in, planned_levels};
+ghost use Rattle.tile_seals.specs.Places.{takes_leaves, leaves_in};
 
 mod batch;
 
-use crate::chains::with_parts;
-use crate::digests::Digests;
-use crate::lookup::{digest_at, node_in, part_in};
+use crate::eras::sealed_era;
+use crate::forests::Forests;
+use crate::lookup::digest_at;
+use crate::parts::Parts;
 use crate::told::Told;
-use crate::trees::{levels_with, no_nodes};
 use cumulative_chain::header_digest;
 use notary_link::Name;
 use policy_eras::Eras;
@@ -37,8 +36,8 @@ pub struct Tiles {
     told: Snapshot<Told>,
     header_digest: [u8; 32],
     links: Vec<[u8; 32]>,
-    parts: Digests,
-    levels: Vec<Digests>,
+    parts: Parts,
+    forests: Forests,
 }
 
 impl Model for Tiles {
@@ -50,7 +49,7 @@ impl Model for Tiles {
 
     ghost view = { λ p. planned_of (history p.header (items_of p.told.value.spellings)) p.tiles };
 
-    ghost invariant = { λ p. Keeps (history p.header (items_of p.told.value.spellings)) p.tiles p.eras p.header_digest p.links.items p.parts p.levels.items };
+    ghost invariant = { λ p. Keeps (history p.header (items_of p.told.value.spellings)) p.tiles p.eras p.header_digest p.links.items p.parts p.forests };
 }
 
 /// The links with that of the next tile.
@@ -61,36 +60,6 @@ fn with_link(mut links: Vec<[u8; 32]>, link: &[u8; 32]) -> Result<Vec<[u8; 32]>,
     Ok(links)
 }
 
-/// The nodes with those that the next tile completes, where it has the tree.
-fn with_nodes(
-    alloc: Global,
-    eras: &Eras,
-    tile: u32,
-    levels: Vec<Digests>,
-    leaves: &[[u8; 32]],
-) -> Result<Vec<Digests>, AllocError>
-    requires granules { eras.now.algs ≢ 0 → length leaves.now ≡ tile_size (layout_by eras.now) tile }
-    requires some { (h : History) × (eras.now ≡ policy_of h) × (levels.items ≡ planned_levels h tile) × (first_granule (layout h) (tile + 1) ≤ max_granules) }
-    ensures value { (h : History) → eras.now ≡ policy_of h → levels.items ≡ planned_levels h tile → (eras.now.algs ≢ 0 → leaves.now ≡ leaves_in h tile) → IfOk result (λ grown. grown.items ≡ planned_levels h (tile + 1)) }
-{
-    if eras.has_tree(tile) {
-        levels_with(alloc, levels, leaves)
-    } else {
-        Ok(levels)
-    }
-}
-
-/// No level, where no tile has the tree.
-fn first_nodes(alloc: Global, eras: &Eras) -> Result<Vec<Digests>, AllocError>
-    ensures value { (h : History) → eras.now ≡ policy_of h → IfOk result (λ levels. levels.items ≡ planned_levels h 0) }
-{
-    if eras.has_tree(0) {
-        no_nodes(alloc)
-    } else {
-        Ok(Vec::new(alloc))
-    }
-}
-
 impl Tiles {
     /// No tile.
     pub fn new(alloc: Global, header: &Header, eras: Eras, told: &Told) -> Result<Tiles, AllocError>
@@ -98,7 +67,7 @@ impl Tiles {
         requires eras { eras ≡ policy_of (history header.now (items_of told.now.spellings)) }
         ensures value { IfOk result (λ tiles. tiles ≡ planned_of (history header.now (items_of told.now.spellings)) 0) }
     {
-        let levels = first_nodes(alloc, &eras)?;
+        let forests = Forests::new(alloc, &eras)?;
         Ok(Tiles {
             header: *header,
             eras,
@@ -106,13 +75,14 @@ impl Tiles {
             told: Snapshot::of(told),
             header_digest: header_digest(header),
             links: Vec::new(alloc),
-            parts: Digests::new(alloc),
-            levels,
+            parts: Parts::new(alloc),
+            forests,
         })
     }
 
     /// One tile more, by the digests of its granules, where a chain takes them, and by the value of the
-    /// chain at its end. Meanwhile more may have been told, of granules behind the tiles so far.
+    /// chain at its end. Meanwhile more may have been told, of granules behind the tiles so far, that
+    /// leaves the eras.
     pub fn grow(
         self,
         alloc: Global,
@@ -121,8 +91,9 @@ impl Tiles {
         link: &[u8; 32],
     ) -> Result<Tiles, AllocError>
         requires same { SameBelow self.history (retold self.history told.now.spellings) (first_granule (layout self.history) self.tiles) }
+        requires eras { policy_of (retold self.history told.now.spellings) ≡ policy_of self.history }
         requires within { first_granule (layout self.history) (self.tiles + 1) ≤ max_granules }
-        requires leaves { self.history.header.algs ≢ 0 → leaves.now ≡ leaves_in (retold self.history told.now.spellings) self.tiles }
+        requires leaves { takes_leaves (layout self.history) self.tiles ≡ true → leaves.now ≡ leaves_in (retold self.history told.now.spellings) self.tiles }
         requires link { link.now ≡ cum (retold self.history told.now.spellings) self.tiles }
         ensures value { IfOk result (λ grown. grown ≡ planned_of (retold self.history told.now.spellings) (self.tiles + 1)) }
     {
@@ -133,12 +104,12 @@ impl Tiles {
             told: _,
             header_digest,
             links,
-            parts,
-            levels,
+            mut parts,
+            mut forests,
         } = self;
         let links = with_link(links, link)?;
-        let parts = with_parts(&eras, tiles, parts, leaves)?;
-        let levels = with_nodes(alloc, &eras, tiles, levels, leaves)?;
+        parts.add(&eras, tiles, leaves)?;
+        forests.add(alloc, &eras, tiles, leaves)?;
         Ok(Tiles {
             header,
             eras,
@@ -147,7 +118,7 @@ impl Tiles {
             header_digest,
             links,
             parts,
-            levels,
+            forests,
         })
     }
 
@@ -188,15 +159,12 @@ impl Tiles {
     {
         match name {
             Name::Header => Some(self.header_digest),
+            Name::Era { era } => sealed_era(&self.eras, self.tiles, era),
             Name::Cum { tile } => digest_at(&self.links, tile as usize),
-            Name::Tile { tile, part } => part_in(
-                self.parts.as_slice(),
-                self.eras.exponent(tile),
-                tile,
-                part,
-            ),
-            Name::Node { level, index } => node_in(&self.levels, level, index),
-            Name::Era { .. } | Name::EraNode { .. } => None,
+            Name::Tile { tile, part } => self.parts.digest(&self.eras, tile, part),
+            Name::Node { level, index } => self.forests.digest(0, level, index),
+            Name::EraNode { era: 0, .. } => None,
+            Name::EraNode { era, level, index } => self.forests.digest(era, level, index),
         }
     }
 }

@@ -1,6 +1,6 @@
 //! The chains of the items of a store.
 
-ghost use Rattle.std.specs.Prelude.{◌≡◌, ◌↔◌, ◌≤◌, ◌+◌, ◌*◌, ◌∷◌, [], true, false, None, Some, IfOk, IfSome, IsSome, OnErr, length};
+ghost use Rattle.std.specs.Prelude.{◌≡◌, ◌↔◌, ◌≤◌, ◌+◌, ◌*◌, ◌==◌, ◌∷◌, [], true, false, None, Some, IfOk, IfSome, IsSome, OnErr, length, slice_index};
 ghost use Rattle.std.specs.Bool.{MatchBool};
 ghost use Rattle.tuple_bytes.specs.declared.item.Item.{Item};
 ghost use Rattle.tuple_bytes.specs.declared.item.Item.TheVariants as items;
@@ -13,10 +13,16 @@ ghost use Rattle.chain_state.specs.Chained.{IsChainOf, IsTaken, IsItemTaken, IsI
 
 use super::Chains;
 use history_model::{Spelled, moment_of};
-use policy_eras::Eras;
 use std::alloc::{AllocError, Global};
 use step_count::{Ledger, Steps};
 use tuple_bytes::{Header, MAX_GRANULES, granule};
+
+/// Whether an item begins as a policy does.
+fn is_policy(payload: &[u8]) -> bool
+    ensures value { result ≡ (slice_index payload.now 0 == 3) }
+{
+    payload.first() == Some(&3)
+}
 
 impl Chains {
     /// Adds a transaction; false where its granule falls or is too great.
@@ -43,7 +49,17 @@ impl Chains {
         Ok(true)
     }
 
-    /// Adds the transaction that a payload spells, where it spells one, and makes room for it; false
+    /// Takes the item that a payload spells, where it is a policy.
+    fn take_other(&mut self, payload: &[u8])
+        requires spelled { (item : Item) × Spells item payload.now × (txn_in item ≡ None) }
+        ensures value { (item : Item) → Spells item payload.now → IsItemTaken item self.old self.new }
+    {
+        if is_policy(payload) {
+            self.turn(payload);
+        }
+    }
+
+    /// Takes the item that a payload spells: adds a transaction, and makes room for it, and turns by a policy; false
     /// where its granule falls or is too great.
     pub fn take<L: Ledger>(
         &mut self,
@@ -60,11 +76,14 @@ impl Chains {
     {
         match moment_of(payload) {
             Some(moment) => self.take_txn(moment, payload, steps),
-            None => Ok(true),
+            None => {
+                self.take_other(payload);
+                Ok(true)
+            }
         }
     }
 
-    /// Of the transactions among these items; none where a granule falls or is too great.
+    /// Of the transactions and the policies among these items; none where a granule falls or is too great.
     pub fn from_items<L: Ledger>(
         alloc: Global,
         header: &Header,
@@ -78,7 +97,7 @@ impl Chains {
         ensures steps { steps.new ≤ steps.old + 2 * length (txns items.now) }
         ensures exact { IfOk result (λ r. IsSome r → steps.new ≡ steps.old + 2 * length (txns items.now)) }
     {
-        let mut chains = Chains::new(alloc, header, Eras::of(header, items))?;
+        let mut chains = Chains::new(alloc, header)?;
         for spelling in items.as_slice() {
             if !chains.take(spelling.as_slice(), steps)? {
                 return Ok(None);

@@ -3,14 +3,14 @@
 ghost use Rattle.std.specs.Prelude.{◌≡◌, ◌≤◌, ◌<◌, ◌+◌, ◌++◌, ◌∷◌, [], true, if◌then◌else◌, IfOk, OnOk, map};
 ghost use Rattle.std.specs.List.{Contains};
 ghost use Rattle.notary_link.specs.Batches.{IsBatch};
-ghost use Rattle.digest_model.specs.Layout.{layout, first_granule, max_granules, has_tile_chains, has_tree};
-ghost use Rattle.audit_model.specs.Laws.{HasTree};
-ghost use Rattle.audit_model.specs.Names.{planned, tile_names, node_names, nodes_ending_at, seal, batch};
-ghost use Rattle.tile_seals.specs.Nodes.{node_at_level};
+ghost use Rattle.digest_model.specs.Layout.{layout, first_granule, max_granules, has_tile_chains, has_tree, era_of};
+ghost use Rattle.audit_model.specs.Names.{planned, era_names, tile_names, node_names, nodes_ending_at, seal, batch};
+ghost use Rattle.tile_seals.specs.Nodes.{IsLeafIn, node_at_level};
 
 use super::Tiles;
+use crate::eras::{leaf_start, node_name};
+use crate::forest::LEVELS;
 use crate::lookup::power_of_two;
-use crate::trees::LEVELS;
 use notary_link::{Name, Seal, Seals};
 use std::alloc::{AllocError, Global};
 use tile_chains::WHOLE;
@@ -25,6 +25,20 @@ impl Tiles {
             Some(digest) => seals.push(Seal { name, digest }),
             None => Ok(()),
         }
+    }
+
+    /// Adds the eras but the first that begin at a tile.
+    fn seal_eras(&self, seals: &mut Seals, tile: u32) -> Result<(), AllocError>
+        requires below { tile < self.now.tiles }
+        requires within { first_granule (layout self.now.history) self.now.tiles ≤ max_granules }
+        ensures { OnOk result (seals.new ≡ seals.old ++ map (seal self.now.history) (era_names (layout self.now.history) tile)) }
+    {
+        let before = self.eras().sealed(tile);
+        let begun = self.eras().sealed(tile + 1);
+        for era in before + 1..begun + 1 {
+            self.seal(seals, Name::Era { era })?;
+        }
+        Ok(())
     }
 
     /// Adds a whole tile and its bit chains.
@@ -53,53 +67,70 @@ impl Tiles {
         }
     }
 
-    /// Adds the node of a level whose last granule is this one, where there is one.
-    fn seal_node(&self, seals: &mut Seals, granule: u32, level: u8) -> Result<(), AllocError>
+    /// Adds the node of a level of a tile's era whose last leaf is this one, where there is one.
+    fn seal_node(
+        &self,
+        seals: &mut Seals,
+        tile: u32,
+        era: u32,
+        leaf: u32,
+        level: u8,
+    ) -> Result<(), AllocError>
         requires level { level < 21 }
-        requires tree { HasTree self.now.history self.now.tiles }
-        requires below { granule < first_granule (layout self.now.history) self.now.tiles }
-        requires within { first_granule (layout self.now.history) self.now.tiles ≤ max_granules }
-        ensures { OnOk result (seals.new ≡ seals.old ++ map (seal self.now.history) (node_at_level granule level)) }
+        requires below { tile < self.now.tiles }
+        requires tree { has_tree (layout self.now.history) tile ≡ true }
+        requires era { era ≡ era_of (layout self.now.history) tile }
+        requires leaf { IsLeafIn (layout self.now.history) tile leaf }
+        requires within { leaf < max_granules }
+        ensures { OnOk result (seals.new ≡ seals.old ++ map (seal self.now.history) (node_at_level era leaf level)) }
     {
         let size = power_of_two(level);
-        let end = granule + 1;
+        let end = leaf + 1;
         if end % size == 0 {
-            let index = end / size - 1;
-            self.seal(seals, Name::Node { level, index })
+            self.seal(seals, node_name(era, level, end / size - 1))
         } else {
             Ok(())
         }
     }
 
-    /// Adds the nodes whose last granule is this one, from the leaf upwards.
-    fn seal_nodes_at(&self, seals: &mut Seals, granule: u32) -> Result<(), AllocError>
-        requires tree { HasTree self.now.history self.now.tiles }
-        requires below { granule < first_granule (layout self.now.history) self.now.tiles }
-        requires within { first_granule (layout self.now.history) self.now.tiles ≤ max_granules }
-        ensures { OnOk result (seals.new ≡ seals.old ++ map (seal self.now.history) (nodes_ending_at granule)) }
+    /// Adds the nodes of a tile's era whose last leaf is this one, from the leaf upwards.
+    fn seal_nodes_at(
+        &self,
+        seals: &mut Seals,
+        tile: u32,
+        era: u32,
+        leaf: u32,
+    ) -> Result<(), AllocError>
+        requires below { tile < self.now.tiles }
+        requires tree { has_tree (layout self.now.history) tile ≡ true }
+        requires era { era ≡ era_of (layout self.now.history) tile }
+        requires leaf { IsLeafIn (layout self.now.history) tile leaf }
+        requires within { leaf < max_granules }
+        ensures { OnOk result (seals.new ≡ seals.old ++ map (seal self.now.history) (nodes_ending_at era leaf)) }
     {
         for level in 0..LEVELS {
-            self.seal_node(seals, granule, level)?;
+            self.seal_node(seals, tile, era, leaf, level)?;
         }
         Ok(())
     }
 
-    /// Adds the nodes whose last granule lies in a tile.
+    /// Adds the nodes whose last leaf lies in a tile.
     fn seal_tree(&self, seals: &mut Seals, tile: u32) -> Result<(), AllocError>
         requires below { tile < self.now.tiles }
-        requires tree { HasTree self.now.history self.now.tiles }
+        requires tree { has_tree (layout self.now.history) tile ≡ true }
         requires within { first_granule (layout self.now.history) self.now.tiles ≤ max_granules }
         ensures { OnOk result (seals.new ≡ seals.old ++ map (seal self.now.history) (node_names (layout self.now.history) tile)) }
     {
+        let era = self.eras().era_of(tile);
         let size = power_of_two(self.eras().exponent(tile));
-        let first = self.eras().first(tile) as u32;
+        let first = leaf_start(self.eras(), tile);
         for number in 0..size {
-            self.seal_nodes_at(seals, first + number)?;
+            self.seal_nodes_at(seals, tile, era, first + number)?;
         }
         Ok(())
     }
 
-    /// Adds the nodes whose last granule lies in a tile, where they are planned.
+    /// Adds the nodes whose last leaf lies in a tile, where they are planned.
     fn seal_nodes(&self, seals: &mut Seals, tile: u32) -> Result<(), AllocError>
         requires below { tile < self.now.tiles }
         requires within { first_granule (layout self.now.history) self.now.tiles ≤ max_granules }
@@ -121,13 +152,14 @@ impl Tiles {
         Ok(seals)
     }
 
-    /// Seals a tile.
+    /// Seals a tile, behind the eras that begin there.
     fn tile_batch(&self, alloc: Global, tile: u32) -> Result<Seals, AllocError>
         requires below { tile < self.now.tiles }
         requires within { first_granule (layout self.now.history) self.now.tiles ≤ max_granules }
         ensures { IfOk result (λ seals. seals ≡ batch self.now.history (tile + 1)) }
     {
         let mut seals = Seals::new(alloc);
+        self.seal_eras(&mut seals, tile)?;
         self.seal(&mut seals, Name::Cum { tile })?;
         self.seal_parts(&mut seals, tile)?;
         self.seal_nodes(&mut seals, tile)?;
@@ -140,12 +172,12 @@ impl Tiles {
         ensures value { IfOk result (λ seals. seals ≡ batch self.now.history index) }
         ensures fileable { IfOk result IsBatch }
     {
-        let _header = self.header();
         let _tiles = self.tiles();
         if index == 0 {
-            self.header_batch(alloc)
-        } else {
-            self.tile_batch(alloc, index - 1)
+            return self.header_batch(alloc);
         }
+        let tile = index - 1;
+        let _few = self.eras().exponent(tile);
+        self.tile_batch(alloc, tile)
     }
 }

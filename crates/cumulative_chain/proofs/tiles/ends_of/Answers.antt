@@ -2,8 +2,7 @@ use Rattle.std.proofs.Common.{ℕ, ◌+◌, ◌<◌, ◌≤◌, List, [], ◌∷
 use Rattle.std.specs.List.{range_with_len}
 use Rattle.std.proofs.lemmas.List.FromFn.{map-range_with_len_more}
 use Rattle.digest_model.proofs.Layouts as layouts
-use Rattle.digest_model.specs.Layout.{Layout, first_granule, end_granule}
-use Rattle.policy_eras.specs.Policy.{layout_by}
+use Rattle.digest_model.specs.Layout.{Layout, layout_by, first_granule, end_granule}
 use Rattle.cumulative_chain.proofs.tiles.ends_of.Goals as goal
 
 -- so many tiles end below the last granule

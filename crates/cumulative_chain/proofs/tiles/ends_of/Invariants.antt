@@ -1,7 +1,6 @@
 use Rattle.std.proofs.Common.{◌≡◌, map}
 use Rattle.std.specs.List.{range_with_len}
-use Rattle.digest_model.specs.Layout.{end_granule}
-use Rattle.policy_eras.specs.Policy.{layout_by}
+use Rattle.digest_model.specs.Layout.{layout_by, end_granule}
 use Rattle.cumulative_chain.proofs.tiles.ends_of.Given as goal
 
 abbrev pub invariant-loop-tile : goal.invariant-loop-tile

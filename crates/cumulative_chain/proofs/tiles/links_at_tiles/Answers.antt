@@ -1,5 +1,5 @@
 use Rattle.std.proofs.Common.{◌≡◌, ℕ, ◌+◌, ◌≤◌, List, IfOk, OnOk, length, map, sym, ap, subst, ◌∙◌}
-use Rattle.policy_eras.specs.Policy.{layout_by}
+use Rattle.digest_model.specs.Layout.{layout_by}
 use Rattle.cumulative_chain.specs.Tiles.{Ascend, last_end, link_below, spelled_below}
 use Rattle.cumulative_chain.proofs.Ends.{ends_ascend, ends_last, links_of_tiles}
 use Rattle.cumulative_chain.proofs.tiles.links_at_tiles.Goals as goal

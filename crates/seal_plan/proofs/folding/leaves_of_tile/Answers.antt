@@ -1,7 +1,6 @@
 use Rattle.std.proofs.Common.{ℕ, ◌+◌, ◌-◌, take, drop, ap, ◌∙◌, arith}
-use Rattle.digest_model.specs.Layout.{first_granule}
+use Rattle.digest_model.specs.Layout.{first_granule, layout_by}
 use Rattle.digest_model.proofs.Layouts.{counts, ascends}
-use Rattle.policy_eras.specs.Policy.{layout_by}
 use Rattle.seal_plan.proofs.folding.leaves_of_tile.Goals as goal
 
 pub overflow_add-tile : goal.overflow_add-tile

@@ -11,7 +11,6 @@ use Rattle.tuple_bytes.specs.Limits.{max_payload}
 use Rattle.tuple_bytes.specs.Spelling.{Spells, spell_item, FitsItem}
 use Rattle.history_model.specs.History.{history}
 use Rattle.history_model.specs.Stored.{IsStorable}
-use Rattle.policy_eras.specs.Policy.{policy_of}
 use Rattle.chain_state.specs.Chained.{Chained, AreTaken, IsItemTaken, IsItemRefused, steps_of, open_of, are_chained}
 use Rattle.chain_state.proofs.Gathering.{taken_more, refused_from, none_later, not_chained, steps_more, steps_in}
 use Rattle.chain_state.proofs.chains.Chains.from_items.Goals as goal
@@ -47,9 +46,9 @@ module _ (items : List Item) (spelled : List (List ℕ)) (i : ℕ) (b : List ℕ
   steps_few : steps_of (take (i + 1) items) ≤ steps_of items
   steps_few = (let le = steps_in (take (i + 1) items) (drop (i + 1) items) in let all = ap steps_of (take-append-drop (i + 1) items) in omega (arith, le, all))
 
-  never : (header : Header) (c : Chained) → AreTaken header (policy_of (history header items)) (take i items) c → IsItemRefused item c → are_chained (history header items) ≡ false
+  never : (header : Header) (c : Chained) → AreTaken header (take i items) c → IsItemRefused item c → are_chained (history header items) ≡ false
   never header c were refused =
-      let none = refused_from header (policy_of (history header items)) (take i items) c were item refused in
+      let none = refused_from header (take i items) c were item refused in
       let front : open_of (history header (take (i + 1) items)) ≡ None = ap (λ (x : List Item). open_of (history header x)) more ∙ none in
       not_chained header items (sym (ap (λ (x : List Item). open_of (history header x)) (take-append-drop (i + 1) items)) ∙ none_later header (take (i + 1) items) (drop (i + 1) items) front)
 
@@ -70,8 +69,8 @@ unfolding open_of
 loop-spelling-init g c =
     let made = c.in_ok-chains.ensures.value in
     record {
-      taken = subst (λ (x : Chained). AreTaken c.args.header.now (policy_of (history c.args.header.now c.args.items.now)) [] x) (sym made)
-          (record { header_is = refl; eras_are = c.of.ensures.value; txns_are = refl; granule_is = refl; reached = omega arith });
+      taken = subst (λ (x : Chained). AreTaken c.args.header.now [] x) (sym made)
+          (record { chain = record { header = refl; txns = refl; eras = refl }; granule_is = refl; reached = omega arith });
       steps = omega arith;
     }
 
@@ -90,8 +89,8 @@ loop-spelling-preserved g c =
     let exact = c.in_ok-take.ensures.exact it own done in
     let was = c.loop-spelling.invariant.steps in
     record {
-      taken = subst (λ (x : List Item). AreTaken c.args.header.now (policy_of (history c.args.header.now c.args.items.now)) x c.take.new.self) (sym longer)
-          (taken_more c.args.header.now (policy_of (history c.args.header.now c.args.items.now)) (take i xs) c.loop-spelling.chains c.loop-spelling.invariant.taken it c.take.new.self took);
+      taken = subst (λ (x : List Item). AreTaken c.args.header.now x c.take.new.self) (sym longer)
+          (taken_more c.args.header.now (take i xs) c.loop-spelling.chains c.loop-spelling.invariant.taken it c.take.new.self took);
       steps = omega (arith, count, exact, was);
     }
 
