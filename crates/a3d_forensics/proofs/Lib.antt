@@ -1,10 +1,13 @@
+pub mod Ranges
+pub mod Begins
+pub mod EraTrees
+pub mod Has
 pub mod Forks
 pub mod Consistent
 pub mod Ending
 pub mod Filed
 pub mod Notarized
 pub mod Fails
-pub mod Trees
 pub mod Going
 pub mod Finding
 pub mod Rooted

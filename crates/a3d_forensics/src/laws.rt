@@ -1,6 +1,6 @@
-//! What stops a descent, and how many nodes it asks, each law the contract of a function that does nothing.
+//! Which granules the trees have, what stops a descent, and how many nodes it asks, each law the contract of a function that does nothing.
 
-ghost use Rattle.a3d_forensics.specs.Laws.{EndedIsConsistent, AuditEnds, NotaryIsConsistent, LeavesAreAltered, NotarizedHasNone, ChecksCountForks};
+ghost use Rattle.a3d_forensics.specs.Laws.{TreesCoverRange, EndedIsConsistent, AuditEnds, NotaryIsConsistent, LeavesAreAltered, NotarizedHasNone, ChecksCountForks};
 ghost use Rattle.a3d_forensics.specs.Examples.{WorkedDescents};
 
 use audit_model::{
@@ -8,12 +8,17 @@ use audit_model::{
     tree_is_consistent,
 };
 
+/// The trees of a range have the granules of its tiles, and no others.
+pub fn trees_cover_range()
+    ensures { TreesCoverRange }
+{}
+
 /// Where nothing stops a descent, a child differs below each node that differs.
 pub fn ended_is_consistent()
     ensures { EndedIsConsistent }
 {}
 
-/// Nothing stops the descent over a history under the notarized header.
+/// Nothing stops the descent over a history under the notarized header and eras.
 pub fn audit_ends()
     ensures { AuditEnds }
 {
@@ -28,7 +33,7 @@ pub fn notary_is_consistent()
     nodes_are_consistent();
 }
 
-/// The leaves that are found are the altered granules, unless two inputs clash.
+/// The granules that are found are the altered ones of the range, unless two inputs clash.
 pub fn leaves_are_altered()
     ensures { LeavesAreAltered }
 {

@@ -3,6 +3,6 @@ use Rattle.a3d_forensics.proofs.laws.leaves_are_altered.Goals as goal
 
 pub returns : goal.returns
 returns c = record {
-  all = λ batches id h s n g audit has alt. all_listed batches id h s n audit c.descent_has_altered.ensures has g alt;
-  only = λ batches id h s n g audit has among. only_listed batches id h s n audit c.descent_is_altered.ensures has g among;
+  all = λ batches id h s era n g audit has inside altered. all_listed batches id h s era n audit has c.descent_has_altered.ensures g inside altered;
+  only = λ batches id h s era n g audit has among. only_listed batches id h s era n audit has c.descent_is_altered.ensures g among;
 }
