@@ -4,7 +4,7 @@ use Rattle.tuple_bytes.specs.declared.header.Header.{Header}
 use Rattle.tuple_bytes.specs.declared.item.Item.{Item}
 use Rattle.tuple_bytes.specs.declared.item.Item.TheVariants as items
 use Rattle.tuple_bytes.specs.declared.item.Txn.{Txn}
-use Rattle.tuple_bytes.specs.Spelling.{spell_txn, spell_frontier}
+use Rattle.tuple_bytes.specs.Spelling.{spell_item, spell_txn, spell_frontier}
 use Rattle.history_model.specs.History.{txns, last_moment}
 use Rattle.history_model.specs.State.{State, state}
 use Rattle.history_model.specs.Placing.{gate_behind}
@@ -21,6 +21,10 @@ pub record Database : Type 0 where
 -- what decides on its next item
 abbrev pub tail_of_database : Database → Tail
 tail_of_database w = record { header = w.header; count = length (txns w.items); last = last_moment w.items; end = w.end }
+
+-- with one item more
+abbrev pub with_item : Database → Item → Database
+with_item w item = record w { items = w.items ++ item ∷ []; end = gate_behind w.end (length (spell_item item)) }
 
 -- with one transaction more
 abbrev pub with_txn : Database → Txn → Database

@@ -20,12 +20,12 @@ use Rattle.stmt_text.specs.declared.event.Event.TheVariants as events
 use Rattle.stmt_text.specs.declared.line.Line.{Line}
 use Rattle.stmt_text.specs.declared.line.Line.TheVariants as lines
 use Rattle.stmt_text.specs.Tokens.{Token, inside_after, separates, is_filled, with_byte, pieces, tokens}
-use Rattle.stmt_text.specs.Numbers.{in_range, int, number, minus, int_in_range}
+use Rattle.stmt_text.specs.Numbers.{in_range, int, number, minus, int_in_range, max_era}
 use Rattle.stmt_text.specs.Values.{hex_quoted}
 use Rattle.stmt_text.specs.Lines.{without_return, line_by}
-use Rattle.stmt_text.specs.Printing.{value_token, kind_token, compare_token, column_tokens, as_of_tokens, filter_tokens, algorithm_tokens, stmt_word, stmt_tokens, event_word, event_tokens, spaced, stmt_text, event_text, line_text}
-use Rattle.stmt_text.specs.Fits.{FitsValue, FitsMoment, FitsFilter, FitsColumn, FitsAlgorithm, FitsStmt, FitsEvent, FitsParts, FitsLine}
-use Rattle.stmt_text.specs.Grammar.{Says, SaysNumber, SayValues, SayColumns, SayAsOf, SayAlgorithm, SayFilter, SayStmt, SayEvent, SayLine, SaysWords, SaysContent, SaysLine, SaysBytes}
+use Rattle.stmt_text.specs.Printing.{value_token, kind_token, compare_token, column_tokens, as_of_tokens, filter_tokens, algorithm_tokens, era_tokens, stmt_word, stmt_tokens, event_word, event_tokens, spaced, stmt_text, event_text, line_text}
+use Rattle.stmt_text.specs.Fits.{FitsValue, FitsMoment, FitsFilter, FitsColumn, FitsAlgorithm, FitsEra, FitsStmt, FitsEvent, FitsParts, FitsLine}
+use Rattle.stmt_text.specs.Grammar.{Says, SaysNumber, SayValues, SayColumns, SayAsOf, SayAlgorithm, SayEra, SayFilter, SayStmt, SayEvent, SayLine, SaysWords, SaysContent, SaysLine, SaysBytes}
 use Rattle.stmt_text.proofs.Choices.{map_takes}
 use Rattle.stmt_text.proofs.Numerals.{number_shortest}
 use Rattle.stmt_text.proofs.TakenLines.{says_taken}
@@ -56,11 +56,15 @@ filter_fits : (ts more : List Token) (f : Option Filter) → SayFilter in_range 
 filter_fits ts more None h = tt
 filter_fits ts more (Some f) h = (h.2, value_fits h.0 f.value h.3)
 
-algorithm_fits : (ts : List Token) (a : LineAlgorithm) → SayAlgorithm in_range ts a → FitsAlgorithm a
-algorithm_fits ts algorithms.Mono h = tt
-algorithm_fits ts algorithms.Tiled h = tt
-algorithm_fits ts (algorithms.TiledExactly n) h = (h.2.1, h.2.2)
-algorithm_fits ts algorithms.A3d h = tt
+algorithm_fits : (ts others : List Token) (a : LineAlgorithm) → SayAlgorithm in_range ts a others → FitsAlgorithm a
+algorithm_fits ts others algorithms.Mono h = tt
+algorithm_fits ts others algorithms.Tiled h = tt
+algorithm_fits ts others (algorithms.TiledExactly n) h = (h.2.1, h.2.2)
+algorithm_fits ts others algorithms.A3d h = tt
+
+era_fits : (ts : List Token) (e : Option ℕ) → SayEra in_range ts e → FitsEra e
+era_fits ts None h = tt
+era_fits ts (Some e) h = h.2.2
 
 stmt_fits : (ts : List Token) (s : Stmt) → SayStmt in_range ts s → FitsStmt s
 stmt_fits ts (stmts.Create t c) h = (h.2, (h.4, columns_fit h.0 c h.3))
@@ -78,7 +82,8 @@ stmt_fits ts stmts.Abort h = tt
 stmt_fits ts stmts.Notarize h = tt
 stmt_fits ts stmts.Validate h = tt
 stmt_fits ts stmts.Audit h = tt
-stmt_fits ts (stmts.Analyse a) h = algorithm_fits ts a h
+stmt_fits ts (stmts.Policy k chains) h = (h.1, h.2)
+stmt_fits ts (stmts.Analyse a e) h = (algorithm_fits ts h.0 a h.1, era_fits h.0 e h.2, h.3)
 stmt_fits ts (stmts.Now m) h = h.2.2
 
 event_fits : (ts : List Token) (e : Event) → SayEvent ts e → FitsEvent e
@@ -172,16 +177,21 @@ filter_shortest ts others shorter None h a = rw h a
 filter_shortest ts others shorter (Some f) h a =
     rw h.1 (same f.column (compare_token f.compare ∷ value_token f.value ∷ shorter) (compare_token f.compare ∷ h.0 ∷ others) (same (compare_token f.compare) (value_token f.value ∷ shorter) (h.0 ∷ others) (more (value_token f.value) h.0 shorter others (value_shortest h.0 f.value h.3) a)))
 
-algorithm_shortest : (ts : List Token) (a : LineAlgorithm) → SayAlgorithm in_range ts a → length (spaced (algorithm_tokens a)) ≤ length (spaced ts)
-algorithm_shortest ts algorithms.Mono h = rw h (omega arith)
-algorithm_shortest ts algorithms.Tiled h = rw h (omega arith)
-algorithm_shortest ts (algorithms.TiledExactly n) h =
-    rw h.1 (same (codes "tiled") (decimal n ∷ []) (h.0 ∷ []) (more (decimal n) h.0 [] [] (decimal_shortest 1 1024 n h.0 (omega arith) h.2) (omega arith)))
-algorithm_shortest ts algorithms.A3d h = rw h (omega arith)
-
 only_filter_shortest : (ts : List Token) (f : Option Filter) → SayFilter in_range ts f [] → length (spaced (filter_tokens f)) ≤ length (spaced ts)
 only_filter_shortest ts f h =
     subst (λ (us : List Token). length (spaced us) ≤ length (spaced ts)) (append-nil (filter_tokens f)) (filter_shortest ts [] [] f h (omega arith))
+
+algorithm_shortest : (ts others shorter : List Token) (a : LineAlgorithm) → SayAlgorithm in_range ts a others → length (spaced shorter) ≤ length (spaced others) → length (spaced (algorithm_tokens a ++ shorter)) ≤ length (spaced ts)
+algorithm_shortest ts others shorter algorithms.Mono h a = rw h (same (codes "mono") shorter others a)
+algorithm_shortest ts others shorter algorithms.Tiled h a = rw h (same (codes "tiled") shorter others a)
+algorithm_shortest ts others shorter (algorithms.TiledExactly n) h a =
+    rw h.1 (same (codes "tiled") (decimal n ∷ shorter) (h.0 ∷ others) (more (decimal n) h.0 shorter others (decimal_shortest 1 1024 n h.0 (omega arith) h.2) a))
+algorithm_shortest ts others shorter algorithms.A3d h a = rw h (same (codes "a3d") shorter others a)
+
+era_shortest : (ts : List Token) (e : Option ℕ) → SayEra in_range ts e → length (spaced (era_tokens e)) ≤ length (spaced ts)
+era_shortest ts None h = omega arith
+era_shortest ts (Some e) h =
+    rw h.1 (same (codes "era") (decimal e ∷ []) (h.0 ∷ []) (more (decimal e) h.0 [] [] (decimal_shortest 0 max_era e h.0 (omega arith) h.2) (omega arith)))
 
 -- the two moments of a span
 span_shortest : (a b : Token) (from to : ℕ) (shorter others : List Token) → SaysNumber in_range 0 max_moment a from → SaysNumber in_range 0 max_moment b to → length (spaced shorter) ≤ length (spaced others)
@@ -213,7 +223,8 @@ stmt_shortest ts stmts.Abort h = omega arith
 stmt_shortest ts stmts.Notarize h = omega arith
 stmt_shortest ts stmts.Validate h = omega arith
 stmt_shortest ts stmts.Audit h = omega arith
-stmt_shortest ts (stmts.Analyse a) h = algorithm_shortest ts a h
+stmt_shortest ts (stmts.Policy k chains) h = rw h.0 (omega arith)
+stmt_shortest ts (stmts.Analyse a e) h = algorithm_shortest ts h.0 (era_tokens e) a h.1 (era_shortest h.0 e h.2)
 stmt_shortest ts (stmts.Now m) h = rw h.1 (more (decimal m) h.0 [] [] (decimal_shortest 0 max_moment m h.0 (omega arith) h.2) (omega arith))
 
 event_shortest : (ts : List Token) (e : Event) → SayEvent ts e → length (spaced (event_tokens e)) ≤ length (spaced ts)

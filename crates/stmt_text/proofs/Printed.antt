@@ -15,11 +15,11 @@ use Rattle.stmt_text.specs.declared.stmt.Stmt.TheVariants as stmts
 use Rattle.stmt_text.specs.declared.event.Event.{Event}
 use Rattle.stmt_text.specs.declared.event.Event.TheVariants as events
 use Rattle.stmt_text.specs.Tokens.{Token}
-use Rattle.stmt_text.specs.Numbers.{in_range}
+use Rattle.stmt_text.specs.Numbers.{in_range, max_era}
 use Rattle.stmt_text.specs.Values.{value_in_range}
-use Rattle.stmt_text.specs.Printing.{value_token, column_tokens, as_of_tokens, filter_tokens, algorithm_tokens, stmt_tokens, event_tokens}
-use Rattle.stmt_text.specs.Fits.{FitsValue, FitsMoment, FitsFilter, FitsColumn, FitsAlgorithm, FitsStmt, FitsEvent}
-use Rattle.stmt_text.specs.Grammar.{Says, SaysNumber, SayValues, SayColumns, SayAsOf, SayAlgorithm, SayFilter, SayStmt, SayEvent, SaysValue}
+use Rattle.stmt_text.specs.Printing.{value_token, column_tokens, as_of_tokens, filter_tokens, algorithm_tokens, era_tokens, stmt_tokens, event_tokens}
+use Rattle.stmt_text.specs.Fits.{FitsValue, FitsMoment, FitsFilter, FitsColumn, FitsAlgorithm, FitsEra, FitsStmt, FitsEvent}
+use Rattle.stmt_text.specs.Grammar.{Says, SaysNumber, SayValues, SayColumns, SayAsOf, SayAlgorithm, SayEra, SayFilter, SayStmt, SayEvent, SaysValue}
 use Rattle.stmt_text.proofs.Numerals.{number_again, int_back}
 
 -- ---- parts
@@ -64,14 +64,18 @@ filter_says : (f : Option Filter) (ts : List Token) → FitsFilter f → SayFilt
 filter_says None ts h = refl
 filter_says (Some f) ts h = (value_token f.value, refl, h.0, value_says f.value h.1)
 
-algorithm_says : (a : LineAlgorithm) → FitsAlgorithm a → SayAlgorithm in_range (algorithm_tokens a) a
-algorithm_says algorithms.Mono h = refl
-algorithm_says algorithms.Tiled h = refl
-algorithm_says (algorithms.TiledExactly n) h = (decimal n, refl, number_says 1 1024 n (omega arith) h.0 h.1)
-algorithm_says algorithms.A3d h = refl
-
 only_filter_says : (f : Option Filter) → FitsFilter f → SayFilter in_range (filter_tokens f) f []
 only_filter_says f h = subst (λ (ts : List Token). SayFilter in_range ts f []) (append-nil (filter_tokens f)) (filter_says f [] h)
+
+algorithm_says : (a : LineAlgorithm) (ts : List Token) → FitsAlgorithm a → SayAlgorithm in_range (algorithm_tokens a ++ ts) a ts
+algorithm_says algorithms.Mono ts h = refl
+algorithm_says algorithms.Tiled ts h = refl
+algorithm_says (algorithms.TiledExactly n) ts h = (decimal n, refl, number_says 1 1024 n (omega arith) h.0 h.1)
+algorithm_says algorithms.A3d ts h = refl
+
+era_says : (e : Option ℕ) → FitsEra e → SayEra in_range (era_tokens e) e
+era_says None h = refl
+era_says (Some e) h = (decimal e, refl, number_says 0 max_era e (omega arith) (omega arith) h)
 
 -- ---- statements and drill lines
 
@@ -91,7 +95,8 @@ stmt_says stmts.Abort h = refl
 stmt_says stmts.Notarize h = refl
 stmt_says stmts.Validate h = refl
 stmt_says stmts.Audit h = refl
-stmt_says (stmts.Analyse a) h = algorithm_says a h
+stmt_says (stmts.Policy k chains) h = (refl, h.0, h.1)
+stmt_says (stmts.Analyse a e) h = (era_tokens e, algorithm_says a (era_tokens e) h.0, era_says e h.1, h.2)
 stmt_says (stmts.Now m) h = (decimal m, refl, moment_says m h)
 
 pub event_says : (e : Event) → FitsEvent e → SayEvent (event_tokens e) e

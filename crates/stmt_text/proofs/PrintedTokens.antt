@@ -30,8 +30,8 @@ use Rattle.stmt_text.specs.Values.{doubled, quoted, hex_quoted, is_text, is_text
 use Rattle.stmt_text.specs.Keywords.{keyword_token}
 use Rattle.stmt_text.specs.Events.{is_altering}
 use Rattle.stmt_text.specs.Lines.{without_return}
-use Rattle.stmt_text.specs.Printing.{value_token, kind_token, compare_token, column_tokens, as_of_tokens, filter_tokens, algorithm_tokens, stmt_tokens, algs_token, event_tokens}
-use Rattle.stmt_text.specs.Fits.{FitsValue, FitsName, FitsMoment, FitsFilter, FitsColumn, FitsAlgorithm, FitsStmt, FitsEvent}
+use Rattle.stmt_text.specs.Printing.{value_token, kind_token, compare_token, column_tokens, as_of_tokens, filter_tokens, algorithm_tokens, era_tokens, stmt_tokens, algs_token, event_tokens}
+use Rattle.stmt_text.specs.Fits.{FitsValue, FitsName, FitsMoment, FitsFilter, FitsColumn, FitsAlgorithm, FitsEra, FitsStmt, FitsEvent}
 use Rattle.stmt_text.proofs.Choices.{both}
 use Rattle.stmt_text.proofs.Numerals.{digits_all, filled}
 use Rattle.stmt_text.proofs.TokenLaws.{has_again}
@@ -237,14 +237,25 @@ filter_printed : (f : Option Filter) (ts : List Token) → FitsFilter f → AllP
 filter_printed None ts h rest = rest
 filter_printed (Some f) ts h rest = (name_printed f.column h.0, (compare_printed f.compare, (value_printed f.value h.1, rest)))
 
-algorithm_printed : (a : LineAlgorithm) → FitsAlgorithm a → AllPrinted (algorithm_tokens a)
-algorithm_printed algorithms.Mono h = (printed (codes "mono") refl refl, tt)
-algorithm_printed algorithms.Tiled h = (printed (codes "tiled") refl refl, tt)
-algorithm_printed (algorithms.TiledExactly k) h = (printed (codes "tiled") refl refl, (decimal_printed k (omega arith), tt))
-algorithm_printed algorithms.A3d h = (printed (codes "a3d") refl refl, tt)
-
 only_filter_printed : (f : Option Filter) → FitsFilter f → AllPrinted (filter_tokens f)
 only_filter_printed f h = subst AllPrinted (append-nil (filter_tokens f)) (filter_printed f [] h tt)
+
+algorithm_printed : (a : LineAlgorithm) (ts : List Token) → FitsAlgorithm a → AllPrinted ts → AllPrinted (algorithm_tokens a ++ ts)
+algorithm_printed algorithms.Mono ts h rest = (printed (codes "mono") refl refl, rest)
+algorithm_printed algorithms.Tiled ts h rest = (printed (codes "tiled") refl refl, rest)
+algorithm_printed (algorithms.TiledExactly k) ts h rest = (printed (codes "tiled") refl refl, (decimal_printed k (omega arith), rest))
+algorithm_printed algorithms.A3d ts h rest = (printed (codes "a3d") refl refl, rest)
+
+era_printed : (e : Option ℕ) → FitsEra e → AllPrinted (era_tokens e)
+era_printed None h = tt
+era_printed (Some e) h = (printed (codes "era") refl refl, (decimal_printed e (omega arith), tt))
+
+algs_printed : (n : ℕ) → n ≤ 3 → IsPrinted (algs_token n)
+algs_printed zero h = printed (codes "m") refl refl
+algs_printed (suc zero) h = printed (codes "t") refl refl
+algs_printed (suc (suc zero)) h = printed (codes "a") refl refl
+algs_printed (suc (suc (suc zero))) h = printed (codes "ta") refl refl
+algs_printed (suc (suc (suc (suc n)))) h = absurd (omega arith)
 
 -- a first word
 pub word_printed : (k : Keyword) → IsPrinted (keyword_token k)
@@ -262,6 +273,7 @@ word_printed words.Abort = printed (codes "abort") refl refl
 word_printed words.Notarize = printed (codes "notarize") refl refl
 word_printed words.Validate = printed (codes "validate") refl refl
 word_printed words.Audit = printed (codes "audit") refl refl
+word_printed words.Policy = printed (codes "policy") refl refl
 word_printed words.Analyse = printed (codes "analyse") refl refl
 word_printed words.Now = printed (codes "now") refl refl
 word_printed words.Init = printed (codes "init") refl refl
@@ -287,15 +299,9 @@ stmt_printed stmts.Abort h = tt
 stmt_printed stmts.Notarize h = tt
 stmt_printed stmts.Validate h = tt
 stmt_printed stmts.Audit h = tt
-stmt_printed (stmts.Analyse a) h = algorithm_printed a h
+stmt_printed (stmts.Policy k chains) h = (decimal_printed k (omega arith), (algs_printed chains h.1, tt))
+stmt_printed (stmts.Analyse a e) h = algorithm_printed a (era_tokens e) h.0 (era_printed e h.1)
 stmt_printed (stmts.Now m) h = (decimal_printed m (omega arith), tt)
-
-algs_printed : (n : ℕ) → n ≤ 3 → IsPrinted (algs_token n)
-algs_printed zero h = printed (codes "m") refl refl
-algs_printed (suc zero) h = printed (codes "t") refl refl
-algs_printed (suc (suc zero)) h = printed (codes "a") refl refl
-algs_printed (suc (suc (suc zero))) h = printed (codes "ta") refl refl
-algs_printed (suc (suc (suc (suc n)))) h = absurd (omega arith)
 
 some_hex : (bytes : List ℕ) → is_altering bytes ≡ true → is_filled (encode_lower bytes) ≡ true
 unfolding encode_with

@@ -1,5 +1,5 @@
 -- What is read is said.
-use Rattle.std.proofs.Common.{◌≡◌, ℕ, ◌≤◌, Bool, true, false, cond, ◌&&◌, List, [], ◌∷◌, Option, Some, None, option_map, refl, sym, ap, subst, ◌∙◌}
+use Rattle.std.proofs.Common.{◌≡◌, ℕ, ◌<◌, ◌≤◌, ◌^◌, Bool, true, false, cond, ◌&&◌, List, [], ◌∷◌, Option, Some, None, option_map, refl, sym, ap, subst, ◌∙◌, arith, decimal}
 use Rattle.std.specs.Prelude.{codes, min, nat_le}
 use Rattle.std.specs.Str.{bytes_eq}
 use Rattle.std.proofs.lemmas.Bool.{leb-true}
@@ -20,19 +20,20 @@ use Rattle.stmt_text.specs.Options.{or_else}
 use Rattle.stmt_text.specs.Tokens.{Token}
 use Rattle.stmt_text.specs.declared.number.Numbers.{Numbers}
 use Rattle.stmt_text.specs.declared.number.Numbers.TheVariants as modes
-use Rattle.stmt_text.specs.Numbers.{number, any_width, in_range, kept}
+use Rattle.stmt_text.specs.Numbers.{number, any_width, in_range, kept, plain_number, max_era}
 use Rattle.stmt_text.specs.Values.{value, nearest_value, value_in_range}
-use Rattle.stmt_text.specs.Words.{compare, kind, algorithm_word}
+use Rattle.stmt_text.specs.Words.{compare, kind, algorithm_word, algs}
 use Rattle.stmt_text.specs.Keywords.{stmt_keyword}
-use Rattle.stmt_text.specs.Parts.{kept_value, moment, kappa, value_in, name, front, ended, only, each, after_word, behind_word, two_names, as_of}
+use Rattle.stmt_text.specs.Parts.{kept_value, moment, kappa, era, value_in, name, front, ended, only, each, after_word, behind_word, two_names, as_of, of_era}
 use Rattle.stmt_text.specs.Rows.{is_row, are_columns, column_of, row, column, each_column, columns}
-use Rattle.stmt_text.specs.Statements.{create, insert, update, delete, get, history, filter_of, filter_at, unfiltered, filtered, scan, span, only_filter, over_select, over_join, over_by, over, exactly, algorithm, alone, stmt_by}
-use Rattle.stmt_text.specs.Printing.{kind_token, compare_token}
+use Rattle.stmt_text.specs.Statements.{create, insert, update, delete, get, history, filter_of, filter_at, unfiltered, filtered, scan, span, only_filter, over_select, over_join, over_by, over, alone, policy, may_name_era, in_era, exactly, analyse_by, analyse, stmt_by}
+use Rattle.stmt_text.specs.Printing.{kind_token, compare_token, algs_token}
 use Rattle.stmt_text.specs.Fits.{FitsName}
-use Rattle.stmt_text.specs.Grammar.{Says, SaysNumber, SayValues, SayColumns, SayAsOf, SayAlgorithm, SayFilter, SayStmt, SaysValue}
+use Rattle.stmt_text.specs.Grammar.{Says, SaysNumber, SayValues, SayColumns, SayAsOf, SayAlgorithm, SayEra, SayFilter, SayStmt, SaysValue}
 use Rattle.stmt_text.proofs.Choices.{both, bind_some, if_some, where_some, says_if, or_takes, map_takes, same_text}
+use Rattle.stmt_text.proofs.Numerals.{plain_takes}
 use Rattle.stmt_text.proofs.ValueReads.{value_takes}
-use Rattle.stmt_text.proofs.WordReads.{kind_takes, compare_takes}
+use Rattle.stmt_text.proofs.WordReads.{kind_takes, compare_takes, algs_takes}
 
 -- ---- parts
 
@@ -93,6 +94,10 @@ kappa_read : (numbers : Numbers) (token : Token) (m : ℕ) → kappa numbers tok
 unfolding kappa
 kappa_read numbers token m e = number_read numbers 1 1024 token m e
 
+era_read : (numbers : Numbers) (token : Token) (m : ℕ) → era numbers token ≡ Some m → SaysNumber numbers 0 max_era token m
+unfolding era
+era_read numbers token m e = number_read numbers 0 max_era token m e
+
 only_takes : {A : Type 0} (read : Token → Option A) (ts : List Token) (a : A) → only read ts ≡ Some a → (token : Token) × (ts ≡ token ∷ []) × (read token ≡ Some a)
 unfolding only
 only_takes {A} read ts a e =
@@ -120,6 +125,17 @@ as_of_takes numbers (token ∷ ts) m e =
     let c = only_takes (moment numbers) b.0 k b.2 in
     (c.0, a.1 ∙ ap (λ (y : List Token). codes "as" ∷ y) (b.1 ∙ ap (λ (y : List Token). codes "of" ∷ y) c.1), moment_read numbers c.0 k c.2)) e
 
+era_takes : (numbers : Numbers) (ts : List Token) (m : Option ℕ) → of_era numbers ts ≡ Some m → SayEra numbers ts m
+unfolding of_era
+era_takes numbers [] m e =
+    let none : Option ℕ = None in
+    subst (SayEra numbers []) (same_Some none m e) refl
+era_takes numbers (token ∷ ts) m e =
+    map_takes some_moment (after_word (codes "era") (only (era numbers)) (token ∷ ts)) m (SayEra numbers (token ∷ ts)) (λ k h.
+    let a = word_takes (codes "era") (only (era numbers)) (token ∷ ts) k h in
+    let b = only_takes (era numbers) a.0 k a.2 in
+    (b.0, a.1 ∙ ap (λ (y : List Token). codes "era" ∷ y) b.1, era_read numbers b.0 k b.2)) e
+
 behind_word_takes : (text : List ℕ) (ts rest : List Token) → behind_word text ts ≡ Some rest → ts ≡ text ∷ rest
 unfolding behind_word
 behind_word_takes text [] rest e = absurd cc
@@ -140,6 +156,26 @@ two_take ts x e =
     let found : (List ℕ × List ℕ) × List Token = ((t.0.0, u.0.0), u.0.1) in
     subst (AreNamed ts) (same_Some found x u.2) (m.0 ∙ ap (λ (y : List Token). t.0.0 ∷ y) n.0, m.1, n.1)
 
+-- a number at the front, which is spelled as it is printed
+pub record Plain (least greatest : ℕ) (ts : List Token) (x : ℕ × List Token) : Type 0 where
+  pub parts : ts ≡ decimal x.0 ∷ x.1
+  pub low : least ≤ x.0
+  pub high : x.0 ≤ greatest
+
+pub plain_front : (least greatest : ℕ) (ts : List Token) (x : ℕ × List Token) → greatest < 2 ^ 64 → front (plain_number least greatest) ts ≡ Some x → Plain least greatest ts x
+plain_front least greatest ts x small e =
+    let f = front_takes (plain_number least greatest) ts x e in
+    let p = plain_takes least greatest f.0 x.0 small f.2 in
+    record {
+      parts = f.1 ∙ ap (λ (y : Token). y ∷ x.1) p.0;
+      low = p.1;
+      high = p.2;
+    }
+
+-- a token, and what is behind it
+pub onto : (ts rest more : List Token) (token : Token) → ts ≡ token ∷ rest → rest ≡ more → ts ≡ token ∷ more
+onto ts rest more token a b = a ∙ ap (λ (y : List Token). token ∷ y) b
+
 each_takes : (numbers : Numbers) (ts : List Token) (vs : List Value) → each (value_in numbers) ts ≡ Some vs → SayValues numbers ts vs
 unfolding each
 each_takes numbers [] vs e = let none : List Value = [] in subst (SayValues numbers []) (same_Some none vs e) tt
@@ -154,24 +190,14 @@ row_takes numbers ts vs e =
     let w = where_some is_row (each (value_in numbers) ts) vs e in
     (each_takes numbers ts vs w.0, w.1)
 
-algorithm_word_takes : (numbers : Numbers) (token : Token) (k : LineAlgorithm) → algorithm_word token ≡ Some k → SayAlgorithm numbers (token ∷ []) k
+algorithm_word_takes : (numbers : Numbers) (token : Token) (k : LineAlgorithm) (others : List Token) → algorithm_word token ≡ Some k → SayAlgorithm numbers (token ∷ others) k others
 unfolding algorithm_word
-algorithm_word_takes numbers token k e =
-    let alone : (text : List ℕ) → bytes_eq token text ≡ true → token ∷ [] ≡ text ∷ [] = λ text h. ap (λ (y : Token). y ∷ []) (same_text token text h) in
-    says_if (bytes_eq token (codes "mono")) algorithms.Mono k _ (SayAlgorithm numbers (token ∷ [])) (alone (codes "mono"))
-    (says_if (bytes_eq token (codes "tiled")) algorithms.Tiled k _ (SayAlgorithm numbers (token ∷ [])) (alone (codes "tiled"))
-    (says_if (bytes_eq token (codes "a3d")) algorithms.A3d k _ (SayAlgorithm numbers (token ∷ [])) (alone (codes "a3d")) (λ f. absurd cc)))
-    e
-
-algorithm_takes : (numbers : Numbers) (ts : List Token) (a : LineAlgorithm) → algorithm numbers ts ≡ Some a → SayAlgorithm numbers ts a
-unfolding algorithm
-algorithm_takes numbers ts a e =
-    or_takes (only algorithm_word ts) (option_map exactly (after_word (codes "tiled") (only (kappa numbers)) ts)) a (SayAlgorithm numbers ts a)
-    (λ h. let o = only_takes algorithm_word ts a h in subst (λ (y : List Token). SayAlgorithm numbers y a) (sym o.1) (algorithm_word_takes numbers o.0 a o.2))
-    (λ h. map_takes exactly (after_word (codes "tiled") (only (kappa numbers)) ts) a (SayAlgorithm numbers ts) (λ n f.
-    let w = word_takes (codes "tiled") (only (kappa numbers)) ts n f in
-    let o = only_takes (kappa numbers) w.0 n w.2 in
-    (o.0, w.1 ∙ ap (λ (y : List Token). codes "tiled" ∷ y) o.1, kappa_read numbers o.0 n o.2)) h)
+algorithm_word_takes numbers token k others e =
+    let P : LineAlgorithm → Type 0 = λ x. SayAlgorithm numbers (token ∷ others) x others in
+    let here : (text : List ℕ) → bytes_eq token text ≡ true → token ∷ others ≡ text ∷ others = λ text h. ap (λ (y : Token). y ∷ others) (same_text token text h) in
+    says_if (bytes_eq token (codes "mono")) algorithms.Mono k _ P (here (codes "mono"))
+    (says_if (bytes_eq token (codes "tiled")) algorithms.Tiled k _ P (here (codes "tiled"))
+    (says_if (bytes_eq token (codes "a3d")) algorithms.A3d k _ P (here (codes "a3d")) (λ f. absurd cc)))
     e
 
 column_takes : (token other : Token) (c : Column) → column token other ≡ Some c → (token ≡ c.name) × (other ≡ kind_token c.kind) × FitsName c.name
@@ -377,8 +403,53 @@ alone_takes numbers k stmt ts s same says e =
     let t = bind_some (ended ts) (λ none. Some stmt) s e in
     subst (IsSaid numbers k ts) (same_Some stmt s t.2) (same, says (ended_takes ts t.0 t.1))
 
-analyse_takes : (numbers : Numbers) (ts : List Token) (s : Stmt) → option_map stmts.Analyse (algorithm numbers ts) ≡ Some s → IsSaid numbers words.Analyse ts s
-analyse_takes numbers ts s e = map_takes stmts.Analyse (algorithm numbers ts) s (IsSaid numbers words.Analyse ts) (λ a h. (refl, algorithm_takes numbers ts a h)) e
+policy_takes : (numbers : Numbers) (ts : List Token) (s : Stmt) → policy ts ≡ Some s → IsSaid numbers words.Policy ts s
+unfolding policy
+policy_takes numbers ts s e =
+    let a = bind_some (front (plain_number 0 10) ts) (λ k. front algs k.1 >>= λ chains. ended chains.1 >>= λ none. Some (stmts.Policy k.0 chains.0)) s e in
+    let b = bind_some (front algs a.0.1) (λ chains. ended chains.1 >>= λ none. Some (stmts.Policy a.0.0 chains.0)) s a.2 in
+    let c = bind_some (ended b.0.1) (λ none. Some (stmts.Policy a.0.0 b.0.0)) s b.2 in
+    let p = plain_front 0 10 ts a.0 (omega arith) a.1 in
+    let g = front_takes algs a.0.1 b.0 b.1 in
+    let w = algs_takes g.0 b.0.0 g.2 in
+    let last : a.0.1 ≡ algs_token b.0.0 ∷ [] = onto a.0.1 b.0.1 [] (algs_token b.0.0) (g.1 ∙ ap (λ (y : Token). y ∷ b.0.1) w.0) (ended_takes b.0.1 c.0 c.1) in
+    let whole : ts ≡ decimal a.0.0 ∷ algs_token b.0.0 ∷ [] = onto ts a.0.1 (algs_token b.0.0 ∷ []) (decimal a.0.0) p.parts last in
+    subst (IsSaid numbers words.Policy ts) (same_Some (stmts.Policy a.0.0 b.0.0) s c.2) (refl, (whole, p.high, w.1))
+
+in_era_takes : (numbers : Numbers) (a : LineAlgorithm) (ts others : List Token) (s : Stmt) → SayAlgorithm numbers ts a others → ((e : Option ℕ) → may_name_era a e ≡ true) → in_era numbers a others ≡ Some s → IsSaid numbers words.Analyse ts s
+unfolding in_era
+in_era_takes numbers a ts others s says may e =
+    let t = bind_some (of_era numbers others) (λ k. Some (stmts.Analyse a k)) s e in
+    subst (IsSaid numbers words.Analyse ts) (same_Some (stmts.Analyse a t.0) s t.2) (refl, (others, says, era_takes numbers others t.0 t.1, may t.0))
+
+exactly_takes : (numbers : Numbers) (ts others : List Token) (s : Stmt) → ts ≡ codes "tiled" ∷ others → exactly numbers others ≡ Some s → IsSaid numbers words.Analyse ts s
+unfolding exactly
+exactly_takes numbers ts others s parts e =
+    let t = bind_some (front (kappa numbers) others) (λ n. in_era numbers (algorithms.TiledExactly n.0) n.1) s e in
+    let f = front_takes (kappa numbers) others t.0 t.1 in
+    in_era_takes numbers (algorithms.TiledExactly t.0.0) ts t.0.1 s
+    (f.0, parts ∙ ap (λ (y : List Token). codes "tiled" ∷ y) f.1, kappa_read numbers f.0 t.0.0 f.2) (λ k. refl) t.2
+
+analyse_by_takes : (numbers : Numbers) (a : LineAlgorithm) (ts others : List Token) (s : Stmt) → SayAlgorithm numbers ts a others → analyse_by numbers a others ≡ Some s → IsSaid numbers words.Analyse ts s
+unfolding analyse_by alone
+analyse_by_takes numbers algorithms.Mono ts others s says e =
+    let t = bind_some (ended others) (λ none. Some (stmts.Analyse algorithms.Mono None)) s e in
+    subst (IsSaid numbers words.Analyse ts) (same_Some (stmts.Analyse algorithms.Mono None) s t.2) (refl, (others, says, ended_takes others t.0 t.1, refl))
+analyse_by_takes numbers algorithms.Tiled ts others s says e =
+    or_takes (in_era numbers algorithms.Tiled others) (exactly numbers others) s (IsSaid numbers words.Analyse ts s)
+    (in_era_takes numbers algorithms.Tiled ts others s says (λ k. refl))
+    (exactly_takes numbers ts others s says)
+    e
+analyse_by_takes numbers (algorithms.TiledExactly n) ts others s says e = absurd cc
+analyse_by_takes numbers algorithms.A3d ts others s says e = in_era_takes numbers algorithms.A3d ts others s says (λ k. refl) e
+
+analyse_takes : (numbers : Numbers) (ts : List Token) (s : Stmt) → analyse numbers ts ≡ Some s → IsSaid numbers words.Analyse ts s
+unfolding analyse
+analyse_takes numbers ts s e =
+    let t = bind_some (front algorithm_word ts) (λ word. analyse_by numbers word.0 word.1) s e in
+    let f = front_takes algorithm_word ts t.0 t.1 in
+    let says : SayAlgorithm numbers ts t.0.0 t.0.1 = subst (λ (y : List Token). SayAlgorithm numbers y t.0.0 t.0.1) (sym f.1) (algorithm_word_takes numbers f.0 t.0.0 t.0.1 f.2) in
+    analyse_by_takes numbers t.0.0 ts t.0.1 s says t.2
 
 now_takes : (numbers : Numbers) (ts : List Token) (s : Stmt) → option_map stmts.Now (only (moment numbers) ts) ≡ Some s → IsSaid numbers words.Now ts s
 now_takes numbers ts s e = map_takes stmts.Now (only (moment numbers) ts) s (IsSaid numbers words.Now ts) (λ m h. let o = only_takes (moment numbers) ts m h in (refl, (o.0, o.1, moment_read numbers o.0 m o.2))) e
@@ -399,6 +470,7 @@ stmt_takes numbers words.Abort ts s e = alone_takes numbers words.Abort stmts.Ab
 stmt_takes numbers words.Notarize ts s e = alone_takes numbers words.Notarize stmts.Notarize ts s refl (λ h. h) e
 stmt_takes numbers words.Validate ts s e = alone_takes numbers words.Validate stmts.Validate ts s refl (λ h. h) e
 stmt_takes numbers words.Audit ts s e = alone_takes numbers words.Audit stmts.Audit ts s refl (λ h. h) e
+stmt_takes numbers words.Policy ts s e = policy_takes numbers ts s e
 stmt_takes numbers words.Analyse ts s e = analyse_takes numbers ts s e
 stmt_takes numbers words.Now ts s e = now_takes numbers ts s e
 stmt_takes numbers words.Init ts s e = absurd cc

@@ -18,10 +18,11 @@ use Rattle.stmt_text.specs.declared.line.Line.TheVariants as lines
 use Rattle.stmt_text.specs.Tokens.{Token, separates, inside_after, is_filled, tokens}
 use Rattle.stmt_text.specs.declared.number.Numbers.{Numbers}
 use Rattle.stmt_text.specs.declared.number.Numbers.TheVariants as modes
-use Rattle.stmt_text.specs.Numbers.{number, int, any_width, in_range, max_u64}
+use Rattle.stmt_text.specs.Numbers.{number, int, any_width, in_range, max_era, max_u64}
 use Rattle.stmt_text.specs.Values.{quoted, is_text, hex_quoted, nearest_value, value_in_range}
 use Rattle.stmt_text.specs.Keywords.{stmt_keyword, is_session_word, is_for_session}
 use Rattle.stmt_text.specs.Rows.{is_row, are_columns}
+use Rattle.stmt_text.specs.Statements.{may_name_era}
 use Rattle.stmt_text.specs.Events.{is_altering}
 use Rattle.stmt_text.specs.Lines.{without_return, is_blank, max_line}
 use Rattle.stmt_text.specs.Printing.{kind_token, compare_token, algs_token, stmt_word, event_word}
@@ -95,13 +96,19 @@ SayAsOf numbers ts None = ts ≡ []
 SayAsOf numbers ts (Some m) =
     (token : Token) × (ts ≡ codes "as" ∷ codes "of" ∷ token ∷ []) × SaysNumber numbers 0 max_moment token m
 
--- the algorithm of an analysis
-abbrev pub SayAlgorithm : Numbers → List Token → LineAlgorithm → Type 0
-SayAlgorithm numbers ts algorithms.Mono = ts ≡ codes "mono" ∷ []
-SayAlgorithm numbers ts algorithms.Tiled = ts ≡ codes "tiled" ∷ []
-SayAlgorithm numbers ts (algorithms.TiledExactly n) =
-    (token : Token) × (ts ≡ codes "tiled" ∷ token ∷ []) × SaysNumber numbers 1 1024 token n
-SayAlgorithm numbers ts algorithms.A3d = ts ≡ codes "a3d" ∷ []
+-- the algorithm of an analysis, and what stands behind it
+abbrev pub SayAlgorithm : Numbers → List Token → LineAlgorithm → List Token → Type 0
+SayAlgorithm numbers ts algorithms.Mono others = ts ≡ codes "mono" ∷ others
+SayAlgorithm numbers ts algorithms.Tiled others = ts ≡ codes "tiled" ∷ others
+SayAlgorithm numbers ts (algorithms.TiledExactly n) others =
+    (token : Token) × (ts ≡ codes "tiled" ∷ token ∷ others) × SaysNumber numbers 1 1024 token n
+SayAlgorithm numbers ts algorithms.A3d others = ts ≡ codes "a3d" ∷ others
+
+-- nothing, or `era` and its number
+abbrev pub SayEra : Numbers → List Token → Option ℕ → Type 0
+SayEra numbers ts None = ts ≡ []
+SayEra numbers ts (Some e) =
+    (token : Token) × (ts ≡ codes "era" ∷ token ∷ []) × SaysNumber numbers 0 max_era token e
 
 -- a filter, where there is one, and what stands behind it
 abbrev pub SayFilter : Numbers → List Token → Option Filter → List Token → Type 0
@@ -148,7 +155,9 @@ SayStmt numbers ts stmts.Abort = ts ≡ []
 SayStmt numbers ts stmts.Notarize = ts ≡ []
 SayStmt numbers ts stmts.Validate = ts ≡ []
 SayStmt numbers ts stmts.Audit = ts ≡ []
-SayStmt numbers ts (stmts.Analyse a) = SayAlgorithm numbers ts a
+SayStmt numbers ts (stmts.Policy k chains) = (ts ≡ decimal k ∷ algs_token chains ∷ []) × (k ≤ 10) × (chains ≤ 3)
+SayStmt numbers ts (stmts.Analyse a e) =
+    (others : List Token) × SayAlgorithm numbers ts a others × SayEra numbers others e × (may_name_era a e ≡ true)
 SayStmt numbers ts (stmts.Now m) = (token : Token) × (ts ≡ token ∷ []) × SaysNumber numbers 0 max_moment token m
 
 -- what stands behind the first word of a drill line, with each number spelled as it is printed

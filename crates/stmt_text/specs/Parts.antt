@@ -8,7 +8,7 @@ use Rattle.tuple_bytes.specs.Word.{is_word}
 use Rattle.stmt_text.specs.declared.number.Numbers.{Numbers}
 use Rattle.stmt_text.specs.declared.number.Numbers.TheVariants as modes
 use Rattle.stmt_text.specs.Tokens.{Token}
-use Rattle.stmt_text.specs.Numbers.{number, kept}
+use Rattle.stmt_text.specs.Numbers.{number, kept, max_era}
 use Rattle.stmt_text.specs.Values.{value, nearest_value, value_in_range}
 
 -- ---- what one token says
@@ -25,6 +25,10 @@ moment numbers token = number token >>= kept numbers 0 max_moment
 -- how many granules an analysis may name
 unfoldable pub kappa : Numbers → Token → Option ℕ
 kappa numbers token = number token >>= kept numbers 1 1024
+
+-- the number of an era
+unfoldable pub era : Numbers → Token → Option ℕ
+era numbers token = number token >>= kept numbers 0 max_era
 
 -- a value
 unfoldable pub value_in : Numbers → Token → Option Value
@@ -85,3 +89,8 @@ unfoldable pub as_of : Numbers → List Token → Option (Option ℕ)
 as_of numbers [] = Some None
 as_of numbers (token ∷ tokens) =
     option_map Some (after_word (codes "as") (after_word (codes "of") (only (moment numbers))) (token ∷ tokens))
+
+-- nothing, or `era` and its number
+unfoldable pub of_era : Numbers → List Token → Option (Option ℕ)
+of_era numbers [] = Some None
+of_era numbers (token ∷ tokens) = option_map Some (after_word (codes "era") (only (era numbers)) (token ∷ tokens))

@@ -1,49 +1,18 @@
 //! Reading drill lines, each from what stands behind its first word. Their numbers are spelled in one way alone.
 
-ghost use Rattle.std.specs.Prelude.{◌≤◌, IfOk};
 ghost use Rattle.stmt_text.specs.Tokens.{tokens};
-ghost use Rattle.stmt_text.specs.Words.{algs};
-ghost use Rattle.stmt_text.specs.Numbers.{plain_number};
 ghost use Rattle.stmt_text.specs.Parts.{front};
 ghost use Rattle.stmt_text.specs.Reading.{Read};
 ghost use Rattle.stmt_text.specs.Events.{altering, init, crash, alter, cut, event_by};
 
 use crate::error::ReadFail;
 use crate::event::Event;
-use crate::number::plain_number_of;
-use crate::part::end_of;
+use crate::part::{algs_at, end_of, plain_number_at};
 use crate::token::next_token;
 use crate::value_reading::decoded;
-use crate::word::{Keyword, algs_of};
+use crate::word::Keyword;
 use std::alloc::Global;
 use tuple_bytes::Blob;
-
-#[tactic(auto, unfolding(crate::specs::Parts::front))]
-fn plain_number_at(bytes: &[u8], least: u64, greatest: u64) -> Result<(u64, &[u8]), ReadFail>
-    ensures value { Read (λ x. (x.0, tokens x.1.now)) result (front (plain_number least greatest) (tokens bytes.now)) }
-    ensures greatest { IfOk result (λ x. x.0 ≤ greatest) }
-{
-    match next_token(bytes) {
-        Some((token, rest)) => match plain_number_of(token, least, greatest) {
-            Some(number) => Ok((number, rest)),
-            None => Err(ReadFail::Missing),
-        },
-        None => Err(ReadFail::Missing),
-    }
-}
-
-#[tactic(auto, unfolding(crate::specs::Parts::front))]
-fn algs_at(bytes: &[u8]) -> Result<(u8, &[u8]), ReadFail>
-    ensures value { Read (λ x. (x.0, tokens x.1.now)) result (front algs (tokens bytes.now)) }
-{
-    match next_token(bytes) {
-        Some((token, rest)) => match algs_of(token) {
-            Some(algs) => Ok((algs, rest)),
-            None => Err(ReadFail::Missing),
-        },
-        None => Err(ReadFail::Missing),
-    }
-}
 
 #[tactic(auto, unfolding(crate::specs::Events::altering))]
 fn altering_of(alloc: Global, token: &[u8]) -> Result<Blob, ReadFail>

@@ -14,7 +14,14 @@ pub enum NotaryLine {
     Notarize,
     Validate,
     Audit,
-    Analyse { algorithm: LineAlgorithm },
+    Policy {
+        k: u8,
+        algs: u8,
+    },
+    Analyse {
+        algorithm: LineAlgorithm,
+        era: Option<u32>,
+    },
 }
 
 /// The part of a store's world that answers a line.
@@ -24,7 +31,7 @@ pub enum WorldPart {
     Tables,
     /// One of its sixteen sessions.
     Sessions,
-    /// Its notary: `notarize`, `validate`, `audit` and `analyse`.
+    /// Its notary: `notarize`, `validate`, `audit`, `policy` and `analyse`.
     Notary { asks: NotaryLine },
 }
 
@@ -68,8 +75,10 @@ impl Stmt {
             Stmt::Notarize => notary_line(NotaryLine::Notarize),
             Stmt::Validate => notary_line(NotaryLine::Validate),
             Stmt::Audit => notary_line(NotaryLine::Audit),
-            Stmt::Analyse { algorithm } => notary_line(NotaryLine::Analyse {
+            Stmt::Policy { k, algs } => notary_line(NotaryLine::Policy { k: *k, algs: *algs }),
+            Stmt::Analyse { algorithm, era } => notary_line(NotaryLine::Analyse {
                 algorithm: *algorithm,
+                era: *era,
             }),
             Stmt::Now { moment } => LineKind::SetsMoment { moment: *moment },
             Stmt::Begin | Stmt::Commit | Stmt::Abort => LineKind::OutsideScripts,

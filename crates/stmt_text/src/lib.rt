@@ -9,7 +9,7 @@
 //! ```text
 //! line      = plain | "s" N insession | drill           N is 0 to 15 in the same token, spelled plainly
 //! insession = table | "begin" | "commit" | "abort"
-//! plain     = table | "notarize" | "validate" | "audit" | "analyse" algorithm | "now" M
+//! plain     = table | "notarize" | "validate" | "audit" | "policy" K ALGS | "analyse" algorithm | "now" M
 //! table     = "create" NAME NAME KIND [NAME KIND ..]    1 to 32 columns whose names differ
 //!           | "insert" NAME VALUE [VALUE ..]            1 to 32 values
 //!           | "update" NAME VALUE [VALUE ..]
@@ -19,7 +19,7 @@
 //!           | "history" NAME VALUE
 //!           | "over" M "to" M "select" NAME [NAME COMPARE VALUE]
 //!           | "over" M "to" M "join" NAME NAME "on" NAME NAME
-//! algorithm = "mono" | "tiled" | "tiled" KAPPA | "a3d"
+//! algorithm = "mono" | ("tiled" | "tiled" KAPPA | "a3d") ["era" ERA]
 //! drill     = "init" ID WIDTH K ALGS | "crash" AFTER CHOICE | "alter" PLACE HEX | "cut" LENGTH
 //! KIND      = "int" | "text" | "bytes" | "bool"
 //! COMPARE   = "=" | "!=" | "<" | "<=" | ">" | ">="
@@ -33,6 +33,7 @@
 //! | INT | digits, maybe behind a `-` | that of `i64`, else NumberTooWide |
 //! | M | digits | 0 to 1,099,511,627,775, else NumberTooWide |
 //! | KAPPA | digits | 1 to 1,024, else NumberTooWide |
+//! | ERA | digits | 0 to 4,294,967,295, else NumberTooWide |
 //! | TEXT | UTF-8 without control characters between single quotes, a quote within doubled | |
 //! | BYTES | `x'`, hexadecimal digits in either case, two for each byte, and `'` | |
 //! | ID, CHOICE, PLACE, LENGTH | digits, spelled plainly: no zero at the front of others | that of `u64`, else Syntax |
@@ -65,9 +66,10 @@
 //!
 //! A variant of `Stmt` and a word of `Keyword`; its reading in `specs/Statements.antt` with a line in `stmt_by`, and a
 //! function of as many lines in `stmt_reading`; a line each in `keyword_token`, `stmt_keyword`, `stmt_tokens`,
-//! `stmt_kind` (and `NotaryLine`, if the notary is asked), `FitsStmt` and `SayStmt`; and in the proofs a line for each lemma that goes by cases on statements or words
-//! (`Said`, `Taken`, `Printed`, `PrintedTokens`, `Fitting`, `RangeLaws`, `WordReads`). Numbers that are Syntax where
-//! they are out of their range are read by `plain_number`, others by `kept`.
+//! `stmt_kind` (and `NotaryLine`, if the notary is asked), `FitsStmt` and `SayStmt`; and in the proofs a line for each
+//! lemma that goes by cases on statements or words (`Said`, `Taken`, `Printed`, `PrintedTokens`, `Fitting`,
+//! `RangeLaws`, `WordReads`). Numbers that are Syntax where they are out of their range are read by `plain_number`,
+//! others by `kept`.
 #![tactic(auto)]
 
 mod error;

@@ -1,16 +1,19 @@
 //! Parts of a line. A function `.._of` reads what a token, or all that is left, says; a function `.._at` reads what
 //! stands at the front, and hands back the bytes after it.
 
+ghost use Rattle.std.specs.Prelude.{◌≤◌, IfOk};
 ghost use Rattle.byte_grammar.specs.Reading.{Gives};
 ghost use Rattle.stmt_text.specs.Tokens.{tokens};
-ghost use Rattle.stmt_text.specs.Parts.{moment, kappa, value_in, name, front, ended, only, behind_word, two_names, as_of};
+ghost use Rattle.stmt_text.specs.Numbers.{plain_number};
+ghost use Rattle.stmt_text.specs.Words.{algs};
+ghost use Rattle.stmt_text.specs.Parts.{moment, kappa, era, value_in, name, front, ended, only, behind_word, two_names, as_of, of_era};
 ghost use Rattle.stmt_text.specs.Reading.{Read};
 
 use crate::error::ReadFail;
-use crate::number::{Numbers, number_of};
+use crate::number::{Numbers, number_of, plain_number_of};
 use crate::token::next_token;
 use crate::value_reading::value_of;
-use crate::word::spells;
+use crate::word::{algs_of, spells};
 use std::alloc::Global;
 use tuple_bytes::{MAX_MOMENT, Value, Word};
 
@@ -33,6 +36,17 @@ fn kappa_of(numbers: Numbers, token: &[u8]) -> Option<u32>
     let (number, fits) = number_of(token, 1024)?;
     match numbers {
         Numbers::InRange if !fits || number == 0 => None,
+        _ => Some(number as u32),
+    }
+}
+
+#[tactic(auto, unfolding(crate::specs::Parts::era))]
+fn era_of(numbers: Numbers, token: &[u8]) -> Option<u32>
+    ensures value { Gives (λ m. m) result (era numbers token.now) }
+{
+    let (number, fits) = number_of(token, 4_294_967_295)?;
+    match numbers {
+        Numbers::InRange if !fits => None,
         _ => Some(number as u32),
     }
 }
@@ -107,14 +121,15 @@ pub fn only_moment(numbers: Numbers, bytes: &[u8]) -> Option<u64>
     }
 }
 
+/// The number of an era, and no more.
 #[tactic(auto, unfolding(crate::specs::Parts::only, crate::specs::Parts::front))]
-pub fn only_kappa(numbers: Numbers, bytes: &[u8]) -> Option<u32>
-    ensures value { Gives (λ m. m) result (only (kappa numbers) (tokens bytes.now)) }
+fn only_era(numbers: Numbers, bytes: &[u8]) -> Option<u32>
+    ensures value { Gives (λ m. m) result (only (era numbers) (tokens bytes.now)) }
 {
     let (token, rest) = next_token(bytes)?;
-    let kappa = kappa_of(numbers, token)?;
+    let era = era_of(numbers, token)?;
     match next_token(rest) {
-        None => Some(kappa),
+        None => Some(era),
         Some(_) => None,
     }
 }
@@ -127,6 +142,49 @@ pub fn moment_at(numbers: Numbers, bytes: &[u8]) -> Result<(u64, &[u8]), ReadFai
     match next_token(bytes) {
         Some((token, rest)) => match moment_of(numbers, token) {
             Some(moment) => Ok((moment, rest)),
+            None => Err(ReadFail::Missing),
+        },
+        None => Err(ReadFail::Missing),
+    }
+}
+
+/// How many granules the token at the front names.
+#[tactic(auto, unfolding(crate::specs::Parts::front))]
+pub fn kappa_at(numbers: Numbers, bytes: &[u8]) -> Result<(u32, &[u8]), ReadFail>
+    ensures value { Read (λ x. (x.0, tokens x.1.now)) result (front (kappa numbers) (tokens bytes.now)) }
+{
+    match next_token(bytes) {
+        Some((token, rest)) => match kappa_of(numbers, token) {
+            Some(kappa) => Ok((kappa, rest)),
+            None => Err(ReadFail::Missing),
+        },
+        None => Err(ReadFail::Missing),
+    }
+}
+
+/// The number at the front, in its range and without zeros at its front.
+#[tactic(auto, unfolding(crate::specs::Parts::front))]
+pub fn plain_number_at(bytes: &[u8], least: u64, greatest: u64) -> Result<(u64, &[u8]), ReadFail>
+    ensures value { Read (λ x. (x.0, tokens x.1.now)) result (front (plain_number least greatest) (tokens bytes.now)) }
+    ensures greatest { IfOk result (λ x. x.0 ≤ greatest) }
+{
+    match next_token(bytes) {
+        Some((token, rest)) => match plain_number_of(token, least, greatest) {
+            Some(number) => Ok((number, rest)),
+            None => Err(ReadFail::Missing),
+        },
+        None => Err(ReadFail::Missing),
+    }
+}
+
+/// The chains that the token at the front names.
+#[tactic(auto, unfolding(crate::specs::Parts::front))]
+pub fn algs_at(bytes: &[u8]) -> Result<(u8, &[u8]), ReadFail>
+    ensures value { Read (λ x. (x.0, tokens x.1.now)) result (front algs (tokens bytes.now)) }
+{
+    match next_token(bytes) {
+        Some((token, rest)) => match algs_of(token) {
+            Some(algs) => Ok((algs, rest)),
             None => Err(ReadFail::Missing),
         },
         None => Err(ReadFail::Missing),
@@ -171,4 +229,19 @@ pub fn as_of_at(numbers: Numbers, bytes: &[u8]) -> Option<Option<u64>>
     }
     let moment = only_moment(numbers, rest)?;
     Some(Some(moment))
+}
+
+/// Nothing, or `era` and its number.
+#[tactic(auto, unfolding(crate::specs::Parts::of_era, crate::specs::Parts::after_word))]
+pub fn of_era_at(numbers: Numbers, bytes: &[u8]) -> Option<Option<u32>>
+    ensures value { Gives (λ e. e) result (of_era numbers (tokens bytes.now)) }
+{
+    let Some((token, rest)) = next_token(bytes) else {
+        return Some(None);
+    };
+    if !spells(token, b"era") {
+        return None;
+    }
+    let era = only_era(numbers, rest)?;
+    Some(Some(era))
 }

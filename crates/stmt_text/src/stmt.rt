@@ -67,8 +67,15 @@ pub enum Stmt {
     Validate,
     /// The next piece of an audit.
     Audit,
+    /// The tiles' size and the chains from the next tile on, `k` at most 10 and `algs` at most 3.
+    Policy {
+        k: u8,
+        algs: u8,
+    },
+    /// With `era` the analysis is of the tiles of that era; an analysis by `Mono` has none.
     Analyse {
         algorithm: LineAlgorithm,
+        era: Option<u32>,
     },
     Now {
         moment: u64,

@@ -1,18 +1,18 @@
 //! Reading statements, each from what stands behind its first word.
 
-ghost use Rattle.std.specs.Prelude.{option_map, codes};
-ghost use Rattle.byte_grammar.specs.Reading.{Gives};
+ghost use Rattle.std.specs.Prelude.{option_map};
+ghost use Rattle.stmt_text.specs.Options.{or_else};
 ghost use Rattle.stmt_text.specs.Tokens.{tokens};
 ghost use Rattle.stmt_text.specs.Words.{compare, algorithm_word};
-ghost use Rattle.stmt_text.specs.Parts.{front, only, moment, kappa, after_word};
+ghost use Rattle.stmt_text.specs.Parts.{front, only, moment};
 ghost use Rattle.stmt_text.specs.Reading.{Read};
-ghost use Rattle.stmt_text.specs.Statements.{create, insert, update, delete, get, history, filter_at, filtered, scan, span, only_filter, over_select, over_join, over_by, over, algorithm, alone, stmt_by};
+ghost use Rattle.stmt_text.specs.Statements.{create, insert, update, delete, get, history, filter_at, filtered, scan, span, only_filter, over_select, over_join, over_by, over, alone, policy, in_era, exactly, analyse_by, analyse, stmt_by};
 
 use crate::error::ReadFail;
 use crate::number::Numbers;
 use crate::part::{
-    as_of_at, behind_word_at, end_of, moment_at, name_at, only_kappa, only_moment, two_names_at,
-    value_at,
+    algs_at, as_of_at, behind_word_at, end_of, kappa_at, moment_at, name_at, of_era_at,
+    only_moment, plain_number_at, two_names_at, value_at,
 };
 use crate::row_reading::{columns_at, row_at};
 use crate::stmt::{LineAlgorithm, Stmt};
@@ -232,42 +232,6 @@ fn over_of(alloc: Global, numbers: Numbers, bytes: &[u8]) -> Result<Stmt, ReadFa
     over_by_of(alloc, numbers, moments, rest)
 }
 
-#[tactic(auto, unfolding(crate::specs::Parts::only, crate::specs::Parts::front))]
-fn only_algorithm_word(bytes: &[u8]) -> Option<LineAlgorithm>
-    ensures value { Gives (λ a. a) result (only algorithm_word (tokens bytes.now)) }
-{
-    let (token, rest) = next_token(bytes)?;
-    let algorithm = algorithm_word_of(token)?;
-    match next_token(rest) {
-        None => Some(algorithm),
-        Some(_) => None,
-    }
-}
-
-#[tactic(auto, unfolding(crate::specs::Parts::after_word))]
-fn exactly_of(numbers: Numbers, bytes: &[u8]) -> Option<u32>
-    ensures value { Gives (λ k. k) result (after_word (codes "tiled") (only (kappa numbers)) (tokens bytes.now)) }
-{
-    let (token, rest) = next_token(bytes)?;
-    if !spells(token, b"tiled") {
-        return None;
-    }
-    only_kappa(numbers, rest)
-}
-
-#[tactic(auto, unfolding(crate::specs::Statements::algorithm))]
-fn algorithm_of(numbers: Numbers, bytes: &[u8]) -> Option<LineAlgorithm>
-    ensures value { Gives (λ a. a) result (algorithm numbers (tokens bytes.now)) }
-{
-    if let Some(algorithm) = only_algorithm_word(bytes) {
-        return Some(algorithm);
-    }
-    match exactly_of(numbers, bytes) {
-        Some(kappa) => Some(LineAlgorithm::TiledExactly { kappa }),
-        None => None,
-    }
-}
-
 #[tactic(auto, unfolding(crate::specs::Statements::alone))]
 fn alone_of(stmt: Stmt, bytes: &[u8]) -> Result<Stmt, ReadFail>
     ensures value { Read (λ s. s) result (alone stmt (tokens bytes.now)) }
@@ -276,13 +240,84 @@ fn alone_of(stmt: Stmt, bytes: &[u8]) -> Result<Stmt, ReadFail>
     Ok(stmt)
 }
 
-fn analyse_of(numbers: Numbers, bytes: &[u8]) -> Result<Stmt, ReadFail>
-    ensures value { Read (λ s. s) result (option_map Stmt.Analyse (algorithm numbers (tokens bytes.now))) }
+#[tactic(auto, unfolding(crate::specs::Statements::policy))]
+fn policy_of(bytes: &[u8]) -> Result<Stmt, ReadFail>
+    ensures value { Read (λ s. s) result (policy (tokens bytes.now)) }
 {
-    match algorithm_of(numbers, bytes) {
-        Some(algorithm) => Ok(Stmt::Analyse { algorithm }),
+    let (k, rest) = plain_number_at(bytes, 0, 10)?;
+    let (algs, rest) = algs_at(rest)?;
+    end_of(rest)?;
+    Ok(Stmt::Policy { k: k as u8, algs })
+}
+
+#[tactic(auto, unfolding(crate::specs::Parts::front))]
+fn algorithm_word_at(bytes: &[u8]) -> Result<(LineAlgorithm, &[u8]), ReadFail>
+    ensures value { Read (λ x. (x.0, tokens x.1.now)) result (front algorithm_word (tokens bytes.now)) }
+{
+    match next_token(bytes) {
+        Some((token, rest)) => match algorithm_word_of(token) {
+            Some(algorithm) => Ok((algorithm, rest)),
+            None => Err(ReadFail::Missing),
+        },
         None => Err(ReadFail::Missing),
     }
+}
+
+#[tactic(auto, unfolding(crate::specs::Statements::in_era))]
+fn in_era_of(numbers: Numbers, algorithm: LineAlgorithm, bytes: &[u8]) -> Result<Stmt, ReadFail>
+    ensures value { Read (λ s. s) result (in_era numbers algorithm (tokens bytes.now)) }
+{
+    match of_era_at(numbers, bytes) {
+        Some(era) => Ok(Stmt::Analyse { algorithm, era }),
+        None => Err(ReadFail::Missing),
+    }
+}
+
+#[tactic(auto, unfolding(crate::specs::Statements::exactly))]
+fn exactly_of(numbers: Numbers, bytes: &[u8]) -> Result<Stmt, ReadFail>
+    ensures value { Read (λ s. s) result (exactly numbers (tokens bytes.now)) }
+{
+    let (kappa, rest) = kappa_at(numbers, bytes)?;
+    in_era_of(numbers, LineAlgorithm::TiledExactly { kappa }, rest)
+}
+
+#[tactic(auto, unfolding(crate::specs::Statements::in_era))]
+fn tiled_of(numbers: Numbers, bytes: &[u8]) -> Result<Stmt, ReadFail>
+    ensures value { Read (λ s. s) result (or_else (in_era numbers LineAlgorithm.Tiled (tokens bytes.now)) (exactly numbers (tokens bytes.now))) }
+{
+    match of_era_at(numbers, bytes) {
+        Some(era) => Ok(Stmt::Analyse {
+            algorithm: LineAlgorithm::Tiled,
+            era,
+        }),
+        None => exactly_of(numbers, bytes),
+    }
+}
+
+#[tactic(auto, unfolding(crate::specs::Statements::analyse_by))]
+fn analyse_by_of(numbers: Numbers, algorithm: LineAlgorithm, bytes: &[u8]) -> Result<Stmt, ReadFail>
+    ensures value { Read (λ s. s) result (analyse_by numbers algorithm (tokens bytes.now)) }
+{
+    match algorithm {
+        LineAlgorithm::Mono => alone_of(
+            Stmt::Analyse {
+                algorithm: LineAlgorithm::Mono,
+                era: None,
+            },
+            bytes,
+        ),
+        LineAlgorithm::Tiled => tiled_of(numbers, bytes),
+        LineAlgorithm::TiledExactly { .. } => Err(ReadFail::Missing),
+        LineAlgorithm::A3d => in_era_of(numbers, LineAlgorithm::A3d, bytes),
+    }
+}
+
+#[tactic(auto, unfolding(crate::specs::Statements::analyse))]
+fn analyse_of(numbers: Numbers, bytes: &[u8]) -> Result<Stmt, ReadFail>
+    ensures value { Read (λ s. s) result (analyse numbers (tokens bytes.now)) }
+{
+    let (algorithm, rest) = algorithm_word_at(bytes)?;
+    analyse_by_of(numbers, algorithm, rest)
 }
 
 fn now_of(numbers: Numbers, bytes: &[u8]) -> Result<Stmt, ReadFail>
@@ -319,6 +354,7 @@ pub fn stmt_of(
         Keyword::Notarize => alone_of(Stmt::Notarize, bytes),
         Keyword::Validate => alone_of(Stmt::Validate, bytes),
         Keyword::Audit => alone_of(Stmt::Audit, bytes),
+        Keyword::Policy => policy_of(bytes),
         Keyword::Analyse => analyse_of(numbers, bytes),
         Keyword::Now => now_of(numbers, bytes),
         Keyword::Init | Keyword::Crash | Keyword::Alter | Keyword::Cut => Err(ReadFail::Missing),

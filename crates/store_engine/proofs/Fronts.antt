@@ -71,6 +71,7 @@ opened_as header known chains at is_closed = record {
   count = known.count;
   last = known.last;
   tables = known.tables;
+  eras = known.eras;
   chains = option_map without_room chains;
   at = record at { is_closed = is_closed };
 }
@@ -86,5 +87,5 @@ opens header known chains at is_closed bytes o =
       length_is = r.length_is;
       gate = r.gate;
       knows = subst (Knows (opened_as header known chains at is_closed)) items
-          (record { count = r.tells.count; last = r.tells.last; tables = r.tells.tables; chains = chains_shown header (items_of (found_behind bytes).0) chains r.chained });
+          (record { count = r.tells.count; last = r.tells.last; tables = r.tells.tables; eras = r.tells.eras; chains = chains_shown header (items_of (found_behind bytes).0) chains r.chained });
     }

@@ -51,14 +51,14 @@ has_read_more first old new opened w v payloads so_far reads seen same frame non
 pub record IsReplaying (first now : State) (opened w : Walking) (header : Header) (c : Contents) (chains : Option Chained) : Type 0 where
   pub payloads : List (List ℕ)
   pub so_far : HasRead first now opened w payloads
-  pub read : IsRead payloads c
+  pub read : IsRead header payloads c
   pub taken : HaveTaken header payloads chains
 
 -- the transactions are gathered that the payloads spell, and the chains took them
 pub record IsGatheringTxns (first now : State) (opened w : Walking) (header : Header) (g : Gathered) (chains : Option Chained) : Type 0 where
   pub payloads : List (List ℕ)
   pub so_far : HasRead first now opened w payloads
-  pub gathered : IsGathered g (items_of payloads)
+  pub gathered : IsGathered header g (items_of payloads)
   pub taken : HaveTaken header payloads chains
 
 -- ---- behind the last record
@@ -67,19 +67,19 @@ pub record IsGatheringTxns (first now : State) (opened w : Walking) (header : He
 abbrev pub file_at : Walking → List ℕ → Standing
 file_at w bytes = record { end = w.reading.place; length = length bytes; gate_is_open = (slice_index (ahead w.reading) 0 == open_gate); is_closed = false }
 
-replays_in : (bytes : List ℕ) (opened v : Walking) (payloads : List (List ℕ)) (header : Header) (c : Contents) (chains : Option Chained) (file : Standing) → IsRead payloads c → HaveTaken header payloads chains → file ≡ file_at v bytes → IsAll opened v (items_of payloads) bytes → StandsBefore bytes (found_behind bytes) opened
+replays_in : (bytes : List ℕ) (opened v : Walking) (payloads : List (List ℕ)) (header : Header) (c : Contents) (chains : Option Chained) (file : Standing) → IsRead header payloads c → HaveTaken header payloads chains → file ≡ file_at v bytes → IsAll opened v (items_of payloads) bytes → StandsBefore bytes (found_behind bytes) opened
     → Replays header c chains file bytes
 replays_in bytes opened v payloads header c chains file read taken is all before =
     let items : items_of payloads ≡ items_of (found_behind bytes).0 = sym all.all ∙ ap (λ (f : List (List ℕ) × ℕ). items_of f.0) before.all in
     subst (λ (f : Standing). Replays header c chains f bytes) (sym is) (record {
-      tells = subst (Tells c) items read.tells;
+      tells = subst (Tells header c) items read.tells;
       chained = subst (λ (its : List Item). AreChainsOf header its chains) items (chains_taken header payloads chains taken);
       end = ap (λ (f : List (List ℕ) × ℕ). f.1) (sym before.all) ∙ all.end;
       length_is = refl;
       gate = ap (λ (g : ℕ). g == open_gate) all.gate;
     })
 
-pub replays : (first mid : Option (List ℕ)) (opened v : Walking) (payloads : List (List ℕ)) (header : Header) (c : Contents) (chains : Option Chained) (file : Standing) → mid ≡ first → IsRead payloads c → HaveTaken header payloads chains → IfSome mid (λ bytes. file ≡ file_at v bytes)
+pub replays : (first mid : Option (List ℕ)) (opened v : Walking) (payloads : List (List ℕ)) (header : Header) (c : Contents) (chains : Option Chained) (file : Standing) → mid ≡ first → IsRead header payloads c → HaveTaken header payloads chains → IfSome mid (λ bytes. file ≡ file_at v bytes)
     → IfSome first (λ bytes. HasSeen bytes opened → IsAll opened v (items_of payloads) bytes)
     → IfSome first (λ bytes. StandsBefore bytes (found_behind bytes) opened → Replays header c chains file bytes)
 replays first mid opened v payloads header c chains file same read taken is all = by first (subst (λ (o : Option (List ℕ)). IfSome o (λ bytes. file ≡ file_at v bytes)) same is) all

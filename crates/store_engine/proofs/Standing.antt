@@ -22,17 +22,26 @@ use Rattle.store_engine.specs.Contents.{Tells, after_item}
 use Rattle.store_engine.specs.Chaining.{AreChainsOf}
 use Rattle.store_engine.specs.Commits.{StandsAfter, with_txn, with_item}
 use Rattle.store_engine.specs.Adding.{IsBehind, GoesBehind}
-use Rattle.store_engine.proofs.Taken.{chains_stay, chains_more}
+use Rattle.store_engine.specs.Taking.{chains_with}
+use Rattle.store_engine.proofs.Taken.{chains_other, chains_more}
 
 -- the open store of a header, of what is known of its file, of what its chains show, and of where the file stands
 abbrev pub opened_as : Header → Contents → Option Chained → Standing → Opened
-opened_as header known shown at = record { header = header; count = known.count; last = known.last; tables = known.tables; chains = shown; at = at }
+opened_as header known shown at = record { header = header; count = known.count; last = known.last; tables = known.tables; eras = known.eras; chains = shown; at = at }
 
 -- ---- what the chains show
 
 pub shown_more : (t : Txn) (chains : Option Chained) → option_map without_room (option_map (with_chained t) chains) ≡ option_map (with_chained t) (option_map without_room chains)
 shown_more t (Some c) = refl
 shown_more t None = refl
+
+pub shown_with : (item : Item) (chains : Option Chained) → option_map without_room (chains_with item chains) ≡ chains_with item (option_map without_room chains)
+shown_with (kinds.Txn t) (Some c) = refl
+shown_with (kinds.Frontier moment) (Some c) = refl
+shown_with (kinds.Policy tile granule k algs) (Some c) = refl
+shown_with (kinds.Txn t) None = refl
+shown_with (kinds.Frontier moment) None = refl
+shown_with (kinds.Policy tile granule k algs) None = refl
 
 -- ---- a record was not appended
 
@@ -76,29 +85,31 @@ module _ (header : Header) (known more : Contents) (shown : Option Chained) (at 
   stands_there = goes ∙ ap (behind at) is
 
   -- one without a transaction
-  module _ (other : txn_in item ≡ None) where
-    pub behind_other : ((items : List Item) → Tells known items → Tells more (items ++ item ∷ [])) → IsBehind item (opened_as header known shown at) (opened_as header more shown now)
+  module _ (other : txn_in item ≡ None) (then_shown : Option Chained) (turns : then_shown ≡ chains_with item shown) where
+    pub behind_other : ((items : List Item) → Tells header known items → Tells header more (items ++ item ∷ [])) → IsBehind item (opened_as header known shown at) (opened_as header more then_shown now)
     behind_other tells = record {
       header = refl;
       at = stands_there;
-      knows = λ items k. (let t = tells items (record { count = k.count; last = k.last; tables = k.tables }) in record {
+      knows = λ items k. (let t = tells items (record { count = k.count; last = k.last; tables = k.tables; eras = k.eras }) in record {
         count = t.count;
         last = t.last;
         tables = t.tables;
-        chains = chains_stay header items item other shown k.chains;
+        eras = t.eras;
+        chains = subst (AreChainsOf header (items ++ item ∷ [])) (sym turns) (chains_other header items item other shown k.chains);
       });
     }
 
   -- a transaction, which the chains took
   module _ (t : Txn) (it : item ≡ kinds.Txn t) (then_shown : Option Chained) (adds : then_shown ≡ option_map (with_chained t) shown) (wide : 0 < header.width) (follows : known.last ≤ t.moment) (small : granule_of header.width t.moment < max_granules) where
-    pub behind_txn : ((items : List Item) → Tells known items → Tells more (items ++ item ∷ [])) → IsBehind item (opened_as header known shown at) (opened_as header more then_shown now)
+    pub behind_txn : ((items : List Item) → Tells header known items → Tells header more (items ++ item ∷ [])) → IsBehind item (opened_as header known shown at) (opened_as header more then_shown now)
     behind_txn tells = record {
       header = refl;
       at = stands_there;
-      knows = λ items k. (let t' = tells items (record { count = k.count; last = k.last; tables = k.tables }) in record {
+      knows = λ items k. (let t' = tells items (record { count = k.count; last = k.last; tables = k.tables; eras = k.eras }) in record {
         count = t'.count;
         last = t'.last;
         tables = t'.tables;
+        eras = t'.eras;
         chains = subst (λ (i : Item). AreChainsOf header (items ++ i ∷ []) then_shown) (sym it)
             (subst (AreChainsOf header (items ++ kinds.Txn t ∷ [])) (sym adds) (chains_more header items t wide (let was = k.last in omega (arith, was, follows)) small shown k.chains));
       });
@@ -111,7 +122,7 @@ module _ (header : Header) (known more : Contents) (shown : Option Chained) (at 
         let top : max known.last t.moment ≡ t.moment = omega (arith, follows) in
         let as_txn : opened_as header more then_shown now ≡ with_txn (opened_as header known shown at) t =
         ap (λ (c : Contents). opened_as header c then_shown now) m
-        ∙ ap (λ (l : ℕ). opened_as header (record { count = known.count + 1; last = l; tables = applied t.moment t.ops known.tables }) then_shown now) top
-        ∙ ap (λ (o : Option Chained). opened_as header (record { count = known.count + 1; last = t.moment; tables = applied t.moment t.ops known.tables }) o now) adds
-        ∙ ap (opened_as header (record { count = known.count + 1; last = t.moment; tables = applied t.moment t.ops known.tables }) (option_map (with_chained t) shown)) s in
+        ∙ ap (λ (l : ℕ). opened_as header (record { count = known.count + 1; last = l; tables = applied t.moment t.ops known.tables; eras = known.eras }) then_shown now) top
+        ∙ ap (λ (o : Option Chained). opened_as header (record { count = known.count + 1; last = t.moment; tables = applied t.moment t.ops known.tables; eras = known.eras }) o now) adds
+        ∙ ap (opened_as header (record { count = known.count + 1; last = t.moment; tables = applied t.moment t.ops known.tables; eras = known.eras }) (option_map (with_chained t) shown)) s in
         subst (λ (i : Item). opened_as header more then_shown now ≡ with_item (opened_as header known shown at) i) (sym it) as_txn

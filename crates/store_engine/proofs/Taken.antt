@@ -17,11 +17,12 @@ use Rattle.tuple_bytes.specs.Limits.{max_granules}
 use Rattle.tuple_bytes.proofs.ItemLaws.{whole_again}
 use Rattle.history_model.specs.History.{history, txns, txn_in, granule_of, last_moment}
 use Rattle.history_model.specs.Stored.{items_of}
-use Rattle.policy_eras.specs.Policy.{policy_of}
-use Rattle.chain_state.specs.Chained.{Chained, IsItemTaken, IsItemRefused, AreTaken, without_room, with_chained, with_closed, open_of, open_after}
-use Rattle.chain_state.proofs.Gathering.{taken_more, refused_from, none_later}
+use Rattle.digest_model.specs.Layout.{Policy, policy_of, with_item}
+use Rattle.chain_state.specs.Chained.{Chained, IsItemTaken, IsItemRefused, AreTaken, without_room, with_chained, with_turned, with_closed, open_of, open_after, are_chained}
+use Rattle.chain_state.proofs.Histories.{policy_more}
+use Rattle.chain_state.proofs.Gathering.{chain_more, chain_turned, chain_still, taken_more, refused_from, none_later}
 use Rattle.store_engine.specs.Chaining.{AreChainsOf}
-use Rattle.store_engine.specs.Taking.{HaveReached, HaveTaken, with_room}
+use Rattle.store_engine.specs.Taking.{HasReached, HaveReached, HaveTaken, chains_with, with_room}
 use Rattle.store_engine.proofs.StoredFiles.{item_more}
 use Rattle.store_engine.proofs.Telling.{last_more, txns_more, txns_stay, none_above}
 
@@ -30,52 +31,55 @@ use Rattle.store_engine.proofs.Telling.{last_more, txns_more, txns_stay, none_ab
 -- they are the chains of these items
 pub chains_taken : (header : Header) (payloads : List (List ℕ)) (chains : Option Chained) → HaveTaken header payloads chains → AreChainsOf header (items_of payloads) chains
 chains_taken header payloads (Some c) taken = record {
-  chain = record { header = taken.header_is; eras = taken.eras_are; txns = taken.txns_are };
+  chain = taken.chain;
   chained = ap is_some taken.granule_is;
   reached = taken.reached;
 }
 chains_taken header payloads None none = ap is_some none
 
--- no granule is closed that reaches beyond the last moment
-pub chains_reached : (header : Header) (payloads : List (List ℕ)) (chains : Option Chained) (last : ℕ) → HaveTaken header payloads chains → last ≡ last_moment (items_of payloads) → HaveReached header last chains
-chains_reached header payloads (Some c) last taken is = λ d e.
-    subst (λ (x : Chained). (x.header ≡ header) × (x.granule * header.width ≤ last)) (same_Some c d e)
-    (taken.header_is, subst (λ (l : ℕ). c.granule * header.width ≤ l) (sym is) taken.reached)
-chains_reached header payloads None last none is = λ d e. absurd (none-some d e)
+-- they are of the eras, and no granule is closed that reaches beyond the last moment
+pub chains_reached : (header : Header) (payloads : List (List ℕ)) (chains : Option Chained) (eras : Policy) (last : ℕ) → HaveTaken header payloads chains → eras ≡ policy_of (history header (items_of payloads)) → last ≡ last_moment (items_of payloads)
+    → HaveReached header eras last chains
+chains_reached header payloads (Some c) eras last taken of_them is = λ d e.
+    subst (HasReached header eras last) (same_Some c d e) (record {
+      header_is = taken.chain.header;
+      eras_are = taken.chain.eras ∙ sym of_them;
+      reached = subst (λ (l : ℕ). c.granule * header.width ≤ l) (sym is) taken.reached;
+    })
+chains_reached header payloads None eras last none of_them is = λ d e. absurd (none-some d e)
 
 -- so also of chains that were moved
-pub chains_moved : (header : Header) (last later : ℕ) (f : Chained → Chained) (chains : Option Chained) → HaveReached header last chains
-    → ((c : Chained) → c.header ≡ header → c.granule * header.width ≤ last → ((f c).header ≡ header) × ((f c).granule * header.width ≤ later)) → HaveReached header later (option_map f chains)
-chains_moved header last later f (Some c) were moves = λ d e.
-    (let was = were c refl in subst (λ (x : Chained). (x.header ≡ header) × (x.granule * header.width ≤ later)) (same_Some (f c) d e) (moves c was.0 was.1))
-chains_moved header last later f None were moves = λ d e. absurd (none-some d e)
+pub chains_moved : (header : Header) (eras more : Policy) (last later : ℕ) (f : Chained → Chained) (chains : Option Chained) → HaveReached header eras last chains
+    → ((c : Chained) → HasReached header eras last c → HasReached header more later (f c)) → HaveReached header more later (option_map f chains)
+chains_moved header eras more last later f (Some c) were moves = λ d e. subst (HasReached header more later) (same_Some (f c) d e) (moves c (were c refl))
+chains_moved header eras more last later f None were moves = λ d e. absurd (none-some d e)
 
 -- their room is nothing that is said of them
 pub chains_shown : (header : Header) (items : List Item) (chains : Option Chained) → AreChainsOf header items chains → AreChainsOf header items (option_map without_room chains)
 chains_shown header items (Some c) are = record {
-  chain = record { header = are.chain.header; eras = are.chain.eras; txns = are.chain.txns };
+  chain = record { header = are.chain.header; txns = are.chain.txns; eras = are.chain.eras };
   chained = are.chained;
   reached = are.reached;
 }
 chains_shown header items None none = none
 
 -- before any payload
-pub taken_none : (header : Header) (c : Chained) → c ≡ record { header = header; eras = policy_of (history header []); txns = []; granule = 0; room = 0 } → HaveTaken header [] (Some c)
+pub taken_none : (header : Header) (c : Chained) → c ≡ record { header = header; items = []; granule = 0; room = 0 } → HaveTaken header [] (Some c)
 unfolding open_of
-taken_none header c is = subst (λ (x : Chained). AreTaken header (policy_of (history header [])) [] x) (sym is) (record { header_is = refl; eras_are = refl; txns_are = refl; granule_is = refl; reached = omega arith })
+taken_none header c is = subst (AreTaken header []) (sym is) (record { chain = record { header = refl; txns = refl; eras = refl }; granule_is = refl; reached = omega arith })
 
 module _ (header : Header) (payloads : List (List ℕ)) (payload : List ℕ) where
   -- they took what one payload more spells
   pub taken_next : (item : Item) (c next : Chained) → Spells item payload → IsItemTaken item c next → HaveTaken header payloads (Some c) → HaveTaken header (payloads ++ payload ∷ []) (Some next)
   taken_next item c next spells took were =
-      subst (λ (is : List Item). AreTaken header (policy_of (history header [])) is next) (sym (item_more payloads payload item (whole_again payload item spells)))
-      (taken_more header (policy_of (history header [])) (items_of payloads) c were item next took)
+      subst (λ (is : List Item). AreTaken header is next) (sym (item_more payloads payload item (whole_again payload item spells)))
+      (taken_more header (items_of payloads) c were item next took)
 
   -- it ended them
   pub taken_ended : (item : Item) (c : Chained) → Spells item payload → IsItemRefused item c → HaveTaken header payloads (Some c) → HaveTaken header (payloads ++ payload ∷ []) None
   taken_ended item c spells refused were =
       ap (λ (is : List Item). open_of (history header is)) (item_more payloads payload item (whole_again payload item spells))
-      ∙ refused_from header (policy_of (history header [])) (items_of payloads) c were item refused
+      ∙ refused_from header (items_of payloads) c were item refused
 
   -- they had ended
   pub taken_no_more : (item : Item) → Spells item payload → HaveTaken header payloads None → HaveTaken header (payloads ++ payload ∷ []) None
@@ -92,7 +96,7 @@ module _ (header : Header) (payloads : List (List ℕ)) (payload : List ℕ) whe
 -- ---- as a commit moves them
 
 -- room was made, or memory was wanted for it
-module _ {E : Type 0} (header : Header) (last n : ℕ) (old new : Option Chained) where
+module _ {E : Type 0} (header : Header) (eras : Policy) (last n : ℕ) (old new : Option Chained) where
   pub reserved_shown : (r : Result (Unit {0}) E) → OnOk r (new ≡ option_map (with_room n) old) → OnErr r (new ≡ old) → option_map without_room new ≡ option_map without_room old
   reserved_shown (Ok done) room same = ap (option_map without_room) room ∙ unseen old
     where
@@ -101,36 +105,54 @@ module _ {E : Type 0} (header : Header) (last n : ℕ) (old new : Option Chained
       unseen None = refl
   reserved_shown (Err e) room same = ap (option_map without_room) same
 
-  pub reserved_reached : (r : Result (Unit {0}) E) → OnOk r (new ≡ option_map (with_room n) old) → OnErr r (new ≡ old) → HaveReached header last old → HaveReached header last new
-  reserved_reached (Ok done) room same were = subst (HaveReached header last) (sym room) (chains_moved header last last (with_room n) old were (λ c is reached. (is, reached)))
-  reserved_reached (Err e) room same were = subst (HaveReached header last) (sym same) were
+  pub reserved_reached : (r : Result (Unit {0}) E) → OnOk r (new ≡ option_map (with_room n) old) → OnErr r (new ≡ old) → HaveReached header eras last old → HaveReached header eras last new
+  reserved_reached (Ok done) room same were = subst (HaveReached header eras last) (sym room) (chains_moved header eras eras last last (with_room n) old were (λ c is. record { header_is = is.header_is; eras_are = is.eras_are; reached = is.reached }))
+  reserved_reached (Err e) room same were = subst (HaveReached header eras last) (sym same) were
 
 -- the open granule is not above that of a later moment
-pub above_open : (header : Header) (last moment : ℕ) (chains : Option Chained) → HaveReached header last chains → last ≤ moment → 0 < header.width → IfSome chains (λ c. c.granule ≤ granule_of c.header.width moment)
-above_open header last moment (Some c) reached le wide =
+pub above_open : (header : Header) (eras : Policy) (last moment : ℕ) (chains : Option Chained) → HaveReached header eras last chains → last ≤ moment → 0 < header.width → IfSome chains (λ c. c.granule ≤ granule_of c.header.width moment)
+above_open header eras last moment (Some c) reached le wide =
     let own = reached c refl in
-    subst (λ (h : Header). c.granule ≤ granule_of h.width moment) (sym own.0) ((le-div_iff_mul-le wide).1 (let low = own.1 in omega (arith, low, le)))
-above_open header last moment None reached le wide = tt
+    subst (λ (h : Header). c.granule ≤ granule_of h.width moment) (sym own.header_is) ((le-div_iff_mul-le wide).1 (let low = own.reached in omega (arith, low, le)))
+above_open header eras last moment None reached le wide = tt
 
 -- there is room where room was made
-pub room_made : {E : Type 0} (header : Header) (last moment n : ℕ) (old new : Option Chained) (r : Result (Unit {0}) E) → is_err r ≡ false → OnOk r (new ≡ option_map (with_room (n + 1)) old) → HaveReached header last old → n ≡ granule_of header.width moment
+pub room_made : {E : Type 0} (header : Header) (eras : Policy) (last moment n : ℕ) (old new : Option Chained) (r : Result (Unit {0}) E) → is_err r ≡ false → OnOk r (new ≡ option_map (with_room (n + 1)) old) → HaveReached header eras last old → n ≡ granule_of header.width moment
     → IfSome new (λ c. granule_of c.header.width moment < c.room)
-room_made header last moment n old new (Ok done) fine room reached is = subst (λ (o : Option Chained). IfSome o (λ c. granule_of c.header.width moment < c.room)) (sym room) (by old reached)
+room_made header eras last moment n old new (Ok done) fine room reached is = subst (λ (o : Option Chained). IfSome o (λ c. granule_of c.header.width moment < c.room)) (sym room) (by old reached)
   where
-    by : (o : Option Chained) → HaveReached header last o → IfSome (option_map (with_room (n + 1)) o) (λ c. granule_of c.header.width moment < c.room)
+    by : (o : Option Chained) → HaveReached header eras last o → IfSome (option_map (with_room (n + 1)) o) (λ c. granule_of c.header.width moment < c.room)
     by (Some c) were =
-        let own : granule_of c.header.width moment ≡ granule_of header.width moment = ap (λ (h : Header). granule_of h.width moment) (were c refl).0 in
+        let own : granule_of c.header.width moment ≡ granule_of header.width moment = ap (λ (h : Header). granule_of h.width moment) (were c refl).header_is in
         omega (arith, own, is)
     by None were = tt
-room_made header last moment n old new (Err e) fine room reached is = absurd (false≢true (sym fine))
+room_made header eras last moment n old new (Err e) fine room reached is = absurd (false≢true (sym fine))
 
 -- they took a transaction
-pub added_reached : (header : Header) (last later : ℕ) (t : Txn) (old new : Option Chained) → new ≡ option_map (with_chained t) old → HaveReached header last old → t.moment ≤ later → HaveReached header later new
-added_reached header last later t old new is were le =
-    subst (HaveReached header later) (sym is) (chains_moved header last later (with_chained t) old were (λ c own low. (
-      own,
-      (let by = div-mul-le_self t.moment header.width in let same = ap (λ (h : Header). granule_of h.width t.moment * header.width) own in omega (arith, by, same, le)),
-    )))
+pub added_reached : (header : Header) (eras more : Policy) (last later : ℕ) (t : Txn) (old new : Option Chained) → new ≡ option_map (with_chained t) old → HaveReached header eras last old → more ≡ eras → t.moment ≤ later → HaveReached header more later new
+added_reached header eras more last later t old new is were same le =
+    subst (HaveReached header more later) (sym is) (chains_moved header eras more last later (with_chained t) old were (λ c own. record {
+      header_is = own.header_is;
+      eras_are = policy_more c.header c.items (kinds.Txn t) ∙ own.eras_are ∙ sym same;
+      reached = (let by = div-mul-le_self t.moment header.width in let same = ap (λ (h : Header). granule_of h.width t.moment * header.width) own.header_is in omega (arith, by, same, le));
+    }))
+
+-- they turned by a policy, or were left
+pub turned_reached : (header : Header) (eras : Policy) (last later : ℕ) (item : Item) → txn_in item ≡ None → (chains : Option Chained) → HaveReached header eras last chains → last ≤ later → HaveReached header (with_item eras item) later (chains_with item chains)
+turned_reached header eras last later (kinds.Txn t) other chains were le = absurd (none-some t (sym other))
+turned_reached header eras last later (kinds.Frontier moment) other chains were le = λ c is.
+    (let own = were c is in let low = own.reached in record { header_is = own.header_is; eras_are = own.eras_are; reached = omega (arith, low, le) })
+turned_reached header eras last later (kinds.Policy tile granule k algs) other chains were le =
+    let item : Item = kinds.Policy tile granule k algs in
+    chains_moved header eras (with_item eras item) last later (with_turned item) chains were (λ c own. record {
+      header_is = own.header_is;
+      eras_are = policy_more c.header c.items item ∙ ap (λ (p : Policy). with_item p item) own.eras_are;
+      reached = (let low = own.reached in omega (arith, low, le));
+    })
+
+pub turned_by_item : (header : Header) (eras more : Policy) (last later : ℕ) (item : Item) → txn_in item ≡ None → (old new : Option Chained) → new ≡ chains_with item old → HaveReached header eras last old → more ≡ with_item eras item → last ≤ later → HaveReached header more later new
+turned_by_item header eras more last later item other old new is were turned le =
+    subst (HaveReached header more later) (sym is) (subst (λ (p : Policy). HaveReached header p later (chains_with item old)) (sym turned) (turned_reached header eras last later item other old were le))
 
 -- ---- behind an item
 
@@ -162,13 +184,28 @@ module _ (header : Header) (items : List Item) where
     later : last_moment items ≤ last_moment (items ++ item ∷ [])
     later = (let is = last_more items item in omega (arith, is))
 
-    pub chains_stay : (chains : Option Chained) → AreChainsOf header items chains → AreChainsOf header (items ++ item ∷ []) chains
-    chains_stay (Some c) are = record {
-      chain = record { header = are.chain.header; eras = are.chain.eras; txns = are.chain.txns ∙ sym (txns_stay items item other) };
-      chained = ap is_some open_stays ∙ are.chained;
-      reached = (let was = are.reached in let le = later in omega (arith, was, le));
-    }
-    chains_stay None none = ap is_some open_stays ∙ none
+    stays_later : (g : ℕ) → g * header.width ≤ last_moment items → g * header.width ≤ last_moment (items ++ item ∷ [])
+    stays_later g low = (let le = later in omega (arith, low, le))
+
+    none_stays : are_chained (history header items) ≡ false → are_chained (history header (items ++ item ∷ [])) ≡ false
+    none_stays none = ap is_some open_stays ∙ none
+
+  pub chains_other : (item : Item) → txn_in item ≡ None → (chains : Option Chained) → AreChainsOf header items chains → AreChainsOf header (items ++ item ∷ []) (chains_with item chains)
+  chains_other (kinds.Txn t) other chains are = absurd (none-some t (sym other))
+  chains_other (kinds.Frontier moment) other None none = none_stays (kinds.Frontier moment) refl none
+  chains_other (kinds.Policy tile granule k algs) other None none = none_stays (kinds.Policy tile granule k algs) refl none
+  chains_other (kinds.Frontier moment) other (Some c) are = record {
+    chain = chain_still header items c are.chain moment;
+    chained = ap is_some (open_stays (kinds.Frontier moment) refl) ∙ are.chained;
+    reached = stays_later (kinds.Frontier moment) refl c.granule are.reached;
+  }
+  chains_other (kinds.Policy tile granule k algs) other (Some c) are =
+      let item : Item = kinds.Policy tile granule k algs in
+      record {
+        chain = chain_turned header items c are.chain item refl;
+        chained = ap is_some (open_stays item refl) ∙ are.chained;
+        reached = stays_later item refl c.granule are.reached;
+      }
 
   -- a transaction that is not before the last moment, and whose granule there is
   module _ (t : Txn) (wide : 0 < header.width) (follows : last_moment items ≤ t.moment) (small : granule_of header.width t.moment < max_granules) where
@@ -187,7 +224,7 @@ module _ (header : Header) (items : List Item) where
 
     pub chains_more : (chains : Option Chained) → AreChainsOf header items chains → AreChainsOf header (items ++ kinds.Txn t ∷ []) (option_map (with_chained t) chains)
     chains_more (Some c) are = record {
-      chain = record { header = are.chain.header; eras = are.chain.eras; txns = ap (λ (ts : List Txn). ts ++ t ∷ []) are.chain.txns ∙ sym (txns_more items t) };
+      chain = chain_more header items c are.chain t;
       chained = ap is_some (open_behind ∙ open_next (open_of (history header items)) refl are.chained);
       reached = (let is = last_more items (kinds.Txn t) in let by = div-mul-le_self t.moment header.width in let own = ap (λ (h : Header). granule_of h.width t.moment * header.width) are.chain.header in omega (arith, is, by, own));
     }
@@ -200,7 +237,7 @@ module _ (header : Header) (items : List Item) where
 -- with granules closed that begin by the last moment
 pub chains_closed : (header : Header) (items : List Item) (g : ℕ) (chains : Option Chained) → g * header.width ≤ last_moment items → AreChainsOf header items chains → AreChainsOf header items (option_map (with_closed g) chains)
 chains_closed header items g (Some c) le are = record {
-  chain = record { header = are.chain.header; eras = are.chain.eras; txns = are.chain.txns };
+  chain = record { header = are.chain.header; txns = are.chain.txns; eras = are.chain.eras };
   chained = are.chained;
   reached = either (leb c.granule g) refl;
 }

@@ -5,12 +5,16 @@ use Rattle.std.specs.List.Sorted.{IsNonDecreasingBy}
 use Rattle.std.proofs.lemmas.List.{append-nil, take_more}
 use Rattle.std.proofs.lemmas.List.Elements.{filter_map-append}
 use Rattle.std.proofs.lemmas.List.Sums.{fold-append}
+use Rattle.tuple_bytes.specs.declared.header.Header.{Header}
 use Rattle.tuple_bytes.specs.declared.item.Item.{Item}
 use Rattle.tuple_bytes.specs.declared.item.Item.TheVariants as kinds
 use Rattle.tuple_bytes.specs.declared.item.Txn.{Txn}
 use Rattle.tuple_bytes.specs.Items.{item_of}
 use Rattle.history_model.specs.Stored.{items_of}
-use Rattle.history_model.specs.History.{txn_in, txns, after_last, last_moment}
+use Rattle.history_model.specs.History.{history, txn_in, txns, after_last, last_moment}
+use Rattle.digest_model.specs.Layout.{Policy, policy_of, first_era, with_item}
+use Rattle.policy_eras.specs.Policy.{with_found, with_payload}
+use Rattle.chain_state.proofs.Histories.{policy_none, policy_more}
 use Rattle.tt_table.specs.Stands.{StandsFor}
 use Rattle.tt_table.specs.Versions.{TablesVersions}
 use Rattle.store_engine.specs.declared.contents.Contents.{Contents}
@@ -30,9 +34,6 @@ txns_more items t = filter_map-append txn_in items (kinds.Txn t ∷ [])
 pub txns_stay : (items : List Item) (item : Item) → txn_in item ≡ None → txns (items ++ item ∷ []) ≡ txns items
 txns_stay items item none = filter_map-append txn_in items (item ∷ []) ∙ ap (λ (o : Option Txn). txns items ++ cons_option o []) none ∙ append-nil (txns items)
 
-pub txns_no_more : (items : List Item) (moment : ℕ) → txns (items ++ kinds.Frontier moment ∷ []) ≡ txns items
-txns_no_more items moment = txns_stay items (kinds.Frontier moment) refl
-
 cons_short : {B : Type 0} (o : Option B) (ys : List B) (n : ℕ) → length ys ≤ n → length (cons_option o ys) ≤ suc n
 cons_short (Some y) ys n h = omega (arith, h)
 cons_short None ys n h = omega (arith, h)
@@ -41,34 +42,33 @@ pub filter_map_short : {A B : Type 0} (f : A → Option B) (xs : List A) → len
 filter_map_short f [] = omega arith
 filter_map_short f (x ∷ xs) = cons_short (f x) (filter_map f xs) (length xs) (filter_map_short f xs)
 
+-- eras that are those of the items are those with one item more
+eras_more : (header : Header) (items : List Item) (item : Item) (eras more : Policy) → eras ≡ policy_of (history header items) → more ≡ with_item eras item → more ≡ policy_of (history header (items ++ item ∷ []))
+eras_more header items item eras more are is = is ∙ ap (λ (p : Policy). with_item p item) are ∙ sym (policy_more header items item)
+
+-- the eras with what a payload spells
+pub turned_by : (payload : List ℕ) (item : Item) (eras : Policy) → item_of payload ≡ Some item → with_payload eras payload ≡ with_item eras item
+turned_by payload item eras spelled = ap (with_found eras) spelled
+
 -- a transaction more
 pub tells_txn : (c : Contents) (t : Txn) (tables : TablesVersions) (last : ℕ) → last ≡ max c.last t.moment → ((ts : List Txn) → StandsFor c.tables ts → StandsFor tables (ts ++ t ∷ []))
-    → (items : List Item) → Tells c items → Tells (record { count = c.count + 1; last = last; tables = tables }) (items ++ kinds.Txn t ∷ [])
-tells_txn c t tables last is stands items tells = record {
+    → (header : Header) (items : List Item) → Tells header c items → Tells header (record { count = c.count + 1; last = last; tables = tables; eras = c.eras }) (items ++ kinds.Txn t ∷ [])
+tells_txn c t tables last is stands header items tells = record {
   count = omega (arith, ap (λ (ts : List Txn). length ts) (txns_more items t), length-append (txns items) (t ∷ []), tells.count);
   last = is ∙ ap (λ (l : ℕ). max l t.moment) tells.last ∙ sym (last_more items (kinds.Txn t));
   tables = subst (StandsFor tables) (sym (txns_more items t)) (stands (txns items) tells.tables);
+  eras = eras_more header items (kinds.Txn t) c.eras c.eras tells.eras refl;
 }
 
--- a Frontier more
-pub tells_frontier : (c : Contents) (moment last : ℕ) → last ≡ max c.last moment
-    → (items : List Item) → Tells c items → Tells (record { count = c.count; last = last; tables = c.tables }) (items ++ kinds.Frontier moment ∷ [])
-tells_frontier c moment last is items tells = record {
-  count = tells.count ∙ ap (λ (ts : List Txn). length ts) (sym (txns_no_more items moment));
-  last = is ∙ ap (λ (l : ℕ). max l moment) tells.last ∙ sym (last_more items (kinds.Frontier moment));
-  tables = subst (StandsFor c.tables) (sym (txns_no_more items moment)) tells.tables;
-}
-
--- a policy more
-last_stays : (items : List Item) (tile granule k algs : ℕ) → last_moment (items ++ kinds.Policy tile granule k algs ∷ []) ≡ last_moment items
-last_stays items tile granule k algs = omega (arith, last_more items (kinds.Policy tile granule k algs))
-
-tells_policy : (c : Contents) (tile granule k algs : ℕ) (items : List Item) → Tells c items → Tells c (items ++ kinds.Policy tile granule k algs ∷ [])
-tells_policy c tile granule k algs items tells = record {
-  count = tells.count ∙ ap (λ (ts : List Txn). length ts) (sym (txns_stay items (kinds.Policy tile granule k algs) refl));
-  last = tells.last ∙ sym (last_stays items tile granule k algs);
-  tables = subst (StandsFor c.tables) (sym (txns_stay items (kinds.Policy tile granule k algs) refl)) tells.tables;
-}
+-- an item more that is no transaction
+module _ (c : Contents) (item : Item) (other : txn_in item ≡ None) (last : ℕ) (eras : Policy) (is : last ≡ after_last c.last item) (turned : eras ≡ with_item c.eras item) where
+  pub tells_other : (header : Header) (items : List Item) → Tells header c items → Tells header (record { count = c.count; last = last; tables = c.tables; eras = eras }) (items ++ item ∷ [])
+  tells_other header items tells = record {
+    count = tells.count ∙ ap (λ (ts : List Txn). length ts) (sym (txns_stay items item other));
+    last = is ∙ ap (λ (l : ℕ). after_last l item) tells.last ∙ sym (last_more items item);
+    tables = subst (StandsFor c.tables) (sym (txns_stay items item other)) tells.tables;
+    eras = eras_more header items item c.eras eras tells.eras turned;
+  }
 
 -- ---- going over a list
 
@@ -115,49 +115,42 @@ few_txns payloads =
     omega (arith, a, b)
 
 -- a payload that spells an item, and one that spells none
-pub read_more : (payloads : List (List ℕ)) (payload : List ℕ) (item : Item) (c d : Contents) → item_of payload ≡ Some item → ((items : List Item) → Tells c items → Tells d (items ++ item ∷ [])) → (IsInTime c → IsInTime d)
-    → IsRead payloads c → IsRead (payloads ++ payload ∷ []) d
-read_more payloads payload item c d spelled tells in_time read = record {
-  tells = subst (Tells d) (sym (item_more payloads payload item spelled)) (tells (items_of payloads) read.tells);
+pub read_more : (header : Header) (payloads : List (List ℕ)) (payload : List ℕ) (item : Item) (c d : Contents) → item_of payload ≡ Some item → ((items : List Item) → Tells header c items → Tells header d (items ++ item ∷ [])) → (IsInTime c → IsInTime d)
+    → IsRead header payloads c → IsRead header (payloads ++ payload ∷ []) d
+read_more header payloads payload item c d spelled tells in_time read = record {
+  tells = subst (Tells header d) (sym (item_more payloads payload item spelled)) (tells (items_of payloads) read.tells);
   in_time = in_time read.in_time;
 }
 
-pub read_no_more : (payloads : List (List ℕ)) (payload : List ℕ) (c : Contents) → item_of payload ≡ None → IsRead payloads c → IsRead (payloads ++ payload ∷ []) c
-read_no_more payloads payload c spelled read = record {
-  tells = subst (Tells c) (sym (no_item_more payloads payload spelled)) read.tells;
+pub read_no_more : (header : Header) (payloads : List (List ℕ)) (payload : List ℕ) (c : Contents) → item_of payload ≡ None → IsRead header payloads c → IsRead header (payloads ++ payload ∷ []) c
+read_no_more header payloads payload c spelled read = record {
+  tells = subst (Tells header c) (sym (no_item_more payloads payload spelled)) read.tells;
   in_time = read.in_time;
 }
 
-pub read_policy : (payloads : List (List ℕ)) (payload : List ℕ) (tile granule k algs : ℕ) (c : Contents) → item_of payload ≡ Some (kinds.Policy tile granule k algs) → IsRead payloads c → IsRead (payloads ++ payload ∷ []) c
-read_policy payloads payload tile granule k algs c spelled read =
-    read_more payloads payload (kinds.Policy tile granule k algs) c c spelled (tells_policy c tile granule k algs) (λ in_time. in_time) read
-
 -- the same of what is gathered
-pub gathered_txn : (payloads : List (List ℕ)) (payload : List ℕ) (t : Txn) (g d : Gathered) → item_of payload ≡ Some (kinds.Txn t) → d.txns.items ≡ g.txns.items ++ t ∷ [] → d.last ≡ max g.last t.moment
-    → IsGathered g (items_of payloads) → IsGathered d (items_of (payloads ++ payload ∷ []))
-gathered_txn payloads payload t g d spelled pushed last so_far =
+pub gathered_none : (header : Header) (g : Gathered) → g.txns.items ≡ [] → g.last ≡ 0 → g.eras ≡ first_era header → IsGathered header g []
+gathered_none header g none last first = record { txns_are = none; last_is = last; eras_are = first ∙ sym (policy_none header) }
+
+pub gathered_txn : (header : Header) (payloads : List (List ℕ)) (payload : List ℕ) (t : Txn) (g d : Gathered) → item_of payload ≡ Some (kinds.Txn t) → d.txns.items ≡ g.txns.items ++ t ∷ [] → d.last ≡ max g.last t.moment → d.eras ≡ g.eras
+    → IsGathered header g (items_of payloads) → IsGathered header d (items_of (payloads ++ payload ∷ []))
+gathered_txn header payloads payload t g d spelled pushed last eras so_far =
     let items = items_of payloads in
-    subst (IsGathered d) (sym (item_more payloads payload (kinds.Txn t) spelled)) (record {
+    subst (IsGathered header d) (sym (item_more payloads payload (kinds.Txn t) spelled)) (record {
       txns_are = pushed ∙ ap (λ (ts : List Txn). ts ++ t ∷ []) so_far.txns_are ∙ sym (txns_more items t);
       last_is = last ∙ ap (λ (l : ℕ). max l t.moment) so_far.last_is ∙ sym (last_more items (kinds.Txn t));
+      eras_are = eras_more header items (kinds.Txn t) g.eras d.eras so_far.eras_are eras;
     })
 
-pub gathered_frontier : (payloads : List (List ℕ)) (payload : List ℕ) (moment : ℕ) (g d : Gathered) → item_of payload ≡ Some (kinds.Frontier moment) → d.txns.items ≡ g.txns.items → d.last ≡ max g.last moment
-    → IsGathered g (items_of payloads) → IsGathered d (items_of (payloads ++ payload ∷ []))
-gathered_frontier payloads payload moment g d spelled pushed last so_far =
+pub gathered_other : (header : Header) (payloads : List (List ℕ)) (payload : List ℕ) (item : Item) (g d : Gathered) → txn_in item ≡ None → item_of payload ≡ Some item → d.txns.items ≡ g.txns.items → d.last ≡ after_last g.last item → d.eras ≡ with_item g.eras item
+    → IsGathered header g (items_of payloads) → IsGathered header d (items_of (payloads ++ payload ∷ []))
+gathered_other header payloads payload item g d other spelled pushed last eras so_far =
     let items = items_of payloads in
-    subst (IsGathered d) (sym (item_more payloads payload (kinds.Frontier moment) spelled)) (record {
-      txns_are = pushed ∙ so_far.txns_are ∙ sym (txns_no_more items moment);
-      last_is = last ∙ ap (λ (l : ℕ). max l moment) so_far.last_is ∙ sym (last_more items (kinds.Frontier moment));
+    subst (IsGathered header d) (sym (item_more payloads payload item spelled)) (record {
+      txns_are = pushed ∙ so_far.txns_are ∙ sym (txns_stay items item other);
+      last_is = last ∙ ap (λ (l : ℕ). after_last l item) so_far.last_is ∙ sym (last_more items item);
+      eras_are = eras_more header items item g.eras d.eras so_far.eras_are eras;
     })
 
-pub gathered_policy : (payloads : List (List ℕ)) (payload : List ℕ) (tile granule k algs : ℕ) (g : Gathered) → item_of payload ≡ Some (kinds.Policy tile granule k algs) → IsGathered g (items_of payloads) → IsGathered g (items_of (payloads ++ payload ∷ []))
-gathered_policy payloads payload tile granule k algs g spelled so_far =
-    let items = items_of payloads in
-    subst (IsGathered g) (sym (item_more payloads payload (kinds.Policy tile granule k algs) spelled)) (record {
-      txns_are = so_far.txns_are ∙ sym (txns_stay items (kinds.Policy tile granule k algs) refl);
-      last_is = so_far.last_is ∙ sym (last_stays items tile granule k algs);
-    })
-
-pub gathered_none : (payloads : List (List ℕ)) (payload : List ℕ) (g : Gathered) → item_of payload ≡ None → IsGathered g (items_of payloads) → IsGathered g (items_of (payloads ++ payload ∷ []))
-gathered_none payloads payload g spelled so_far = subst (IsGathered g) (sym (no_item_more payloads payload spelled)) so_far
+pub gathered_no_more : (header : Header) (payloads : List (List ℕ)) (payload : List ℕ) (g : Gathered) → item_of payload ≡ None → IsGathered header g (items_of payloads) → IsGathered header g (items_of (payloads ++ payload ∷ []))
+gathered_no_more header payloads payload g spelled so_far = subst (IsGathered header g) (sym (no_item_more payloads payload spelled)) so_far

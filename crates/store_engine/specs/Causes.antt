@@ -40,6 +40,19 @@ IsOfOpening fails.TooLong = ⊥
 IsOfOpening fails.StoreFull = ⊥
 IsOfOpening fails.Closed = ⊥
 
+-- the refusals of an item that has a spelling: the store is closed or full, of the disk, of memory
+abbrev pub IsOfAppending : StoreFail → Type 0
+IsOfAppending fails.NotAStore = ⊥
+IsOfAppending fails.OldFormat = ⊥
+IsOfAppending fails.DiskFault = Unit {0}
+IsOfAppending fails.NoMemory = Unit {0}
+IsOfAppending (fails.ClockBack last) = ⊥
+IsOfAppending fails.TooLate = ⊥
+IsOfAppending fails.TooManyOps = ⊥
+IsOfAppending fails.TooLong = ⊥
+IsOfAppending fails.StoreFull = Unit {0}
+IsOfAppending fails.Closed = Unit {0}
+
 -- Bytes are refused as no store exactly where they have no header of this id, and as old exactly where they have one, of the
 -- first format.
 abbrev pub IsNoStore : ℕ → Option Header → Option Format → StoreFail → Type 0

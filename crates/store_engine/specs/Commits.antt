@@ -7,14 +7,15 @@ use Rattle.disk_model.specs.Moments.{EveryImage, MakesCalls}
 use Rattle.tuple_bytes.specs.declared.item.Item.{Item}
 use Rattle.tuple_bytes.specs.declared.item.Item.TheVariants as items
 use Rattle.tuple_bytes.specs.declared.item.Txn.{Txn}
-use Rattle.tuple_bytes.specs.Spelling.{spell_txn, spell_policy, spell_item}
+use Rattle.tuple_bytes.specs.Spelling.{spell_txn, spell_item}
+use Rattle.digest_model.specs.Layout.{with_item as eras_with}
 use Rattle.tt_table.specs.Versions.{applied}
 use Rattle.tt_table.specs.Tables.{TablesVersions}
 use Rattle.txn_journal.specs.Append.{KeepsFront}
 use Rattle.segment_file.specs.Append.{behind, append_calls}
 use Rattle.segment_file.specs.Appended.{closed}
 use Rattle.segment_file.specs.Places.{KeepsPlaces}
-use Rattle.chain_state.specs.Chained.{with_chained}
+use Rattle.chain_state.specs.Chained.{with_chained, with_turned}
 use Rattle.store_engine.specs.declared.fail.StoreFail.{StoreFail}
 use Rattle.store_engine.specs.declared.fail.StoreFail.TheVariants as fails
 use Rattle.store_engine.specs.Opened.{Opened, IsOpenOn, StoresOldOrNew}
@@ -32,11 +33,19 @@ with_txn s t = record s {
   at = behind s.at (spell_txn t);
 }
 
--- with any item; a policy changes nothing but where the next one goes
+-- with a policy more, which may be the next era
+abbrev pub with_policy : Opened → Item → Opened
+with_policy s policy = record s {
+  eras = eras_with s.eras policy;
+  chains = option_map (with_turned policy) s.chains;
+  at = behind s.at (spell_item policy);
+}
+
+-- with any item
 abbrev pub with_item : Opened → Item → Opened
 with_item s (items.Txn t) = with_txn s t
 with_item s (items.Frontier moment) = with_frontier s moment
-with_item s (items.Policy tile granule k algs) = record s { at = behind s.at (spell_policy tile granule k algs) }
+with_item s (items.Policy tile granule k algs) = with_policy s (items.Policy tile granule k algs)
 
 -- it has one where its last moment is before that
 abbrev pub frontier_at : Opened → ℕ → Opened

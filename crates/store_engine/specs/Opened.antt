@@ -4,7 +4,8 @@ use Rattle.std.specs.Option.{option_map}
 use Rattle.byte_grammar.specs.Gated.{open_gate}
 use Rattle.tuple_bytes.specs.declared.header.Header.{Header}
 use Rattle.tuple_bytes.specs.declared.item.Item.{Item}
-use Rattle.history_model.specs.History.{txns, last_moment}
+use Rattle.history_model.specs.History.{history, txns, last_moment}
+use Rattle.digest_model.specs.Layout.{Policy, policy_of}
 use Rattle.tt_table.specs.Stands.{StandsFor}
 use Rattle.tt_table.specs.Tables.{TablesVersions}
 use Rattle.tuple_bytes.specs.Spelling.{spell_frontier}
@@ -22,6 +23,7 @@ pub record Opened : Type 0 where
   -- the greatest moment of an item, or 0
   pub last : ℕ
   pub tables : TablesVersions
+  pub eras : Policy
   -- where there are any; their room is nothing that callers see, and stands as 0
   pub chains : Option Chained
   -- where the next record goes
@@ -35,11 +37,12 @@ with_frontier s moment = record s { last = moment; at = behind s.at (spell_front
 abbrev pub closed_to : ℕ → Opened → Opened
 closed_to granule s = record s { chains = option_map (with_closed granule) s.chains }
 
--- the count, the last moment, the tables and the chains are those of these items
+-- the count, the last moment, the tables, the eras and the chains are those of these items
 pub record Knows (s : Opened) (items : List Item) : Type 0 where
   pub count : s.count ≡ length (txns items)
   pub last : s.last ≡ last_moment items
   pub tables : StandsFor s.tables (txns items)
+  pub eras : s.eras ≡ policy_of (history s.header items)
   pub chains : AreChainsOf s.header items s.chains
 
 -- the bytes store these items behind this header, in segments

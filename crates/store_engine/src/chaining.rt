@@ -1,21 +1,21 @@
 //! The chains of a store, taken from payload to payload as its file is read, and from commit to commit.
 
-ghost use Rattle.std.specs.Prelude.{◌≡◌, ◌+◌, ◌≤◌, ◌<◌, ◌++◌, ◌∷◌, [], ℕ, List, IfOk, IfSome, OnOk, OnErr, length};
+ghost use Rattle.std.specs.Prelude.{◌≡◌, ◌+◌, ◌≤◌, ◌<◌, ◌++◌, ◌∷◌, [], None, ℕ, List, IfOk, IfSome, OnOk, OnErr, length};
 ghost use Rattle.std.specs.Option.{option_map, is_some};
 ghost use Rattle.byte_grammar.specs.Gated.{FitsRecord};
 ghost use Rattle.step_count.specs.Blank.{IsBlankOf};
 ghost use Rattle.tuple_bytes.specs.declared.header.Header.{Header as AHeader};
 ghost use Rattle.tuple_bytes.specs.declared.item.Txn.{Txn};
 ghost use Rattle.tuple_bytes.specs.Limits.{max_granules, max_payload};
-ghost use Rattle.tuple_bytes.specs.Spelling.{FitsHeader, FitsTxn, spell_txn};
-ghost use Rattle.history_model.specs.History.{granule_of};
+ghost use Rattle.tuple_bytes.specs.Spelling.{FitsHeader, FitsTxn, Spells, spell_txn};
+ghost use Rattle.history_model.specs.History.{granule_of, txn_in};
 ghost use Rattle.history_model.specs.Stored.{store_shape};
 ghost use Rattle.chain_state.specs.Chained.{with_chained, with_closed};
-ghost use Rattle.store_engine.specs.Taking.{HaveTaken, with_room};
+ghost use Rattle.store_engine.specs.Contents.{lent_item};
+ghost use Rattle.store_engine.specs.Taking.{HaveTaken, chains_with, with_room};
 
+use crate::next_item::NextItem;
 use chain_state::Chains;
-use history_model::Spelled;
-use policy_eras::Eras;
 use std::alloc::{AllocError, Global};
 use std::marker::Brand;
 use step_count::{Blank, Ledger, Steps};
@@ -26,8 +26,7 @@ pub(crate) fn no_chained(alloc: Global, header: &Header) -> Result<Option<Chains
     requires fits { FitsHeader header.now }
     ensures value { IfOk result (HaveTaken header.now []) }
 {
-    let eras = Eras::of(header, &Spelled::new(alloc));
-    let chains = Chains::new(alloc, header, eras)?;
+    let chains = Chains::new(alloc, header)?;
     Ok(Some(chains))
 }
 
@@ -91,6 +90,19 @@ pub(crate) fn add_chained<L: Ledger>(
 {
     if let Some(kept) = chains {
         kept.add(moment, spelling, steps);
+    }
+}
+
+/// Turns the chains by a policy; another item without a transaction leaves them.
+pub(crate) fn turn_chained(chains: &mut Option<Chains>, item: &NextItem<'_>, payload: &[u8])
+    requires spelled { Spells (lent_item item.now) payload.now }
+    requires other { txn_in (lent_item item.now) ≡ None }
+    ensures value { chains.new ≡ chains_with (lent_item item.now) chains.old }
+{
+    if let NextItem::Policy { .. } = item {
+        if let Some(kept) = chains {
+            kept.turn(payload);
+        }
     }
 }
 

@@ -10,7 +10,7 @@ ghost use Rattle.store_engine.specs.Contents.{lent_item};
 use std::alloc::Global;
 use tuple_bytes::{Blob, EncodeFail, Item, Ops, encode_item, encode_txn};
 
-/// A transaction or a Frontier, of which no operation is copied to be stored.
+/// A transaction, a Frontier or a policy, of which no operation is copied to be stored.
 #[derive(Drop)]
 pub(crate) enum NextItem<'a> {
     Txn {
@@ -20,6 +20,12 @@ pub(crate) enum NextItem<'a> {
     },
     Frontier {
         moment: u64,
+    },
+    Policy {
+        tile: u32,
+        granule: u32,
+        k: u8,
+        algs: u8,
     },
 }
 
@@ -42,6 +48,20 @@ impl NextItem<'_> {
             NextItem::Frontier { moment } => encode_item(
                 alloc,
                 &Item::Frontier { moment: *moment },
+            ),
+            NextItem::Policy {
+                tile,
+                granule,
+                k,
+                algs,
+            } => encode_item(
+                alloc,
+                &Item::Policy {
+                    tile: *tile,
+                    granule: *granule,
+                    k: *k,
+                    algs: *algs,
+                },
             ),
         }
     }

@@ -48,7 +48,7 @@ pub(crate) fn open_file<D: Disk>(
         (IsNoStore id (stored bytes).header (format_of bytes))) }
     ensures id { IfOk result (λ o. o.0.id ≡ id) }
     ensures header { IfOk result (λ o. FitsHeader o.0) }
-    ensures chained { IfOk result (λ o. HaveReached o.0 o.1.contents.last o.1.chains) }
+    ensures chained { IfOk result (λ o. HaveReached o.0 o.1.contents.eras o.1.contents.last o.1.chains) }
     ensures none_other { IfErr result IsOfOpening }
     ensures same { Unchanged (D.state disk.old) (D.state disk.new) }
     ensures frame { GoesOn (D.state disk.old) (D.state disk.new) }
@@ -75,7 +75,7 @@ fn replay<D: Disk>(alloc: Global, disk: &mut D, header: &Header) -> Result<Repla
     requires header { FitsHeader header.now }
     ensures value { IfSome (D.state disk.old).reads (λ bytes. format_of bytes ≡ Some Two
         → IfOk result (λ o. Replays header.now o.contents o.chains o.file bytes)) }
-    ensures chained { IfOk result (λ o. HaveReached header.now o.contents.last o.chains) }
+    ensures chained { IfOk result (λ o. HaveReached header.now o.contents.eras o.contents.last o.chains) }
     ensures same { Unchanged (D.state disk.old) (D.state disk.new) }
     ensures frame { GoesOn (D.state disk.old) (D.state disk.new) }
     ensures cause { HasCause Failed (D.state disk.old).faults (D.state disk.new).faults result }
@@ -103,13 +103,13 @@ fn read_in_file_order<D: Disk>(
     ensures value { IfSome (D.state disk.old).reads (λ bytes. StandsBefore bytes (found_behind bytes) records
         → IfOk result (λ found. IfSome found (λ o. Replays header.now o.contents o.chains o.file bytes))) }
     ensures chained { IfOk result (λ found. IfSome found
-        (λ o. HaveReached header.now o.contents.last o.chains)) }
+        (λ o. HaveReached header.now o.contents.eras o.contents.last o.chains)) }
     ensures same { Unchanged (D.state disk.old) (D.state disk.new) }
     ensures frame { GoesOn (D.state disk.old) (D.state disk.new) }
     ensures cause { HasCause Failed (D.state disk.old).faults (D.state disk.new).faults result }
     ensures counted { HidesNoFault (D.state disk.old).faults (D.state disk.new).faults result }
 {
-    let mut contents = Contents::new(alloc);
+    let mut contents = Contents::new(alloc, header)?;
     let mut chains = no_chained(alloc, header)?;
     'records: while records.advance(disk)? {
         let follows = read_next(alloc, &mut contents, records.payload())?;
@@ -138,13 +138,13 @@ fn read_in_order_of_moments<D: Disk>(
     requires header { FitsHeader header.now }
     ensures value { IfSome (D.state disk.old).reads (λ bytes. StandsBefore bytes (found_behind bytes) records
         → IfOk result (λ o. Replays header.now o.contents o.chains o.file bytes)) }
-    ensures chained { IfOk result (λ o. HaveReached header.now o.contents.last o.chains) }
+    ensures chained { IfOk result (λ o. HaveReached header.now o.contents.eras o.contents.last o.chains) }
     ensures same { Unchanged (D.state disk.old) (D.state disk.new) }
     ensures frame { GoesOn (D.state disk.old) (D.state disk.new) }
     ensures cause { HasCause Failed (D.state disk.old).faults (D.state disk.new).faults result }
     ensures counted { HidesNoFault (D.state disk.old).faults (D.state disk.new).faults result }
 {
-    let mut gathered = Gathered::new(alloc);
+    let mut gathered = Gathered::new(alloc, header)?;
     let mut chains = no_chained(alloc, header)?;
     'records: while records.advance(disk)? {
         let payload = records.payload();

@@ -7,8 +7,10 @@
 ghost use Rattle.std.specs.Prelude.{◌≡◌, ◌+◌, ◌<◌, ◌≤◌, ◌^◌, ◌++◌, ◌∷◌, [], ℕ, true, List, length, Some, IfOk, OnOk};
 ghost use Rattle.std.specs.List.{AllByRecursion};
 ghost use Rattle.std.specs.List.Sorted.{IsNonDecreasingBy};
+ghost use Rattle.tuple_bytes.specs.declared.header.Header.{Header as AHeader};
 ghost use Rattle.tuple_bytes.specs.declared.item.Txn.{Txn as ATxn};
 ghost use Rattle.tuple_bytes.specs.Items.{item_of};
+ghost use Rattle.tuple_bytes.specs.Spelling.{FitsHeader};
 ghost use Rattle.history_model.specs.Stored.{items_of};
 ghost use Rattle.tt_table.specs.Stands.{StandsFor};
 ghost use Rattle.store_engine.specs.Contents.{lent_item};
@@ -16,21 +18,27 @@ ghost use Rattle.store_engine.specs.Replay.{IsGathered, IsReordered, IsRead};
 
 use crate::contents::Contents;
 use crate::next_item::NextItem;
+use policy_eras::Eras;
 use std::alloc::{AllocError, Global};
 use tt_table::Tables;
-use tuple_bytes::{Item, Txn, decode_item};
+use tuple_bytes::{Header, Item, Txn, decode_item};
 
-/// Adds an item, and answers whether it may come next.
-fn add_next(alloc: Global, contents: &mut Contents, item: &NextItem<'_>) -> Result<bool, AllocError>
+/// Adds an item by its payload, and answers whether it may come next.
+fn add_next(
+    alloc: Global,
+    contents: &mut Contents,
+    item: &NextItem<'_>,
+    payload: &[u8],
+) -> Result<bool, AllocError>
     requires room { contents.old.count + 1 < 2 ^ 32 }
-    ensures value { IfOk result (λ follows. follows ≡ true → (payloads : List (List ℕ)) (payload : List ℕ)
-        → item_of payload ≡ Some (lent_item item.now)
-        → IsRead payloads contents.old → IsRead (payloads ++ payload ∷ []) contents.new) }
+    requires spelled { item_of payload.now ≡ Some (lent_item item.now) }
+    ensures value { IfOk result (λ follows. follows ≡ true → (header : AHeader) (payloads : List (List ℕ))
+        → IsRead header payloads contents.old → IsRead header (payloads ++ payload.now ∷ []) contents.new) }
 {
     if !contents.may_follow(item) {
         return Ok(false);
     }
-    contents.add(alloc, item)?;
+    contents.add(alloc, item, payload)?;
     Ok(true)
 }
 
@@ -41,8 +49,8 @@ pub(crate) fn read_next(
     payload: &[u8],
 ) -> Result<bool, AllocError>
     requires room { contents.old.count + 1 < 2 ^ 32 }
-    ensures value { IfOk result (λ follows. follows ≡ true → (payloads : List (List ℕ))
-        → IsRead payloads contents.old → IsRead (payloads ++ payload.now ∷ []) contents.new) }
+    ensures value { IfOk result (λ follows. follows ≡ true → (header : AHeader) (payloads : List (List ℕ))
+        → IsRead header payloads contents.old → IsRead header (payloads ++ payload.now ∷ []) contents.new) }
 {
     match decode_item(alloc, payload)? {
         Some(Item::Txn(txn)) => add_next(
@@ -53,40 +61,62 @@ pub(crate) fn read_next(
                 moment: txn.moment,
                 ops: &txn.ops,
             },
+            payload,
         ),
         Some(Item::Frontier { moment }) => add_next(
             alloc,
             contents,
             &NextItem::Frontier { moment },
+            payload,
         ),
-        // A policy has no effect.
-        Some(Item::Policy { .. }) => Ok(true),
+        Some(
+            Item::Policy {
+                tile,
+                granule,
+                k,
+                algs,
+            },
+        ) => add_next(
+            alloc,
+            contents,
+            &NextItem::Policy {
+                tile,
+                granule,
+                k,
+                algs,
+            },
+            payload,
+        ),
         None => Ok(true),
     }
 }
 
-/// The transactions in file order, and the greatest moment of an item, whatever their moments are.
+/// The transactions in file order, the greatest moment of an item, whatever their moments are, and the eras.
 #[derive(Drop)]
 pub(crate) struct Gathered {
     txns: Vec<Txn>,
     last: u64,
+    eras: Eras,
 }
 
 impl Gathered {
     /// Those of no item.
-    pub fn new(alloc: Global) -> Gathered
-        ensures value { IsGathered result [] }
+    pub fn new(alloc: Global, header: &Header) -> Result<Gathered, AllocError>
+        requires fits { FitsHeader header.now }
+        ensures value { IfOk result (λ g. IsGathered header.now g []) }
     {
-        Gathered {
+        Ok(Gathered {
             txns: Vec::new(alloc),
             last: 0,
-        }
+            eras: Eras::new(alloc, header)?,
+        })
     }
 
     /// Adds the item that a payload spells.
     pub fn add(&mut self, alloc: Global, payload: &[u8]) -> Result<(), AllocError>
-        ensures value { OnOk result ((payloads : List (List ℕ)) → IsGathered self.old (items_of payloads)
-            → IsGathered self.new (items_of (payloads ++ payload.now ∷ []))) }
+        ensures value { OnOk result ((header : AHeader) (payloads : List (List ℕ))
+            → IsGathered header self.old (items_of payloads)
+            → IsGathered header self.new (items_of (payloads ++ payload.now ∷ []))) }
     {
         match decode_item(alloc, payload)? {
             Some(Item::Txn(txn)) => {
@@ -98,7 +128,10 @@ impl Gathered {
                 self.last = self.last.max(moment);
                 Ok(())
             }
-            Some(Item::Policy { .. }) => Ok(()),
+            Some(Item::Policy { .. }) => {
+                self.eras.offer_payload(payload);
+                Ok(())
+            }
             None => Ok(()),
         }
     }
@@ -106,7 +139,8 @@ impl Gathered {
     /// What the items say of which these are gathered.
     pub fn in_order_of_moments(mut self, alloc: Global) -> Result<Contents, AllocError>
         requires few { length self.txns.items < 2 ^ 32 }
-        ensures value { IfOk result (λ contents. (payloads : List (List ℕ)) → IsGathered self (items_of payloads) → IsRead payloads contents) }
+        ensures value { IfOk result (λ contents. (header : AHeader) (payloads : List (List ℕ))
+            → IsGathered header self (items_of payloads) → IsRead header payloads contents) }
     {
         sort_by_moment(&mut self.txns)?;
         let tables = apply_all(alloc, &self.txns)?;
@@ -114,6 +148,7 @@ impl Gathered {
             count: self.txns.len() as u32,
             last: self.last,
             tables,
+            eras: self.eras,
         })
     }
 }

@@ -1,6 +1,6 @@
 //! A store that is open.
 
-ghost use Rattle.std.specs.Prelude.{◌≡◌, ◌+◌, ◌<◌, ◌≤◌, ℕ, None, true, false, length, IfOk, IsOk, IfErr, IfSome, IsSome, MatchOption, MatchResult, if◌then◌else◌};
+ghost use Rattle.std.specs.Prelude.{◌≡◌, ◌+◌, ◌<◌, ◌≤◌, ℕ, None, true, false, length, IfOk, IsOk, IfErr, IfSome, IsErrOf, IsSome, MatchOption, MatchResult, if◌then◌else◌};
 ghost use Rattle.std.specs.List.{All};
 ghost use Rattle.outside_words.specs.Faults.{HasCause, HidesNoFault};
 ghost use Rattle.outside_words.specs.Shown.{ShowsFaults};
@@ -13,24 +13,27 @@ ghost use Rattle.tuple_bytes.specs.Spelling.{FitsHeader, Spells, spell_frontier}
 ghost use Rattle.history_model.specs.Stored.{max_file, stored, format_of};
 ghost use Rattle.history_model.specs.History.{MayFollow, txn_in};
 ghost use Rattle.segment_file.specs.Append.{append_calls};
-ghost use Rattle.store_engine.specs.declared.fail.StoreFail.TheVariants.{Closed, DiskFault, StoreFull};
+ghost use Rattle.store_engine.specs.declared.fail.StoreFail.TheVariants.{Closed, DiskFault, NoMemory, StoreFull};
 ghost use Rattle.store_engine.specs.Opened.{IsOpenOn};
 ghost use Rattle.store_engine.specs.Fail.{closes};
 ghost use Rattle.store_engine.specs.Taking.{HaveReached};
 ghost use Rattle.store_engine.specs.Refusals.{tail_of, next_txn, commit_fault, frontier_fault, item_fault, is_back, is_full, where_true};
 ghost use Rattle.store_engine.specs.Causes.{IsNextMoment, IsRefusedBy, IsOfOpening, IsNoStore};
 ghost use Rattle.store_engine.specs.Contents.{lent_item};
-ghost use Rattle.store_engine.specs.Commits.{with_txn, with_item, frontier_at, StandsAfter, Adds};
+ghost use Rattle.store_engine.specs.Commits.{with_txn, with_item, frontier_at, shut, StandsAfter, Adds};
 
 mod chained;
+mod turning;
 
 use crate::StoreFail;
 use crate::appending::append;
+use crate::chaining::turn_chained;
 use crate::contents::Contents;
 use crate::next_item::NextItem;
 use crate::opening::open_file;
 use chain_state::Chains;
 use disk_model::Disk;
+use policy_eras::Eras;
 use segment_file::SegmentFile;
 use std::alloc::{AllocError, Global};
 use std::marker::Model;
@@ -50,7 +53,7 @@ pub struct Store {
     ghost header_fits: { FitsHeader header },
     ghost few: { contents.count < file.end },
     ghost in_time: { contents.tables.last ≤ contents.last },
-    ghost chained: { HaveReached header contents.last chains },
+    ghost chained: { HaveReached header contents.eras contents.last chains },
     ghost closed_too: { file.is_closed ≡ true → is_closed ≡ true },
 }
 
@@ -66,6 +69,7 @@ impl Model for Store {
       count = s.contents.count;
       last = s.contents.last;
       tables = s.contents.tables;
+      eras = s.contents.eras;
       chains = option_map without_room s.chains;
       at = record s.file { is_closed = s.is_closed };
     } };
@@ -223,6 +227,7 @@ impl Store {
         ensures refused { IsRefusedBy
             (frontier_fault (tail_of self.old) self.old.at.is_closed moment) result }
         ensures stands { StandsAfter result self.old (frontier_at self.old moment) self.new }
+        ensures kept { IsErrOf result NoMemory → self.new ≡ shut self.old }
         ensures done { moment ≤ self.old.last → IsOk result }
         ensures same { moment ≤ self.old.last → Unchanged (D.state disk.old) (D.state disk.new) }
         ensures unstored { IsSome (frontier_fault (tail_of self.old) self.old.at.is_closed moment)
@@ -266,6 +271,7 @@ impl Store {
         ensures refused { IsRefusedBy
             (item_fault (tail_of self.old) self.old.at.is_closed (lent_item item.now)) result }
         ensures stands { StandsAfter result self.old (with_item self.old (lent_item item.now)) self.new }
+        ensures kept { IsErrOf result NoMemory → self.new ≡ shut self.old }
         ensures same { IsSome (item_fault (tail_of self.old) self.old.at.is_closed (lent_item item.now))
             → Unchanged (D.state disk.old) (D.state disk.new) }
         ensures told { WhereTold (D.state disk.old).reads (D.state disk.new).reads
@@ -284,7 +290,8 @@ impl Store {
         }
     }
 
-    /// Adds an item to the file by its payload, and then to what is known of the file.
+    /// Adds an item to the file by its payload, and then to what is known of the file: once it is durable nothing takes
+    /// memory.
     fn store_payload<D: Disk>(
         &mut self,
         alloc: Global,
@@ -299,6 +306,7 @@ impl Store {
         ensures refused { IsRefusedBy
             (item_fault (tail_of self.old) self.old.at.is_closed (lent_item item.now)) result }
         ensures stands { StandsAfter result self.old (with_item self.old (lent_item item.now)) self.new }
+        ensures kept { IsErrOf result NoMemory → self.new ≡ shut self.old }
         ensures same { IsSome (item_fault (tail_of self.old) self.old.at.is_closed (lent_item item.now))
             → Unchanged (D.state disk.old) (D.state disk.new) }
         ensures told { WhereTold (D.state disk.old).reads (D.state disk.new).reads
@@ -310,13 +318,9 @@ impl Store {
         if let Err(fail) = append(alloc, disk, &mut self.file, &mut self.is_closed, payload) {
             return Err(fail);
         }
-        match self.contents.add(alloc, item) {
-            Ok(()) => Ok(()),
-            Err(_) => {
-                self.is_closed = true;
-                Err(StoreFail::NoMemory)
-            }
-        }
+        turn_chained(&mut self.chains, item, payload);
+        self.contents.note(item, payload);
+        Ok(())
     }
 }
 
@@ -335,6 +339,13 @@ impl Store {
         ensures last { self.now.tables.last ≤ self.now.last }
     {
         &self.contents.tables
+    }
+
+    /// The eras of all items.
+    pub fn eras(&self) -> &Eras
+        ensures value { result.now ≡ self.now.eras }
+    {
+        &self.contents.eras
     }
 
     /// How many transactions are stored.

@@ -10,7 +10,8 @@ ghost use Rattle.tuple_bytes.specs.declared.item.Item.{Item as AnItem};
 ghost use Rattle.tuple_bytes.specs.Limits.{max_ops, max_payload, max_granules};
 ghost use Rattle.tuple_bytes.specs.Spelling.{Spells};
 ghost use Rattle.tuple_bytes.specs.Writing.{IsCounted, op_count_of};
-ghost use Rattle.chain_state.specs.Chained.{without_room};
+ghost use Rattle.digest_model.specs.Layout.{policy_of};
+ghost use Rattle.chain_state.specs.Chained.{history_of, without_room};
 ghost use Rattle.store_engine.specs.declared.fail.StoreFail.TheVariants.{DiskFault};
 ghost use Rattle.store_engine.specs.Opened.{IsOpenOn, closed_to};
 ghost use Rattle.store_engine.specs.Fail.{closes};
@@ -102,7 +103,7 @@ impl Store {
         if let Err(fail) = append(alloc, disk, &mut self.file, &mut self.is_closed, payload) {
             return Err(fail);
         }
-        let known = self.contents.add(alloc, txn);
+        let known = self.contents.add(alloc, txn, payload);
         add_chained(&mut self.chains, moment, payload, steps);
         match known {
             Ok(()) => Ok(()),
@@ -117,6 +118,7 @@ impl Store {
     pub fn chains(&self) -> Option<&Chains>
         ensures value { option_map without_room (option_copied result) ≡ self.now.chains }
         ensures own { IfSome self.now.chains (λ c. c.header ≡ self.now.header) }
+        ensures under { IfSome self.now.chains (λ c. policy_of (history_of c) ≡ self.now.eras) }
     {
         self.chains.as_ref()
     }

@@ -11,11 +11,14 @@ use Rattle.store_engine.proofs.opening.read_in_file_order.Goals as goal
 pub returns-in_err-chains-clause-frame : goal.returns-in_err-chains-clause-frame
 returns-in_err-chains-clause-frame g c = goes_on_same _
 
+pub returns-in_err-contents-clause-frame : goal.returns-in_err-contents-clause-frame
+returns-in_err-contents-clause-frame g c = goes_on_same _
+
 pub records-init : goal.records-init
 records-init g c = record {
   payloads = [];
   so_far = has_read_none (g.D.Disk.state c.args.disk.now) c.args.records c.requires.begins;
-  read = record { tells = c.new-contents.ensures.tells; in_time = omega (arith, c.new-contents.ensures.value) };
+  read = record { tells = c.in_ok-contents.ensures.tells; in_time = c.in_ok-contents.ensures.in_time };
   taken = c.in_ok-chains.ensures.value;
 }
 
@@ -37,7 +40,7 @@ records-preserved g c =
     record {
       payloads = before.payloads ++ payload ∷ [];
       so_far = has_read_more (S c.args.disk.now) (S c.records.disk) (S c.advance.new.disk) c.args.records c.records.records c.advance.new.self before.payloads before.so_far reads c.advance.ensures.seen c.advance.ensures.same c.advance.ensures.frame c.in_ok-advance.ensures.counted moves;
-      read = subst (λ (p : List ℕ). IsRead (before.payloads ++ p ∷ []) c.read_next.new.contents) c.payload.ensures.value (c.in_ok-follows.ensures.value follows before.payloads before.read);
+      read = subst (λ (p : List ℕ). IsRead c.args.header.now (before.payloads ++ p ∷ []) c.read_next.new.contents) c.payload.ensures.value (c.in_ok-follows.ensures.value follows c.args.header.now before.payloads before.read);
       taken = subst (λ (p : List ℕ). HaveTaken c.args.header.now (before.payloads ++ p ∷ []) c.take_next.new.chains) c.payload-in-records.ensures.value (c.in_ok-take_next.ensures.value c.args.header.now before.payloads before.taken);
     }
 
@@ -67,7 +70,7 @@ take_next-requires g c =
 pub returns-clause-chained : goal.returns-clause-chained
 returns-clause-chained g c =
     let before = c.records.invariant in
-    chains_reached c.args.header.now before.payloads c.records.chains c.records.contents.last before.taken before.read.tells.last
+    chains_reached c.args.header.now before.payloads c.records.chains c.records.contents.eras c.records.contents.last before.taken before.read.tells.eras before.read.tells.last
 
 pub invariant_of-result : goal.invariant_of-result
 invariant_of-result g c =

@@ -13,11 +13,14 @@ use Rattle.store_engine.proofs.opening.read_in_order_of_moments.Goals as goal
 pub returns-in_err-chains-clause-frame : goal.returns-in_err-chains-clause-frame
 returns-in_err-chains-clause-frame g c = goes_on_same _
 
+pub returns-in_err-gathered-clause-frame : goal.returns-in_err-gathered-clause-frame
+returns-in_err-gathered-clause-frame g c = goes_on_same _
+
 pub records-init : goal.records-init
 records-init g c = record {
   payloads = [];
   so_far = has_read_none (g.D.Disk.state c.args.disk.now) c.args.records c.requires.begins;
-  gathered = c.new-gathered.ensures.value;
+  gathered = c.in_ok-gathered.ensures.value;
   taken = c.in_ok-chains.ensures.value;
 }
 
@@ -38,7 +41,7 @@ records-preserved g c =
     record {
       payloads = before.payloads ++ payload ∷ [];
       so_far = has_read_more (S c.args.disk.now) (S c.records.disk) (S c.advance.new.disk) c.args.records c.records.records c.advance.new.self before.payloads before.so_far reads c.advance.ensures.seen c.advance.ensures.same c.advance.ensures.frame c.in_ok-advance.ensures.counted moves;
-      gathered = subst (λ (p : List ℕ). IsGathered c.add.new.self (items_of (before.payloads ++ p ∷ []))) c.payload-payload.ensures.value (c.in_ok-add.ensures.value before.payloads before.gathered);
+      gathered = subst (λ (p : List ℕ). IsGathered c.args.header.now c.add.new.self (items_of (before.payloads ++ p ∷ []))) c.payload-payload.ensures.value (c.in_ok-add.ensures.value c.args.header.now before.payloads before.gathered);
       taken = subst (λ (p : List ℕ). HaveTaken c.args.header.now (before.payloads ++ p ∷ []) c.take_next.new.chains) c.payload-payload.ensures.value (c.in_ok-take_next.ensures.value c.args.header.now before.payloads before.taken);
     }
 
@@ -63,21 +66,21 @@ returns-clause-value g c =
     let reads = rw done at c.in_ok-advance.ensures.value in
     let all = all_collected (S c.args.disk.now) (S c.records.disk) c.args.records c.records.records w _ before.so_far.collecting reads in
     let same = c.advance.ensures.same.reads ∙ before.so_far.collecting.same.reads in
-    let read : IsRead before.payloads c.in_ok-contents.contents = c.in_ok-contents.ensures.value before.payloads before.gathered in
+    let read : IsRead c.args.header.now before.payloads c.in_ok-contents.contents = c.in_ok-contents.ensures.value c.args.header.now before.payloads before.gathered in
     replays (S c.args.disk.now).reads (S c.advance.new.disk).reads c.args.records w before.payloads c.args.header.now c.in_ok-contents.contents c.records.chains c.in_ok-file.file same read before.taken c.in_ok-file.ensures.value all
 
 pub returns-clause-chained : goal.returns-clause-chained
 returns-clause-chained g c =
     let before = c.records.invariant in
-    let read : IsRead before.payloads c.in_ok-contents.contents = c.in_ok-contents.ensures.value before.payloads before.gathered in
-    chains_reached c.args.header.now before.payloads c.records.chains c.in_ok-contents.contents.last before.taken read.tells.last
+    let read : IsRead c.args.header.now before.payloads c.in_ok-contents.contents = c.in_ok-contents.ensures.value c.args.header.now before.payloads before.gathered in
+    chains_reached c.args.header.now before.payloads c.records.chains c.in_ok-contents.contents.eras c.in_ok-contents.contents.last before.taken read.tells.eras read.tells.last
 
 pub invariant_of-result : goal.invariant_of-result
 invariant_of-result g c =
     let before = c.records.invariant in
     let done : c.in_ok-advance.field-0 ≡ false = c.if-branch.false in
     let moves = rw done at c.in_ok-advance.ensures.moves in
-    let read : IsRead before.payloads c.in_ok-contents.contents = c.in_ok-contents.ensures.value before.payloads before.gathered in
+    let read : IsRead c.args.header.now before.payloads c.in_ok-contents.contents = c.in_ok-contents.ensures.value c.args.header.now before.payloads before.gathered in
     record {
       few = omega (arith, few_txns before.payloads, read.tells.count, before.so_far.few, moves.on, c.in_ok-file.ensures.end);
       in_time = read.in_time;

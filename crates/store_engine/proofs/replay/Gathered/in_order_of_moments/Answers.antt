@@ -20,7 +20,7 @@ returns c =
     let back = λ (m : ℕ). sym (same m) in
     let stands : StandsFor tables sorted = subst (StandsFor tables) c.deref.ensures.value c.in_ok-tables.ensures.value in
     record {
-      value = λ payloads gathered.
+      value = λ header payloads gathered.
           let items = items_of payloads in
           let many : length file ≡ length (txns items) = ap (λ (ts : List Txn). length ts) gathered.txns_are in
           let none = subst (AllByRecursion (λ (t : Txn). t.moment ≤ last_moment items)) (sym gathered.txns_are) (none_above items 0) in
@@ -31,6 +31,7 @@ returns c =
               count = omega (arith, many, c.sort_by_moment.ensures.as_many, c.len.ensures);
               last = gathered.last_is;
               tables = subst (StandsFor tables) gathered.txns_are (stands_reordered sorted file back tables stands);
+              eras = gathered.eras_are;
             };
             in_time = omega (arith, up_to, gathered.last_is);
           };
