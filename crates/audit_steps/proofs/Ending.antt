@@ -1,5 +1,5 @@
 -- What the last piece answers, by an audit at its end.
-use Rattle.std.proofs.Common.{◌≡◌, ◌⊎◌, inl, inr, ℕ, ◌+◌, ◌≤◌, true, false, List, length, Option, Some, None, IfSome, Result, refl, sym, ap, subst, ◌∙◌, arith}
+use Rattle.std.proofs.Common.{◌≡◌, ◌⊎◌, inl, inr, ℕ, ◌+◌, ◌≤◌, true, false, List, length, Option, Some, None, IfOk, IfSome, Result, Ok, Err, refl, sym, ap, subst, ◌∙◌, arith}
 use Rattle.std.proofs.lemmas.Bool.{false≢true}
 use Rattle.outside_words.specs.Told.{WhereTold}
 use Rattle.outside_words.proofs.Told.{told_map}
@@ -11,17 +11,19 @@ use Rattle.history_model.specs.Stored.{stored}
 use Rattle.notary_link.specs.declared.notary.NotaryLimits.{NotaryLimits}
 use Rattle.notary_link.specs.Notary.{Lists, Entry}
 use Rattle.audit_model.specs.Altered.{history_with}
-use Rattle.chain_state.specs.Chained.{Chained, IsChainOf, are_chained}
+use Rattle.digest_model.specs.Layout.{Layout, sealed_eras}
+use Rattle.chain_state.specs.Chained.{Chained, IsChainOf, history_of, are_chained}
+use Rattle.chain_state.proofs.Histories.{same_layout}
 use Rattle.validator.specs.declared.verdict.Verdict.{Verdict}
 use Rattle.validator.specs.declared.fail.AuditFail.{AuditFail}
-use Rattle.validator.specs.Verdicts.{Validates}
+use Rattle.validator.specs.Verdicts.{Validates, sealed_of, sealed_in, sealed_on, questions}
 use Rattle.validator.proofs.Validated.{has_history}
+use Rattle.validator.proofs.Questions.{asked_fewer}
 use Rattle.audit_steps.specs.declared.auditing.Auditing.{Auditing}
 use Rattle.audit_steps.specs.declared.next.Next.TheVariants as nexts
 use Rattle.audit_steps.specs.Auditing.{AreTakenOrNone, GranulesRise, IsAuditOf}
 use Rattle.audit_steps.specs.Pieces.{HasMore}
 use Rattle.audit_steps.specs.Steps.{HasReadAll, IsAtEnd, NextIs}
-use Rattle.audit_steps.proofs.KeptLinks.{chain_of}
 use Rattle.audit_steps.proofs.Nexts.{some_history}
 
 -- ---- by what is at hand
@@ -38,8 +40,20 @@ module _ (id now tiles : ℕ) (limits : NotaryLimits) (was is : Option (List Ent
   by_chains a c (Some bytes) some are told = λ at_end.
       let all : HasReadAll id bytes a = subst (IsAtEnd id bytes) some at_end in
       let h = history a.header (stored bytes).items in
-      let chain : IsChainOf c h = chain_of a.header (stored bytes).items c (subst (AreTakenOrNone a.header (stored bytes).items) are all.chains) in
+      let chain : IsChainOf c h = (subst (AreTakenOrNone a.header (stored bytes).items) are all.chains).chain in
       told_map o z _ _ told (λ lists later next count. next (stored bytes) h (has_history id (stored bytes) a.header all.header all.id_is) chain count)
+
+  -- few questions are asked by these
+  pub few_by_chains : (a : Auditing) (c : Chained) (reads : Option (List ℕ)) (old new : ℕ) → audit ≡ Some a → a.chains ≡ Some c → IfOk r (λ v. new ≤ old + questions (sealed_of (history_of c)) v)
+      → IfSome reads (λ bytes. IsAtEnd id bytes audit → IfOk r (λ v. new ≤ old + questions (sealed_in (history_with id (stored bytes))) v))
+  few_by_chains a c None old new some are few = tt
+  few_by_chains a c (Some bytes) old new some are few = λ at_end.
+      (let all : HasReadAll id bytes a = subst (IsAtEnd id bytes) some at_end in
+      let h = history a.header (stored bytes).items in
+      let chain : IsChainOf c h = (subst (AreTakenOrNone a.header (stored bytes).items) are all.chains).chain in
+      let has = has_history id (stored bytes) a.header all.header all.id_is in
+      asked_fewer r old new (sealed_of (history_of c)) (sealed_in (history_with id (stored bytes)))
+      (λ n. (let eras = ap (λ (l : Layout). length (sealed_eras l n)) (same_layout (history_of c) h chain.eras) in let same = ap (λ (o : Option History). sealed_in o n) has in omega (arith, eras, same))) few)
 
   -- no history
   pub by_nowhere : (reads : Option (List ℕ)) → audit ≡ None
@@ -47,6 +61,26 @@ module _ (id now tiles : ℕ) (limits : NotaryLimits) (was is : Option (List Ent
       → IfSome reads Concludes
   by_nowhere None none told = tt
   by_nowhere (Some bytes) none told = λ at_end. told_map o z _ _ told (λ lists later next count. next (stored bytes) (subst (IsAtEnd id bytes) none at_end) count)
+
+-- few questions are asked by what is read
+pub few_by_reads : {E : Type 0} (P : List ℕ → Type 0) (id : ℕ) (r : Result Verdict E) (reads : Option (List ℕ)) (old new : ℕ) → IfOk r (λ v. new ≤ old + questions (sealed_on id reads) v)
+    → IfSome reads (λ bytes. P bytes → IfOk r (λ v. new ≤ old + questions (sealed_in (history_with id (stored bytes))) v))
+few_by_reads P id r None old new few = tt
+few_by_reads P id r (Some bytes) old new few = λ p. few
+
+-- none are asked
+pub none_asked : {E : Type 0} (r : Result Verdict E) (old new : ℕ) (f : ℕ → ℕ) → new ≡ old → IfOk r (λ v. new ≤ old + questions f v)
+none_asked (Ok v) old new f same = omega (arith, same)
+none_asked (Err e) old new f same = tt
+
+-- none were asked before
+pub asked_behind : {E : Type 0} (r : Result Verdict E) (old mid new : ℕ) (f : ℕ → ℕ) → mid ≡ old → IfOk r (λ v. new ≤ mid + questions f v) → IfOk r (λ v. new ≤ old + questions f v)
+asked_behind r old mid new f same few = subst (λ (n : ℕ). IfOk r (λ v. new ≤ n + questions f v)) same few
+
+pub few_none_asked : {E : Type 0} (P : List ℕ → Type 0) (id : ℕ) (r : Result Verdict E) (reads : Option (List ℕ)) (old new : ℕ) → new ≡ old
+    → IfSome reads (λ bytes. P bytes → IfOk r (λ v. new ≤ old + questions (sealed_in (history_with id (stored bytes))) v))
+few_none_asked P id r None old new same = tt
+few_none_asked P id r (Some bytes) old new same = λ p. none_asked r old new (sealed_in (history_with id (stored bytes))) same
 
 -- where there are no chains, granules don't rise
 fell : (o : Option Header) (items : List Item) (header : Header) → o ≡ Some header → are_chained (history header items) ≡ false → IfSome o (λ h. are_chained (history h items) ≡ true) → ⊥

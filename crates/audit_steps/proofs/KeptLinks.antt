@@ -4,11 +4,10 @@ use Rattle.std.specs.List.{range_with_len}
 use Rattle.tuple_bytes.specs.declared.header.Header.{Header}
 use Rattle.tuple_bytes.specs.declared.item.Item.{Item}
 use Rattle.history_model.specs.History.{History, history}
-use Rattle.digest_model.specs.Layout.{Layout, layout, first_granule, max_granules}
+use Rattle.digest_model.specs.Layout.{Layout, layout, first_granule, max_granules, Policy, policy_of, layout_by}
 use Rattle.digest_model.specs.Digests.{cum}
-use Rattle.policy_eras.specs.Policy.{Policy, policy_of, layout_by}
 use Rattle.policy_eras.proofs.Histories.{layout_is}
-use Rattle.chain_state.specs.Chained.{Chained, IsChainOf, AreTaken, history_of, ended, with_closed}
+use Rattle.chain_state.specs.Chained.{Chained, IsChainOf, history_of, ended, with_closed}
 use Rattle.chain_state.proofs.Order.{agree}
 use Rattle.validator.specs.Verdicts.{IsLinked}
 use Rattle.validator.proofs.Kept.{have_ended}
@@ -23,26 +22,15 @@ module _ (c : Chained) (h : History) (is : IsChainOf c h) where
   closed_links k granule first count closed = same_links (cum (history_of k)) (cum h)
       (λ tile. ap (λ (x : Chained). cum (history_of x) tile) closed ∙ agree.cums c h is tile) (range_with_len first count)
 
-  pub eras_of : (eras : Policy) → eras ≡ policy_of (history c.header []) → eras ≡ policy_of h
-  eras_of eras policy = policy ∙ ap (λ (x : Header). policy_of (history x [])) is.header
-
   -- the header and the eras are the history's
-  pub linked : (eras : Policy) (links : List (List ℕ)) (tiles : ℕ) → eras ≡ policy_of (history c.header []) → (first_granule (layout h) tiles ≤ max_granules → links ≡ map (cum h) (range_with_len 0 tiles)) → IsLinked h c.header eras links tiles
-  linked eras links tiles policy are = record {
-    header_is = sym is.header;
-    eras_are = eras_of eras policy;
-    links_are = are;
-  }
-
--- the chains of all items are those of the history
-pub chain_of : (header : Header) (items : List Item) (c : Chained) → AreTaken header (policy_of (history header items)) items c → IsChainOf c (history header items)
-chain_of header items c taken = record { header = taken.header_is; eras = taken.eras_are; txns = taken.txns_are }
+  pub linked : (links : List (List ℕ)) (tiles : ℕ) → (first_granule (layout h) tiles ≤ max_granules → links ≡ map (cum h) (range_with_len 0 tiles)) → IsLinked h c.header (policy_of (history_of c)) links tiles
+  linked links tiles are = record { header_is = sym is.header; eras_are = is.eras; links_are = are }
 
 -- so many tiles have ended where the granules of these are closed
 pub ended_behind : (c k : Chained) (tiles end : ℕ) → end ≡ first_granule (layout (history_of c)) tiles → k ≡ with_closed end c → tiles ≤ ended k
 ended_behind c k tiles end is closed =
     let at : k.granule ≡ max c.granule end = ap (λ (x : Chained). x.granule) closed in
-    have_ended k (history_of c) tiles (ap (λ (x : Chained). x.header) closed) (omega (arith, is, at))
+    have_ended k (history_of c) tiles (ap (λ (x : Chained). policy_of (history_of x)) closed) (omega (arith, is, at))
 
 -- a place of the layout of the eras is one of the history's
 module _ (h : History) (eras : Policy) (policy : eras ≡ policy_of h) (tiles end : ℕ) (is : end ≡ first_granule (layout_by eras) tiles) where

@@ -14,7 +14,6 @@ use Rattle.tuple_bytes.specs.Limits.{max_payload}
 use Rattle.tuple_bytes.specs.Spelling.{Spells, spell_item, FitsItem}
 use Rattle.history_model.specs.History.{history}
 use Rattle.history_model.specs.Stored.{IsStorable}
-use Rattle.policy_eras.specs.Policy.{policy_of}
 use Rattle.chain_state.specs.Chained.{Chained, AreTaken, IsItemTaken, IsItemRefused, steps_of, open_of, are_chained}
 use Rattle.chain_state.proofs.Gathering.{taken_more, refused_from, none_later, not_chained, steps_more, steps_in}
 use Rattle.audit_steps.specs.Auditing.{AreTakenOrNone}
@@ -55,11 +54,11 @@ module _ (items : List Item) (spelled : List (List ℕ)) (i : ℕ) (b : List ℕ
     behind = append_assoc taken (take i items) (item ∷ []) ∙ ap (λ (l : List Item). taken ++ l) (sym more)
 
     pub next_taken : (next : Chained) → IsItemTaken item c next → AreTakenOrNone header (taken ++ take (i + 1) items) (Some next)
-    next_taken next took = subst (λ (l : List Item). AreTaken header (policy_of (history header taken)) l next) behind (taken_more header (policy_of (history header taken)) (taken ++ take i items) c were item next took)
+    next_taken next took = subst (λ (l : List Item). AreTaken header l next) behind (taken_more header (taken ++ take i items) c were item next took)
 
     pub next_refused : IsItemRefused item c → are_chained (history header (taken ++ items)) ≡ false
     next_refused refused =
-        let none = refused_from header (policy_of (history header taken)) (taken ++ take i items) c were item refused in
+        let none = refused_from header (taken ++ take i items) c were item refused in
         let later = none_later header ((taken ++ take i items) ++ item ∷ []) (drop (i + 1) items) none in
         let all : ((taken ++ take i items) ++ item ∷ []) ++ drop (i + 1) items ≡ taken ++ items =
         ap (λ (l : List Item). l ++ drop (i + 1) items) behind ∙ append_assoc taken (take (i + 1) items) (drop (i + 1) items) ∙ ap (λ (l : List Item). taken ++ l) (take-append-drop (i + 1) items) in

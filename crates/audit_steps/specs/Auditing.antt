@@ -4,14 +4,13 @@ use Rattle.tuple_bytes.specs.declared.header.Header.{Header}
 use Rattle.tuple_bytes.specs.declared.item.Item.{Item}
 use Rattle.history_model.specs.History.{history}
 use Rattle.history_model.specs.Stored.{stored}
-use Rattle.policy_eras.specs.Policy.{policy_of}
 use Rattle.chain_state.specs.Chained.{Chained, AreTaken, are_chained}
 use Rattle.segment_file.specs.Places.{IsPlaceOf, KeepsPlaces}
 use Rattle.audit_steps.specs.declared.auditing.Auditing.{Auditing}
 
 -- the chains of these items under a header; there are none where a granule fell or was too great
 abbrev pub AreTakenOrNone : Header → List Item → Option Chained → Type 0
-AreTakenOrNone header taken (Some c) = AreTaken header (policy_of (history header taken)) taken c
+AreTakenOrNone header taken (Some c) = AreTaken header taken c
 AreTakenOrNone header taken None = are_chained (history header taken) ≡ false
 
 -- an audit under way has read the first items of these bytes, and stands behind them

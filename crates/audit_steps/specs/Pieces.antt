@@ -42,7 +42,7 @@ WhereLast P (Ok (audits.Going read)) = Unit {0}
 WhereLast P (Ok (audits.Found verdict)) = P (Ok verdict)
 WhereLast P (Err fail) = P (Err fail)
 
--- how many questions it takes at most
-abbrev pub asks : Audit → ℕ
-asks (audits.Going read) = 0
-asks (audits.Found verdict) = questions verdict
+-- how many questions it takes at most, where so many eras begin at one of n tiles
+abbrev pub asks : (ℕ → ℕ) → Audit → ℕ
+asks eras (audits.Going read) = 0
+asks eras (audits.Found verdict) = questions eras verdict

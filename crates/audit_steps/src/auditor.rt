@@ -8,11 +8,12 @@ ghost use Rattle.disk_words.specs.Disk as disks;
 ghost use Rattle.notary_link.specs.Notary as notaries;
 ghost use Rattle.history_model.specs.History.{txns};
 ghost use Rattle.history_model.specs.Stored.{stored};
+ghost use Rattle.digest_model.specs.Layout.{max_later};
 ghost use Rattle.audit_model.specs.Altered.{history_with};
 ghost use Rattle.validator.specs.declared.fail.AuditFail.TheVariants.{DiskFault, NotaryFault};
 ghost use Rattle.validator.specs.Fails.{disk_in_doubt, notary_in_doubt};
 ghost use Rattle.validator.specs.Desk.{KeepsSound, desk};
-ghost use Rattle.validator.specs.Verdicts.{Validates, MakesMark, IsOfValidation, ValidatesNone};
+ghost use Rattle.validator.specs.Verdicts.{Validates, MakesMark, IsOfValidation, ValidatesNone, sealed_in};
 ghost use Rattle.audit_steps.specs.Auditing.{IsAuditOf, GranulesRise, read_by};
 ghost use Rattle.audit_steps.specs.PieceSize.{piece};
 ghost use Rattle.audit_steps.specs.Pieces.{HasMore, IsGoing, GoesOnWith, WhereLast, StandsAt, asks};
@@ -82,7 +83,9 @@ impl Auditor {
         ensures same { disks.Unchanged (D.state disk.old) (D.state disk.new) }
         ensures sound { KeepsSound (λ before. ⊤)
             (desk (D.state disk.old) (N.state notary.old)) (desk (D.state disk.new) (N.state notary.new)) }
-        ensures asked { IfOk result (λ audit. (N.state notary.new).asked ≤ (N.state notary.old).asked + asks audit) }
+        ensures asked { IfOk result (λ audit. (N.state notary.new).asked ≤ (N.state notary.old).asked + asks (λ n. max_later) audit) }
+        ensures few { IfSome (D.state disk.old).reads (λ bytes. IsAuditOf id self.old bytes
+            → IfOk result (λ audit. (N.state notary.new).asked ≤ (N.state notary.old).asked + asks (sealed_in (history_with id (stored bytes))) audit)) }
         ensures steps { IfSome (D.state disk.old).reads (λ bytes. IsAuditOf id self.old bytes → IsGoing result ⊎ GranulesRise bytes → steps.new ≤ steps.old + 512) }
         ensures most { IfSome (D.state disk.old).reads (λ bytes. IsAuditOf id self.old bytes → steps.new ≤ steps.old + (512 + length (txns (stored bytes).items))) }
         ensures disk_frame { disks.GoesOn (D.state disk.old) (D.state disk.new) }

@@ -10,11 +10,12 @@ ghost use Rattle.tuple_bytes.specs.Spelling.{FitsHeader};
 ghost use Rattle.history_model.specs.declared.stored.Stored.{Stored};
 ghost use Rattle.history_model.specs.History.{History, txns};
 ghost use Rattle.history_model.specs.Stored.{stored};
+ghost use Rattle.digest_model.specs.Layout.{max_later};
 ghost use Rattle.audit_model.specs.Altered.{history_with};
-ghost use Rattle.chain_state.specs.Chained.{IsChainOf};
+ghost use Rattle.chain_state.specs.Chained.{IsChainOf, history_of};
 ghost use Rattle.validator.specs.declared.fail.AuditFail.TheVariants.{DiskFault, NotaryFault};
 ghost use Rattle.validator.specs.Fails.{disk_in_doubt, notary_in_doubt};
-ghost use Rattle.validator.specs.Verdicts.{Validates, MakesMark, IsOfValidation, ValidatesNone, questions};
+ghost use Rattle.validator.specs.Verdicts.{Validates, MakesMark, IsOfValidation, ValidatesNone, sealed_of, sealed_in, questions};
 ghost use Rattle.validator.specs.Steps.{KeepsBatches, IsOfJudging};
 ghost use Rattle.audit_steps.specs.Auditing.{GranulesRise};
 ghost use Rattle.audit_steps.specs.Steps.{FitsTogether, IsAtEnd};
@@ -23,9 +24,7 @@ use crate::auditing::Auditing;
 use crate::linking::link_ends;
 use chain_state::Chains;
 use disk_model::Disk;
-use history_model::Spelled;
 use notary_link::Notary;
-use policy_eras::Eras;
 use std::alloc::Global;
 use step_count::{Ledger, Steps};
 use tuple_bytes::Header;
@@ -51,7 +50,9 @@ pub(crate) fn conclude<D: Disk, N: Notary, L: Ledger>(
     ensures batches { WhereTold (N.state notary.old).lists (N.state notary.new).lists KeepsBatches }
     ensures trace { WhereTold (N.state notary.old).trace (N.state notary.new).trace (MakesMark id now result) }
     ensures same { disks.Unchanged (D.state disk.old) (D.state disk.new) }
-    ensures asked { IfOk result (λ verdict. (N.state notary.new).asked ≤ (N.state notary.old).asked + questions verdict) }
+    ensures asked { IfOk result (λ verdict. (N.state notary.new).asked ≤ (N.state notary.old).asked + questions (λ n. max_later) verdict) }
+    ensures few { IfSome (D.state disk.old).reads (λ bytes. IsAtEnd id bytes audit
+        → IfOk result (λ verdict. (N.state notary.new).asked ≤ (N.state notary.old).asked + questions (sealed_in (history_with id (stored bytes))) verdict)) }
     ensures steps { IfSome (D.state disk.old).reads (λ bytes. IsAtEnd id bytes audit → GranulesRise bytes → steps.new ≡ steps.old) }
     ensures most { IfSome (D.state disk.old).reads (λ bytes. steps.new ≤ steps.old + length (txns (stored bytes).items)) }
     ensures disk_frame { disks.GoesOn (D.state disk.old) (D.state disk.new) }
@@ -92,7 +93,9 @@ fn conclude_sealed<D: Disk, N: Notary, L: Ledger>(
     ensures batches { WhereTold (N.state notary.old).lists (N.state notary.new).lists KeepsBatches }
     ensures trace { WhereTold (N.state notary.old).trace (N.state notary.new).trace (MakesMark id now result) }
     ensures same { disks.Unchanged (D.state disk.old) (D.state disk.new) }
-    ensures asked { IfOk result (λ verdict. (N.state notary.new).asked ≤ (N.state notary.old).asked + questions verdict) }
+    ensures asked { IfOk result (λ verdict. (N.state notary.new).asked ≤ (N.state notary.old).asked + questions (λ n. max_later) verdict) }
+    ensures few { IfSome (D.state disk.old).reads (λ bytes. IsAtEnd id bytes audit
+        → IfOk result (λ verdict. (N.state notary.new).asked ≤ (N.state notary.old).asked + questions (sealed_in (history_with id (stored bytes))) verdict)) }
     ensures steps { IfSome (D.state disk.old).reads (λ bytes. IsAtEnd id bytes audit → GranulesRise bytes → steps.new ≡ steps.old) }
     ensures most { IfSome (D.state disk.old).reads (λ bytes. steps.new ≤ steps.old + length (txns (stored bytes).items)) }
     ensures disk_frame { disks.GoesOn (D.state disk.old) (D.state disk.new) }
@@ -120,7 +123,7 @@ fn judge_chains<N: Notary>(
     notary: &mut N,
     id: u64,
     header: &Header,
-    chains: Chains,
+    mut chains: Chains,
     tiles: u32,
     now: u64,
 ) -> Result<Verdict, AuditFail>
@@ -133,12 +136,11 @@ fn judge_chains<N: Notary>(
     ensures none_other { IfErr result IsOfJudging }
     ensures batches { WhereTold (N.state notary.old).lists (N.state notary.new).lists KeepsBatches }
     ensures trace { WhereTold (N.state notary.old).trace (N.state notary.new).trace (MakesMark id now result) }
-    ensures asked { IfOk result (λ verdict. (N.state notary.new).asked ≤ (N.state notary.old).asked + questions verdict) }
+    ensures asked { IfOk result (λ verdict. (N.state notary.new).asked ≤ (N.state notary.old).asked + questions (sealed_of (history_of chains)) verdict) }
     ensures frame { notaries.GoesOn (N.state notary.old) (N.state notary.new) }
     ensures cause { HasCause NotaryFault (N.state notary.old).faults (N.state notary.new).faults result }
     ensures counted { notaries.IsCounted notary_in_doubt (N.state notary.old) (N.state notary.new) result }
 {
-    let eras = Eras::of(header, &Spelled::new(alloc));
-    let links = link_ends(alloc, chains, &eras, tiles)?;
-    judge_links(notary, id, header, &eras, &links, tiles, now)
+    let links = link_ends(alloc, &mut chains, tiles)?;
+    judge_links(notary, id, header, chains.eras(), &links, tiles, now)
 }

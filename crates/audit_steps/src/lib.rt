@@ -21,13 +21,14 @@
 //! | a piece hashes each of its transactions twice, so it takes at most 512 steps; the last one too, where granules rise | `steps` |
 //! | where a granule falls, the last one takes besides at most a step for each transaction that is stored | `most` |
 //! | the disk is as it was, and a sound store stays sound | `same`, `sound` |
-//! | a verdict takes as many questions as that of `validate` | `asked` |
+//! | a verdict takes as many questions as that of `validate` | `few`; of other bytes, by as many eras as a store may have: `asked` |
 //! | a fault has its cause, and none is hidden, except behind want of memory | `disk_cause`, `notary_cause`, `disk_counted`, `notary_counted` |
 //!
 //! | A law | Says |
 //! |---|---|
 //! | [`audit_stays`] | where items are appended and no place is lost, an auditor of the bytes is one of the new bytes |
 //!
+//! The chains go on over policies, and the last piece judges by the eras that they kept.
 //! Where a granule falls no chains can be taken along. Then the last piece reads the whole file once more.
 //! A bound on steps binds the count that is lent. That a piece hashes by no other is by the body alone.
 //! Not claimed: how long a piece takes. The last one makes a value for each sealed tile; where its chains have

@@ -1,33 +1,31 @@
 //! The values of the kept chains at the ends of tiles.
 
-ghost use Rattle.std.specs.Prelude.{◌≡◌, ◌≤◌, ℕ, [], IfOk, OnOk, length};
-ghost use Rattle.history_model.specs.History.{History, history};
-ghost use Rattle.digest_model.specs.Layout.{layout, first_granule, max_granules};
-ghost use Rattle.policy_eras.specs.Policy.{policy_of, layout_by};
+ghost use Rattle.std.specs.Prelude.{◌≡◌, ◌≤◌, ℕ, IfOk, OnOk, length};
+ghost use Rattle.history_model.specs.History.{History};
+ghost use Rattle.digest_model.specs.Layout.{layout, layout_by, policy_of, first_granule, max_granules};
 ghost use Rattle.chain_state.specs.Chained.{IsChainOf, history_of, ended, with_closed};
 ghost use Rattle.validator.specs.Verdicts.{IsLinked};
 
 use chain_state::Chains;
-use policy_eras::Eras;
 use std::alloc::{AllocError, Global};
 use tuple_bytes::MAX_GRANULES;
 
-/// The chain at the end of each of so many tiles; none where these end behind the last granule.
+/// The chain at the end of each of so many tiles; none where these end behind the last granule. The eras
+/// stay as they were.
 pub(crate) fn link_ends(
     alloc: Global,
-    mut chains: Chains,
-    eras: &Eras,
+    chains: &mut Chains,
     tiles: u32,
 ) -> Result<Vec<[u8; 32]>, AllocError>
-    requires eras { eras.now ≡ policy_of (history chains.header []) }
-    ensures value { IfOk result (λ links. (h : History) → IsChainOf chains h → IsLinked h chains.header eras.now links.items tiles) }
-    ensures linked { IfOk result (λ links. first_granule (layout_by eras.now) tiles ≤ max_granules → length links.items ≡ tiles) }
+    ensures value { IfOk result (λ links. (h : History) → IsChainOf chains.old h → IsLinked h chains.old.header (policy_of (history_of chains.old)) links.items tiles) }
+    ensures linked { IfOk result (λ links. first_granule (layout_by (policy_of (history_of chains.old))) tiles ≤ max_granules → length links.items ≡ tiles) }
+    ensures same { OnOk result (history_of chains.new ≡ history_of chains.old) }
 {
-    let end = eras.first(tiles);
+    let end = chains.eras().first(tiles);
     if end > u64::from(MAX_GRANULES) {
         return Ok(Vec::new(alloc));
     }
-    end_tiles(alloc, &mut chains, tiles, end as u32)?;
+    end_tiles(alloc, chains, tiles, end as u32)?;
     chains.links(alloc, tiles)
 }
 

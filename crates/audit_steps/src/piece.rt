@@ -20,7 +20,6 @@ use crate::auditing::Auditing;
 use chain_state::Chains;
 use disk_model::Disk;
 use history_model::Spelled;
-use policy_eras::Eras;
 use segment_file::{SegmentFail, read_header, read_part};
 use std::alloc::{AllocError, Global};
 use step_count::{Ledger, Steps};
@@ -72,8 +71,7 @@ fn at_head(alloc: Global, header: &Header) -> Result<Auditing, AllocError>
     ensures chains { IfOk result (λ a. AreTakenOrNone header.now [] a.chains) }
     ensures fits { IfOk result FitsTogether }
 {
-    let eras = Eras::of(header, &Spelled::new(alloc));
-    let chains = Chains::new(alloc, header, eras)?;
+    let chains = Chains::new(alloc, header)?;
     Ok(Auditing {
         header: *header,
         read: 0,

@@ -1,7 +1,11 @@
 use Rattle.std.proofs.Common.{◌≡◌, ◌≤◌, ◌+◌, ◌-◌, arith}
 use Rattle.disk_words.proofs.Frame.{goes_on_same}
 use Rattle.history_model.specs.Stored.{stored}
+use Rattle.digest_model.specs.Layout.{max_later}
+use Rattle.audit_model.specs.Altered.{history_with}
+use Rattle.validator.specs.Verdicts.{sealed_in}
 use Rattle.validator.proofs.Validated.{told_sealed, as_read, same_calls}
+use Rattle.audit_steps.proofs.Ending.{asked_behind}
 use Rattle.audit_steps.proofs.concluding.conclude.Goals as goal
 
 pub returns-in_err-count-clause-disk_frame : goal.returns-in_err-count-clause-disk_frame
@@ -20,3 +24,13 @@ returns-in_default-clause-told g c =
     (S c.args.notary.now).lists (S c.count.new.self).lists (S c.conclude_sealed.new.notary).lists
     (S c.count.new.self).limits c.conclude_sealed.result c.in_ok-count.ensures.frame.limits c.conclude_sealed.ensures.notary_frame.told.untold
     (rw all c.in_ok-count.ensures.value) c.in_ok-count.ensures.same.lists (is at_end))
+
+pub returns-in_default-clause-few : goal.returns-in_default-clause-few
+returns-in_default-clause-few g c =
+    let S = g.N.Notary.state in
+    as_read _ _ (g.D.Disk.state c.args.disk.now).reads c.conclude_sealed.ensures.few (λ bytes few at_end. asked_behind c.conclude_sealed.result (S c.args.notary.now).asked (S c.count.new.self).asked (S c.conclude_sealed.new.notary).asked (sealed_in (history_with c.args.id (stored bytes))) c.in_ok-count.ensures.asked (few at_end))
+
+pub returns-in_default-clause-asked : goal.returns-in_default-clause-asked
+returns-in_default-clause-asked g c =
+    let S = g.N.Notary.state in
+    asked_behind c.conclude_sealed.result (S c.args.notary.now).asked (S c.count.new.self).asked (S c.conclude_sealed.new.notary).asked (λ n. max_later) c.in_ok-count.ensures.asked c.conclude_sealed.ensures.asked

@@ -50,6 +50,17 @@ returns-in_ok-verdict-in-Last-clause-told g c =
     let ends = same_auditing (λ o bytes. IsAuditOf id o bytes → NextIs id bytes o (nexts.Last b)) c.replace-under_way.result v reads own (rw c.in-Last.is at c.in_ok-auditing.ensures.value) in
     at_end id v b _ reads near c.in_ok-auditing.ensures.same.reads ends c.in_ok-verdict-in-Last.ensures.told
 
+pub returns-in_ok-verdict-in-Last-clause-few : goal.returns-in_ok-verdict-in-Last-clause-few
+returns-in_ok-verdict-in-Last-clause-few g c =
+    let reads = (g.D.Disk.state c.args.disk.now).reads in
+    let near = (g.D.Disk.state c.read_next.new.disk).reads in
+    let id = c.args.id in
+    let v = c.args.self.now in
+    let b = c.in-Last.auditing in
+    let own = c.replace-under_way.ensures.value ∙ c.self.view_is in
+    let ends = same_auditing (λ o bytes. IsAuditOf id o bytes → NextIs id bytes o (nexts.Last b)) c.replace-under_way.result v reads own (rw c.in-Last.is at c.in_ok-auditing.ensures.value) in
+    at_end id v b _ reads near c.in_ok-auditing.ensures.same.reads ends c.in_ok-verdict-in-Last.ensures.few
+
 pub returns-in_ok-verdict-in-Last-clause-nowhere : goal.returns-in_ok-verdict-in-Last-clause-nowhere
 returns-in_ok-verdict-in-Last-clause-nowhere g c =
     let reads = (g.D.Disk.state c.args.disk.now).reads in
