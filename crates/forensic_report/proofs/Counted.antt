@@ -1,18 +1,17 @@
--- What is shown behind the count of batches, behind the answer for the header, and behind the tests of the tiles.
+-- What is shown behind the count of batches, behind the answer for the header and the eras, and behind the tests of the tiles.
 use Rattle.std.proofs.Common.{◌≡◌, ℕ, ◌+◌, ◌<◌, ◌≤◌, nat_le, true, List, [], ◌∷◌, length, Option, Some, None, false, Result, Ok, Err, IfSome, refl, ap, subst, ◌∙◌, arith}
 use Rattle.std.specs.Option.{is_some}
 use Rattle.std.proofs.lemmas.Bool.Decides.{nat_tests}
 use Rattle.outside_words.specs.Told.{WhereTold}
+use Rattle.outside_words.proofs.Told.{told_map}
 use Rattle.history_model.specs.declared.stored.Stored.{Stored}
 use Rattle.history_model.specs.History.{History}
 use Rattle.digest_model.specs.Layout.{layout, first_granule, max_granules}
-use Rattle.digest_model.specs.Digests.{header_digest}
 use Rattle.digest_model.proofs.Layouts.{ascends, ends_within, tile_begins, tile_ends}
 use Rattle.notary_link.specs.declared.answer.Answer.{Answer}
 use Rattle.notary_link.specs.declared.name.Name.TheVariants as names
-use Rattle.notary_link.specs.Batches.{Batch, answer}
+use Rattle.notary_link.specs.Batches.{Batch}
 use Rattle.notary_link.specs.Notary.{Lists, Keeps}
-use Rattle.audit_model.specs.Names.{digest}
 use Rattle.audit_model.specs.Notary.{header_answer}
 use Rattle.audit_model.specs.Altered.{history_with}
 use Rattle.policy_eras.specs.Policy.{first_past}
@@ -21,7 +20,7 @@ use Rattle.forensic_report.specs.declared.algorithm.Algorithm.{Algorithm}
 use Rattle.forensic_report.specs.declared.fail.AnalyseFail.{AnalyseFail}
 use Rattle.forensic_report.specs.declared.fail.AnalyseFail.TheVariants as fails
 use Rattle.forensic_report.specs.Analysis.{Analysis}
-use Rattle.forensic_report.specs.Finding.{has_chains, IsFoundBy, IsFoundWith, IsFoundAt, IsFoundOf, IsAnalysis}
+use Rattle.forensic_report.specs.Finding.{has_era, has_chains, IsFoundBy, IsFoundIn, IsFoundAt, IsFoundOf, IsAnalysis}
 use Rattle.forensic_report.specs.Values.{OrGivesUp}
 use Rattle.notary_link.proofs.Reading.{told_behind}
 
@@ -30,6 +29,7 @@ or_gives_up P Q (Ok a) f is = f (Ok a) is
 or_gives_up P Q (Err fails.DiskFault) f is = tt
 or_gives_up P Q (Err fails.NotaryFault) f is = tt
 or_gives_up P Q (Err (fails.SealMissing name)) f is = f (Err (fails.SealMissing name)) is
+or_gives_up P Q (Err fails.NoEra) f is = f (Err fails.NoEra) is
 or_gives_up P Q (Err fails.NotSealedSo) f is = f (Err fails.NotSealedSo) is
 or_gives_up P Q (Err (fails.NotaryInconsistent era level index)) f is = f (Err (fails.NotaryInconsistent era level index)) is
 or_gives_up P Q (Err fails.NoMemory) f is = tt
@@ -40,63 +40,46 @@ as_read P Q (Some bytes) is f = f bytes is
 
 -- ---- the count
 
-module _ (algorithm : Algorithm) (id n : ℕ) (s : Stored) (r : Result Analysis AnalyseFail) where
-  counted : (batches : List Batch) (found : Result Analysis AnalyseFail) → n + 1 ≡ length batches → IsFoundOf algorithm batches n (history_with id s) found → IsAnalysis algorithm id batches s found
+module _ (algorithm : Algorithm) (era : Option ℕ) (id n : ℕ) (s : Stored) (r : Result Analysis AnalyseFail) where
+  counted : (batches : List Batch) (found : Result Analysis AnalyseFail) → n + 1 ≡ length batches → IsFoundOf algorithm era batches n (history_with id s) found → IsAnalysis algorithm era id batches s found
   counted [] found count is = absurd (omega (arith, count))
   counted (batch ∷ batches) found count is =
       let e : n ≡ length batches = omega (arith, count) in
-      subst (λ (m : ℕ). IsFoundOf algorithm (batch ∷ batches) m (history_with id s) found) e is
+      subst (λ (m : ℕ). IsFoundOf algorithm era (batch ∷ batches) m (history_with id s) found) e is
 
   pub told_behind_count : (o m z : Option Lists) → (is_some m ≡ false → is_some z ≡ false) → WhereTold o m Keeps → IfSome o (λ lists. n + 1 ≡ length (lists.batches id))
-      → WhereTold m z (λ before after. OrGivesUp (IsFoundOf algorithm (before.batches id) n (history_with id s)) r) → WhereTold o z (λ before after. OrGivesUp (IsAnalysis algorithm id (before.batches id) s) r)
+      → WhereTold m z (λ before after. OrGivesUp (IsFoundOf algorithm era (before.batches id) n (history_with id s)) r) → WhereTold o z (λ before after. OrGivesUp (IsAnalysis algorithm era id (before.batches id) s) r)
   told_behind_count o m z stays keeps count next =
-      told_behind id (λ batches. n + 1 ≡ length batches) (λ batches. OrGivesUp (IsFoundOf algorithm batches n (history_with id s)) r) (λ batches. OrGivesUp (IsAnalysis algorithm id batches s) r) o m z
+      told_behind id (λ batches. n + 1 ≡ length batches) (λ batches. OrGivesUp (IsFoundOf algorithm era batches n (history_with id s)) r) (λ batches. OrGivesUp (IsAnalysis algorithm era id batches s) r) o m z
       stays keeps (told_of o m (λ lists. n + 1 ≡ length (lists.batches id)) (λ before after. n + 1 ≡ length (before.batches id)) count (λ before after is. is)) next
-      (λ batches many is. or_gives_up (IsFoundOf algorithm batches n (history_with id s)) (IsAnalysis algorithm id batches s) r (λ found. counted batches found many) is)
+      (λ batches many is. or_gives_up (IsFoundOf algorithm era batches n (history_with id s)) (IsAnalysis algorithm era id batches s) r (λ found. counted batches found many) is)
 
--- ---- the header
+-- ---- the header and the eras
 
-header_is : (s : History) → header_digest s.header ≡ digest s names.Header
-unfolding digest
-header_is s = refl
-
--- s has this answer for its header
-module _ (algorithm : Algorithm) (id n : ℕ) (s : History) (a : Answer) (ours : List ℕ) (is : ours ≡ header_digest s.header) (r : Result Analysis AnalyseFail) where
-  by_answer : (batches : List Batch) → a ≡ answer batches names.Header ours → OrGivesUp (IsFoundAt a algorithm batches n s) r → OrGivesUp (IsFoundOf algorithm batches n (Some s)) r
-  unfolding header_answer
-  by_answer batches answered by =
-      let e : a ≡ header_answer batches s n = answered ∙ ap (answer batches names.Header) (is ∙ header_is s) in
-      or_gives_up (IsFoundAt a algorithm batches n s) (IsFoundOf algorithm batches n (Some s)) r (λ found. subst (λ (x : Answer). IsFoundAt x algorithm batches n s found) e) by
+-- s has this answer for them
+module _ (algorithm : Algorithm) (era : Option ℕ) (id n : ℕ) (s : History) (a : Answer) (r : Result Analysis AnalyseFail) where
+  by_answer : (batches : List Batch) → a ≡ header_answer batches s n → OrGivesUp (IsFoundAt a algorithm era batches n s) r → OrGivesUp (IsFoundOf algorithm era batches n (Some s)) r
+  by_answer batches is by =
+      or_gives_up (IsFoundAt a algorithm era batches n s) (IsFoundOf algorithm era batches n (Some s)) r (λ found. subst (λ (x : Answer). IsFoundAt x algorithm era batches n s found) is) by
 
   -- and no other question was asked
-  pub told_at_header : (o m : Option Lists) → IfSome o (λ lists. a ≡ answer (lists.batches id) names.Header ours) → ((batches : List Batch) → OrGivesUp (IsFoundAt a algorithm batches n s) r)
-      → WhereTold o m (λ before after. OrGivesUp (IsFoundOf algorithm (before.batches id) n (Some s)) r)
+  pub told_at_header : (o m : Option Lists) → WhereTold o m (λ before after. a ≡ header_answer (before.batches id) s n) → ((batches : List Batch) → OrGivesUp (IsFoundAt a algorithm era batches n s) r)
+      → WhereTold o m (λ before after. OrGivesUp (IsFoundOf algorithm era (before.batches id) n (Some s)) r)
   told_at_header o m answered by =
-      told_of o m (λ lists. a ≡ answer (lists.batches id) names.Header ours) (λ before after. OrGivesUp (IsFoundOf algorithm (before.batches id) n (Some s)) r) answered
-      (λ before after so. by_answer (before.batches id) so (by (before.batches id)))
+      told_map o m _ _ answered (λ before after so. by_answer (before.batches id) so (by (before.batches id)))
 
   -- and others were asked then
-  pub told_behind_header : (o m z : Option Lists) → (is_some m ≡ false → is_some z ≡ false) → WhereTold o m Keeps → IfSome o (λ lists. a ≡ answer (lists.batches id) names.Header ours)
-      → WhereTold m z (λ before after. OrGivesUp (IsFoundAt a algorithm (before.batches id) n s) r) → WhereTold o z (λ before after. OrGivesUp (IsFoundOf algorithm (before.batches id) n (Some s)) r)
+  pub told_behind_header : (o m z : Option Lists) → (is_some m ≡ false → is_some z ≡ false) → WhereTold o m Keeps → WhereTold o m (λ before after. a ≡ header_answer (before.batches id) s n)
+      → WhereTold m z (λ before after. OrGivesUp (IsFoundAt a algorithm era (before.batches id) n s) r) → WhereTold o z (λ before after. OrGivesUp (IsFoundOf algorithm era (before.batches id) n (Some s)) r)
   told_behind_header o m z stays keeps answered next =
-      told_behind id (λ batches. a ≡ answer batches names.Header ours) (λ batches. OrGivesUp (IsFoundAt a algorithm batches n s) r) (λ batches. OrGivesUp (IsFoundOf algorithm batches n (Some s)) r) o m z
-      stays keeps (told_of o m (λ lists. a ≡ answer (lists.batches id) names.Header ours) (λ before after. a ≡ answer (before.batches id) names.Header ours) answered (λ before after so. so)) next by_answer
+      told_behind id (λ batches. a ≡ header_answer batches s n) (λ batches. OrGivesUp (IsFoundAt a algorithm era batches n s) r) (λ batches. OrGivesUp (IsFoundOf algorithm era batches n (Some s)) r) o m z
+      stays keeps answered next by_answer
 
 -- ---- the tiles
 
 -- the tiles before the first one that ends behind the last granule
 pub few_granules : (s : History) (n : ℕ) → n ≤ first_past (layout s) → first_granule (layout s) n ≤ max_granules
 few_granules s n few = (let past = tile_begins (layout s) max_granules in let up = ascends (layout s) n (first_past (layout s)) few in omega (arith, past, up))
-
-module _ (algorithm : Algorithm) (batches : List Batch) (n : ℕ) (s : History) (has : has_chains algorithm (layout s) n ≡ true) (few : n ≤ first_past (layout s)) where
-  within : nat_le (first_granule (layout s) n) max_granules ≡ true
-  within = (let most = few_granules s n few in grind (arith, nat_tests, most))
-
-  tested : (found : Result Analysis AnalyseFail) → IsFoundBy algorithm batches n s found → IsFoundWith (has_chains algorithm (layout s) n) algorithm batches n s found
-  tested found is = rw (has, within) is
-
-  pub found_with_chains : (r : Result Analysis AnalyseFail) → OrGivesUp (IsFoundBy algorithm batches n s) r → OrGivesUp (IsFoundWith (has_chains algorithm (layout s) n) algorithm batches n s) r
-  found_with_chains r is = or_gives_up (IsFoundBy algorithm batches n s) (IsFoundWith (has_chains algorithm (layout s) n) algorithm batches n s) r tested is
 
 past_last : (s : History) (n : ℕ) → first_past (layout s) < n → nat_le (first_granule (layout s) n) max_granules ≡ false
 past_last s n past =
@@ -105,10 +88,25 @@ past_last s n past =
     let more : max_granules < first_granule (layout s) n = omega (arith, ends, behind) in
     grind (arith, nat_tests, more)
 
-abbrev missing : ℕ → Result Analysis AnalyseFail
-missing tile = Err (fails.SealMissing (names.Cum tile))
+-- by the era, by the chains, and by the end of the tiles
+module _ (algorithm : Algorithm) (era : Option ℕ) (batches : List Batch) (n : ℕ) (s : History) where
+  abbrev IsFoundHere : Result Analysis AnalyseFail → Type 0
+  IsFoundHere found = IsFoundIn (has_era era s) algorithm era batches n s found
 
--- tiles that end behind the last granule
-pub found_past : (algorithm : Algorithm) (batches : List Batch) (n past : ℕ) (s : History) → has_chains algorithm (layout s) n ≡ true → past ≡ first_past (layout s) → past < n
-    → OrGivesUp (IsFoundWith (has_chains algorithm (layout s) n) algorithm batches n s) (Err (fails.SealMissing (names.Cum past)))
-found_past algorithm batches n past s has is less = (let behind = past_last s n (omega (arith, is, less)) in rw (has, behind) (ap missing is))
+  pub found_eraless : has_era era s ≡ false → IsFoundHere (Err fails.NoEra)
+  found_eraless lacks = rw lacks refl
+
+  pub found_chainless : has_era era s ≡ true → has_chains algorithm era s n ≡ false → IsFoundHere (Err fails.NotSealedSo)
+  found_chainless there_it lacks = rw (there_it, lacks) refl
+
+  pub found_past : (past : ℕ) → has_era era s ≡ true → has_chains algorithm era s n ≡ true → past ≡ first_past (layout s) → past < n → IsFoundHere (Err (fails.SealMissing (names.Cum past)))
+  found_past past there_it has is less = (let behind = past_last s n (omega (arith, is, less)) in rw (there_it, has, behind) (ap missing is))
+    where
+      missing : ℕ → Result Analysis AnalyseFail
+      missing tile = Err (fails.SealMissing (names.Cum tile))
+
+  pub found_within : has_era era s ≡ true → has_chains algorithm era s n ≡ true → n ≤ first_past (layout s) → (r : Result Analysis AnalyseFail) → OrGivesUp (IsFoundBy algorithm era batches n s) r → OrGivesUp IsFoundHere r
+  found_within there_it has few r is = or_gives_up (IsFoundBy algorithm era batches n s) IsFoundHere r (λ found by. rw (there_it, has, within) by) is
+    where
+      within : nat_le (first_granule (layout s) n) max_granules ≡ true
+      within = (let most = few_granules s n few in grind (arith, nat_tests, most))

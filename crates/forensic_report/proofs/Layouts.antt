@@ -1,21 +1,23 @@
 -- Where granules lie: all that the proofs use of tiles.
-use Rattle.std.proofs.Common.{◌≡◌, inl, inr, ℕ, zero, suc, ◌+◌, ◌-◌, ◌<◌, ◌≤◌, Bool, true, false, List, [], ◌∷◌, refl, sym, ap, subst, ◌∙◌, arith}
-use Rattle.std.specs.Prelude.{◌&&◌, min, max}
+use Rattle.std.proofs.Common.{◌≡◌, ℕ, zero, suc, ◌+◌, ◌-◌, ◌<◌, ◌≤◌, Bool, true, false, List, [], ◌∷◌, Option, Some, None, refl, sym, ap, subst, ◌∙◌, arith}
+use Rattle.std.specs.Prelude.{nat_eq, filter}
 use Rattle.std.specs.List.{Contains, list_all, range_with_len}
-use Rattle.std.proofs.lemmas.Bool.{cases_lt, cases_Bool}
+use Rattle.tuple_bytes.specs.declared.header.Header.{Header}
 use Rattle.history_model.specs.History.{History}
-use Rattle.digest_model.specs.Layout.{Layout, layout, SameTile, SameTiles, tile_size, first_granule, tile_of, max_granules, has_tile_chains, has_tree}
+use Rattle.digest_model.specs.Layout.{Layout, layout, layout_by, first_era, SameTile, SameTiles, tile_size, first_granule, tile_of, max_granules, has_tile_chains, has_tree}
 use Rattle.digest_model.proofs.Layouts as layouts
-use Rattle.digest_model.proofs.Lists.{one_of, none_of, in_range}
+use Rattle.digest_model.proofs.Members.{here, there}
 use Rattle.notary_link.specs.Batches.{Batch}
-use Rattle.audit_model.specs.Laws.{IsAudit, HasTree}
-use Rattle.a3d_forensics.specs.Descent.{tiles_have_tree}
-use Rattle.a3d_forensics.proofs.Trees.{each_has_tree}
+use Rattle.audit_model.specs.Altered.{HasPlacesOf, IsAltered}
+use Rattle.audit_model.specs.Laws.{IsAudit}
+use Rattle.audit_model.specs.Ranges.{is_of, range_of, range_has}
+use Rattle.a3d_forensics.proofs.Ranges.{in_range_of, of_all, each_has}
 use Rattle.forensic_report.specs.declared.algorithm.Algorithm.{Algorithm}
 use Rattle.forensic_report.specs.declared.algorithm.Algorithm.TheVariants.{Mono, Tiled, TiledExactly, A3d}
-use Rattle.policy_eras.specs.Policy.{first_past}
-use Rattle.forensic_report.specs.declared.fail.AnalyseFail.TheVariants.{NotSealedSo}
-use Rattle.forensic_report.specs.Finding.{range_of, tile_has, has_chains, IsOfAnalysis}
+use Rattle.forensic_report.specs.declared.fail.AnalyseFail.TheVariants.{NoEra, NotSealedSo}
+use Rattle.forensic_report.specs.Finding.{tile_has, has_era, has_chains, IsOfAnalysis}
+use Rattle.forensic_report.specs.Laws.{RangesAreShared}
+use Rattle.forensic_report.specs.Shows.{IsAlteredWithin}
 
 -- the number of a granule within its tile
 unfoldable pub number_of : Layout → ℕ → ℕ
@@ -30,6 +32,10 @@ pub number_below : (l : Layout) (g : ℕ) → number_of l g < tile_size l (tile_
 unfolding number_of
 number_below l g = (let from = layouts.tile_begins l g in let below = layouts.tile_ends l g in omega (arith, from, below))
 
+-- and the granule of a number of a tile lies there
+pub tile_of_number : (l : Layout) (tile number : ℕ) → number < tile_size l tile → tile_of l (first_granule l tile + number) ≡ tile
+tile_of_number l tile number below = layouts.only_tile l tile (first_granule l tile + number) (omega arith) (omega (arith, below))
+
 -- a tile has a granule
 pub some_granule : (l : Layout) (tile : ℕ) → 0 < tile_size l tile
 some_granule l tile = layouts.some l tile
@@ -41,121 +47,123 @@ tile_sealed l n g inside = layouts.tile_within l n (tile_of l g) g (layouts.tile
 pub granule_sealed : (l : Layout) (n tile number : ℕ) → tile < n → number < tile_size l tile → first_granule l tile + number < first_granule l n
 granule_sealed l n tile number inside below = (let ends = layouts.ends_within l n tile inside in omega (arith, ends, below))
 
+-- a granule whose tile is sealed is sealed
+pub sealed_with_tile : (l : Layout) (n g : ℕ) → tile_of l g < n → g < first_granule l n
+sealed_with_tile l n g inside = (let ends = layouts.ends_within l n (tile_of l g) inside in let own = layouts.tile_ends l g in omega (arith, ends, own))
+
 -- ---- the range
 
--- each sealed tile has the chains of its parts
-abbrev pub HaveTileChains : History → ℕ → Type 0
-HaveTileChains h n = (tile : ℕ) → tile < n → has_tile_chains (layout h) tile ≡ true
+same_filter : (p q : ℕ → Bool) (a n : ℕ) → ((tile : ℕ) → tile < a + n → p tile ≡ q tile) → filter p (range_with_len a n) ≡ filter q (range_with_len a n)
+same_filter p q a zero each = refl
+same_filter p q a (suc n) each =
+    let first = each a (omega arith) in
+    let rest = same_filter p q (a + 1) n (λ tile below. each tile (omega (arith, below))) in
+    rw (first, rest) refl
 
--- so few granules end before the first tile that is never sealed
-pub sealed_before : (l : Layout) (n : ℕ) → first_granule l n ≤ max_granules → n ≤ first_past l
-sealed_before l n small = elim (cases_lt (first_past l) n) [
-  | inl past ↦ absurd (let ends = layouts.tile_ends l max_granules in let behind = layouts.ends_within l n (first_past l) past in omega (arith, ends, behind, small))
-  | inr few ↦ few
-]
+same_is_of : (era : Option ℕ) (l m : Layout) (n tile : ℕ) → SameTiles n l m → tile < n → is_of era l tile ≡ is_of era m tile
+same_is_of None l m n tile same below = refl
+same_is_of (Some number) l m n tile same below = ap (λ (e : ℕ). nat_eq e number) (layouts.same_era_of l m n tile below same)
 
--- it has each tile that is sealed
-module _ (l : Layout) (n : ℕ) where
-  sealed_in_range : first_granule l n ≤ max_granules → (tile : ℕ) → tile < n → Contains (range_of l n) tile
-  unfolding range_of
-  sealed_in_range small tile below = (let few = sealed_before l n small in in_range 0 (max 1 (min n (first_past l))) tile (omega arith) (omega (arith, few, below)))
+-- tiles that lie alike have the same range
+pub same_range : (era : Option ℕ) (l m : Layout) (n : ℕ) → SameTiles n l m → range_of era l n ≡ range_of era m n
+unfolding range_of
+same_range era l m n same = same_filter (is_of era l) (is_of era m) 0 n (λ tile below. same_is_of era l m n tile same (omega (arith, below)))
 
-  -- and no others
-  range_is : first_granule l n ≤ max_granules → range_of l n ≡ range_with_len 0 (max 1 n)
-  unfolding range_of
-  range_is small = (let few = sealed_before l n small in let same : max 1 (min n (first_past l)) ≡ max 1 n = omega (arith, few) in ap (range_with_len 0) same)
+-- each altered granule is one of all tiles
+pub within_all : (h : History) (s : Option History) (n g : ℕ) → IsAltered h s n g → IsAlteredWithin None h s n g
+within_all h s n g alt = record { altered = alt; inside = of_all (layout h) n (tile_of (layout h) g) (tile_sealed (layout h) n g alt.is_sealed) }
+
+-- and an altered granule of a tile of the range is one of the range
+pub within_tile : (era : Option ℕ) (h : History) (s : Option History) (n tile number : ℕ) → Contains (range_of era (layout h) n) tile → number < tile_size (layout h) tile
+    → IsAltered h s n (first_granule (layout h) tile + number) → IsAlteredWithin era h s n (first_granule (layout h) tile + number)
+within_tile era h s n tile number among below alt = record {
+  altered = alt;
+  inside = subst (λ (t : ℕ). Contains (range_of era (layout h) n) t) (sym (tile_of_number (layout h) tile number below)) among;
+}
 
 -- ---- tests of tiles
 
-both_hold : (a b : Bool) → (a && b) ≡ true → (a ≡ true) × (b ≡ true)
-both_hold true b e = (refl, e)
-both_hold false b e = absurd cc
-
-pub passes : (p : ℕ → Bool) (xs : List ℕ) (x : ℕ) → list_all p xs ≡ true → Contains xs x → p x ≡ true
-passes p [] x all is = absurd (none_of x is)
-passes p (y ∷ ys) x all is =
-    let both = both_hold (p y) (list_all p ys) all in
-    elim (one_of y x ys is) [
-      | inl same ↦ subst (λ (z : ℕ). p z ≡ true) same both.0
-      | inr more ↦ passes p ys x both.1 more
-    ]
-
-pub one_fails : (p : ℕ → Bool) (xs : List ℕ) (x : ℕ) → Contains xs x → p x ≡ false → list_all p xs ≡ false
-one_fails p xs x is no_it = elim (cases_Bool (list_all p xs)) [
-  | inl all ↦ absurd (let yes_it = passes p xs x all is in let both : true ≡ false = sym yes_it ∙ no_it in cc)
-  | inr none ↦ none
-]
-
-pub all_pass : (p : ℕ → Bool) (a n : ℕ) → ((tile : ℕ) → tile < a + n → p tile ≡ true) → list_all p (range_with_len a n) ≡ true
-all_pass p a zero each = refl
-all_pass p a (suc n) each =
-    let first = each a (omega arith) in
-    let rest = all_pass p (a + 1) n (λ tile below. each tile (omega (arith, below))) in
+all_pass : (p : ℕ → Bool) (xs : List ℕ) → ((x : ℕ) → Contains xs x → p x ≡ true) → list_all p xs ≡ true
+all_pass p [] each = refl
+all_pass p (x ∷ xs) each =
+    let first = each x (here x xs) in
+    let rest = all_pass p xs (λ y is. each y (there x y xs is)) in
     rw (first, rest) refl
 
-pub one_more_passes : (p : ℕ → Bool) (n : ℕ) → ((tile : ℕ) → tile < n → p tile ≡ true) → p n ≡ true → (tile : ℕ) → tile < n + 1 → p tile ≡ true
-one_more_passes p n before one tile below = elim (cases_lt tile n) [
-  | inl low ↦ before tile low
-  | inr high ↦ (let same : n ≡ tile = omega (arith, high, below) in subst (λ (t : ℕ). p t ≡ true) same one)
-]
+all_alike : (p q : ℕ → Bool) (xs : List ℕ) → ((x : ℕ) → Contains xs x → p x ≡ q x) → list_all p xs ≡ list_all q xs
+all_alike p q [] each = refl
+all_alike p q (x ∷ xs) each =
+    let first = each x (here x xs) in
+    let rest = all_alike p q xs (λ y is. each y (there x y xs is)) in
+    rw (first, rest) refl
 
--- each tile has the chain over all
-mono_has : (l : Layout) (n : ℕ) → has_chains Mono l n ≡ true
-unfolding range_of
-mono_has l n = all_pass (tile_has Mono l) 0 (max 1 (min n (first_past l))) (λ tile below. refl)
+-- ---- of the range
+
+-- each tile has the chain over all, and so has the header
+pub mono_has : (era : Option ℕ) (s : History) (n : ℕ) → has_chains Mono era s n ≡ true
+unfolding range_has
+mono_has None s zero = refl
+mono_has None s (suc n) = all_pass (tile_has Mono (layout s)) (range_of None (layout s) (suc n)) (λ tile among. refl)
+mono_has (Some era) s n = all_pass (tile_has Mono (layout s)) (range_of (Some era) (layout s) n) (λ tile among. refl)
 
 -- so it is another algorithm that lacks its chains
-pub lacking_refuses : (algorithm : Algorithm) (l : Layout) (n : ℕ) → has_chains algorithm l n ≡ false → IsOfAnalysis algorithm NotSealedSo
-lacking_refuses Mono l n lacks = absurd (let all = mono_has l n in let both : true ≡ false = sym all ∙ lacks in cc)
-lacking_refuses Tiled l n lacks = tt
-lacking_refuses (TiledExactly kappa) l n lacks = tt
-lacking_refuses A3d l n lacks = tt
+pub lacking_refuses : (algorithm : Algorithm) (era : Option ℕ) (s : History) (n : ℕ) → has_chains algorithm era s n ≡ false → IsOfAnalysis algorithm era NotSealedSo
+lacking_refuses Mono era s n lacks = absurd (let all = mono_has era s n in let both : true ≡ false = sym all ∙ lacks in cc)
+lacking_refuses Tiled era s n lacks = tt
+lacking_refuses (TiledExactly kappa) era s n lacks = tt
+lacking_refuses A3d era s n lacks = tt
 
--- each sealed tile has the chains that are asked for
-pub tile_has_chains : (s : History) (n : ℕ) → first_granule (layout s) n ≤ max_granules → has_chains Tiled (layout s) n ≡ true → HaveTileChains s n
-tile_has_chains s n small has tile below = passes (has_tile_chains (layout s)) (range_of (layout s) n) tile has (sealed_in_range (layout s) n small tile below)
-
--- for the descent they are the tiles that it asks of
-pub range_has_tree : (s : History) (n : ℕ) → first_granule (layout s) n ≤ max_granules → has_chains A3d (layout s) n ≡ true → tiles_have_tree (layout s) n ≡ true
-unfolding tiles_have_tree
-range_has_tree s n small has = sym (ap (list_all (has_tree (layout s))) (range_is (layout s) n small)) ∙ has
-
-pub tile_has_tree : (s : History) (n : ℕ) → first_granule (layout s) n ≤ max_granules → has_chains A3d (layout s) n ≡ true → HasTree s n
-tile_has_tree s n small has = each_has_tree s n (range_has_tree s n small has)
+-- and an era that is not there was named
+pub eraless_refuses : (algorithm : Algorithm) (era : Option ℕ) (s : History) → has_era era s ≡ false → IsOfAnalysis algorithm era NoEra
+eraless_refuses algorithm None s lacks = absurd cc
+eraless_refuses algorithm (Some era) s lacks = tt
 
 -- ---- of a file with the sealed tiles of what was filed
 
-all_alike : (p q : ℕ → Bool) (a n : ℕ) → ((tile : ℕ) → tile < a + n → p tile ≡ q tile) → list_all p (range_with_len a n) ≡ list_all q (range_with_len a n)
-all_alike p q a zero each = refl
-all_alike p q a (suc n) each =
-    let first = each a (omega arith) in
-    let rest = all_alike p q (a + 1) n (λ tile below. each tile (omega (arith, below))) in
-    rw (first, rest) refl
+range_alike : (has : Layout → ℕ → Bool) (era : Option ℕ) (h s : History) (n : ℕ) → HasPlacesOf h s n
+    → ((tile : ℕ) → SameTile (layout h) (layout s) tile → has (layout h) tile ≡ has (layout s) tile) → range_has has era h n ≡ range_has has era s n
+unfolding range_has
+range_alike has era h s n one alike = by era n one.tiles
+  where
+    core : (era : Option ℕ) (n : ℕ) → SameTiles n (layout h) (layout s) → list_all (has (layout h)) (range_of era (layout h) n) ≡ list_all (has (layout s)) (range_of era (layout s) n)
+    core era n same =
+        all_alike (has (layout h)) (has (layout s)) (range_of era (layout h) n) (λ tile among. alike tile (same tile (in_range_of (layout h) era n tile among)))
+        ∙ ap (list_all (has (layout s))) (same_range era (layout h) (layout s) n same)
+
+    by : (era : Option ℕ) (n : ℕ) → SameTiles n (layout h) (layout s) → range_has has era h n ≡ range_has has era s n
+    by None zero same = ap (λ (header : Header). has (layout_by (first_era header)) 0) one.header
+    by None (suc n) same = core None (suc n) same
+    by (Some era) n same = core (Some era) n same
+
+one_so : (l m : Layout) (algorithm : Algorithm) (tile : ℕ) → SameTile l m tile → tile_has algorithm l tile ≡ tile_has algorithm m tile
+one_so l m Mono tile same = refl
+one_so l m Tiled tile same = layouts.same_chains l m tile same
+one_so l m (TiledExactly kappa) tile same = layouts.same_chains l m tile same
+one_so l m A3d tile same = layouts.same_tree l m tile same
+
+same_chains : (algorithm : Algorithm) (h s : History) (era : Option ℕ) (n : ℕ) → HasPlacesOf h s n → has_chains algorithm era h n ≡ has_chains algorithm era s n
+same_chains algorithm h s era n one = range_alike (tile_has algorithm) era h s n one (λ tile same. one_so (layout h) (layout s) algorithm tile same)
+
+pub ranges_shared : RangesAreShared
+ranges_shared = record { tiles = λ h s era n one. same_range era (layout h) (layout s) n one.tiles; chains = same_chains }
 
 module _ (batches : List Batch) (id : ℕ) (h s : History) (n : ℕ) (audit : IsAudit batches id h s n) where
+  pub places_of : HasPlacesOf h s n
+  places_of = record { header = audit.header; tiles = audit.places }
+
   pub ends_within : first_granule (layout s) n ≤ max_granules
   ends_within = subst (λ (end : ℕ). end ≤ max_granules) (layouts.same_begins (layout h) (layout s) n audit.places) audit.filed.within
 
-  pub chains_of_audit : has_chains Tiled (layout s) n ≡ true → HaveTileChains h n
-  chains_of_audit has tile below = layouts.same_chains (layout h) (layout s) tile (audit.places tile below) ∙ tile_has_chains s n ends_within has tile below
+  -- both have the same range
+  pub range_of_audit : (era : Option ℕ) → range_of era (layout h) n ≡ range_of era (layout s) n
+  range_of_audit era = same_range era (layout h) (layout s) n audit.places
 
-  pub tree_of_audit : has_chains A3d (layout s) n ≡ true → HasTree h n
-  tree_of_audit has tile below = layouts.same_tree (layout h) (layout s) tile (audit.places tile below) ∙ tile_has_tree s n ends_within has tile below
+  -- so both have the chains that are asked for, or neither has
+  pub same_has : (algorithm : Algorithm) (era : Option ℕ) → has_chains algorithm era h n ≡ has_chains algorithm era s n
+  same_has algorithm era = same_chains algorithm h s era n places_of
 
-  -- where no tile is sealed, the first one lies as the header says
-  range_alike : (m : ℕ) → n ≡ m → SameTiles (max 1 n) (layout h) (layout s)
-  range_alike zero none tile below = layouts.header_alike h s audit.header (max 1 n) tile below
-  range_alike (suc m) some tile below = audit.places tile (omega (arith, some, below))
+  pub chains_of_audit : (era : Option ℕ) (tile : ℕ) → has_chains Tiled era s n ≡ true → Contains (range_of era (layout h) n) tile → has_tile_chains (layout h) tile ≡ true
+  chains_of_audit era tile has among = each_has (tile_has Tiled) era h n tile (same_has Tiled era ∙ has) among
 
-  one_so : (algorithm : Algorithm) (tile : ℕ) → SameTile (layout h) (layout s) tile → tile_has algorithm (layout h) tile ≡ tile_has algorithm (layout s) tile
-  one_so Mono tile same = refl
-  one_so Tiled tile same = layouts.same_chains (layout h) (layout s) tile same
-  one_so (TiledExactly kappa) tile same = layouts.same_chains (layout h) (layout s) tile same
-  one_so A3d tile same = layouts.same_tree (layout h) (layout s) tile same
-
-  -- so both ranges have the chains that are asked for, or neither has
-  pub same_has : (algorithm : Algorithm) → has_chains algorithm (layout h) n ≡ has_chains algorithm (layout s) n
-  same_has algorithm =
-      ap (list_all (tile_has algorithm (layout h))) (range_is (layout h) n audit.filed.within)
-      ∙ all_alike (tile_has algorithm (layout h)) (tile_has algorithm (layout s)) 0 (max 1 n) (λ tile below. one_so algorithm tile (range_alike n refl tile (omega (arith, below))))
-      ∙ ap (list_all (tile_has algorithm (layout s))) (sym (range_is (layout s) n ends_within))
+  pub tree_of_audit : (era : Option ℕ) → has_chains A3d era s n ≡ true → range_has has_tree era h n ≡ true
+  tree_of_audit era has = same_has A3d era ∙ has

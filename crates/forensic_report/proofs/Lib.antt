@@ -27,3 +27,5 @@ pub mod Putting
 pub mod BytesRead
 pub mod Shifted
 pub mod Whole
+pub mod Questions
+pub mod Searches

@@ -2,27 +2,26 @@
 use Rattle.std.proofs.Common.{◌≡◌, ℕ, false, List, [], ◌∷◌, map, Option, Some, None, Ok, Err, refl, ap, ◌∙◌, inl, inr}
 use Rattle.std.specs.List.{Contains, cons_option, filter_map}
 use Rattle.notary_link.specs.declared.fail.AskFail.{AskFail}
-use Rattle.digest_model.specs.Layout.{Layout}
 use Rattle.digest_model.proofs.Members.{here, there}
 use Rattle.digest_model.proofs.Lists.{one_of, none_of}
 use Rattle.audit_model.specs.Asked.{unless_stopped}
 use Rattle.forensic_report.specs.declared.fail.AnalyseFail.{AnalyseFail}
-use Rattle.forensic_report.specs.Analysis.{Findings, Analysis, Found, is_some_bad}
+use Rattle.forensic_report.specs.Analysis.{Extent, Findings, Analysis, Found, is_some_bad}
 use Rattle.forensic_report.specs.Finding.{analysis_by}
 
 -- ---- stops
 
 -- what was found was not stopped
-pub unstopped : {A : Type 0} (findings : A → Findings) (l : Layout) (n : ℕ) (stop : Option AskFail) (found : A) (a : Analysis)
-    → Ok a ≡ analysis_by findings l n (unless_stopped stop found) → (stop ≡ None) × (a ≡ Found l n (findings found))
-unstopped findings l n None found a is = (refl, cc)
-unstopped findings l n (Some fail) found a is = absurd cc
+pub unstopped : {A : Type 0} (findings : A → Findings) (extent : Extent) (stop : Option AskFail) (found : A) (a : Analysis)
+    → Ok a ≡ analysis_by findings extent (unless_stopped stop found) → (stop ≡ None) × (a ≡ Found extent (findings found))
+unstopped findings extent None found a is = (refl, cc)
+unstopped findings extent (Some fail) found a is = absurd cc
 
 -- where nothing stopped it, it isn't refused
-pub ended : {A : Type 0} (findings : A → Findings) (l : Layout) (n : ℕ) (stop : Option AskFail) (found : A) (fail : AnalyseFail)
-    → stop ≡ None → Err fail ≡ analysis_by findings l n (unless_stopped stop found) → ⊥
-ended findings l n None found fail none is = cc
-ended findings l n (Some cause) found fail none is = cc
+pub ended : {A : Type 0} (findings : A → Findings) (extent : Extent) (stop : Option AskFail) (found : A) (fail : AnalyseFail)
+    → stop ≡ None → Err fail ≡ analysis_by findings extent (unless_stopped stop found) → ⊥
+ended findings extent None found fail none is = cc
+ended findings extent (Some cause) found fail none is = cc
 
 -- ---- lists of what is there
 

@@ -1,8 +1,8 @@
 -- What a region shows.
-use Rattle.std.proofs.Common.{◌≡◌, ◌⊎◌, inl, inr, ℕ, zero, suc, ◌+◌, ◌-◌, ◌<◌, ◌≤◌, true, false, List, Option, Some, None, Ok, refl, sym, subst, ◌∙◌, arith}
+use Rattle.std.proofs.Common.{◌≡◌, ◌⊎◌, inl, inr, ℕ, zero, suc, ◌+◌, ◌-◌, ◌<◌, ◌≤◌, true, false, List, Option, Some, None, Ok, refl, sym, ap, subst, ◌∙◌, arith}
 use Rattle.std.specs.List.{range_with_len}
 use Rattle.history_model.specs.History.{History}
-use Rattle.digest_model.specs.Layout.{Layout, layout, first_granule}
+use Rattle.digest_model.specs.Layout.{layout, first_granule}
 use Rattle.digest_model.proofs.Layouts.{same_first}
 use Rattle.notary_link.specs.declared.answer.Answer.{Answer}
 use Rattle.notary_link.specs.Batches.{Batch}
@@ -14,26 +14,26 @@ use Rattle.audit_model.proofs.Region.{region_has}
 use Rattle.audit_model.proofs.Exact.{changed_altered, begins_altered}
 use Rattle.audit_model.specs.Notary.{cums}
 use Rattle.forensic_report.specs.declared.algorithm.Algorithm.TheVariants.{Mono}
-use Rattle.forensic_report.specs.Analysis.{Analysis, Region, Targets, Leaves, Unsealed, HeaderAltered, Found, is_some_bad, bad_tiles}
-use Rattle.forensic_report.specs.Finding.{IsRegion}
-use Rattle.forensic_report.specs.Shows.{AreAltered, BeginsAltered, NamesIn, Shows}
-use Rattle.forensic_report.proofs.Layouts.{some_granule, granule_sealed}
+use Rattle.forensic_report.specs.Analysis.{Extent, Analysis, Region, Targets, Leaves, Unsealed, HeaderAltered, Found, is_some_bad, bad_tiles}
+use Rattle.forensic_report.specs.Finding.{extent_of, IsRegion}
+use Rattle.forensic_report.specs.Shows.{IsAlteredWithin, AreAltered, BeginsAltered, NamesIn, Shows}
+use Rattle.forensic_report.proofs.Layouts.{some_granule, granule_sealed, within_all}
 use Rattle.forensic_report.proofs.Headers.{IsPassed, own_shows, passed_shows}
 
 -- ---- what was found
 
 -- it is a region of these tiles
-record IsRegionOf (chain : ℕ → Answer) (l : Layout) (n : ℕ) (a : Analysis) : Type 0 where
+record IsRegionOf (chain : ℕ → Answer) (extent : Extent) (a : Analysis) : Type 0 where
   pub region : Option ℕ
-  pub is : a ≡ Found l n (Region region)
-  pub begins : BeginsRegion chain n region
+  pub is : a ≡ Found extent (Region region)
+  pub begins : BeginsRegion chain extent.tiles region
 
-region_of : (chain : ℕ → Answer) (l : Layout) (n : ℕ) (a : Analysis) → IsRegion chain l n (Ok a) → IsRegionOf chain l n a
-region_of chain l n (Found m tiles (Region region)) is = record { region = region; is = (let places = is.0 in let many = is.1 in cc); begins = is.2 }
-region_of chain l n (Found m tiles (Targets targets)) is = absurd is
-region_of chain l n (Found m tiles (Leaves granules checks)) is = absurd is
-region_of chain l n Unsealed is = absurd is
-region_of chain l n (HeaderAltered tiles) is = absurd is
+region_of : (chain : ℕ → Answer) (extent : Extent) (a : Analysis) → IsRegion chain extent (Ok a) → IsRegionOf chain extent a
+region_of chain extent (Found found (Region region)) is = record { region = region; is = ap (λ (e : Extent). Found e (Region region)) is.0; begins = is.1 }
+region_of chain extent (Found found (Targets targets)) is = absurd is
+region_of chain extent (Found found (Leaves granules checks)) is = absurd is
+region_of chain extent (Unsealed era) is = absurd is
+region_of chain extent (HeaderAltered tiles) is = absurd is
 
 first_bad : (chain : ℕ → Answer) (n first : ℕ) → BeginsRegion chain n (Some first) → IsFirstBad chain n first
 first_bad chain zero first is = absurd cc
@@ -42,13 +42,14 @@ first_bad chain (suc last) first is = is.1
 bad_from : (first n : ℕ) → first < n → is_some_bad (range_with_len first (n - first)) ≡ true
 bad_from first n below = (let many : n - first ≡ suc (n - first - 1) = omega arith in rw many refl)
 
--- ---- under the header that was filed
+-- ---- under the header and the eras that were filed
 
 -- where the chain differs at the end of the last tile, something is altered
-changed : (batches : List Batch) (id : ℕ) (h s : History) (n : ℕ) (region : Option ℕ) → IsAudit batches id h s n → BeginsRegion (cums batches s) n region → AreAltered h s n (Region region)
+changed : (batches : List Batch) (id : ℕ) (h s : History) (n : ℕ) (region : Option ℕ) → IsAudit batches id h s n → BeginsRegion (cums batches s) n region → AreAltered h s n (extent_of None s n) (Region region)
 changed batches id h s n None audit is = tt
 changed batches id h s zero (Some first) audit is = absurd cc
-changed batches id h s (suc last) (Some first) audit is = (let some = changed_altered batches id h s (suc last) last audit (omega arith) is.0 in (some.0, some.2))
+changed batches id h s (suc last) (Some first) audit is =
+    (let some = changed_altered batches id h s (suc last) last audit (omega arith) is.0 in (some.0, within_all h (Some s) (suc last) some.0 some.2))
 
 module _ (batches : List Batch) (id : ℕ) (h s : History) (n : ℕ) (audit : IsAudit batches id h s n) where
   named : (region : Option ℕ) → BeginsRegion (cums batches s) n region → (g : ℕ) → IsAltered h (Some s) n g
@@ -61,7 +62,7 @@ module _ (batches : List Batch) (id : ℕ) (h s : History) (n : ℕ) (audit : Is
         | inr clash ↦ inr clash
       ]
 
-  unaltered : (region : Option ℕ) → BeginsRegion (cums batches s) n region → is_some_bad (bad_tiles (layout s) n (Region region)) ≡ false
+  unaltered : (region : Option ℕ) → BeginsRegion (cums batches s) n region → is_some_bad (bad_tiles (extent_of None s n) (Region region)) ≡ false
       → (g : ℕ) → IsAltered h (Some s) n g → HashClash h (Some s) n
   unaltered None is none g alt = elim (named None is g alt) [ inl never ↦ absurd never | inr clash ↦ clash ]
   unaltered (Some first) is none g alt =
@@ -73,26 +74,28 @@ module _ (batches : List Batch) (id : ℕ) (h s : History) (n : ℕ) (audit : Is
   begins None is = tt
   begins (Some first) is = begins_altered batches id h s n first audit (first_bad (cums batches s) n first is)
 
-  region_own : (region : Option ℕ) → BeginsRegion (cums batches s) n region → Shows Mono batches h (Some s) n (Found (layout s) n (Region region))
+  region_own : (region : Option ℕ) → BeginsRegion (cums batches s) n region → Shows Mono batches h (Some s) n (Found (extent_of None s n) (Region region))
   region_own region is =
-      own_shows Mono batches id h s (layout s) n (Region region) audit (λ g alt promised. named region is g alt) (unaltered region is) (begins region is) (changed batches id h s n region audit is) tt
+      own_shows Mono None batches id h s n (Region region) audit (λ g alt promised. named region is g alt.altered) (λ none g alt. unaltered region is none g alt.altered) (begins region is)
+      (changed batches id h s n region audit is) tt
 
 -- ---- under any header that is answered the same
 
-all_altered : (chain : ℕ → Answer) (h s : History) (n : ℕ) (region : Option ℕ) → HasOtherHeader h (Some s) n → BeginsRegion chain n region → AreAltered h s n (Region region)
+all_altered : (chain : ℕ → Answer) (h s : History) (n : ℕ) (region : Option ℕ) → HasOtherHeader h (Some s) n → BeginsRegion chain n region → AreAltered h s n (extent_of None s n) (Region region)
 all_altered chain h s n None other is = tt
 all_altered chain h s n (Some first) other is =
     let bad = first_bad chain n first is in
-    (first_granule (layout h) first + 0, other_altered h (Some s) n (first_granule (layout h) first + 0) other (granule_sealed (layout h) n first 0 bad.within (some_granule (layout h) first)))
+    let first_one = first_granule (layout h) first + 0 in
+    (first_one, within_all h (Some s) n first_one (other_altered h (Some s) n first_one other (granule_sealed (layout h) n first 0 bad.within (some_granule (layout h) first))))
 
 region_shows : (batches : List Batch) (id : ℕ) (h s : History) (n : ℕ) (region : Option ℕ) → IsAudit batches id h s n ⊎ IsPassed h s n → BeginsRegion (cums batches s) n region
-    → Shows Mono batches h (Some s) n (Found (layout s) n (Region region))
+    → Shows Mono batches h (Some s) n (Found (extent_of None s n) (Region region))
 region_shows batches id h s n region (inl audit) is = region_own batches id h s n audit region is
 region_shows batches id h s n region (inr passed) is =
-    passed_shows Mono batches h s (layout s) n (Region region) passed (all_altered (cums batches s) h s n region passed.other is) tt
+    passed_shows Mono None batches h s n (Region region) passed (all_altered (cums batches s) h s n region passed.other is) tt
 
-pub mono_shows : (batches : List Batch) (id : ℕ) (h s : History) (n : ℕ) (a : Analysis) → IsAudit batches id h s n ⊎ IsPassed h s n → IsRegion (cums batches s) (layout s) n (Ok a)
+pub mono_shows : (batches : List Batch) (id : ℕ) (h s : History) (n : ℕ) (a : Analysis) → IsAudit batches id h s n ⊎ IsPassed h s n → IsRegion (cums batches s) (extent_of None s n) (Ok a)
     → Shows Mono batches h (Some s) n a
 mono_shows batches id h s n a header found =
-    let r = region_of (cums batches s) (layout s) n a found in
+    let r = region_of (cums batches s) (extent_of None s n) a found in
     subst (λ (x : Analysis). Shows Mono batches h (Some s) n x) (sym r.is) (region_shows batches id h s n r.region header r.begins)

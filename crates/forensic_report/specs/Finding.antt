@@ -1,9 +1,9 @@
 -- What an analysis finds by the answers for what is stored.
-use Rattle.std.specs.Prelude.{◌≡◌, ◌≢◌, ◌⊎◌, ◌<◌, ℕ, ◌-◌, min, max, nat_le, Bool, true, false, List, [], ◌∷◌, length, map, Option, Some, None, Result, Ok, Err}
-use Rattle.std.specs.List.{filter_map, list_all, range_with_len}
+use Rattle.std.specs.Prelude.{◌≡◌, ◌≢◌, ◌⊎◌, ◌<◌, ℕ, ◌-◌, nat_le, nat_lt, Bool, true, false, List, [], ◌∷◌, length, map, Option, Some, None, Result, Ok, Err}
+use Rattle.std.specs.List.{filter_map}
 use Rattle.history_model.specs.declared.stored.Stored.{Stored}
 use Rattle.history_model.specs.History.{History}
-use Rattle.digest_model.specs.Layout.{Layout, layout, first_granule, max_granules, has_tile_chains, has_tree}
+use Rattle.digest_model.specs.Layout.{Layout, layout, policy_of, first_granule, max_granules, has_tile_chains, has_tree}
 use Rattle.notary_link.specs.declared.answer.Answer.{Answer}
 use Rattle.notary_link.specs.declared.answer.Answer.TheVariants.{Same, Differs, Absent}
 use Rattle.notary_link.specs.declared.name.Name.TheVariants as names
@@ -13,24 +13,30 @@ use Rattle.audit_model.specs.Mono.{BeginsRegion}
 use Rattle.audit_model.specs.Notary.{header_answer, cums}
 use Rattle.audit_model.specs.Altered.{history_with}
 use Rattle.audit_model.specs.Asked.{first_stop, unless_stopped}
+use Rattle.audit_model.specs.Ranges.{range_of, range_has}
 use Rattle.tiled_forensics.specs.Target.{tile_told}
 use Rattle.a3d_forensics.specs.declared.found.A3dFound.{A3dFound}
 use Rattle.a3d_forensics.specs.Descent.{tree_told}
-use Rattle.policy_eras.specs.Policy.{first_past}
+use Rattle.policy_eras.specs.Policy.{first_past, count_of}
 use Rattle.forensic_report.specs.declared.algorithm.Algorithm.{Algorithm}
 use Rattle.forensic_report.specs.declared.algorithm.Algorithm.TheVariants.{Mono, Tiled, TiledExactly, A3d}
 use Rattle.forensic_report.specs.declared.fail.AnalyseFail.{AnalyseFail}
 use Rattle.forensic_report.specs.declared.fail.AnalyseFail.TheVariants as fails
 use Rattle.forensic_report.specs.Fails.{of_asking}
-use Rattle.forensic_report.specs.Analysis.{Findings, Analysis, Region, Targets, Leaves, Unsealed, HeaderAltered, Found, is_altered}
+use Rattle.forensic_report.specs.Analysis.{Extent, Findings, Analysis, Region, Targets, Leaves, Unsealed, HeaderAltered, Found, is_altered}
 
--- ---- by the algorithm, of n sealed tiles under the header that was filed
+-- ---- by the algorithm, of n sealed tiles under the header and the eras that were filed
+
+-- the tiles that are examined, of those of a history of which n are sealed
+abbrev pub extent_of : Option ℕ → History → ℕ → Extent
+extent_of era s n = record { layout = layout s; tiles = n; era = era }
 
 -- where the region begins, or the seal of a tile is missing
-abbrev pub IsRegion : (ℕ → Answer) → Layout → ℕ → Result Analysis AnalyseFail → Type 0
-IsRegion chain l n (Ok (Found m tiles (Region region))) = (m ≡ l) × (tiles ≡ n) × BeginsRegion chain n region
-IsRegion chain l n (Err (fails.SealMissing name)) = (tile : ℕ) × (tile < n) × (name ≡ names.Cum tile) × (chain tile ≡ Absent) × (chain (n - 1) ≢ Same)
-IsRegion chain l n found = ⊥
+abbrev pub IsRegion : (ℕ → Answer) → Extent → Result Analysis AnalyseFail → Type 0
+IsRegion chain extent (Ok (Found found (Region region))) = (found ≡ extent) × BeginsRegion chain extent.tiles region
+IsRegion chain extent (Err (fails.SealMissing name)) =
+    (tile : ℕ) × (tile < extent.tiles) × (name ≡ names.Cum tile) × (chain tile ≡ Absent) × (chain (extent.tiles - 1) ≢ Same)
+IsRegion chain extent found = ⊥
 
 -- what stops the analysis at a tile
 abbrev pub stop_told : {A : Type 0} → Result A AskFail → Option AskFail
@@ -42,28 +48,33 @@ abbrev pub failing : ℕ → Result (Option ℕ) AskFail → Option (ℕ × ℕ)
 failing tile (Ok (Some target)) = Some (tile, target)
 failing tile told = None
 
-abbrev pub analysis_by : {A : Type 0} → (A → Findings) → Layout → ℕ → Result A AskFail → Result Analysis AnalyseFail
-analysis_by findings l n (Ok told) = Ok (Found l n (findings told))
-analysis_by findings l n (Err fail) = Err (of_asking fail)
+abbrev pub analysis_by : {A : Type 0} → (A → Findings) → Extent → Result A AskFail → Result Analysis AnalyseFail
+analysis_by findings extent (Ok told) = Ok (Found extent (findings told))
+analysis_by findings extent (Err fail) = Err (of_asking fail)
 
--- the tiles that fail, one after another, unless one of them stops the analysis
-abbrev pub targets_told : List Batch → History → ℕ → Result (List (ℕ × ℕ)) AskFail
-targets_told batches s n =
-    unless_stopped (first_stop (map (λ tile. stop_told (tile_told batches s tile)) (range_with_len 0 n)))
-    (filter_map (λ tile. failing tile (tile_told batches s tile)) (range_with_len 0 n))
+-- of these tiles those that fail, one after another, unless one of them stops the analysis
+abbrev pub targets_told : List Batch → History → List ℕ → Result (List (ℕ × ℕ)) AskFail
+targets_told batches s tiles =
+    unless_stopped (first_stop (map (λ tile. stop_told (tile_told batches s tile)) tiles))
+    (filter_map (λ tile. failing tile (tile_told batches s tile)) tiles)
 
-abbrev pub IsFoundBy : Algorithm → List Batch → ℕ → History → Result Analysis AnalyseFail → Type 0
-IsFoundBy Mono batches n s found = IsRegion (cums batches s) (layout s) n found
-IsFoundBy Tiled batches n s found = found ≡ analysis_by Targets (layout s) n (targets_told batches s n)
-IsFoundBy (TiledExactly kappa) batches n s found = found ≡ analysis_by Targets (layout s) n (targets_told batches s n)
-IsFoundBy A3d batches n s found = found ≡ analysis_by (λ (f : A3dFound). Leaves f.granules f.checks) (layout s) n (tree_told batches s n)
+-- the tiles of the range that fail, with their targets
+abbrev pub IsTargets : Option ℕ → List Batch → ℕ → History → Result Analysis AnalyseFail → Type 0
+IsTargets era batches n s found = found ≡ analysis_by Targets (extent_of era s n) (targets_told batches s (range_of era (layout s) n))
+
+-- the chain over all tiles is that of no era
+abbrev pub IsFoundBy : Algorithm → Option ℕ → List Batch → ℕ → History → Result Analysis AnalyseFail → Type 0
+IsFoundBy Mono era batches n s found = IsRegion (cums batches s) (extent_of None s n) found
+IsFoundBy Tiled era batches n s found = IsTargets era batches n s found
+IsFoundBy (TiledExactly kappa) era batches n s found = IsTargets era batches n s found
+IsFoundBy A3d era batches n s found = found ≡ analysis_by (λ (f : A3dFound). Leaves f.granules f.checks) (extent_of era s n) (tree_told batches s era n)
 
 -- ---- before the algorithm is run
 
--- The range of an analysis: the sealed tiles, and where none is sealed the first tile, which is that of the header. No tile of
--- it ends behind the last granule, however many were filed.
-unfoldable pub range_of : Layout → ℕ → List ℕ
-range_of l n = range_with_len 0 (max 1 (min n (first_past l)))
+-- a history has an era of this number, where one is named
+abbrev pub has_era : Option ℕ → History → Bool
+has_era None s = true
+has_era (Some era) s = nat_lt era (count_of (policy_of s))
 
 -- a tile has the chains that the algorithm asks for
 abbrev pub tile_has : Algorithm → Layout → ℕ → Bool
@@ -72,38 +83,43 @@ tile_has Tiled l tile = has_tile_chains l tile
 tile_has (TiledExactly kappa) l tile = has_tile_chains l tile
 tile_has A3d l tile = has_tree l tile
 
--- so does each tile of the range
-abbrev pub has_chains : Algorithm → Layout → ℕ → Bool
-has_chains algorithm l n = list_all (tile_has algorithm l) (range_of l n)
+-- so does each tile of the range; the header does, where no tile is sealed and no era is named
+abbrev pub has_chains : Algorithm → Option ℕ → History → ℕ → Bool
+has_chains algorithm era s n = range_has (λ l tile. tile_has algorithm l tile) era s n
 
 -- tiles that end behind the last granule were never filed by this program
-abbrev pub IsFoundWithin : Bool → Algorithm → List Batch → ℕ → History → Result Analysis AnalyseFail → Type 0
-IsFoundWithin true algorithm batches n s found = IsFoundBy algorithm batches n s found
-IsFoundWithin false algorithm batches n s found = found ≡ Err (fails.SealMissing (names.Cum (first_past (layout s))))
+abbrev pub IsFoundWithin : Bool → Algorithm → Option ℕ → List Batch → ℕ → History → Result Analysis AnalyseFail → Type 0
+IsFoundWithin true algorithm era batches n s found = IsFoundBy algorithm era batches n s found
+IsFoundWithin false algorithm era batches n s found = found ≡ Err (fails.SealMissing (names.Cum (first_past (layout s))))
 
-abbrev pub IsFoundWith : Bool → Algorithm → List Batch → ℕ → History → Result Analysis AnalyseFail → Type 0
-IsFoundWith true algorithm batches n s found = IsFoundWithin (nat_le (first_granule (layout s) n) max_granules) algorithm batches n s found
-IsFoundWith false algorithm batches n s found = found ≡ Err fails.NotSealedSo
+abbrev pub IsFoundWith : Bool → Algorithm → Option ℕ → List Batch → ℕ → History → Result Analysis AnalyseFail → Type 0
+IsFoundWith true algorithm era batches n s found =
+    IsFoundWithin (nat_le (first_granule (layout s) n) max_granules) algorithm era batches n s found
+IsFoundWith false algorithm era batches n s found = found ≡ Err fails.NotSealedSo
 
--- by the answer for the header
-abbrev pub IsFoundAt : Answer → Algorithm → List Batch → ℕ → History → Result Analysis AnalyseFail → Type 0
-IsFoundAt Same algorithm batches n s found = IsFoundWith (has_chains algorithm (layout s) n) algorithm batches n s found
-IsFoundAt Differs algorithm batches n s found = found ≡ Ok (HeaderAltered n)
-IsFoundAt Absent algorithm batches n s found = found ≡ Err (fails.SealMissing names.Header)
+abbrev pub IsFoundIn : Bool → Algorithm → Option ℕ → List Batch → ℕ → History → Result Analysis AnalyseFail → Type 0
+IsFoundIn true algorithm era batches n s found = IsFoundWith (has_chains algorithm era s n) algorithm era batches n s found
+IsFoundIn false algorithm era batches n s found = found ≡ Err fails.NoEra
+
+-- by the answer for the header and the eras
+abbrev pub IsFoundAt : Answer → Algorithm → Option ℕ → List Batch → ℕ → History → Result Analysis AnalyseFail → Type 0
+IsFoundAt Same algorithm era batches n s found = IsFoundIn (has_era era s) algorithm era batches n s found
+IsFoundAt Differs algorithm era batches n s found = found ≡ Ok (HeaderAltered n)
+IsFoundAt Absent algorithm era batches n s found = found ≡ Err (fails.SealMissing names.Header)
 
 -- with n sealed tiles; where there is no such history, its header is altered
-abbrev pub IsFoundOf : Algorithm → List Batch → ℕ → Option History → Result Analysis AnalyseFail → Type 0
-IsFoundOf algorithm batches n None found = found ≡ Ok (HeaderAltered n)
-IsFoundOf algorithm batches n (Some s) found = IsFoundAt (header_answer batches s n) algorithm batches n s found
+abbrev pub IsFoundOf : Algorithm → Option ℕ → List Batch → ℕ → Option History → Result Analysis AnalyseFail → Type 0
+IsFoundOf algorithm era batches n None found = found ≡ Ok (HeaderAltered n)
+IsFoundOf algorithm era batches n (Some s) found = IsFoundAt (header_answer batches s n) algorithm era batches n s found
 
 -- What these batches, the header's and one for each sealed tile, show of a history, or of bytes that have none of it.
-abbrev pub IsAnalysisIn : Algorithm → List Batch → Option History → Result Analysis AnalyseFail → Type 0
-IsAnalysisIn algorithm [] s found = found ≡ Ok Unsealed
-IsAnalysisIn algorithm (batch ∷ batches) s found = IsFoundOf algorithm (batch ∷ batches) (length batches) s found
+abbrev pub IsAnalysisIn : Algorithm → Option ℕ → List Batch → Option History → Result Analysis AnalyseFail → Type 0
+IsAnalysisIn algorithm era [] s found = found ≡ Ok (Unsealed era)
+IsAnalysisIn algorithm era (batch ∷ batches) s found = IsFoundOf algorithm era (batch ∷ batches) (length batches) s found
 
 -- what they show of what a file stores
-abbrev pub IsAnalysis : Algorithm → ℕ → List Batch → Stored → Result Analysis AnalyseFail → Type 0
-IsAnalysis algorithm id batches s found = IsAnalysisIn algorithm batches (history_with id s) found
+abbrev pub IsAnalysis : Algorithm → Option ℕ → ℕ → List Batch → Stored → Result Analysis AnalyseFail → Type 0
+IsAnalysis algorithm era id batches s found = IsAnalysisIn algorithm era batches (history_with id s) found
 
 -- ---- whatever is told
 
@@ -114,22 +130,25 @@ IsGivingUp fails.NotaryFault = Unit {0}
 IsGivingUp fails.NoMemory = Unit {0}
 IsGivingUp fail = ⊥
 
--- an algorithm is refused by no other cause
-abbrev pub IsOfAnalysis : Algorithm → AnalyseFail → Type 0
-IsOfAnalysis algorithm fails.DiskFault = Unit {0}
-IsOfAnalysis algorithm fails.NotaryFault = Unit {0}
-IsOfAnalysis algorithm fails.NoMemory = Unit {0}
-IsOfAnalysis algorithm (fails.SealMissing names.Header) = Unit {0}
-IsOfAnalysis algorithm (fails.SealMissing (names.Cum tile)) = Unit {0}
-IsOfAnalysis Tiled (fails.SealMissing (names.Tile tile part)) = Unit {0}
-IsOfAnalysis (TiledExactly kappa) (fails.SealMissing (names.Tile tile part)) = Unit {0}
-IsOfAnalysis A3d (fails.SealMissing (names.Node level index)) = Unit {0}
-IsOfAnalysis Tiled fails.NotSealedSo = Unit {0}
-IsOfAnalysis (TiledExactly kappa) fails.NotSealedSo = Unit {0}
-IsOfAnalysis A3d fails.NotSealedSo = Unit {0}
-IsOfAnalysis A3d (fails.NotaryInconsistent era level index) = Unit {0}
-IsOfAnalysis algorithm fail = ⊥
+-- an algorithm is refused by no other cause, nor where no era is named by the want of one
+abbrev pub IsOfAnalysis : Algorithm → Option ℕ → AnalyseFail → Type 0
+IsOfAnalysis algorithm era fails.DiskFault = Unit {0}
+IsOfAnalysis algorithm era fails.NotaryFault = Unit {0}
+IsOfAnalysis algorithm era fails.NoMemory = Unit {0}
+IsOfAnalysis algorithm era (fails.SealMissing names.Header) = Unit {0}
+IsOfAnalysis algorithm era (fails.SealMissing (names.Cum tile)) = Unit {0}
+IsOfAnalysis Tiled era (fails.SealMissing (names.Tile tile part)) = Unit {0}
+IsOfAnalysis (TiledExactly kappa) era (fails.SealMissing (names.Tile tile part)) = Unit {0}
+IsOfAnalysis A3d era (fails.SealMissing (names.Node level index)) = Unit {0}
+IsOfAnalysis A3d era (fails.SealMissing (names.EraNode number level index)) = Unit {0}
+IsOfAnalysis algorithm (Some era) fails.NoEra = Unit {0}
+IsOfAnalysis Tiled era fails.NotSealedSo = Unit {0}
+IsOfAnalysis (TiledExactly kappa) era fails.NotSealedSo = Unit {0}
+IsOfAnalysis A3d era fails.NotSealedSo = Unit {0}
+IsOfAnalysis A3d era (fails.NotaryInconsistent number level index) = Unit {0}
+IsOfAnalysis algorithm era fail = ⊥
 
--- an analysis that tells of no alteration, or that there is none by this algorithm
+-- an analysis that tells of no alteration, or that there is none by this algorithm, or no such era
 abbrev pub IsSoundAnalysis : Result Analysis AnalyseFail → Type 0
-IsSoundAnalysis found = ((a : Analysis) × (found ≡ Ok a) × (is_altered a ≡ false)) ⊎ (found ≡ Err fails.NotSealedSo)
+IsSoundAnalysis found =
+    ((a : Analysis) × (found ≡ Ok a) × (is_altered a ≡ false)) ⊎ ((found ≡ Err fails.NotSealedSo) ⊎ (found ≡ Err fails.NoEra))

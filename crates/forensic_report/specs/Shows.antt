@@ -5,11 +5,12 @@ use Rattle.history_model.specs.History.{History}
 use Rattle.digest_model.specs.Layout.{Layout, layout, first_granule, exponent, tile_of}
 use Rattle.audit_model.specs.Altered.{HasPlacesOf, HasOtherHeader, IsAltered, HashClash, HasAltered, IsAlteredSet}
 use Rattle.audit_model.specs.Mono.{IfSomeOrNever}
+use Rattle.audit_model.specs.Ranges.{range_of}
 use Rattle.audit_model.specs.Tiled.{IsCandidate, IsCandidateAmong}
 use Rattle.tiled_forensics.specs.Target.{parts}
 use Rattle.forensic_report.specs.declared.algorithm.Algorithm.{Algorithm}
 use Rattle.forensic_report.specs.declared.algorithm.Algorithm.TheVariants.{TiledExactly}
-use Rattle.forensic_report.specs.Analysis.{Findings, Analysis, Region, Targets, Leaves, Unsealed, HeaderAltered, Found, is_altered}
+use Rattle.forensic_report.specs.Analysis.{Extent, Findings, Analysis, Region, Targets, Leaves, Unsealed, HeaderAltered, Found, range, era_named, is_altered}
 use Rattle.forensic_report.specs.Texts.{candidates_by, granules_by}
 
 -- ---- what a report names
@@ -22,9 +23,16 @@ NamesIn algorithm l (Leaves granules checks) g = Contains granules g
 
 -- of sealed granules; under another header every one (a region names all from its first granule on)
 abbrev pub Names : Algorithm → Analysis → ℕ → Type 0
-Names algorithm Unsealed g = ⊥
+Names algorithm (Unsealed era) g = ⊥
 Names algorithm (HeaderAltered n) g = Unit {0}
-Names algorithm (Found l n findings) g = NamesIn algorithm l findings g
+Names algorithm (Found extent findings) g = NamesIn algorithm extent.layout findings g
+
+-- ---- the range
+
+-- an altered granule of the tiles of an era, or of all, where none is named
+pub record IsAlteredWithin (era : Option ℕ) (h : History) (s : Option History) (n g : ℕ) : Type 0 where
+  pub altered : IsAltered h s n g
+  pub inside : Contains (range_of era (layout h) n) (tile_of (layout h) g)
 
 -- ---- what is promised
 
@@ -37,12 +45,12 @@ abbrev pub IsPromised : Algorithm → History → Option History → ℕ → ℕ
 IsPromised (TiledExactly kappa) h (Some s) n g = HasAlteredMany kappa h s n (tile_of (layout h) g)
 IsPromised algorithm h s n g = Unit {0}
 
--- without exception: where there is a region, something is altered; of each tile that fails some granule is; and each granule
--- that is found is, under the header of h and with its sealed tiles
-abbrev pub AreAltered : History → History → ℕ → Findings → Type 0
-AreAltered h s n (Region region) = IfSome region (λ first. (g : ℕ) × IsAltered h (Some s) n g)
-AreAltered h s n (Targets targets) = All (λ t. HasAltered h s n t.0) targets
-AreAltered h s n (Leaves granules checks) = HasPlacesOf h s n → All (λ g. IsAltered h (Some s) n g) granules
+-- without exception: where there is a region, something is altered; of each tile that fails, one of the range, some granule is;
+-- and each granule that is found is, one of the range, under the header of h and with its sealed tiles
+abbrev pub AreAltered : History → History → ℕ → Extent → Findings → Type 0
+AreAltered h s n extent (Region region) = IfSome region (λ first. (g : ℕ) × IsAlteredWithin extent.era h (Some s) n g)
+AreAltered h s n extent (Targets targets) = All (λ t. Contains (range extent) t.0 × HasAltered h s n t.0) targets
+AreAltered h s n extent (Leaves granules checks) = HasPlacesOf h s n → All (λ g. IsAlteredWithin extent.era h (Some s) n g) granules
 
 -- a region begins at an altered tile, unless two inputs clash
 abbrev pub BeginsAltered : History → History → ℕ → Findings → Type 0
@@ -61,8 +69,8 @@ AreExplained algorithm batches s l (Targets targets) =
 AreExplained algorithm batches s l findings = Unit {0}
 
 -- P of what was found in a stored history
-abbrev pub IfFound : Analysis → Option History → (History → Layout → Findings → Type 0) → Type 0
-IfFound (Found l n findings) (Some s) P = P s l findings
+abbrev pub IfFound : Analysis → Option History → (History → Extent → Findings → Type 0) → Type 0
+IfFound (Found extent findings) (Some s) P = P s extent findings
 IfFound a s P = Unit {0}
 
 -- P, where the header is told as altered
@@ -70,22 +78,22 @@ abbrev pub IfHeaderAltered : Analysis → Type 0 → Type 0
 IfHeaderAltered (HeaderAltered n) P = P
 IfHeaderAltered a P = Unit {0}
 
--- a file has another header, or some sealed granule is altered
-abbrev pub IsOtherOrAltered : History → Option History → ℕ → Type 0
-IsOtherOrAltered h s n = HasOtherHeader h s n ⊎ ((g : ℕ) × IsAltered h s n g)
+-- a file has another header or other eras, or some granule of the range is altered
+abbrev pub IsOtherOrAltered : Option ℕ → History → Option History → ℕ → Type 0
+IsOtherOrAltered era h s n = HasOtherHeader h s n ⊎ ((g : ℕ) × IsAlteredWithin era h s n g)
 
 -- ---- the promise
 
--- What a report over n tiles shows of the filed history h, where s is what the file holds.
+-- What a report shows of the filed history h, of which n tiles are sealed, where s is what the file holds.
 pub record Shows (algorithm : Algorithm) (batches : List Batch) (h : History) (s : Option History) (n : ℕ) (a : Analysis) : Type 0 where
-  -- unless two inputs clash, it names each altered granule that is promised
-  pub named : (g : ℕ) → IsAltered h s n g → IsPromised algorithm h s n g → Names algorithm a g ⊎ HashClash h s n
-  -- unless two inputs clash, nothing is altered where it tells of no alteration
-  pub unaltered : is_altered a ≡ false → (g : ℕ) → IsAltered h s n g → HashClash h s n
-  pub begins : IfFound a s (λ stored l findings. BeginsAltered h stored n findings)
-  -- without exception: where it tells of one there is one, and an altered header is another
-  pub altered : is_altered a ≡ true → IsOtherOrAltered h s n
+  -- unless two inputs clash, it names each altered granule of its range that is promised
+  pub named : (g : ℕ) → IsAlteredWithin (era_named a) h s n g → IsPromised algorithm h s n g → Names algorithm a g ⊎ HashClash h s n
+  -- unless two inputs clash, nothing of its range is altered where it tells of no alteration
+  pub unaltered : is_altered a ≡ false → (g : ℕ) → IsAlteredWithin (era_named a) h s n g → HashClash h s n
+  pub begins : IfFound a s (λ stored extent findings. BeginsAltered h stored n findings)
+  -- without exception: where it tells of one there is one, and where the header is told as altered it or an era is another one
+  pub altered : is_altered a ≡ true → IsOtherOrAltered (era_named a) h s n
   pub header : IfHeaderAltered a (HasOtherHeader h s n)
   -- and what is told of granules
-  pub only : IfFound a s (λ stored l findings. AreAltered h stored n findings)
-  pub explained : IfFound a s (λ stored l findings. AreExplained algorithm batches stored l findings)
+  pub only : IfFound a s (λ stored extent findings. AreAltered h stored n extent findings)
+  pub explained : IfFound a s (λ stored extent findings. AreExplained algorithm batches stored extent.layout findings)

@@ -1,5 +1,5 @@
 -- The text of a report.
-use Rattle.std.specs.Prelude.{ℕ, ◌+◌, ◌-◌, ◌==◌, if◌then◌else◌, min, Bool, List, [], ◌∷◌, ◌++◌, map, fold, codes, Some, None}
+use Rattle.std.specs.Prelude.{ℕ, ◌+◌, ◌-◌, ◌==◌, if◌then◌else◌, min, Bool, List, [], ◌∷◌, ◌++◌, map, fold, codes, Option, Some, None}
 use Rattle.std.specs.List.{flat_map, list_any, range_with_len}
 use Rattle.std.specs.Option.{unwrap_or}
 use Rattle.std.specs.Int.{bit_at}
@@ -16,7 +16,7 @@ use Rattle.corruption_diagram.specs.Diagram.{diagram}
 use Rattle.byte_grammar.specs.Numbered.{numbered}
 use Rattle.forensic_report.specs.declared.algorithm.Algorithm.{Algorithm}
 use Rattle.forensic_report.specs.declared.algorithm.Algorithm.TheVariants.{Mono, Tiled, TiledExactly, A3d}
-use Rattle.forensic_report.specs.Analysis.{Findings, Analysis, Region, Targets, Leaves, Unsealed, HeaderAltered, Found, sealed_tiles, bad_tiles, is_altered}
+use Rattle.forensic_report.specs.Analysis.{Extent, Findings, Analysis, Region, Targets, Leaves, Unsealed, HeaderAltered, Found, era_named, range_tiles, bad_tiles, is_altered}
 
 -- what a notary has under the id, and the second of the analysis
 pub record Kept : Type 0 where
@@ -39,17 +39,22 @@ algorithm_word (TiledExactly kappa) = codes "tiled"
 algorithm_word A3d = codes "a3d"
 
 abbrev pub verdict_words : Analysis → List ℕ
-verdict_words Unsealed = codes "unsealed"
+verdict_words (Unsealed era) = codes "unsealed"
 verdict_words (HeaderAltered n) = codes "header altered"
-verdict_words (Found l n findings) = if is_altered (Found l n findings) then codes "altered" else codes "clean"
+verdict_words (Found extent findings) = if is_altered (Found extent findings) then codes "altered" else codes "clean"
 
--- of so many tiles, with a verdict
-abbrev pub head_words : Algorithm → ℕ → ℕ → List ℕ → List ℕ
-head_words algorithm id n verdict =
-    line (codes "report " ++ algorithm_word algorithm ++ numbered (codes " id ") id ++ numbered (codes " tiles ") n ++ codes " " ++ verdict)
+-- an era, where one is named
+abbrev pub era_words : Option ℕ → List ℕ
+era_words None = []
+era_words (Some era) = numbered (codes " era ") era
+
+-- of so many tiles of an era, or of all, with a verdict
+abbrev pub head_words : Algorithm → ℕ → Option ℕ → ℕ → List ℕ → List ℕ
+head_words algorithm id era n verdict =
+    line (codes "report " ++ algorithm_word algorithm ++ numbered (codes " id ") id ++ era_words era ++ numbered (codes " tiles ") n ++ codes " " ++ verdict)
 
 unfoldable pub head_line : Algorithm → ℕ → Analysis → List ℕ
-head_line algorithm id a = head_words algorithm id (sealed_tiles a) (verdict_words a)
+head_line algorithm id a = head_words algorithm id (era_named a) (range_tiles a) (verdict_words a)
 
 -- ---- spans
 
@@ -123,11 +128,11 @@ granule_line l kept g = granule_line_in g (span_of kept (tile_of l g))
 abbrev pub checks_line : ℕ → List ℕ
 checks_line checks = line (numbered (codes "checks ") checks)
 
-abbrev pub findings_text : Algorithm → Layout → ℕ → Kept → Findings → List ℕ
-findings_text algorithm l n kept (Region None) = []
-findings_text algorithm l n kept (Region (Some first)) = region_line l n kept first
-findings_text algorithm l n kept (Targets targets) = flat_map (target_line algorithm l kept) targets
-findings_text algorithm l n kept (Leaves granules checks) = flat_map (granule_line l kept) granules ++ checks_line checks
+abbrev pub findings_text : Algorithm → Extent → Kept → Findings → List ℕ
+findings_text algorithm extent kept (Region None) = []
+findings_text algorithm extent kept (Region (Some first)) = region_line extent.layout extent.tiles kept first
+findings_text algorithm extent kept (Targets targets) = flat_map (target_line algorithm extent.layout kept) targets
+findings_text algorithm extent kept (Leaves granules checks) = flat_map (granule_line extent.layout kept) granules ++ checks_line checks
 
 -- ---- the end
 
@@ -146,19 +151,19 @@ diagram_text kept n bad = unwrap_or (diagram kept.batches kept.marks n (bad_row 
 
 -- ---- the whole
 
--- behind the first line, where tiles are bad
-abbrev pub altered_text : Algorithm → Layout → ℕ → Kept → Findings → List ℕ → List ℕ
-altered_text algorithm l n kept findings [] = []
-altered_text algorithm l n kept findings (tile ∷ tiles) =
-    findings_text algorithm l n kept findings ++ first_line kept tile ++ diagram_text kept n (tile ∷ tiles)
+-- behind the first line, where tiles are bad; the diagram is over all sealed tiles
+abbrev pub altered_text : Algorithm → Extent → Kept → Findings → List ℕ → List ℕ
+altered_text algorithm extent kept findings [] = []
+altered_text algorithm extent kept findings (tile ∷ tiles) =
+    findings_text algorithm extent kept findings ++ first_line kept tile ++ diagram_text kept extent.tiles (tile ∷ tiles)
 
 abbrev pub every_granule : ℕ → List ℕ
 every_granule n = if n == 0 then [] else line (numbered (codes "every granule of tiles 0 to ") (n - 1))
 
 abbrev pub body_text : Algorithm → Kept → Analysis → List ℕ
-body_text algorithm kept Unsealed = []
+body_text algorithm kept (Unsealed era) = []
 body_text algorithm kept (HeaderAltered n) = every_granule n
-body_text algorithm kept (Found l n findings) = altered_text algorithm l n kept findings (bad_tiles l n findings)
+body_text algorithm kept (Found extent findings) = altered_text algorithm extent kept findings (bad_tiles extent findings)
 
 -- the report of what an analysis found under an id, by what a notary has of it
 unfoldable pub report_text : Algorithm → ℕ → Kept → Analysis → List ℕ

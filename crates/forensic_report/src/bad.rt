@@ -1,22 +1,21 @@
 //! Which tiles are bad, one after the other.
 
 ghost use Rattle.std.specs.Prelude.{◌≡◌, ◌≤◌, ◌<◌, [], ◌∷◌, ◌++◌, ℕ, List, All, map, length, slice_get, IfOk};
-ghost use Rattle.digest_model.specs.Layout.{tile_of};
-ghost use Rattle.policy_eras.specs.Policy.{layout_by};
-ghost use Rattle.forensic_report.specs.Analysis.{bad_tiles, FitsFindings};
-ghost use Rattle.forensic_report.specs.Values.{findings_of};
+ghost use Rattle.digest_model.specs.Layout.{layout_by, tile_of, max_granules};
+ghost use Rattle.forensic_report.specs.Analysis.{bad_tiles};
+ghost use Rattle.forensic_report.specs.Values.{findings_of, extent_by, FitsExamined};
 ghost use Rattle.forensic_report.specs.Texts.{bad_row, region_tiles};
 
-use crate::found::Findings;
+use crate::found::{Examined, Findings};
 use policy_eras::Eras;
 use std::alloc::{AllocError, Global};
 
 /// The first one.
-pub(crate) fn first_bad(findings: &Findings, eras: &Eras, tiles: u32) -> Option<u32>
-    requires found { FitsFindings (layout_by eras.now) tiles (findings_of findings.now) }
-    ensures value { result ≡ slice_get (bad_tiles (layout_by eras.now) tiles (findings_of findings.now)) 0 }
+pub(crate) fn first_bad(examined: &Examined) -> Option<u32>
+    requires fits { FitsExamined examined.now }
+    ensures value { result ≡ slice_get (bad_tiles (extent_by examined.now) (findings_of examined.now.findings)) 0 }
 {
-    match findings {
+    match &examined.findings {
         Findings::Region { first } => *first,
         Findings::Targets { targets } => {
             let failing = targets.as_slice().first()?;
@@ -24,7 +23,7 @@ pub(crate) fn first_bad(findings: &Findings, eras: &Eras, tiles: u32) -> Option<
         }
         Findings::Leaves { found } => {
             let granule = *found.granules.as_slice().first()?;
-            Some(eras.tiles(granule))
+            Some(examined.eras.tiles(granule))
         }
     }
 }
@@ -63,6 +62,7 @@ fn mark_failing(bad: &mut [bool], targets: &[(u32, u16)])
 /// Those in which granules lie.
 fn mark_granules(bad: &mut [bool], eras: &Eras, granules: &[u32])
     requires none { bad.old ≡ bad_row [] (length bad.old) }
+    requires below { All (λ g. g < max_granules) granules.now }
     requires within { All (λ g. tile_of (layout_by eras.now) g < length bad.old) granules.now }
     ensures value { bad.new ≡ bad_row (map (tile_of (layout_by eras.now)) granules.now) (length bad.old) }
 {
@@ -72,30 +72,28 @@ fn mark_granules(bad: &mut [bool], eras: &Eras, granules: &[u32])
 }
 
 /// Those with a candidate.
-fn mark_found(bad: &mut [bool], findings: &Findings, eras: &Eras, tiles: u32)
-    requires size { length bad.old ≡ tiles }
-    requires none { bad.old ≡ bad_row [] tiles }
-    requires found { FitsFindings (layout_by eras.now) tiles (findings_of findings.now) }
-    ensures value { bad.new ≡ bad_row (bad_tiles (layout_by eras.now) tiles (findings_of findings.now)) tiles }
+fn mark_found(bad: &mut [bool], examined: &Examined)
+    requires size { length bad.old ≡ examined.now.tiles }
+    requires none { bad.old ≡ bad_row [] examined.now.tiles }
+    requires fits { FitsExamined examined.now }
+    ensures value { bad.new ≡ bad_row (bad_tiles (extent_by examined.now) (findings_of examined.now.findings)) examined.now.tiles }
 {
-    match findings {
+    let tiles = examined.tiles;
+    match &examined.findings {
         Findings::Region { first } => mark_from(bad, first.unwrap_or(tiles), tiles),
         Findings::Targets { targets } => mark_failing(bad, targets.as_slice()),
-        Findings::Leaves { found } => mark_granules(bad, eras, found.granules.as_slice()),
+        Findings::Leaves { found } => {
+            mark_granules(bad, &examined.eras, found.granules.as_slice());
+        }
     }
 }
 
-/// Whether each of so many tiles is bad.
-pub(crate) fn bad_row(
-    alloc: Global,
-    findings: &Findings,
-    eras: &Eras,
-    tiles: u32,
-) -> Result<Vec<bool>, AllocError>
-    requires found { FitsFindings (layout_by eras.now) tiles (findings_of findings.now) }
-    ensures value { IfOk result (λ bad. bad.items ≡ bad_row (bad_tiles (layout_by eras.now) tiles (findings_of findings.now)) tiles) }
+/// Whether each sealed tile is bad.
+pub(crate) fn bad_row(alloc: Global, examined: &Examined) -> Result<Vec<bool>, AllocError>
+    requires fits { FitsExamined examined.now }
+    ensures value { IfOk result (λ bad. bad.items ≡ bad_row (bad_tiles (extent_by examined.now) (findings_of examined.now.findings)) examined.now.tiles) }
 {
-    let mut bad = vec![in alloc; false; tiles as usize]?;
-    mark_found(&mut bad, findings, eras, tiles);
+    let mut bad = vec![in alloc; false; examined.tiles as usize]?;
+    mark_found(&mut bad, examined);
     Ok(bad)
 }

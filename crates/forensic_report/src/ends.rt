@@ -4,12 +4,11 @@ ghost use Rattle.std.specs.Prelude.{◌≡◌, ◌<◌, ◌+◌, ◌^◌, ◌++�
 ghost use Rattle.outside_words.specs.Faults.{HasCause};
 ghost use Rattle.outside_words.specs.Told.{WhereTold};
 ghost use Rattle.notary_link.specs.Notary.{Unchanged, GoesOn, IsCounted};
-ghost use Rattle.policy_eras.specs.Policy.{layout_by};
 ghost use Rattle.corruption_diagram.specs.Diagram.{diagram};
 ghost use Rattle.forensic_report.specs.declared.fail.AnalyseFail.TheVariants.{NotaryFault};
 ghost use Rattle.forensic_report.specs.Fails.{notary_in_doubt};
 ghost use Rattle.forensic_report.specs.Analysis.{bad_tiles};
-ghost use Rattle.forensic_report.specs.Values.{findings_of, FitsExamined, IsOfWriting};
+ghost use Rattle.forensic_report.specs.Values.{findings_of, extent_by, FitsExamined, IsOfWriting};
 ghost use Rattle.forensic_report.specs.Texts.{kept_of, first_line, bad_row, diagram_text};
 ghost use Rattle.forensic_report.specs.Reporting.{Begins};
 
@@ -60,7 +59,7 @@ fn diagram_of<N: Notary>(
 ) -> Result<Option<Blob>, AnalyseFail>
     requires fits { FitsExamined examined.now }
     ensures value { WhereTold (N.state notary.old).lists (N.state notary.new).lists (λ before after.
-        IfOk result (λ text. text ≡ diagram (before.batches request.id) (before.marks request.id) examined.now.tiles (bad_row (bad_tiles (layout_by examined.now.eras) examined.now.tiles (findings_of examined.now.findings)) examined.now.tiles) request.now)) }
+        IfOk result (λ text. text ≡ diagram (before.batches request.id) (before.marks request.id) examined.now.tiles (bad_row (bad_tiles (extent_by examined.now) (findings_of examined.now.findings)) examined.now.tiles) request.now)) }
     ensures only { IfErr result IsOfWriting }
     ensures same { Unchanged (N.state notary.old) (N.state notary.new) }
     ensures asked { (N.state notary.new).asked ≡ (N.state notary.old).asked }
@@ -72,7 +71,7 @@ fn diagram_of<N: Notary>(
     if tiles >= TOO_MANY {
         return Ok(None);
     }
-    let bad = bad_row(alloc, &examined.findings, &examined.eras, tiles)?;
+    let bad = bad_row(alloc, examined)?;
     Ok(grid(alloc, notary, request.id, tiles, &bad, request.now)?)
 }
 
@@ -86,7 +85,7 @@ pub(crate) fn put_diagram<N: Notary>(
 ) -> Result<(), AnalyseFail>
     requires fits { FitsExamined examined.now }
     ensures value { WhereTold (N.state notary.old).lists (N.state notary.new).lists (λ before after.
-        OnOk result (out.new.items ≡ out.old.items ++ diagram_text (kept_of before request.id request.now) examined.now.tiles (bad_tiles (layout_by examined.now.eras) examined.now.tiles (findings_of examined.now.findings)))) }
+        OnOk result (out.new.items ≡ out.old.items ++ diagram_text (kept_of before request.id request.now) examined.now.tiles (bad_tiles (extent_by examined.now) (findings_of examined.now.findings)))) }
     ensures more { OnOk result (Begins out.old.items out.new.items) }
     ensures only { IfErr result IsOfWriting }
     ensures same { Unchanged (N.state notary.old) (N.state notary.new) }

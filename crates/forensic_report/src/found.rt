@@ -1,8 +1,7 @@
 //! What an analysis finds.
 
-ghost use Rattle.std.specs.Prelude.{◌≡◌, ℕ};
-ghost use Rattle.digest_model.specs.Layout.{Layout};
-ghost use Rattle.forensic_report.specs.Analysis.{bad_tiles, is_some_bad, is_altered, FitsFindings};
+ghost use Rattle.std.specs.Prelude.{◌≡◌};
+ghost use Rattle.forensic_report.specs.Analysis.{Extent, bad_tiles, is_some_bad, is_altered, FitsFindings};
 ghost use Rattle.forensic_report.specs.Values.{findings_of, analysis_of, FitsAnalysis};
 
 use crate::failing::FailingTiles;
@@ -25,29 +24,32 @@ pub(crate) enum Findings {
 /// What an analysis finds.
 #[derive(Drop)]
 pub(crate) enum Analysis {
-    /// Nothing was filed.
-    Unsealed,
+    /// Nothing was filed; this era was asked for.
+    Unsealed { era: Option<u32> },
 
-    /// Of so many sealed tiles the header is another.
+    /// Of so many sealed tiles the header or an era is another one.
     HeaderAltered { tiles: u32 },
 
     /// The tiles were examined.
     Found { examined: Examined },
 }
 
-/// Where the tiles lie, how many were examined, and what was found of them.
+/// Where the tiles lie, how many are sealed, those of which era were examined, how many that are, and
+/// what was found of them.
 #[derive(Drop)]
 pub(crate) struct Examined {
     pub eras: Eras,
     pub tiles: u32,
+    pub era: Option<u32>,
+    pub count: u32,
     pub findings: Findings,
 }
 
 impl Findings {
     /// Whether some tile is bad.
     fn is_some_bad(&self) -> bool
-        ensures value { (l : Layout) (n : ℕ) → FitsFindings l n (findings_of self.now)
-            → result ≡ is_some_bad (bad_tiles l n (findings_of self.now)) }
+        ensures value { (extent : Extent) → FitsFindings extent (findings_of self.now)
+            → result ≡ is_some_bad (bad_tiles extent (findings_of self.now)) }
     {
         match self {
             Findings::Region { first } => first.is_some(),
@@ -64,7 +66,7 @@ impl Analysis {
         ensures value { result ≡ is_altered (analysis_of self.now) }
     {
         match self {
-            Analysis::Unsealed => false,
+            Analysis::Unsealed { .. } => false,
             Analysis::HeaderAltered { .. } => true,
             Analysis::Found { examined } => examined.findings.is_some_bad(),
         }

@@ -1,9 +1,8 @@
 //! The lines of a report, of values that are at hand.
 
 ghost use Rattle.std.specs.Prelude.{◌≡◌, ◌≤◌, ◌<◌, ◌^◌, ◌+◌, ◌++◌, map, OnOk};
-ghost use Rattle.digest_model.specs.Layout.{exponent, first_granule, max_granules};
-ghost use Rattle.policy_eras.specs.Policy.{layout_by};
-ghost use Rattle.forensic_report.specs.Texts.{algorithm_word, head_words, when_text, region_line_in, bits_text, list_text, candidates_by, target_line_in, granule_line_in, checks_line, first_line_in, every_granule};
+ghost use Rattle.digest_model.specs.Layout.{layout_by, exponent, first_granule, max_granules};
+ghost use Rattle.forensic_report.specs.Texts.{algorithm_word, era_words, head_words, when_text, region_line_in, bits_text, list_text, candidates_by, target_line_in, granule_line_in, checks_line, first_line_in, every_granule};
 
 use crate::algorithm::Algorithm;
 use byte_grammar::put_numbered;
@@ -24,20 +23,32 @@ fn put_algorithm(out: &mut Vec<u8>, algorithm: Algorithm) -> Result<(), AllocErr
     Ok(())
 }
 
+/// The era that was named.
+fn put_era(alloc: Global, out: &mut Vec<u8>, era: Option<u32>) -> Result<(), AllocError>
+    ensures ok { OnOk result (out.new.items ≡ out.old.items ++ era_words era) }
+{
+    if let Some(era) = era {
+        put_numbered(alloc, out, b" era ", u64::from(era))?;
+    }
+    Ok(())
+}
+
 /// The first line.
 pub(crate) fn put_head(
     alloc: Global,
     out: &mut Vec<u8>,
     algorithm: Algorithm,
     id: u64,
+    era: Option<u32>,
     tiles: u32,
     verdict: &[u8],
 ) -> Result<(), AllocError>
-    ensures ok { OnOk result (out.new.items ≡ out.old.items ++ head_words algorithm id tiles verdict.now) }
+    ensures ok { OnOk result (out.new.items ≡ out.old.items ++ head_words algorithm id era tiles verdict.now) }
 {
     out.extend_from_slice(b"report ")?;
     put_algorithm(out, algorithm)?;
     put_numbered(alloc, out, b" id ", id)?;
+    put_era(alloc, out, era)?;
     put_numbered(alloc, out, b" tiles ", u64::from(tiles))?;
     out.push(b' ')?;
     out.extend_from_slice(verdict)?;

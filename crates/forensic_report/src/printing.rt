@@ -30,6 +30,7 @@ pub fn put_refusal(alloc: Global, out: &mut Vec<u8>, fail: AnalyseFail) -> Resul
         AnalyseFail::SealMissing { name } => {
             put_audit_refusal(alloc, out, AuditFail::SealMissing { name })?;
         }
+        AnalyseFail::NoEra => out.extend_from_slice(b"NoEra")?,
         AnalyseFail::NotSealedSo => out.extend_from_slice(b"NotSealedSo")?,
         AnalyseFail::NotaryInconsistent { era, level, index } => {
             out.extend_from_slice(b"NotaryInconsistent ")?;

@@ -1,40 +1,36 @@
-//! The range of an analysis, and the chains that its tiles have.
+//! The tiles of an analysis: whether there are any, and the chains that they have.
 
-ghost use Rattle.std.specs.Prelude.{◌≡◌};
-ghost use Rattle.std.specs.List.{range_with_len};
-ghost use Rattle.policy_eras.specs.Policy.{layout_by};
-ghost use Rattle.forensic_report.specs.Finding.{range_of, tile_has, has_chains};
+ghost use Rattle.std.specs.Prelude.{◌≡◌, ◌≤◌, true, IfSome};
+ghost use Rattle.history_model.specs.History.{History};
+ghost use Rattle.digest_model.specs.Layout.{policy_of};
+ghost use Rattle.forensic_report.specs.Finding.{has_era, has_chains};
 
-use crate::algorithm::Algorithm;
+use crate::algorithm::{Algorithm, Asked};
+use a3d_forensics::{Chains, range_has};
 use policy_eras::Eras;
 
-/// How many tiles the range has, where so many are sealed.
-fn range_len(eras: &Eras, tiles: u32) -> u32
-    ensures value { range_with_len 0 result ≡ range_of (layout_by eras.now) tiles }
+/// Whether there is an era of this number, where one is named.
+pub(crate) fn has_era(eras: &Eras, era: Option<u32>) -> bool
+    ensures value { (s : History) → eras.now ≡ policy_of s → result ≡ has_era era s }
+    ensures small { result ≡ true → IfSome era (λ number. number ≤ 255) }
 {
-    tiles.min(eras.first_past()).max(1)
+    match era {
+        Some(number) => number < eras.count(),
+        None => true,
+    }
 }
 
-/// Whether a tile has the chains that an algorithm asks for.
-fn tile_has(algorithm: Algorithm, eras: &Eras, tile: u32) -> bool
-    ensures value { result ≡ tile_has algorithm (layout_by eras.now) tile }
+/// Whether each tile of the range has the chains that are asked for; or the header, where no tile is
+/// sealed and no era is named.
+pub(crate) fn has_chains(asked: Asked, eras: &Eras) -> bool
+    requires small { IfSome asked.era (λ number. number ≤ 255) }
+    ensures value { (s : History) → eras.now ≡ policy_of s → result ≡ has_chains asked.algorithm asked.era s asked.tiles }
 {
-    match algorithm {
+    match asked.algorithm {
         Algorithm::Mono => true,
-        Algorithm::Tiled | Algorithm::TiledExactly { .. } => eras.has_tile_chains(tile),
-        Algorithm::A3d => eras.has_tree(tile),
-    }
-}
-
-/// Whether each tile of the range does.
-pub(crate) fn has_chains(algorithm: Algorithm, eras: &Eras, tiles: u32) -> bool
-    ensures value { result ≡ has_chains algorithm (layout_by eras.now) tiles }
-{
-    let len = range_len(eras, tiles);
-    for tile in 0..len {
-        if !tile_has(algorithm, eras, tile) {
-            return false;
+        Algorithm::Tiled | Algorithm::TiledExactly { .. } => {
+            range_has(eras, asked.era, asked.tiles, Chains::Tiles)
         }
+        Algorithm::A3d => range_has(eras, asked.era, asked.tiles, Chains::Tree),
     }
-    true
 }

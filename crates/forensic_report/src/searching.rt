@@ -1,24 +1,18 @@
 //! What each algorithm finds among the tiles of a history.
 
-ghost use Rattle.std.specs.Prelude.{◌≤◌, ◌+◌, IfErr, IfOk, length};
-ghost use Rattle.outside_words.specs.Faults.{HasCause};
-ghost use Rattle.outside_words.specs.Told.{WhereTold};
-ghost use Rattle.notary_link.specs.Notary.{Unchanged, GoesOn, IsCounted};
+ghost use Rattle.std.specs.Prelude.{◌≡◌, ◌≤◌, ◌+◌, None, true, length};
 ghost use Rattle.history_model.specs.History.{history, txns};
 ghost use Rattle.history_model.specs.StoredHistory.{IsHistory};
-ghost use Rattle.digest_model.specs.Layout.{layout, first_granule, max_granules};
+ghost use Rattle.digest_model.specs.Layout.{layout, policy_of, first_granule, max_granules};
 ghost use Rattle.forensic_report.specs.declared.algorithm.Algorithm.TheVariants.{Mono, Tiled, A3d};
-ghost use Rattle.forensic_report.specs.declared.fail.AnalyseFail.TheVariants.{NotaryFault};
-ghost use Rattle.forensic_report.specs.Fails.{notary_in_doubt};
-ghost use Rattle.forensic_report.specs.Analysis.{asked_by, FitsFindings};
-ghost use Rattle.forensic_report.specs.Finding.{IsFoundBy};
-ghost use Rattle.forensic_report.specs.Values.{findings_of, found_with, OrGivesUp, IsOfFinding};
+ghost use Rattle.forensic_report.specs.Finding.{has_era};
+ghost use Rattle.forensic_report.specs.Searching.{Searches};
 
-use crate::algorithm::Algorithm;
+use crate::algorithm::{Algorithm, Asked};
 use crate::fail::AnalyseFail;
 use crate::failing::FailingTiles;
 use crate::found::Findings;
-use a3d_forensics::altered;
+use a3d_forensics::{altered, tiles_of};
 use history_model::Spelled;
 use mono_forensics::first_bad;
 use notary_link::Notary;
@@ -29,36 +23,31 @@ use step_count::{Ledger, Steps};
 use tiled_forensics::target;
 use tuple_bytes::Header;
 
-/// Searches by this algorithm.
+/// Searches by the algorithm that is asked for.
 pub(crate) fn search<N: Notary, L: Ledger>(
     alloc: Global,
     header: &Header,
+    eras: &Eras,
     items: &Spelled,
     notary: &mut N,
-    algorithm: Algorithm,
-    tiles: u32,
+    asked: Asked,
     steps: &mut Steps<L>,
 ) -> Result<Findings, AnalyseFail>
     requires history { IsHistory (history header.now items.now) }
-    requires within { first_granule (layout (history header.now items.now)) tiles ≤ max_granules }
-    ensures value { WhereTold (N.state notary.old).lists (N.state notary.new).lists (λ before after.
-        OrGivesUp (IsFoundBy algorithm (before.batches header.now.id) tiles (history header.now items.now))
-        (found_with (layout (history header.now items.now)) tiles result)) }
-    ensures fits { IfOk result (λ found. FitsFindings (layout (history header.now items.now)) tiles (findings_of found)) }
-    ensures none_other { IfErr result (IsOfFinding algorithm) }
-    ensures same { Unchanged (N.state notary.old) (N.state notary.new) }
-    ensures asked { IfOk result (λ found. (N.state notary.new).asked ≤ (N.state notary.old).asked + asked_by (layout (history header.now items.now)) tiles (findings_of found)) }
+    requires eras { eras.now ≡ policy_of (history header.now items.now) }
+    requires era { has_era asked.era (history header.now items.now) ≡ true }
+    requires within { first_granule (layout (history header.now items.now)) asked.tiles ≤ max_granules }
+    requires mono { asked.algorithm ≡ Mono → asked.era ≡ None }
+    ensures searches { Searches asked.algorithm asked.era header.now.id asked.tiles (history header.now items.now) (N.state notary.old) (N.state notary.new) result }
     ensures steps { steps.new ≤ steps.old + length (txns items.now) }
-    ensures frame { GoesOn (N.state notary.old) (N.state notary.new) }
-    ensures cause { HasCause NotaryFault (N.state notary.old).faults (N.state notary.new).faults result }
-    ensures counted { IsCounted notary_in_doubt (N.state notary.old) (N.state notary.new) result }
 {
-    match algorithm {
-        Algorithm::Mono => find_region(alloc, header, items, notary, tiles, steps),
+    let Asked { era, tiles, .. } = asked;
+    match asked.algorithm {
+        Algorithm::Mono => find_region(alloc, header, eras, items, notary, tiles, steps),
         Algorithm::Tiled | Algorithm::TiledExactly { .. } => {
-            find_targets(alloc, header, items, notary, tiles, steps)
+            find_targets(alloc, header, items, notary, era, tiles, steps)
         }
-        Algorithm::A3d => find_leaves(alloc, header, items, notary, tiles, steps),
+        Algorithm::A3d => find_leaves(alloc, header, items, notary, era, tiles, steps),
     }
 }
 
@@ -66,30 +55,22 @@ pub(crate) fn search<N: Notary, L: Ledger>(
 fn find_region<N: Notary, L: Ledger>(
     alloc: Global,
     header: &Header,
+    eras: &Eras,
     items: &Spelled,
     notary: &mut N,
     tiles: u32,
     steps: &mut Steps<L>,
 ) -> Result<Findings, AnalyseFail>
     requires history { IsHistory (history header.now items.now) }
+    requires eras { eras.now ≡ policy_of (history header.now items.now) }
     requires within { first_granule (layout (history header.now items.now)) tiles ≤ max_granules }
-    ensures value { WhereTold (N.state notary.old).lists (N.state notary.new).lists (λ before after.
-        OrGivesUp (IsFoundBy Mono (before.batches header.now.id) tiles (history header.now items.now))
-        (found_with (layout (history header.now items.now)) tiles result)) }
-    ensures fits { IfOk result (λ found. FitsFindings (layout (history header.now items.now)) tiles (findings_of found)) }
-    ensures none_other { IfErr result (IsOfFinding Mono) }
-    ensures same { Unchanged (N.state notary.old) (N.state notary.new) }
-    ensures asked { IfOk result (λ found. (N.state notary.new).asked ≤ (N.state notary.old).asked + asked_by (layout (history header.now items.now)) tiles (findings_of found)) }
+    ensures searches { Searches Mono None header.now.id tiles (history header.now items.now) (N.state notary.old) (N.state notary.new) result }
     ensures steps { steps.new ≤ steps.old + length (txns items.now) }
-    ensures frame { GoesOn (N.state notary.old) (N.state notary.new) }
-    ensures cause { HasCause NotaryFault (N.state notary.old).faults (N.state notary.new).faults result }
-    ensures counted { IsCounted notary_in_doubt (N.state notary.old) (N.state notary.new) result }
 {
     if tiles == 0 {
         return Ok(Findings::Region { first: None });
     }
-    let eras = Eras::of(header, items);
-    let links = links_of(alloc, header, &eras, items, tiles, steps)?;
+    let links = links_of(alloc, header, eras, items, tiles, steps)?;
     let first = first_bad(&links, notary, header.id)?;
     Ok(Findings::Region { first })
 }
@@ -100,25 +81,18 @@ fn find_targets<N: Notary, L: Ledger>(
     header: &Header,
     items: &Spelled,
     notary: &mut N,
+    era: Option<u32>,
     tiles: u32,
     steps: &mut Steps<L>,
 ) -> Result<Findings, AnalyseFail>
     requires history { IsHistory (history header.now items.now) }
+    requires era { has_era era (history header.now items.now) ≡ true }
     requires within { first_granule (layout (history header.now items.now)) tiles ≤ max_granules }
-    ensures value { WhereTold (N.state notary.old).lists (N.state notary.new).lists (λ before after.
-        OrGivesUp (IsFoundBy Tiled (before.batches header.now.id) tiles (history header.now items.now))
-        (found_with (layout (history header.now items.now)) tiles result)) }
-    ensures fits { IfOk result (λ found. FitsFindings (layout (history header.now items.now)) tiles (findings_of found)) }
-    ensures none_other { IfErr result (IsOfFinding Tiled) }
-    ensures same { Unchanged (N.state notary.old) (N.state notary.new) }
-    ensures asked { IfOk result (λ found. (N.state notary.new).asked ≤ (N.state notary.old).asked + asked_by (layout (history header.now items.now)) tiles (findings_of found)) }
+    ensures searches { Searches Tiled era header.now.id tiles (history header.now items.now) (N.state notary.old) (N.state notary.new) result }
     ensures steps { steps.new ≤ steps.old + length (txns items.now) }
-    ensures frame { GoesOn (N.state notary.old) (N.state notary.new) }
-    ensures cause { HasCause NotaryFault (N.state notary.old).faults (N.state notary.new).faults result }
-    ensures counted { IsCounted notary_in_doubt (N.state notary.old) (N.state notary.new) result }
 {
     let plan = TilePlan::new(alloc, header, items, tiles, steps)?;
-    failing_tiles(alloc, &plan, notary, header.id)
+    failing_tiles(alloc, &plan, notary, header.id, era)
 }
 
 /// The tiles that fail, one after another, and their targets.
@@ -127,20 +101,14 @@ fn failing_tiles<N: Notary>(
     plan: &TilePlan,
     notary: &mut N,
     id: u64,
+    era: Option<u32>,
 ) -> Result<Findings, AnalyseFail>
-    ensures value { WhereTold (N.state notary.old).lists (N.state notary.new).lists (λ before after.
-        OrGivesUp (IsFoundBy Tiled (before.batches id) plan.now.tiles plan.now.history)
-        (found_with (layout plan.now.history) plan.now.tiles result)) }
-    ensures fits { IfOk result (λ found. FitsFindings (layout plan.now.history) plan.now.tiles (findings_of found)) }
-    ensures none_other { IfErr result (IsOfFinding Tiled) }
-    ensures same { Unchanged (N.state notary.old) (N.state notary.new) }
-    ensures asked { IfOk result (λ found. (N.state notary.new).asked ≤ (N.state notary.old).asked + asked_by (layout plan.now.history) plan.now.tiles (findings_of found)) }
-    ensures frame { GoesOn (N.state notary.old) (N.state notary.new) }
-    ensures cause { HasCause NotaryFault (N.state notary.old).faults (N.state notary.new).faults result }
-    ensures counted { IsCounted notary_in_doubt (N.state notary.old) (N.state notary.new) result }
+    requires era { has_era era plan.now.history ≡ true }
+    ensures searches { Searches Tiled era id plan.now.tiles plan.now.history (N.state notary.old) (N.state notary.new) result }
 {
+    let tiles = tiles_of(plan.eras(), era, plan.tiles());
     let mut targets = FailingTiles::new(alloc);
-    for tile in 0..plan.tiles() {
+    for tile in tiles.start..tiles.end {
         let target = target(plan, notary, id, tile)?;
         targets.add(tile, target)?;
     }
@@ -153,25 +121,18 @@ fn find_leaves<N: Notary, L: Ledger>(
     header: &Header,
     items: &Spelled,
     notary: &mut N,
+    era: Option<u32>,
     tiles: u32,
     steps: &mut Steps<L>,
 ) -> Result<Findings, AnalyseFail>
     requires history { IsHistory (history header.now items.now) }
+    requires era { has_era era (history header.now items.now) ≡ true }
     requires within { first_granule (layout (history header.now items.now)) tiles ≤ max_granules }
-    ensures value { WhereTold (N.state notary.old).lists (N.state notary.new).lists (λ before after.
-        OrGivesUp (IsFoundBy A3d (before.batches header.now.id) tiles (history header.now items.now))
-        (found_with (layout (history header.now items.now)) tiles result)) }
-    ensures fits { IfOk result (λ found. FitsFindings (layout (history header.now items.now)) tiles (findings_of found)) }
-    ensures none_other { IfErr result (IsOfFinding A3d) }
-    ensures same { Unchanged (N.state notary.old) (N.state notary.new) }
-    ensures asked { IfOk result (λ found. (N.state notary.new).asked ≤ (N.state notary.old).asked + asked_by (layout (history header.now items.now)) tiles (findings_of found)) }
+    ensures searches { Searches A3d era header.now.id tiles (history header.now items.now) (N.state notary.old) (N.state notary.new) result }
     ensures steps { steps.new ≤ steps.old + length (txns items.now) }
-    ensures frame { GoesOn (N.state notary.old) (N.state notary.new) }
-    ensures cause { HasCause NotaryFault (N.state notary.old).faults (N.state notary.new).faults result }
-    ensures counted { IsCounted notary_in_doubt (N.state notary.old) (N.state notary.new) result }
 {
     let plan = TreePlan::new(alloc, header, items, tiles, steps)?;
-    altered_leaves(alloc, &plan, notary, header.id)
+    altered_leaves(alloc, &plan, notary, header.id, era)
 }
 
 /// The granules of the leaves that differ.
@@ -180,18 +141,11 @@ fn altered_leaves<N: Notary>(
     plan: &TreePlan,
     notary: &mut N,
     id: u64,
+    era: Option<u32>,
 ) -> Result<Findings, AnalyseFail>
-    ensures value { WhereTold (N.state notary.old).lists (N.state notary.new).lists (λ before after.
-        OrGivesUp (IsFoundBy A3d (before.batches id) plan.now.tiles plan.now.history)
-        (found_with (layout plan.now.history) plan.now.tiles result)) }
-    ensures fits { IfOk result (λ found. FitsFindings (layout plan.now.history) plan.now.tiles (findings_of found)) }
-    ensures none_other { IfErr result (IsOfFinding A3d) }
-    ensures same { Unchanged (N.state notary.old) (N.state notary.new) }
-    ensures asked { IfOk result (λ found. (N.state notary.new).asked ≤ (N.state notary.old).asked + asked_by (layout plan.now.history) plan.now.tiles (findings_of found)) }
-    ensures frame { GoesOn (N.state notary.old) (N.state notary.new) }
-    ensures cause { HasCause NotaryFault (N.state notary.old).faults (N.state notary.new).faults result }
-    ensures counted { IsCounted notary_in_doubt (N.state notary.old) (N.state notary.new) result }
+    requires era { has_era era plan.now.history ≡ true }
+    ensures searches { Searches A3d era id plan.now.tiles plan.now.history (N.state notary.old) (N.state notary.new) result }
 {
-    let found = altered(alloc, plan, notary, id)?;
+    let found = altered(alloc, plan, notary, id, era)?;
     Ok(Findings::Leaves { found })
 }

@@ -4,12 +4,11 @@ ghost use Rattle.std.specs.Prelude.{◌≡◌, ◌++◌, Some, slice_get, IfErr,
 ghost use Rattle.outside_words.specs.Faults.{HasCause};
 ghost use Rattle.outside_words.specs.Told.{WhereTold};
 ghost use Rattle.notary_link.specs.Notary.{Unchanged, GoesOn, IsCounted};
-ghost use Rattle.policy_eras.specs.Policy.{layout_by};
 ghost use Rattle.corruption_diagram.specs.CleanMarks.{StandFor};
 ghost use Rattle.forensic_report.specs.declared.fail.AnalyseFail.TheVariants.{NotaryFault};
 ghost use Rattle.forensic_report.specs.Fails.{notary_in_doubt};
 ghost use Rattle.forensic_report.specs.Analysis.{Unsealed, HeaderAltered, bad_tiles};
-ghost use Rattle.forensic_report.specs.Values.{findings_of, found_of, analysis_of, FitsExamined, FitsAnalysis, IsOfWriting};
+ghost use Rattle.forensic_report.specs.Values.{findings_of, extent_by, found_of, analysis_of, FitsExamined, FitsAnalysis, IsOfWriting};
 ghost use Rattle.forensic_report.specs.Texts.{Kept, kept_of, head_line, findings_text, body_text, report_text};
 ghost use Rattle.forensic_report.specs.Reporting.{Begins};
 
@@ -31,10 +30,11 @@ fn put_unsealed(
     out: &mut Vec<u8>,
     algorithm: Algorithm,
     id: u64,
+    era: Option<u32>,
 ) -> Result<(), AllocError>
-    ensures ok { (kept : Kept) → OnOk result (out.new.items ≡ out.old.items ++ report_text algorithm id kept Unsealed) }
+    ensures ok { (kept : Kept) → OnOk result (out.new.items ≡ out.old.items ++ report_text algorithm id kept (Unsealed era)) }
 {
-    put_head(alloc, out, algorithm, id, 0, b"unsealed")
+    put_head(alloc, out, algorithm, id, era, 0, b"unsealed")
 }
 
 /// The report of a header that is altered.
@@ -48,7 +48,7 @@ fn put_header_altered(
 ) -> Result<(), AllocError>
     ensures ok { (kept : Kept) → OnOk result (out.new.items ≡ out.old.items ++ report_text algorithm id kept (HeaderAltered tiles)) }
 {
-    put_head(alloc, out, algorithm, id, tiles, b"header altered")?;
+    put_head(alloc, out, algorithm, id, None, tiles, b"header altered")?;
     put_every_granule(alloc, out, tiles)
 }
 
@@ -64,7 +64,7 @@ fn put_findings<N: Notary>(
     requires fits { FitsExamined examined.now }
     ensures value { WhereTold (N.state notary.old).lists (N.state notary.new).lists (λ before after.
         StandFor (before.marks request.id) clean.now
-        → OnOk result (out.new.items ≡ out.old.items ++ findings_text request.algorithm (layout_by examined.now.eras) examined.now.tiles (kept_of before request.id request.now) (findings_of examined.now.findings))) }
+        → OnOk result (out.new.items ≡ out.old.items ++ findings_text request.algorithm (extent_by examined.now) (kept_of before request.id request.now) (findings_of examined.now.findings))) }
     ensures more { OnOk result (Begins out.old.items out.new.items) }
     ensures only { IfErr result IsOfWriting }
     ensures same { Unchanged (N.state notary.old) (N.state notary.new) }
@@ -104,7 +104,7 @@ fn put_altered<N: Notary>(
     tile: u32,
 ) -> Result<(), AnalyseFail>
     requires fits { FitsExamined examined.now }
-    requires first { slice_get (bad_tiles (layout_by examined.now.eras) examined.now.tiles (findings_of examined.now.findings)) 0 ≡ Some tile }
+    requires first { slice_get (bad_tiles (extent_by examined.now) (findings_of examined.now.findings)) 0 ≡ Some tile }
     ensures value { WhereTold (N.state notary.old).lists (N.state notary.new).lists (λ before after.
         OnOk result (out.new.items ≡ out.old.items ++ body_text request.algorithm (kept_of before request.id request.now) (found_of examined.now))) }
     ensures more { OnOk result (Begins out.old.items out.new.items) }
@@ -141,14 +141,15 @@ fn put_found<N: Notary>(
     ensures cause { HasCause NotaryFault (N.state notary.old).faults (N.state notary.new).faults result }
     ensures counted { IsCounted notary_in_doubt (N.state notary.old) (N.state notary.new) result }
 {
-    let tiles = examined.tiles;
-    match first_bad(&examined.findings, &examined.eras, tiles) {
+    let Request { algorithm, id, .. } = request;
+    let (era, count) = (examined.era, examined.count);
+    match first_bad(examined) {
         None => {
-            put_head(alloc, out, request.algorithm, request.id, tiles, b"clean")?;
+            put_head(alloc, out, algorithm, id, era, count, b"clean")?;
             Ok(())
         }
         Some(tile) => {
-            put_head(alloc, out, request.algorithm, request.id, tiles, b"altered")?;
+            put_head(alloc, out, algorithm, id, era, count, b"altered")?;
             put_altered(alloc, out, notary, request, examined, tile)?;
             Ok(())
         }
@@ -175,8 +176,8 @@ pub(crate) fn put_report<N: Notary>(
     ensures counted { IsCounted notary_in_doubt (N.state notary.old) (N.state notary.new) result }
 {
     match analysis {
-        Analysis::Unsealed => {
-            put_unsealed(alloc, out, request.algorithm, request.id)?;
+        Analysis::Unsealed { era } => {
+            put_unsealed(alloc, out, request.algorithm, request.id, *era)?;
             Ok(())
         }
         Analysis::HeaderAltered { tiles } => {

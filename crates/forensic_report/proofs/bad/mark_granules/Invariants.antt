@@ -1,5 +1,5 @@
 use Rattle.std.proofs.Common.{◌≡◌, map, take, length}
-use Rattle.policy_eras.specs.Policy.{layout_by}
+use Rattle.digest_model.specs.Layout.{layout_by}
 use Rattle.digest_model.specs.Layout.{tile_of}
 use Rattle.forensic_report.specs.Texts.{bad_row}
 use Rattle.forensic_report.proofs.bad.mark_granules.Given as goal

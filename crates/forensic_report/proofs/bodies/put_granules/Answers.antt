@@ -4,7 +4,7 @@ use Rattle.notary_link.specs.Notary.{Lists}
 use Rattle.notary_link.proofs.Frame.{goes_on_same, goes_on_then}
 use Rattle.notary_link.proofs.Unchanged.{unchanged_same, unchanged_then}
 use Rattle.digest_model.specs.Layout.{tile_of, max_granules}
-use Rattle.policy_eras.specs.Policy.{layout_by}
+use Rattle.digest_model.specs.Layout.{layout_by}
 use Rattle.forensic_report.specs.declared.asking.Recent.{Recent}
 use Rattle.corruption_diagram.proofs.Reading.{told_both}
 use Rattle.forensic_report.specs.Texts.{granule_line, granule_line_in, span_of}

@@ -2,7 +2,7 @@ use Rattle.std.proofs.Common.{◌≡◌, ◌++◌, map, arith}
 use Rattle.outside_words.proofs.Told.{told_map}
 use Rattle.notary_link.specs.Notary.{Lists}
 use Rattle.audit_model.specs.Spans.{changed_from}
-use Rattle.policy_eras.specs.Policy.{layout_by}
+use Rattle.digest_model.specs.Layout.{layout_by}
 use Rattle.corruption_diagram.specs.CleanMarks.{StandFor}
 use Rattle.forensic_report.specs.Texts.{kept_of, least, region_tiles, region_line}
 use Rattle.forensic_report.proofs.Putting.{region_is}

@@ -3,7 +3,7 @@ use Rattle.outside_words.proofs.Told.{told_same, told_map}
 use Rattle.notary_link.specs.Notary.{Lists}
 use Rattle.notary_link.proofs.Frame.{goes_on_same, goes_on_then}
 use Rattle.notary_link.proofs.Unchanged.{unchanged_same, unchanged_then}
-use Rattle.policy_eras.specs.Policy.{layout_by}
+use Rattle.digest_model.specs.Layout.{layout_by}
 use Rattle.corruption_diagram.proofs.Reading.{told_both}
 use Rattle.digest_model.proofs.Layouts.{counts}
 use Rattle.forensic_report.specs.Texts.{target_line, target_line_in}

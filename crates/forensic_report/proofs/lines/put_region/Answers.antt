@@ -1,6 +1,6 @@
 use Rattle.std.proofs.Common.{◌≡◌, ℕ, [], ◌∷◌, ◌-◌, codes, ap, ◌∙◌, arith}
 use Rattle.digest_model.specs.Layout.{first_granule, end_granule}
-use Rattle.policy_eras.specs.Policy.{layout_by}
+use Rattle.digest_model.specs.Layout.{layout_by}
 use Rattle.byte_grammar.specs.Numbered.{numbered}
 use Rattle.forensic_report.specs.Texts.{when_text}
 use Rattle.forensic_report.proofs.Joined.{six}

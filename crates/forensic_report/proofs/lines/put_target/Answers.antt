@@ -1,6 +1,6 @@
 use Rattle.std.proofs.Common.{◌≡◌, [], ◌∷◌, ◌++◌, ◌+◌, List, ℕ, map, codes, ap, ◌∙◌}
 use Rattle.digest_model.specs.Layout.{exponent, first_granule}
-use Rattle.policy_eras.specs.Policy.{layout_by}
+use Rattle.digest_model.specs.Layout.{layout_by}
 use Rattle.byte_grammar.specs.Numbered.{numbered}
 use Rattle.forensic_report.specs.Texts.{bits_text, list_text, candidates_by, granules_by, when_text}
 use Rattle.forensic_report.proofs.Joined.{seven}

@@ -1,29 +1,22 @@
-use Rattle.std.proofs.Common.{◌≤◌, ◌+◌, IfOk, subst}
-use Rattle.outside_words.specs.Told.{WhereTold}
-use Rattle.digest_model.specs.Layout.{layout}
-use Rattle.notary_link.specs.Notary.{Lists}
-use Rattle.notary_link.proofs.Frame.{goes_on_same}
+use Rattle.std.proofs.Common.{rules, ◌≡◌, Err, ap, sym, subst, ◌∙◌, true}
+use Rattle.history_model.specs.History.{History, history}
 use Rattle.seal_plan.specs.Plan.{Planned}
 use Rattle.forensic_report.specs.declared.algorithm.Algorithm.TheVariants.{Tiled}
-use Rattle.forensic_report.specs.Analysis.{asked_by, FitsFindings}
-use Rattle.forensic_report.specs.Finding.{IsFoundBy}
-use Rattle.forensic_report.specs.Values.{OrGivesUp, found_with, findings_of}
+use Rattle.forensic_report.specs.declared.fail.AnalyseFail.TheVariants.{NoMemory}
+use Rattle.forensic_report.specs.Finding.{has_era}
+use Rattle.forensic_report.specs.Searching.{Searches}
+use Rattle.forensic_report.proofs.Searches.{gave_up}
 use Rattle.forensic_report.proofs.searching.find_targets.Goals as goal
 
-pub returns-in_err-plan-clause-frame : goal.returns-in_err-plan-clause-frame
-returns-in_err-plan-clause-frame g c = goes_on_same (g.N.Notary.state c.args.notary.now)
+pub returns-in_err-plan-clause-searches : goal.returns-in_err-plan-clause-searches
+returns-in_err-plan-clause-searches g c =
+    let same : c.from_residual.result ≡ Err NoMemory = search rules in
+    gave_up Tiled c.args.era c.args.header.now.id c.args.tiles (history c.args.header.now c.args.items.now) (g.N.Notary.state c.args.notary.now) c.from_residual.result same
 
-pub returns-clause-value : goal.returns-clause-value
-returns-clause-value g c =
+pub returns-clause-searches : goal.returns-clause-searches
+returns-clause-searches g c =
     let S = g.N.Notary.state in
-    subst (λ (p : Planned). WhereTold (S c.args.notary.now).lists (S c.failing_tiles.new.notary).lists (λ (before after : Lists). OrGivesUp (IsFoundBy Tiled (before.batches c.args.header.now.id) p.tiles p.history) (found_with (layout p.history) p.tiles c.failing_tiles.result)))
-    c.in_ok-plan.ensures.value c.failing_tiles.ensures.value
+    subst (λ (p : Planned). Searches Tiled c.args.era c.args.header.now.id p.tiles p.history (S c.args.notary.now) (S c.failing_tiles.new.notary) c.failing_tiles.result) c.in_ok-plan.ensures.value c.failing_tiles.ensures.searches
 
-pub returns-clause-fits : goal.returns-clause-fits
-returns-clause-fits g c =
-    subst (λ (p : Planned). IfOk c.failing_tiles.result (λ found. FitsFindings (layout p.history) p.tiles (findings_of found))) c.in_ok-plan.ensures.value c.failing_tiles.ensures.fits
-
-pub returns-clause-asked : goal.returns-clause-asked
-returns-clause-asked g c =
-    let S = g.N.Notary.state in
-    subst (λ (p : Planned). IfOk c.failing_tiles.result (λ found. (S c.failing_tiles.new.notary).asked ≤ (S c.args.notary.now).asked + asked_by (layout p.history) p.tiles (findings_of found))) c.in_ok-plan.ensures.value c.failing_tiles.ensures.asked
+pub failing_tiles-requires : goal.failing_tiles-requires
+failing_tiles-requires g c = record { era = ap (λ (p : Planned). has_era c.args.era p.history) c.in_ok-plan.ensures.value ∙ c.requires.era }

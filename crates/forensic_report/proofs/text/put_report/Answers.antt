@@ -19,7 +19,7 @@ returns-in_err-put_header_altered-in-HeaderAltered-clause-frame g c = goes_on_sa
 pub returns-in_ok-put_unsealed-in-Unsealed-clause-begins :
     goal.returns-in_ok-put_unsealed-in-Unsealed-clause-begins
 returns-in_ok-put_unsealed-in-Unsealed-clause-begins g c =
-    rw c.in-Unsealed.is (report_begins c.args.request.algorithm c.args.request.id nothing_kept Unsealed c.args.out.now.items c.put_unsealed.new.out.items (c.in_ok-put_unsealed-in-Unsealed.ensures.ok nothing_kept))
+    rw c.in-Unsealed.is (report_begins c.args.request.algorithm c.args.request.id nothing_kept (Unsealed c.in-Unsealed.era) c.args.out.now.items c.put_unsealed.new.out.items (c.in_ok-put_unsealed-in-Unsealed.ensures.ok nothing_kept))
 
 pub returns-in_ok-put_unsealed-in-Unsealed-clause-frame :
     goal.returns-in_ok-put_unsealed-in-Unsealed-clause-frame
