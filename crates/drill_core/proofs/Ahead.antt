@@ -3,6 +3,8 @@ use Rattle.std.proofs.Common.{◌≡◌, ℕ, false, List, [], length, Option, S
 use Rattle.std.specs.Prelude.{◌≢◌}
 use Rattle.std.specs.Option.{option_map}
 use Rattle.tuple_bytes.specs.declared.item.Item.{Item}
+use Rattle.history_model.specs.History.{history}
+use Rattle.digest_model.specs.Layout.{policy_of}
 use Rattle.notary_link.specs.declared.memory.MemNotary.{MemNotary}
 use Rattle.notary_link.specs.declared.notary.NotaryLimits.{NotaryLimits}
 use Rattle.notary_link.specs.Calls.{lists_of}
@@ -86,7 +88,7 @@ notarize = lines.Plain stmts.Notarize
 -- so many are the calls of the Frontier, where a store is open
 abbrev pub CountsFor : (now filed count : ℕ) → Option Opened → Type 0
 CountsFor now filed count None = Unit {0}
-CountsFor now filed count (Some s) = (its : List Item) (heard : Heard) → filed ≡ heard.count → (intent_of (tail_of s) false now its heard).fault ≡ None
+CountsFor now filed count (Some s) = (its : List Item) (heard : Heard) → s.eras ≡ policy_of (history s.header its) → filed ≡ heard.count → (intent_of (tail_of s) false now its heard).fault ≡ None
     → count ≡ length (frontier_calls s (intent_of (tail_of s) false now its heard).frontier)
 
 abbrev opened_in : Option OpenStore → Option Opened
@@ -124,7 +126,7 @@ module _ (t : Scene) (id filed count : ℕ) where
         many ∙ ap (λ (x : Heard). x.count) (sym file.heard)
 
     counted : MayFind w notarize t.clock found → intent.fault ≡ None → count ≡ length (frontier_calls s intent.frontier)
-    counted may = subst (λ (i : Intent). i.fault ≡ None → count ≡ length (frontier_calls s i.frontier)) intent_is (counts ws.items found.heard (heard_many may))
+    counted may = subst (λ (i : Intent). i.fault ≡ None → count ≡ length (frontier_calls s i.frontier)) intent_is (counts ws.items found.heard stands.open_on.knows.eras (heard_many may))
 
     stored_before : MayFind w notarize t.clock found → notary_calls w notarize t.clock found ≢ [] → count ≡ length (disk_calls w (world_steps.step w notarize t.clock found) t.bytes)
     unfolding world_steps.step

@@ -62,7 +62,7 @@ refused_only t d answered name at is = replied_only t d answered (refuses t name
 -- ---- what is found by a line that finds nothing
 
 pub any_found : Found
-any_found = record { heard = record { count = 0; against = None }; refusal = None; verdict = Ok verdicts.Unsealed; analysis = Ok Unsealed; body = [] }
+any_found = record { heard = record { count = 0; against = None }; refusal = None; verdict = Ok verdicts.Unsealed; analysis = Ok (Unsealed None); body = [] }
 
 module _ (t : Scene) where
   may_fail : (o : Option ℕ) (fail : ParseFail) → MayBeFound o t (Err fail) any_found

@@ -33,7 +33,7 @@ use Rattle.store_world.specs.Standing.{OpenWorld, IsIn, StoreIsIn}
 use Rattle.store_world.specs.Lists.{IsBeside}
 use Rattle.store_world.specs.Steps as world_steps
 use Rattle.store_world.specs.Stepping.{Steps, StepsFor}
-use Rattle.store_world.specs.Steps.{IsWorldLine}
+use Rattle.store_world.specs.Steps.{IsWorldLine, turn_in}
 use Rattle.store_world.specs.Finding.{MayFind}
 use Rattle.timeline_model.specs.Scene.{Scene, Crash, entered_anew, sessions_over, store_in, world_of}
 use Rattle.store_world.specs.LineCalls.{items_added, with_items, appends, end_of_store}
@@ -42,7 +42,7 @@ use Rattle.timeline_model.specs.Timeline.{MayBeFound, under}
 use Rattle.timeline_model.proofs.Calls.{appended, world_is}
 use Rattle.timeline_model.proofs.Doings.{store_is}
 use Rattle.timeline_model.proofs.Sessions.{step_under, world_over}
-use Rattle.timeline_model.proofs.Statements.{new_txn, Stores, step_stores, same_added, txn_added, frontier_added}
+use Rattle.timeline_model.proofs.Statements.{new_txn, Stores, step_stores, same_added, txn_added, frontier_added, policy_added}
 use Rattle.timeline_model.proofs.Stepping.{line_act}
 use Rattle.drill_core.specs.declared.machine.Drill.{Drill}
 use Rattle.drill_core.specs.Drills.{bare_of, StandsUnder, IsAt, IsBehind}
@@ -78,10 +78,12 @@ module _ (first : List ℕ) (trace : List (disks.Call × Bool)) where
         omega (arith, room, place, facts.end)
 
     -- after all calls of the line
-    line_written : (new : Option statements.Database) → Stores before line t.clock new → written_by (items_added before.store new) (end_of_store before.store) t.bytes
-    line_written new (inl same) = by_none (items_added before.store new) (end_of_store before.store) t.bytes is (same_added before line t.clock new same)
-    line_written new (inr (inl txn)) = by_one (items_added before.store new) (items.Txn (new_txn txn.store txn.ops t.clock)) (end_of_store before.store) t.bytes is (txn_added before line t.clock new txn) (store_room txn.store txn.store_is)
-    line_written new (inr (inr frontier)) = by_one (items_added before.store new) (items.Frontier frontier.moment) (end_of_store before.store) t.bytes is (frontier_added before line t.clock new frontier) (store_room frontier.store frontier.store_is)
+    line_written : (found : Found) (new : Option statements.Database) → Stores before line t.clock found new → written_by (items_added before.store new) (end_of_store before.store) t.bytes
+    line_written found new (inl same) = by_none (items_added before.store new) (end_of_store before.store) t.bytes is (same_added before line t.clock new same)
+    line_written found new (inr (inl txn)) = by_one (items_added before.store new) (items.Txn (new_txn txn.store txn.ops t.clock)) (end_of_store before.store) t.bytes is (txn_added before line t.clock new txn) (store_room txn.store txn.store_is)
+    line_written found new (inr (inr (inl frontier))) = by_one (items_added before.store new) (items.Frontier frontier.moment) (end_of_store before.store) t.bytes is (frontier_added before line t.clock new frontier) (store_room frontier.store frontier.store_is)
+    line_written found new (inr (inr (inr policy))) =
+        by_one (items_added before.store new) (turn_in policy.store found.heard policy.k policy.algs).item (end_of_store before.store) t.bytes is (policy_added before line t.clock new found policy) (store_room policy.store policy.store_is)
 
 -- ---- the act of a line
 
@@ -160,7 +162,7 @@ module _ (d : Drill) (begun : Begun) (stands : StandsUnder d.id (scene_of d begu
 
     bytes_are : disk.bytes.items ≡ next.scene.bytes
     bytes_are = sym after_is ∙ ap (bytes_after first) (steps.makes (beside id)).disk
-        ∙ line_written first (disk_traces.trace_of d.disk.made.items) t id line (sym d.disk.replayed) s.world.store (step_stores w line d.clock steps.found)
+        ∙ line_written first (disk_traces.trace_of d.disk.made.items) t id line (sym d.disk.replayed) steps.found s.world.store (step_stores w line d.clock steps.found)
 
     lists_are : lists_of notary.made.items ≡ s.world.lists
     lists_are = same_lists s.world.lists (lists_of notary.made.items) ((steps.files (beside id)).keeps refl)

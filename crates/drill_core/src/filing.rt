@@ -2,6 +2,8 @@
 
 ghost use Rattle.std.specs.Prelude.{◌≡◌, ◌↔◌, IsTrue, false, List, length, None, OnOk, IfOk, IfSome};
 ghost use Rattle.tuple_bytes.specs.declared.item.Item.{Item};
+ghost use Rattle.history_model.specs.History.{history};
+ghost use Rattle.digest_model.specs.Layout.{policy_of};
 ghost use Rattle.stmt_text.specs.declared.line.Line.TheVariants as lines;
 ghost use Rattle.stmt_text.specs.declared.stmt.Stmt.TheVariants as stmts;
 ghost use Rattle.store_engine.specs.Refusals.{tail_of};
@@ -13,10 +15,8 @@ ghost use Rattle.drill_core.specs.Drills.{IsAt, faults_of};
 ghost use Rattle.drill_core.specs.Taken.{ComeBefore};
 
 use crate::machine::Drill;
-use history_model::Spelled;
 use notary_link::Notary;
-use policy_eras::Eras;
-use std::alloc::{AllocError, Global};
+use std::alloc::AllocError;
 use stmt_text::{Line, LineKind, NotaryLine, WorldPart};
 use store_engine::Store;
 use validator::frontier_ahead;
@@ -73,7 +73,7 @@ impl Drill {
             → IfOk result (λ count. ComeBefore count t t.id (lines.Plain stmts.Notarize)) }
     {
         match self.world.store() {
-            Some(store) => calls_of_frontier(self.alloc, store, filed, self.clock),
+            Some(store) => calls_of_frontier(store, filed, self.clock),
             None => Ok(0),
         }
     }
@@ -81,17 +81,15 @@ impl Drill {
 
 /// How many changing calls the Frontier makes that a notarization stores at these clock seconds, where
 /// nothing speaks against it. A world keeps no closed store.
-fn calls_of_frontier(alloc: Global, store: &Store, filed: u32, now: u64) -> Result<u64, AllocError>
-    ensures value { IfOk result (λ count. (items : List Item) (heard : Heard) → filed ≡ heard.count
+fn calls_of_frontier(store: &Store, filed: u32, now: u64) -> Result<u64, AllocError>
+    ensures value { IfOk result (λ count. (items : List Item) (heard : Heard) → store.now.eras ≡ policy_of (history store.now.header items) → filed ≡ heard.count
         → let intent = intent_of (tail_of store.now) false now items heard in
         intent.fault ≡ None → count ≡ length (frontier_calls store.now intent.frontier)) }
 {
     if store.is_closed() {
         return Err(AllocError);
     }
-    // The header alone decides on the eras.
-    let eras = Eras::of(store.header(), &Spelled::new(alloc));
-    match frontier_ahead(store, &eras, filed, now) {
+    match frontier_ahead(store, store.eras(), filed, now) {
         Ok(Some(_)) => Ok(u64::from(store.frontier_calls())),
         Ok(None) | Err(_) => Ok(0),
     }

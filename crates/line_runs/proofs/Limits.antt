@@ -19,7 +19,7 @@ use Rattle.forensic_report.specs.declared.fail.AnalyseFail.{AnalyseFail}
 use Rattle.forensic_report.specs.Analysis.{Analysis}
 use Rattle.store_world.specs.Found.{Found}
 use Rattle.store_world.specs.World.{World}
-use Rattle.store_world.specs.Steps.{Step, step, unless, on_tables, intent_in, carried_out, notarized, marked, validated, has_more, piece_audited, analysed, algorithm_of}
+use Rattle.store_world.specs.Steps.{Step, step, unless, on_tables, intent_in, carried_out, notarized, turn_in, turns_world, turned, marked, validated, has_more, piece_audited, analysed, algorithm_of}
 use Rattle.store_world.proofs.Validating.{validated_anew}
 use Rattle.store_world.proofs.Acknowledging.{by_line}
 use Rattle.line_runs.specs.Running.{Running, Timed, carry, answered, said_by, set_moment, seconds_of}
@@ -43,6 +43,12 @@ module _ (w : World) where
       let i = intent_in store now heard in
       unless_keeps i.fault w (carried_out w store i refusal) refl (unless_keeps refusal _ _ refl refl)
 
+  of_policy : (o : Option statements.Database) (heard : Heard) (k algs : ℕ) → Keeps (turned w o heard k algs)
+  of_policy None heard k algs = refl
+  of_policy (Some store) heard k algs =
+      let t = turn_in store heard k algs in
+      unless_keeps t.fault w (turns_world w store t) refl refl
+
   of_mark : (m : Option Mark) (refusal : Option AuditFail) (text : List ℕ) → Keeps (marked w m refusal text)
   of_mark None refusal text = refl
   of_mark (Some mark) refusal text = unless_keeps refusal w _ refl refl
@@ -61,8 +67,8 @@ module _ (w : World) where
 
 pub step_limits : (w : World) (line : Line) (now : ℕ) (found : Found) → (step w line now found).world.limits ≡ w.limits
 step_limits w line now found = by_line (λ line s. s.world.limits ≡ w.limits) w line now found (λ line. of_tables w w.store line now)
-    (of_notarize w w.store now found.heard found.refusal) (of_validate w now found.verdict found.refusal)
-    (of_audit w (has_more w) now found.verdict found.refusal) (λ algorithm. of_analyse w (algorithm_of algorithm) found.analysis found.body)
+    (of_notarize w w.store now found.heard found.refusal) (of_policy w w.store found.heard) (of_validate w now found.verdict found.refusal)
+    (of_audit w (has_more w) now found.verdict found.refusal) (λ algorithm era. of_analyse w (algorithm_of algorithm) found.analysis found.body)
 
 module _ (scripted : Bool) (now : ℕ) (found : Found) (r : Running) where
   of_moment : (b : Bool) (moment : ℕ) → (set_moment b r moment).world.limits ≡ r.world.limits

@@ -201,7 +201,8 @@ finds_nothing : (line : Line) → ((part : WorldPart) → line_kind line ≡ kin
 finds_nothing (lines.Plain stmts.Notarize) ne w now = absurd (ne (parts.Notary asked.Notarize) refl)
 finds_nothing (lines.Plain stmts.Validate) ne w now = absurd (ne (parts.Notary asked.Validate) refl)
 finds_nothing (lines.Plain stmts.Audit) ne w now = absurd (ne (parts.Notary asked.Audit) refl)
-finds_nothing (lines.Plain (stmts.Analyse algorithm)) ne w now = absurd (ne (parts.Notary (asked.Analyse algorithm)) refl)
+finds_nothing (lines.Plain (stmts.Policy k algs)) ne w now = absurd (ne (parts.Notary (asked.Policy k algs)) refl)
+finds_nothing (lines.Plain (stmts.Analyse algorithm era)) ne w now = absurd (ne (parts.Notary (asked.Analyse algorithm era)) refl)
 finds_nothing line ne w now = (tt, tt)
 
 pub goes_by : (line : Line) (kind : LineKind) (second : ℕ) (result : Result (List ℕ) LineFail) (runner last : Runner) (old new : Desk) (clock ahead : clocks.State)

@@ -4,9 +4,10 @@ use Rattle.std.proofs.Common.{◌≡◌, ◌∙◌, ℕ, Bool, true, false, eqb,
 use Rattle.std.specs.Prelude.{if◌then◌else◌, ◌&&◌, nat_lt, nat_le, IsSome}
 use Rattle.std.proofs.lemmas.Bool.Decides.{nat_tests}
 use Rattle.std.proofs.lemmas.List.{map-append}
+use Rattle.tuple_bytes.specs.declared.item.Item.TheVariants as items
 use Rattle.tuple_bytes.specs.declared.op.Op.{Op}
 use Rattle.history_model.specs.History.{history, last_moment}
-use Rattle.digest_model.specs.Layout.{layout}
+use Rattle.digest_model.specs.Layout.{layout, first_granule}
 use Rattle.notary_link.specs.declared.mark.Mark.{Mark}
 use Rattle.stmt_text.specs.declared.error.ParseFail.{ParseFail}
 use Rattle.stmt_text.specs.declared.error.ParseFail.TheVariants as parses
@@ -26,17 +27,18 @@ use Rattle.session_model.specs.Steps.{Answer, Replied, Stopped, reply_of, commit
 use Rattle.session_model.specs.Alone.{Alone, Exchange, IsAlone, alone}
 use Rattle.session_model.specs.Runs as runs
 use Rattle.session_model.specs.Serial.{WasAlone}
-use Rattle.session_model.proofs.Serials.{AreHeld, line_goes, reach_held, none_held, was_alone}
+use Rattle.session_model.proofs.Serials.{AreHeld, line_goes, reach_held, divide_held, none_held, was_alone}
 use Rattle.session_model.proofs.Promising.{commits_are_alike}
 use Rattle.validator.specs.declared.verdict.Verdict.{Verdict}
 use Rattle.validator.specs.declared.fail.AuditFail.{AuditFail}
 use Rattle.validator.specs.Tiles.{tiles_at, end_of}
 use Rattle.validator.specs.Notarizing.{Heard}
+use Rattle.validator.specs.Turning.{sealed_tiles}
 use Rattle.validator.specs.Verdicts.{mark_of}
 use Rattle.validator.specs.Texts.{verdict_text}
 use Rattle.store_world.specs.World.{World}
 use Rattle.store_world.specs.Found.{Found}
-use Rattle.store_world.specs.Steps.{Step, step, on_tables, after_statement, notarized, unless, carried_out, intent_in, reached, validated, has_more, piece_audited, marked, algorithm_of}
+use Rattle.store_world.specs.Steps.{Step, step, on_tables, after_statement, notarized, unless, carried_out, intent_in, reached, turn_in, turns_world, turned, validated, has_more, piece_audited, marked, algorithm_of}
 use Rattle.store_world.proofs.Validating.{with_audit}
 use Rattle.store_world.proofs.Acknowledging.{by_line}
 use Rattle.store_world.proofs.Analysing.{analysed_stays}
@@ -177,6 +179,23 @@ module _ (w : World) (logs : Logs) (s : Stays w logs) where
   notarized_stays now heard refusal = subst (λ (o : Option statements.Database). Stays (notarized w o now heard refusal).world logs) (sym s.is)
       (unless_stays (intent_in s.store now heard).fault w (carried_out w s.store (intent_in s.store now heard) refusal) s (sealed_stays now heard refusal))
 
+  -- with a policy more
+  divided_stays : (tile granule k algs : ℕ) (x : World) → x.store ≡ Some (statements.with_item s.store (items.Policy tile granule k algs)) → x.sessions ≡ w.sessions → Stays x logs
+  divided_stays tile granule k algs x store begun = record {
+    store = statements.with_item s.store (items.Policy tile granule k algs);
+    is = store;
+    exchanges = s.exchanges;
+    held = subst (λ (f : ℕ → Option Session). AreHeld (record { store = statements.with_item s.store (items.Policy tile granule k algs); sessions = f }) s.exchanges) (sym begun) (divide_held own s.exchanges s.held tile granule k algs);
+    texts = s.texts;
+  }
+
+  turned_stays : (heard : Heard) (k algs : ℕ) → Stays (turned w w.store heard k algs).world logs
+  turned_stays heard k algs =
+      let t = turn_in s.store heard k algs in
+      let tile = sealed_tiles heard.count in
+      subst (λ (o : Option statements.Database). Stays (turned w o heard k algs).world logs) (sym s.is)
+      (unless_stays t.fault w (turns_world w s.store t) s (divided_stays tile (first_granule (layout (history s.store.header s.store.items)) tile) k algs _ refl refl))
+
   marked_stays : (mark : Option Mark) (refusal : Option AuditFail) (text : List ℕ) → Stays (marked w mark refusal text).world logs
   marked_stays None refusal text = s
   marked_stays (Some mark) refusal text = unless_stays refusal w _ s (same_stays _ refl refl)
@@ -189,8 +208,8 @@ module _ (w : World) (logs : Logs) (s : Stays w logs) where
   audited_stays b now found refusal = let leaves = with_audit b w now found refusal in same_stays _ leaves.same.store leaves.same.sessions
 
   pub step_stays : (line : Line) (now : ℕ) (found : Found) → Stays (step w line now found).world (logged_in w line (step w line now found).text logs)
-  step_stays line now found = by_line (λ line x. Stays x.world (logged_in w line x.text logs)) w line now found (λ line. tables_stay line now) (notarized_stays now found.heard found.refusal) (validated_stays now found.verdict found.refusal)
-      (audited_stays (has_more w) now found.verdict found.refusal) (λ algorithm. subst (λ (x : World). Stays x logs) (sym (analysed_stays w (algorithm_of algorithm) found.analysis found.body)) s)
+  step_stays line now found = by_line (λ line x. Stays x.world (logged_in w line x.text logs)) w line now found (λ line. tables_stay line now) (notarized_stays now found.heard found.refusal) (turned_stays found.heard) (validated_stays now found.verdict found.refusal)
+      (audited_stays (has_more w) now found.verdict found.refusal) (λ algorithm era. subst (λ (x : World). Stays x logs) (sym (analysed_stays w (algorithm_of algorithm) found.analysis found.body)) s)
 
 -- ---- the lines of a run
 

@@ -58,6 +58,8 @@ fn fault_text(status: Status) -> &'static str
         Status::InputLimit => "fault InputLimit\n",
         Status::NotSealedSo => "fault NotSealedSo\n",
         Status::OldFormat => "fault OldFormat\n",
+        Status::TooManyEras => "fault TooManyEras\n",
+        Status::NoEra => "fault NoEra\n",
         Status::SealMissing { .. }
         | Status::OutOfTurn { .. }
         | Status::ClockBack { .. }

@@ -44,6 +44,10 @@ pub enum Status {
     NotaryInconsistent { era: u32, level: u8, index: u32 },
     /// The records of the store stand in one run, and nothing is added to those any more.
     OldFormat,
+    /// The store has as many eras as there may be.
+    TooManyEras,
+    /// The store has no era of the number that an analysis asks for.
+    NoEra,
 }
 
 impl Status {
@@ -73,6 +77,8 @@ impl Status {
             Status::NotSealedSo => 18,
             Status::NotaryInconsistent { .. } => 19,
             Status::OldFormat => 20,
+            Status::TooManyEras => 21,
+            Status::NoEra => 22,
         }
     }
 }

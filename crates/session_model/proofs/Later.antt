@@ -142,3 +142,6 @@ later_txn w t le = record { items = kinds.Txn t ∷ []; behind = refl; rise = (l
 
 pub later_frontier : (w : stores.Database) (moment : ℕ) → last_moment w.items ≤ moment → IsLater w (stores.with_frontier w moment)
 later_frontier w moment le = record { items = kinds.Frontier moment ∷ []; behind = refl; rise = (le, tt) }
+
+pub later_policy : (w : stores.Database) (tile granule k algs : ℕ) → IsLater w (stores.with_item w (kinds.Policy tile granule k algs))
+later_policy w tile granule k algs = record { items = kinds.Policy tile granule k algs ∷ []; behind = refl; rise = (tt, tt) }

@@ -22,11 +22,11 @@ use Rattle.session_model.specs.Statements.{say}
 use Rattle.session_model.specs.Service.{Session, Service, put_at, with_session, new_session}
 use Rattle.session_model.specs.Steps.{Answer, Replied, Served, answers, stored, store_pending, unless_conflict, conflict, heard, speak, in_session, serve}
 use Rattle.session_model.specs.Alone.{alone_from, Exchange, IsAlone}
-use Rattle.session_model.specs.Runs.{Turn, Logs, no_logs, logged, noted, told_in, world_after, reached, opened}
+use Rattle.session_model.specs.Runs.{Turn, Logs, no_logs, logged, noted, told_in, world_after, reached, divided, opened}
 use Rattle.session_model.specs.Serial.{WasAlone, NoneBegun}
 use Rattle.session_model.specs.Pieces.{in_turn, piece, IsOnePiece, IsPieceOf, InPieces, IsSpoken, AloneIsOneSession, RunsAreInPieces}
 use Rattle.session_model.specs.Runs as turns
-use Rattle.session_model.proofs.Serials.{AreHeld, was_alone, line_goes, reach_held, none_held}
+use Rattle.session_model.proofs.Serials.{AreHeld, was_alone, line_goes, reach_held, divide_held, none_held}
 
 put_here : {A : Type 0} (n : ℕ) (a : A) (f : ℕ → A) → put_at n a f n ≡ a
 put_here n a f = let e : eqb n n ≡ true = grind (arith, nat_tests) in ap (λ b. if b then a else f n) e
@@ -287,6 +287,8 @@ pieces (turns.Take line now ∷ rest) w logs held spoken = (
   pieces rest (serve w line now).world (noted logs line (serve w line now).answer) (line_goes w logs held line now).1 (noted_spoken logs line (serve w line now).answer spoken),
 )
 pieces (turns.Reach moment ∷ rest) w logs held spoken = pieces rest (reached w moment) logs (reach_held w logs held moment) spoken
+pieces (turns.Divide tile granule k algs ∷ rest) w logs held spoken =
+    pieces rest (divided w tile granule k algs) logs (divide_held w logs held tile granule k algs) spoken
 pieces (turns.Open store ∷ rest) w logs held spoken = pieces rest (opened store) logs (λ k. tt) spoken
 
 pub runs_are_in_pieces : RunsAreInPieces

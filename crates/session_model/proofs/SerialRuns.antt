@@ -19,23 +19,25 @@ use Rattle.statement_core.specs.Refusing.{refused_by_store}
 use Rattle.session_model.specs.Service.{Session, Service, with_store}
 use Rattle.session_model.specs.Steps.{Replied, Served, stored, store_pending, unless_conflict, conflict, in_session, serve}
 use Rattle.session_model.specs.Alone.{Exchange, IsAlone}
-use Rattle.session_model.specs.Runs.{Turn, Logs, no_logs, noted, told_in, world_after, reached, opened}
+use Rattle.session_model.specs.Runs.{Turn, Logs, no_logs, noted, told_in, world_after, reached, divided, opened}
 use Rattle.session_model.specs.Serial.{IsStored, WasAlone, NoneBegun}
 use Rattle.session_model.specs.Pieces.{piece, turns_for, serial_run, answers_for, serial_answers, RunsAreAsSerial}
 use Rattle.session_model.specs.Runs as turns
-use Rattle.session_model.proofs.Serials.{AreHeld, was_alone, line_goes, reach_held, none_held}
+use Rattle.session_model.proofs.Serials.{AreHeld, was_alone, line_goes, reach_held, divide_held, none_held}
 use Rattle.session_model.proofs.Pieces.{world_of, stmts_of, piece_told, piece_stored, piece_none, IsFree, AreSpoken, noted_spoken}
 
 told_append : (a b : List Turn) (w : Service) → told_in w (a ++ b) ≡ told_in w a ++ told_in (world_after w a) b
 told_append [] b w = refl
 told_append (turns.Take line now ∷ a) b w = ap (λ l. (serve w line now).answer ∷ l) (told_append a b (serve w line now).world)
 told_append (turns.Reach moment ∷ a) b w = told_append a b (reached w moment)
+told_append (turns.Divide tile granule k algs ∷ a) b w = told_append a b (divided w tile granule k algs)
 told_append (turns.Open store ∷ a) b w = told_append a b (opened store)
 
 after_append : (a b : List Turn) (w : Service) → world_after w (a ++ b) ≡ world_after (world_after w a) b
 after_append [] b w = refl
 after_append (turns.Take line now ∷ a) b w = after_append a b (serve w line now).world
 after_append (turns.Reach moment ∷ a) b w = after_append a b (reached w moment)
+after_append (turns.Divide tile granule k algs ∷ a) b w = after_append a b (divided w tile granule k algs)
 after_append (turns.Open store ∷ a) b w = after_append a b (opened store)
 
 -- a commit that is refused is no `ok`
@@ -165,6 +167,9 @@ runs (turns.Reach moment ∷ rest) w logs held spoken sessions none =
       answers_are = ap (λ (y : Service). told_in y (serial_run (reached w moment) logs rest)) is ∙ more.answers_are;
       store_is = ap (λ (y : Service). (world_after y (serial_run (reached w moment) logs rest)).store) is ∙ more.store_is;
     }
+runs (turns.Divide tile granule k algs ∷ rest) w logs held spoken sessions none =
+    let more = runs rest (divided w tile granule k algs) logs (divide_held w logs held tile granule k algs) spoken sessions none in
+    record { answers_are = more.answers_are; store_is = more.store_is }
 runs (turns.Open store ∷ rest) w logs held spoken sessions none =
     let more = runs rest (opened store) logs (λ k. tt) spoken (λ n. None) (λ k. refl) in
     record { answers_are = more.answers_are; store_is = more.store_is }

@@ -26,11 +26,11 @@ use Rattle.session_model.specs.Statements.{Said, say}
 use Rattle.session_model.specs.Service.{Session, Service, put_at, with_store, new_session}
 use Rattle.session_model.specs.Steps.{Served, stored, store_pending, unless_conflict, conflict, heard, in_session, serve}
 use Rattle.session_model.specs.Alone.{Alone, after_reply, alone_from, alone, Exchange, IsAlone}
-use Rattle.session_model.specs.Runs.{Turn, reached, opened, Logs, no_logs, noted}
+use Rattle.session_model.specs.Runs.{Turn, reached, divided, opened, Logs, no_logs, noted}
 use Rattle.session_model.specs.Serial.{WasAlone, IsSerialAt, Serial, RunsAreSerial, NoneBegun}
 use Rattle.session_model.specs.Runs as turns
 use Rattle.session_model.specs.Later.{IsLater, NoneTouches}
-use Rattle.session_model.proofs.Later.{later_same, later_still, later_txn, later_frontier}
+use Rattle.session_model.proofs.Later.{later_same, later_still, later_txn, later_frontier, later_policy}
 use Rattle.session_model.proofs.Staying.{answers_stay}
 
 -- ---- one statement more, alone
@@ -269,6 +269,9 @@ module _ (w : Service) (logs : Logs) (held : AreHeld w logs) where
       by true e = let before : last_moment w.store.items ≤ moment = grind (arith, nat_tests, e) in all_later (stores.with_frontier w.store moment) (later_frontier w.store moment before)
       by false e = held
 
+  pub divide_held : (tile granule k algs : ℕ) → AreHeld (divided w tile granule k algs) logs
+  divide_held tile granule k algs = all_later (divided w tile granule k algs).store (later_policy w.store tile granule k algs)
+
 -- ---- a run
 
 serial : (turns : List Turn) (w : Service) (logs : Logs) → AreHeld w logs → Serial w logs turns
@@ -277,6 +280,7 @@ serial (turns.Take line now ∷ rest) w logs held =
     let goes = line_goes w logs held line now in
     (goes.0, serial rest (serve w line now).world (noted logs line (serve w line now).answer) goes.1)
 serial (turns.Reach moment ∷ rest) w logs held = serial rest (reached w moment) logs (reach_held w logs held moment)
+serial (turns.Divide tile granule k algs ∷ rest) w logs held = serial rest (divided w tile granule k algs) logs (divide_held w logs held tile granule k algs)
 serial (turns.Open store ∷ rest) w logs held = serial rest (opened store) logs (λ k. tt)
 
 pub none_held : (w : Service) → NoneBegun w → AreHeld w no_logs

@@ -190,7 +190,8 @@ answers_stay w later pending stmts.Abort more quiet = refl
 answers_stay w later pending stmts.Notarize more quiet = refl
 answers_stay w later pending stmts.Validate more quiet = refl
 answers_stay w later pending stmts.Audit more quiet = refl
-answers_stay w later pending (stmts.Analyse algorithm) more quiet = refl
+answers_stay w later pending (stmts.Policy k algs) more quiet = refl
+answers_stay w later pending (stmts.Analyse algorithm era) more quiet = refl
 answers_stay w later pending (stmts.Now moment) more quiet = refl
 
 pub one_table_is_enough : OneTableIsEnough

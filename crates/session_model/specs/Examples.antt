@@ -11,7 +11,7 @@ use Rattle.statement_core.specs.declared.reply.Refusal.{Refusal}
 use Rattle.statement_core.specs.declared.reply.Refusal.TheVariants as refusals
 use Rattle.session_model.specs.Service.{Service}
 use Rattle.session_model.specs.Steps.{Answer, Replied, Stopped}
-use Rattle.session_model.specs.Runs.{Turn, Take, Reach, Open, told_in}
+use Rattle.session_model.specs.Runs.{Turn, Take, Reach, Divide, Open, told_in}
 
 -- a store without an item, of granules of 60 moments
 abbrev pub new_world : Service
@@ -146,6 +146,9 @@ pub record WorkedExamples : Type 0 where
   -- a Frontier is no transaction
   pub frontier_is_free : told_in new_world (with_one (say_in 1 (stmts.Scan t None None) ∷ Reach 60 ∷ say_in_at 60 1 (insert_t 1 1) ∷ say_in_at 59 1 stmts.Commit ∷ say_in_at 60 1 stmts.Commit ∷ [])) ≡
       ok 1 ∷ done ∷ Replied (replies.Scanned []) ∷ done ∷ refused (refusals.ClockBack 60) ∷ ok 2 ∷ []
+  -- nor is a policy, which has no moment either
+  pub policy_is_free : told_in new_world (with_one (say_in 1 (stmts.Scan t None None) ∷ Divide 1 8 0 1 ∷ say_in 1 (insert_t 1 1) ∷ say_in 1 stmts.Commit ∷ [])) ≡
+      ok 1 ∷ done ∷ Replied (replies.Scanned []) ∷ done ∷ ok 2 ∷ []
   -- begin, abort, and what is dropped
   pub begins_and_ends : told_in new_world (say_in 3 stmts.Commit ∷ say_in 3 stmts.Abort ∷ say_in 3 stmts.Begin ∷ say_in 3 stmts.Begin ∷ say_in 3 create_t ∷ say_in 3 stmts.Abort ∷ say_in 3 stmts.Begin ∷ Open new_world.store ∷ say_in 3 (get_t 1) ∷ say_plain (get_t 1) ∷ []) ≡
       no_session ∷ no_session ∷ done ∷ session_open ∷ done ∷ done ∷ done ∷ no_session ∷ refused refusals.NoTable ∷ []

@@ -11,7 +11,7 @@ use Rattle.statement_core.specs.declared.reply.Reply.{Reply}
 use Rattle.session_model.specs.Service.{Session, Service}
 use Rattle.session_model.specs.Steps.{Answer, Replied, Served, serve, ended}
 use Rattle.session_model.specs.Alone.{alone_from, Exchange}
-use Rattle.session_model.specs.Runs.{Turn, no_logs, told_in, world_after, Take, Reach, Open, reached, opened, Logs, noted, AtEachLine}
+use Rattle.session_model.specs.Runs.{Turn, no_logs, told_in, world_after, Take, Reach, Divide, Open, reached, divided, opened, Logs, noted, AtEachLine}
 use Rattle.session_model.specs.Serial.{IsStored, NoneBegun}
 
 -- statements of a session, one after the other
@@ -72,6 +72,7 @@ abbrev pub serial_run : Service → Logs → List Turn → List Turn
 serial_run w logs [] = []
 serial_run w logs (Take line now ∷ turns) = turns_for logs line now (serve w line now).answer ++ serial_run (serve w line now).world (noted logs line (serve w line now).answer) turns
 serial_run w logs (Reach moment ∷ turns) = Reach moment ∷ serial_run (reached w moment) logs turns
+serial_run w logs (Divide tile granule k algs ∷ turns) = Divide tile granule k algs ∷ serial_run (divided w tile granule k algs) logs turns
 serial_run w logs (Open store ∷ turns) = Open store ∷ serial_run (opened store) logs turns
 
 -- the answers that the run gave to these lines
@@ -90,6 +91,7 @@ abbrev pub serial_answers : Service → Logs → List Turn → List Answer
 serial_answers w logs [] = []
 serial_answers w logs (Take line now ∷ turns) = answers_for logs line (serve w line now).answer ++ serial_answers (serve w line now).world (noted logs line (serve w line now).answer) turns
 serial_answers w logs (Reach moment ∷ turns) = serial_answers (reached w moment) logs turns
+serial_answers w logs (Divide tile granule k algs ∷ turns) = serial_answers (divided w tile granule k algs) logs turns
 serial_answers w logs (Open store ∷ turns) = serial_answers (opened store) logs turns
 
 -- In the serial run each line is answered as in the run, and the same is stored.

@@ -3,7 +3,7 @@
 //! A session reads what is committed, with its own changes over it, and its changes are stored by its commit
 //! as one transaction. If it commits, it was told what its statements would have been told alone, one after
 //! the other, over the history just before its commit. So it is in every run, whatever other lines,
-//! notarizations and openings of a store come between.
+//! notarizations, policies and openings of a store come between.
 //!
 //! Here are definitions, and laws about them. The only code is the order of places. What a statement means
 //! over a store stands in `statement_core`, and is used for a line outside sessions and for one in a session

@@ -27,25 +27,27 @@ use Rattle.validator.specs.Texts.{verdict_text}
 use Rattle.store_world.specs.World.{World}
 use Rattle.store_world.specs.Found.{Found}
 use Rattle.validator.specs.Notarizing.{Heard}
-use Rattle.store_world.specs.Steps.{Step, step, on_tables, intent_in, notarized, unless, carried_out, validated, has_more, piece_audited, analysed, algorithm_of, marked, reached, why_none}
+use Rattle.store_world.specs.Steps.{Step, step, on_tables, intent_in, notarized, unless, carried_out, turn_in, turns_world, turned, validated, has_more, piece_audited, analysed, algorithm_of, marked, reached, why_none}
 use Rattle.store_world.specs.Acknowledged.{HasTxn, ok_text}
 use Rattle.store_world.specs.Appending.{IsStored, Extends, OnlyAppends, StepsAcknowledge, StepsOnlyAppend}
-use Rattle.store_world.proofs.Texts.{SaysOk, says_ok, reply_ok, refusal_no, notarized_no, validated_no, audited_no, analysed_no}
-use Rattle.store_world.proofs.Adding.{step_adds, extends_same, added_extends, reached_extends}
+use Rattle.store_world.proofs.Texts.{SaysOk, says_ok, reply_ok, refusal_no, notarized_no, turned_no, validated_no, audited_no, analysed_no}
+use Rattle.store_world.proofs.Adding.{step_adds, extends_same, added_extends, reached_extends, item_extends}
 use Rattle.store_world.proofs.Validating.{with_audit}
 use Rattle.store_world.proofs.Analysing.{analysed_stays}
 
--- a line is a notarization, a validation, a piece of an audit or an analysis, or goes to the tables
+-- a line is a notarization, a policy, a validation, a piece of an audit or an analysis, or goes to the tables
 pub by_line : (P : Line → Step → Type 0) (w : World) (line : Line) (now : ℕ) (found : Found)
-    → ((line : Line) → P line (on_tables w w.store line now)) → P (lines.Plain stmts.Notarize) (notarized w w.store now found.heard found.refusal) → P (lines.Plain stmts.Validate) (validated w now found.verdict found.refusal)
+    → ((line : Line) → P line (on_tables w w.store line now)) → P (lines.Plain stmts.Notarize) (notarized w w.store now found.heard found.refusal)
+    → ((k algs : ℕ) → P (lines.Plain (stmts.Policy k algs)) (turned w w.store found.heard k algs)) → P (lines.Plain stmts.Validate) (validated w now found.verdict found.refusal)
     → P (lines.Plain stmts.Audit) (piece_audited (has_more w) w now found.verdict found.refusal)
-    → ((algorithm : LineAlgorithm) → P (lines.Plain (stmts.Analyse algorithm)) (analysed w (algorithm_of algorithm) found.analysis found.body)) → P line (step w line now found)
+    → ((algorithm : LineAlgorithm) (era : Option ℕ) → P (lines.Plain (stmts.Analyse algorithm era)) (analysed w (algorithm_of algorithm) found.analysis found.body)) → P line (step w line now found)
 unfolding step
-by_line P w (lines.Plain stmts.Notarize) now found tables notarizes validates audits analyses = notarizes
-by_line P w (lines.Plain stmts.Validate) now found tables notarizes validates audits analyses = validates
-by_line P w (lines.Plain stmts.Audit) now found tables notarizes validates audits analyses = audits
-by_line P w (lines.Plain (stmts.Analyse algorithm)) now found tables notarizes validates audits analyses = analyses algorithm
-by_line P w line now found tables notarizes validates audits analyses = tables line
+by_line P w (lines.Plain stmts.Notarize) now found tables notarizes turns validates audits analyses = notarizes
+by_line P w (lines.Plain (stmts.Policy k algs)) now found tables notarizes turns validates audits analyses = turns k algs
+by_line P w (lines.Plain stmts.Validate) now found tables notarizes turns validates audits analyses = validates
+by_line P w (lines.Plain stmts.Audit) now found tables notarizes turns validates audits analyses = audits
+by_line P w (lines.Plain (stmts.Analyse algorithm era)) now found tables notarizes turns validates audits analyses = analyses algorithm era
+by_line P w line now found tables notarizes turns validates audits analyses = tables line
 
 -- ---- only items more are stored
 
@@ -82,6 +84,12 @@ module _ (w : World) where
       let more = some_stored store (reached i.frontier store) is (reached_extends i.frontier store) in
       unless_appends i.fault w (carried_out w store i refusal) (appends_none w.store) (unless_appends refusal _ _ more more)
 
+  turned_appends : (o : Option statements.Database) → o ≡ w.store → (heard : Heard) (k algs : ℕ) → Appends (turned w o heard k algs)
+  turned_appends None is heard k algs = appends_none w.store
+  turned_appends (Some store) is heard k algs =
+      let t = turn_in store heard k algs in
+      unless_appends t.fault w (turns_world w store t) (appends_none w.store) (some_stored store (statements.with_item store t.item) is (item_extends store t.item))
+
   marked_appends : (m : Option Mark) (refusal : Option AuditFail) (text : List ℕ) → Appends (marked w m refusal text)
   marked_appends None refusal text = appends_none w.store
   marked_appends (Some mark) refusal text = unless_appends refusal w _ (appends_none w.store) (appends_none w.store)
@@ -94,9 +102,10 @@ module _ (w : World) where
   audited_appends b now found refusal = none_stored (piece_audited b w now found refusal) (with_audit b w now found refusal).same.store
 
 pub steps_append : StepsOnlyAppend
-steps_append w line now found = by_line (λ line s. Appends w s) w line now found (λ line. tables_append w w.store refl line now) (notarized_appends w w.store refl now found.heard found.refusal) (validated_appends w now found.verdict found.refusal)
+steps_append w line now found = by_line (λ line s. Appends w s) w line now found (λ line. tables_append w w.store refl line now) (notarized_appends w w.store refl now found.heard found.refusal)
+    (λ k algs. turned_appends w w.store refl found.heard k algs) (validated_appends w now found.verdict found.refusal)
     (audited_appends w (has_more w) now found.verdict found.refusal)
-    (λ algorithm. none_stored w (analysed w (algorithm_of algorithm) found.analysis found.body) (ap (λ (x : World). x.store) (analysed_stays w (algorithm_of algorithm) found.analysis found.body)))
+    (λ algorithm era. none_stored w (analysed w (algorithm_of algorithm) found.analysis found.body) (ap (λ (x : World). x.store) (analysed_stays w (algorithm_of algorithm) found.analysis found.body)))
 
 -- ---- what is acknowledged is stored
 
@@ -139,6 +148,7 @@ module _ (w : World) (digits : List ℕ) where
 
 pub steps_acknowledge : StepsAcknowledge
 steps_acknowledge w line now found digits = by_line (λ line s. Acknowledges digits s) w line now found (λ line. tables_acknowledge w digits w.store line now)
-    (says_else w digits (notarized w w.store now found.heard found.refusal) (notarized_no w w.store now found.heard found.refusal)) (says_else w digits (validated w now found.verdict found.refusal) (validated_no w now found.verdict found.refusal))
+    (says_else w digits (notarized w w.store now found.heard found.refusal) (notarized_no w w.store now found.heard found.refusal))
+    (λ k algs. says_else w digits (turned w w.store found.heard k algs) (turned_no w w.store found.heard k algs)) (says_else w digits (validated w now found.verdict found.refusal) (validated_no w now found.verdict found.refusal))
     (says_else w digits (piece_audited (has_more w) w now found.verdict found.refusal) (audited_no (has_more w) w now found.verdict found.refusal))
-    (λ algorithm. says_else w digits (analysed w (algorithm_of algorithm) found.analysis found.body) (analysed_no w (algorithm_of algorithm) found.analysis found.body))
+    (λ algorithm era. says_else w digits (analysed w (algorithm_of algorithm) found.analysis found.body) (analysed_no w (algorithm_of algorithm) found.analysis found.body))

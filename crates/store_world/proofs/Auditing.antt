@@ -155,6 +155,7 @@ module _ (now : ℕ) (w : World) (held : OpenWorld) (old new : State) (bytes : L
     going (Err (fails.ClockBack last)) result reply goes stands = absurd goes
     going (Err fails.TooLate) result reply goes stands = absurd goes
     going (Err fails.StoreFull) result reply goes stands = absurd goes
+    going (Err fails.TooManyEras) result reply goes stands = absurd goes
     going (Err fails.Full) result reply goes stands = absurd goes
     going (Err fails.Closed) result reply goes stands = absurd goes
     going (Err fails.Broken) result reply goes stands = absurd goes

@@ -1,5 +1,5 @@
 -- What the parts of a line say of its calls gives those of the disk; and those of the notary, where it is said how many were done.
-use Rattle.std.proofs.Common.{◌≡◌, ◌⊎◌, inl, inr, ℕ, zero, suc, ◌≤◌, Bool, List, [], ◌∷◌, length, take, drop, Option, Some, None, IsSome, Result, Ok, Err, refl, sym, ap, subst, ◌∙◌, arith}
+use Rattle.std.proofs.Common.{◌≡◌, ◌⊎◌, inl, inr, ℕ, zero, suc, ◌≤◌, Bool, List, [], ◌∷◌, length, take, drop, Option, Some, None, IsSome, IfErr, Result, Ok, Err, refl, sym, ap, subst, ◌∙◌, arith}
 use Rattle.std.specs.Prelude.{◌==◌, slice_index}
 use Rattle.std.proofs.lemmas.List.{append-nil, drop_at}
 use Rattle.byte_grammar.specs.Gated.{open_gate}
@@ -39,6 +39,8 @@ use Rattle.validator.specs.declared.fail.AuditFail.TheVariants as audits
 use Rattle.validator.specs.Notarizing.{Heard, Intent, IsRefusedBy}
 use Rattle.validator.specs.Reaching as reaching
 use Rattle.validator.specs.Reaching.{CarriesOut}
+use Rattle.validator.specs.declared.turned.Turned.{Turned}
+use Rattle.validator.specs.Turning.{MakesTurn, IsOfTurning}
 use Rattle.validator.specs.Texts.{refusal_text}
 use Rattle.store_world.specs.declared.answered.Answered.{Answered}
 use Rattle.store_world.specs.declared.fail.LineFail.{LineFail}
@@ -98,7 +100,7 @@ module _ (w : statements.Database) (s : Opened) (before : List ℕ) (i : stateme
       ∙ ap (λ (long : ℕ). calls_of (segment_writes (slice_index before s.at.end == open_gate) long s.at.end payload)) (sym i.open_on.length_is)
       ∙ ap (λ (end : ℕ). calls_of (segment_writes (slice_index before end == open_gate) (length before) end payload)) i.end
 
-  one_item : (item : Item) → append_calls s.at (spell_item item) ≡ appends (standing w.end before) (item ∷ [])
+  pub one_item : (item : Item) → append_calls s.at (spell_item item) ≡ appends (standing w.end before) (item ∷ [])
   one_item item = same_calls (spell_item item) ∙ sym (append-nil (append_calls (standing w.end before) (spell_item item)))
 
   module _ (begun : ℕ → Option Session) (next : session_steps.Served) (m later_m : Machine) (later : Opened) (old new : disks.State) (after : List ℕ) where
@@ -172,10 +174,27 @@ module _ (calls : List disks.Call) (old new : disks.State) where
   audit_calls text (Err (audits.ClockBack last)) result answer free makes = absurd cc
   audit_calls text (Err audits.TooLate) result answer free makes = absurd cc
   audit_calls text (Err audits.StoreFull) result answer free makes = absurd cc
+  audit_calls text (Err audits.TooManyEras) result answer free makes = absurd cc
   audit_calls text (Err audits.Closed) result answer free makes = absurd cc
   audit_calls text (Err audits.Broken) result answer free makes = absurd cc
   audit_calls text (Err (audits.SealMissing name)) result answer free makes = absurd cc
   audit_calls text (Err (audits.OutOfTurn count)) result answer free makes = all_made (refusal (refusal_text (audits.OutOfTurn count))) result answer makes
+
+  -- so of a policy
+  pub turn_calls : (text : Turned → List ℕ) (r : Result Turned AuditFail) (result : Result Answered LineFail) → IsAnswer text r result → IsRefusedBy None r → IfErr r IsOfTurning → MakesTurn calls r old new → MakesOfDisk calls result old new
+  turn_calls text (Ok era) result answer free only makes = all_made (said (text era)) result answer makes
+  turn_calls text (Err audits.DiskFault) result answer free only makes = by_result result (Err fails.DiskFault) answer makes
+  turn_calls text (Err audits.NotaryFault) result answer free only makes = by_result result (Err fails.NotaryFault) answer (inl makes)
+  turn_calls text (Err audits.NoMemory) result answer free only makes = by_result result (Err fails.NoMemory) answer (memory_wanted makes)
+  turn_calls text (Err audits.Full) result answer free only makes = absurd only
+  turn_calls text (Err (audits.OutOfTurn count)) result answer free only makes = absurd only
+  turn_calls text (Err (audits.ClockBack last)) result answer free only makes = absurd only
+  turn_calls text (Err audits.TooLate) result answer free only makes = absurd only
+  turn_calls text (Err audits.StoreFull) result answer free only makes = absurd cc
+  turn_calls text (Err audits.TooManyEras) result answer free only makes = absurd cc
+  turn_calls text (Err audits.Closed) result answer free only makes = absurd cc
+  turn_calls text (Err audits.Broken) result answer free only makes = absurd cc
+  turn_calls text (Err (audits.SealMissing name)) result answer free only makes = absurd cc
 
 module _ (now : ℕ) (w : World) (ws : statements.Database) (is : w.store ≡ Some ws) (s : Opened) (before : List ℕ) (stands : statements.IsIn ws s before) (heard : Heard) (taken : Option AuditFail) where
   abbrev intent : Intent

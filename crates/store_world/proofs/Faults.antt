@@ -93,6 +93,7 @@ module _ {A : Type 0} (text : A → List ℕ) (early : Option AuditFail) (result
   of_clock audits.DiskFault of_it answer = absurd of_it
   of_clock audits.NotaryFault of_it answer = absurd of_it
   of_clock audits.StoreFull of_it answer = absurd of_it
+  of_clock audits.TooManyEras of_it answer = absurd of_it
   of_clock audits.Full of_it answer = absurd of_it
   of_clock audits.Broken of_it answer = absurd of_it
   of_clock (audits.SealMissing name) of_it answer = absurd of_it

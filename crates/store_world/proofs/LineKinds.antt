@@ -19,14 +19,14 @@ use Rattle.store_world.specs.LineCalls.{notarize_calls, validate_calls, audit_ca
 use Rattle.store_world.specs.Faults.{early_of, audit_goes_on}
 use Rattle.validator.specs.Notarizing.{Heard}
 use Rattle.validator.specs.Steps.{counted}
-use Rattle.store_world.specs.Steps.{step, on_tables, notarized, validated, has_more, piece_audited, analysed, algorithm_of}
+use Rattle.store_world.specs.Steps.{step, on_tables, notarized, turned, validated, has_more, piece_audited, analysed, algorithm_of}
 use Rattle.store_world.specs.Finding.{MayTell, MayFind}
 
 -- what stands for a find where nothing is looked for
 abbrev pub none_found : Found
-none_found = record { heard = counted 0; refusal = None; verdict = Ok verdicts.Unsealed; analysis = Ok Unsealed; body = [] }
+none_found = record { heard = counted 0; refusal = None; verdict = Ok verdicts.Unsealed; analysis = Ok (Unsealed None); body = [] }
 
--- what a notarization heard, and why not all was taken
+-- what a notarization or a policy heard, and why not all was taken
 abbrev pub heard_so : Heard → Option AuditFail → Found
 heard_so heard refusal = record none_found { heard = heard; refusal = refusal }
 
@@ -53,9 +53,10 @@ stmt_goes stmts.Begin on = absurd on
 stmt_goes stmts.Commit on = absurd on
 stmt_goes stmts.Abort on = absurd on
 stmt_goes stmts.Notarize on = absurd on
+stmt_goes (stmts.Policy k algs) on = absurd on
 stmt_goes stmts.Validate on = absurd on
 stmt_goes stmts.Audit on = absurd on
-stmt_goes (stmts.Analyse algorithm) on = absurd on
+stmt_goes (stmts.Analyse algorithm era) on = absurd on
 stmt_goes (stmts.Now moment) on = absurd on
 stmt_goes stmt on = record { steps = λ w now found. refl; tells = λ w found. tt; may = λ w now found. tt; calls = λ w now found. refl; early = λ w now. refl; pieces = λ w. refl; kind = tt }
 
@@ -77,6 +78,14 @@ module _ (w : World) (now : ℕ) where
   unfolding notary_calls
   notarize_none heard refusal none = ap (λ (o : Option statements.Database). notarize_calls w o now heard) none
 
+  pub turn_step : (heard : Heard) (k algs : ℕ) → step w (lines.Plain (stmts.Policy k algs)) now (heard_so heard None) ≡ turned w w.store heard k algs
+  unfolding step
+  turn_step heard k algs = refl
+
+  pub turn_none : (heard : Heard) (k algs : ℕ) → notary_calls w (lines.Plain (stmts.Policy k algs)) now (heard_so heard None) ≡ []
+  unfolding notary_calls
+  turn_none heard k algs = refl
+
   pub validate_step : (verdict : Result Verdict AuditFail) (refusal : Option AuditFail) → step w (lines.Plain stmts.Validate) now (judged verdict refusal) ≡ validated w now verdict refusal
   unfolding step
   validate_step verdict refusal = refl
@@ -93,10 +102,10 @@ module _ (w : World) (now : ℕ) where
   unfolding notary_calls
   audit_notes verdict refusal = refl
 
-  pub analyse_step : (algorithm : LineAlgorithm) (analysis : Result Analysis AnalyseFail) (report : List ℕ) → step w (lines.Plain (stmts.Analyse algorithm)) now (shown analysis report) ≡ analysed w (algorithm_of algorithm) analysis report
+  pub analyse_step : (algorithm : LineAlgorithm) (era : Option ℕ) (analysis : Result Analysis AnalyseFail) (report : List ℕ) → step w (lines.Plain (stmts.Analyse algorithm era)) now (shown analysis report) ≡ analysed w (algorithm_of algorithm) analysis report
   unfolding step
-  analyse_step algorithm analysis report = refl
+  analyse_step algorithm era analysis report = refl
 
-  pub analyse_none : (algorithm : LineAlgorithm) (analysis : Result Analysis AnalyseFail) (report : List ℕ) → notary_calls w (lines.Plain (stmts.Analyse algorithm)) now (shown analysis report) ≡ []
+  pub analyse_none : (algorithm : LineAlgorithm) (era : Option ℕ) (analysis : Result Analysis AnalyseFail) (report : List ℕ) → notary_calls w (lines.Plain (stmts.Analyse algorithm era)) now (shown analysis report) ≡ []
   unfolding notary_calls
-  analyse_none algorithm analysis report = refl
+  analyse_none algorithm era analysis report = refl

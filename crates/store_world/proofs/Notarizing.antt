@@ -21,7 +21,7 @@ use Rattle.notary_link.specs.Notary as notaries
 use Rattle.notary_link.specs.Notary.{Lists, Keeps}
 use Rattle.notary_link.proofs.InAll.{kept_seals}
 use Rattle.store_engine.specs.Opened.{Opened, Stores, IsOpenOn}
-use Rattle.store_engine.proofs.Telling.{txns_no_more}
+use Rattle.store_engine.proofs.Telling.{txns_stay}
 use Rattle.stmt_text.specs.declared.stmt.Stmt.TheVariants as stmts
 use Rattle.stmt_text.specs.declared.line.Line.TheVariants as lines
 use Rattle.statement_core.specs.Database as statements
@@ -43,7 +43,7 @@ use Rattle.stmt_text.specs.declared.line.Line.{Line}
 use Rattle.store_world.specs.Found.{Found}
 use Rattle.store_world.specs.Finding.{MayRefuse, full_unless, have_room, MayFile, MayFind}
 use Rattle.store_world.specs.World.{World, StoresOf, with_store}
-use Rattle.store_world.specs.Standing.{OpenWorld, IsIn}
+use Rattle.store_world.specs.Standing.{IsIn}
 use Rattle.store_world.specs.Lists.{IsBeside, ListsGo}
 use Rattle.store_world.specs.Answers.{said, refusal, IsAnswer}
 use Rattle.store_world.specs.Faults.{early_over, EndsTimely}
@@ -51,7 +51,7 @@ use Rattle.store_engine.specs.Refusals.{tail_of}
 use Rattle.store_world.proofs.Replies.{Answers, replies}
 use Rattle.store_world.specs.Parts.{alone}
 use Rattle.store_world.specs.CallsMade.{MakesLineCalls}
-use Rattle.store_world.specs.Steps.{Step, step, intent_in, says, refuses, filed, filed_for, reached, sealed_text, carried_out, unless, notarized}
+use Rattle.store_world.specs.Steps.{Step, step, intent_in, says, filed, filed_for, reached, sealed_text, carried_out, unless, notarized}
 use Rattle.store_world.specs.Stepping.{Goes, Steps, StepsFor}
 use Rattle.store_world.proofs.Adding.{reached_extends}
 use Rattle.store_world.proofs.Kept.{audit_kept}
@@ -60,16 +60,11 @@ use Rattle.store_world.proofs.LineKinds.{heard_so, notarize_step}
 use Rattle.store_world.proofs.LineItems.{carried_world}
 use Rattle.store_world.proofs.Intents.{does_in, early_in}
 use Rattle.store_world.proofs.Faults.{ends_anyhow, ends_timely, ends_asking}
-use Rattle.store_world.proofs.Left.{given, stays_same, left, files_still, beside_by}
+use Rattle.store_world.proofs.Left.{given, files_still, beside_by}
 use Rattle.store_world.proofs.NotaryCalls.{notarization_makes}
+use Rattle.store_world.proofs.Refused.{refused}
 use Rattle.store_world.proofs.Sessions.{stands_still}
 use Rattle.store_world.proofs.Tables.{HasStore, has_store, none_old, never_longer, items_stay}
-use Rattle.store_world.proofs.Validating.{replies_as}
-
--- after a failure it is no matter where the store stands
-pub wherever : (w : World) (next : Step) (fail : LineFail) (later other : OpenWorld) (old new : State) (before after : List ℕ)
-    → Goes w next (Err fail) later old new before after → Goes w next (Err fail) other old new before after
-wherever w next fail later other old new before after goes = record { reply = tt; stands = tt; settled = λ only. tt; images = goes.images; kept = goes.kept; same = λ stays. tt }
 
 keeps_none : (id : ℕ) (lists later : Lists) → Keeps lists later → FilesAll id [] lists later
 keeps_none id lists later keeps = record { filed = keeps.batches id ∙ sym (append-nil (lists.batches id)); others = λ other apart. keeps.batches other; marks = keeps.marks }
@@ -95,6 +90,7 @@ few_filed id limits batches r lists later files = by r files
     by (Err (fails.ClockBack last)) keeps = none keeps
     by (Err fails.TooLate) keeps = none keeps
     by (Err fails.StoreFull) keeps = none keeps
+    by (Err fails.TooManyEras) keeps = none keeps
     by (Err fails.Closed) keeps = none keeps
     by (Err fails.Broken) keeps = none keeps
     by (Err (fails.SealMissing name)) keeps = none keeps
@@ -126,6 +122,7 @@ taken_turn (Err fails.NoMemory) b later turn = room_turn b later
 taken_turn (Err (fails.ClockBack last)) b later turn = room_turn b later
 taken_turn (Err fails.TooLate) b later turn = room_turn b later
 taken_turn (Err fails.StoreFull) b later turn = room_turn b later
+taken_turn (Err fails.TooManyEras) b later turn = room_turn b later
 taken_turn (Err fails.Closed) b later turn = room_turn b later
 taken_turn (Err fails.Broken) b later turn = room_turn b later
 taken_turn (Err (fails.SealMissing name)) b later turn = room_turn b later
@@ -140,6 +137,7 @@ taken_may (Err fails.NoMemory) b = full_may b
 taken_may (Err (fails.ClockBack last)) b = full_may b
 taken_may (Err fails.TooLate) b = full_may b
 taken_may (Err fails.StoreFull) b = full_may b
+taken_may (Err fails.TooManyEras) b = full_may b
 taken_may (Err fails.Closed) b = full_may b
 taken_may (Err fails.Broken) b = full_may b
 taken_may (Err (fails.SealMissing name)) b = full_may b
@@ -174,40 +172,6 @@ module _ (now : ℕ) (s later_s : Opened) (old new : State) (before after : List
   abbrev taken : Result ℕ AuditFail → Option AuditFail
   taken r = taken_by r (fit == length batches)
 
-  -- ---- something speaks against it
-
-  module _ (fail : AuditFail) (is : fault ≡ Some fail) (same : Unchanged old new) where
-    abbrev next : Step
-    next = refuses w (refusal_text fail)
-
-    stay : (result : Result Answered LineFail) → IfOk result (λ answered. answered ≡ refusal (refusal_text fail)) → Goes w next result (alone kept_sessions s auditing) old new before after
-    stay result reply = subst (λ (a : List ℕ). Goes w next result (alone kept_sessions s auditing) old new before a) (sym (reads same))
-        (left w (alone kept_sessions s auditing) old new before i same only_now next result (stays_same w) refl (replies_as next (refusal (refusal_text fail)) result refl refl reply))
-
-    faulty : (result : Result Answered LineFail) → OnOk result ⊥ → To next result
-    faulty (Ok answered) never = absurd never
-    faulty (Err other) never = wherever w next other (alone kept_sessions s auditing) (alone kept_sessions later_s auditing) old new before after (stay (Err other) tt)
-
-    told : (told_fail : AuditFail) → fault ≡ Some told_fail → later_s ≡ s → (result : Result Answered LineFail) → IfOk result (λ answered. answered ≡ refusal (refusal_text told_fail)) → To next result
-    told told_fail told_is stands result reply =
-        let same_fail : told_fail ≡ fail = cc in
-        subst (λ (x : Opened). Goes w next result (alone kept_sessions x auditing) old new before after) (sym stands)
-        (stay result (subst (λ (f : AuditFail). IfOk result (λ answered. answered ≡ refusal (refusal_text f))) same_fail reply))
-
-    pub refused : (r : Result ℕ AuditFail) (result : Result Answered LineFail) → Answers sealed_text r result → IsRefusedBy fault r → (reached_too shut : Type 0) → reaching.StandsAfter r reached_too (reaching.IsLeft s later_s old new) shut → To next result
-    refused (Ok n) result answer by R S stands = let none : fault ≡ None = by in absurd cc
-    refused (Err fails.Full) result answer by R S stands = let none : fault ≡ None = by in absurd cc
-    refused (Err (fails.OutOfTurn count)) result answer by R S stands = let none : fault ≡ None = by in absurd cc
-    refused (Err fails.DiskFault) result answer by R S stands = faulty result answer
-    refused (Err fails.NotaryFault) result answer by R S stands = faulty result answer
-    refused (Err fails.NoMemory) result answer by R S stands = faulty result answer
-    refused (Err fails.Closed) result answer by R S stands = faulty result answer
-    refused (Err (fails.ClockBack last)) result answer by R S stands = told (fails.ClockBack last) by stands.0 result answer
-    refused (Err fails.TooLate) result answer by R S stands = told fails.TooLate by stands.0 result answer
-    refused (Err fails.StoreFull) result answer by R S stands = told fails.StoreFull by stands.0 result answer
-    refused (Err fails.Broken) result answer by R S stands = told fails.Broken by stands.0 result answer
-    refused (Err (fails.SealMissing name)) result answer by R S stands = told (fails.SealMissing name) by stands.0 result answer
-
   -- ---- nothing speaks against it
 
   abbrev pub new_world : World
@@ -230,7 +194,7 @@ module _ (now : ℕ) (s later_s : Opened) (old new : State) (before after : List
   pub stands_in : (o : Option ℕ) → IsReached o s later_s ws.items old new before after → sessions.IsIn (record { store = reached o ws; sessions = w.sessions }) kept_sessions later_s after × ((reached o ws).header.id ≡ w.id)
   stands_in None r = (stands_with None refl (record { header = header ∙ has.stands.header; end = ap (λ (x : Opened). x.at.end) r.store_is ∙ has.stands.end; open_on = r.open_on }), has.own)
   stands_in (Some moment) r = (
-    stands_with (Some moment) (txns_no_more ws.items moment) (record {
+    stands_with (Some moment) (txns_stay ws.items (items.Frontier moment) refl) (record {
       header = header ∙ has.stands.header;
       end = ap (λ (x : Opened). x.at.end) r.store_is ∙ ap (λ (e : ℕ). gate_behind e (length (spell_frontier moment))) has.stands.end;
       open_on = r.open_on;
@@ -306,6 +270,7 @@ module _ (now : ℕ) (s later_s : Opened) (old new : State) (before after : List
     made free (Err (fails.ClockBack last)) result answer by value moves L S stands = let some : fault ≡ Some (fails.ClockBack last) = by in absurd cc
     made free (Err fails.TooLate) result answer by value moves L S stands = let some : fault ≡ Some fails.TooLate = by in absurd cc
     made free (Err fails.StoreFull) result answer by value moves L S stands = let some : fault ≡ Some fails.StoreFull = by in absurd cc
+    made free (Err fails.TooManyEras) result answer by value moves L S stands = let some : fault ≡ Some fails.TooManyEras = by in absurd cc
     made free (Err fails.Broken) result answer by value moves L S stands = let some : fault ≡ Some fails.Broken = by in absurd cc
     made free (Err (fails.SealMissing name)) result answer by value moves L S stands = let some : fault ≡ Some (fails.SealMissing name) = by in absurd cc
 
@@ -314,7 +279,7 @@ module _ (now : ℕ) (s later_s : Opened) (old new : State) (before after : List
   module _ (r : Result ℕ AuditFail) (result : Result Answered LineFail) (answer : IsAnswer sealed_text r result) (filed later : notaries.State) (n : CarriesOut intent ws.items r s later_s (desk old filed) (desk new later) before after) where
     goes_by : (f : Option AuditFail) → fault ≡ f → To (unless f w (carried_out w ws intent (taken r))) result
     goes_by (Some fail) is =
-        refused fail is (n.free (subst (λ (o : Option AuditFail). IsSome o) (sym is) refl)).0 r result (replies sealed_text r result answer) n.refused Done (later_s.at.is_closed ≡ true) n.stands
+        refused s later_s old new before after only_now reads w kept_sessions auditing i fault fail is (n.free (subst (λ (o : Option AuditFail). IsSome o) (sym is) refl)).0 sealed_text r result (replies sealed_text r result answer) n.refused Done (later_s.at.is_closed ≡ true) n.stands
     goes_by None is = made n.images n.kept is r result (replies sealed_text r result answer) n.refused n.value n.trace (reaching.IsLeft s later_s old new) (later_s.at.is_closed ≡ true) n.stands
 
     -- ---- what the notary's lists add
@@ -338,6 +303,7 @@ module _ (now : ℕ) (s later_s : Opened) (old new : State) (before after : List
       taken_is (Err (fails.ClockBack last)) part = refl
       taken_is (Err fails.TooLate) part = refl
       taken_is (Err fails.StoreFull) part = refl
+      taken_is (Err fails.TooManyEras) part = refl
       taken_is (Err fails.Closed) part = refl
       taken_is (Err fails.Broken) part = refl
       taken_is (Err (fails.SealMissing name)) part = refl
@@ -368,6 +334,7 @@ module _ (now : ℕ) (s later_s : Opened) (old new : State) (before after : List
       all_of (Err (fails.ClockBack last)) half y answer free by ok = let some : fault ≡ Some (fails.ClockBack last) = by in absurd cc
       all_of (Err fails.TooLate) half y answer free by ok = let some : fault ≡ Some fails.TooLate = by in absurd cc
       all_of (Err fails.StoreFull) half y answer free by ok = let some : fault ≡ Some fails.StoreFull = by in absurd cc
+      all_of (Err fails.TooManyEras) half y answer free by ok = let some : fault ≡ Some fails.TooManyEras = by in absurd cc
       all_of (Err fails.Broken) half y answer free by ok = let some : fault ≡ Some fails.Broken = by in absurd cc
       all_of (Err (fails.SealMissing name)) half y answer free by ok = let some : fault ≡ Some (fails.SealMissing name) = by in absurd cc
 
@@ -386,7 +353,7 @@ module _ (now : ℕ) (s later_s : Opened) (old new : State) (before after : List
       })
 
 -- the lists' batches are those of the world
-heard_in : (w : World) (ws : statements.Database) (lists : Lists) (id : ℕ) (header : Header) → id ≡ w.id → header ≡ ws.header → Keeps w.lists lists → heard_of (lists.batches id) (history header ws.items) ≡ heard_of (filed_for w) (history ws.header ws.items)
+pub heard_in : (w : World) (ws : statements.Database) (lists : Lists) (id : ℕ) (header : Header) → id ≡ w.id → header ≡ ws.header → Keeps w.lists lists → heard_of (lists.batches id) (history header ws.items) ≡ heard_of (filed_for w) (history ws.header ws.items)
 heard_in w ws lists id header own is keeps = ap (λ (bs : List Batch). heard_of bs (history header ws.items)) (ap lists.batches own ∙ keeps.batches w.id) ∙ ap (λ (h : Header). heard_of (filed_for w) (history h ws.items)) is
 
 pub told_known : {A : Type 0} (o n : Option A) (P Q : A → A → Type 0) → WhereTold o n P → ((b a : A) → o ≡ Some b → n ≡ Some a → P b a → Q b a) → WhereTold o n Q
@@ -473,7 +440,7 @@ module _ (now : ℕ) (s later_s : Opened) (old new : State) (filed later : notar
       same_bytes b a e = cc
 
 -- whatever was answered, the header stays
-pub stays_header : (r : Result ℕ AuditFail) (s later_s : Opened) → reaching.StaysOpen r s later_s → later_s.header ≡ s.header
+pub stays_header : {A : Type 0} (r : Result A AuditFail) (s later_s : Opened) → reaching.StaysOpen r s later_s → later_s.header ≡ s.header
 stays_header (Ok n) s later_s stays = stays.0
 stays_header (Err fails.DiskFault) s later_s stays = stays.0
 stays_header (Err fails.NoMemory) s later_s stays = stays.0
@@ -481,6 +448,7 @@ stays_header (Err fails.NotaryFault) s later_s stays = stays.0
 stays_header (Err (fails.ClockBack last)) s later_s stays = stays.0
 stays_header (Err fails.TooLate) s later_s stays = stays.0
 stays_header (Err fails.StoreFull) s later_s stays = stays.0
+stays_header (Err fails.TooManyEras) s later_s stays = stays.0
 stays_header (Err fails.Full) s later_s stays = stays.0
 stays_header (Err fails.Closed) s later_s stays = stays.0
 stays_header (Err fails.Broken) s later_s stays = stays.0

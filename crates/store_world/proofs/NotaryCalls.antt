@@ -75,6 +75,7 @@ module _ (id from fit : ℕ) (batches : List Batch) (was now : List Entry) where
   made_by text (Err (audits.ClockBack last)) result answer free few made = absurd cc
   made_by text (Err audits.TooLate) result answer free few made = absurd cc
   made_by text (Err audits.StoreFull) result answer free few made = absurd cc
+  made_by text (Err audits.TooManyEras) result answer free few made = absurd cc
   made_by text (Err audits.Closed) result answer free few made = absurd cc
   made_by text (Err audits.Broken) result answer free few made = absurd cc
   made_by text (Err (audits.SealMissing name)) result answer free few made = absurd cc
@@ -90,6 +91,7 @@ all_fit id limits batches (Err audits.NoMemory) lists later files = tt
 all_fit id limits batches (Err (audits.ClockBack last)) lists later files = tt
 all_fit id limits batches (Err audits.TooLate) lists later files = tt
 all_fit id limits batches (Err audits.StoreFull) lists later files = tt
+all_fit id limits batches (Err audits.TooManyEras) lists later files = tt
 all_fit id limits batches (Err audits.Closed) lists later files = tt
 all_fit id limits batches (Err audits.Broken) lists later files = tt
 all_fit id limits batches (Err (audits.SealMissing name)) lists later files = tt

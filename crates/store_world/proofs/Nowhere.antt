@@ -22,17 +22,17 @@ use Rattle.store_world.specs.declared.fail.LineFail.TheVariants as fails
 use Rattle.store_world.specs.World.{World}
 use Rattle.store_world.specs.Standing.{IsIn, StoreIsIn}
 use Rattle.store_world.specs.Answers.{refusal}
-use Rattle.store_world.specs.Finding.{MayTell, MayFile, MayFind}
+use Rattle.store_world.specs.Finding.{MayTell, IsHeard, MayFile, MayFind}
 use Rattle.store_world.specs.Faults.{early_of, audit_goes_on}
 use Rattle.store_world.specs.Parts.{no_store}
 use Rattle.store_world.specs.ByBytes.{NeedsStore}
-use Rattle.store_world.specs.Steps.{Step, step, why_none, has_no_store, on_tables, notarized}
+use Rattle.store_world.specs.Steps.{Step, step, why_none, has_no_store, on_tables, notarized, turned}
 use Rattle.store_world.specs.LineCalls.{notary_calls}
 use Rattle.store_world.specs.CallsMade.{MakesLineCalls}
 use Rattle.store_world.specs.Stepping.{Goes, StepsFor}
 use Rattle.store_world.proofs.CallsTold.{calls_none}
 use Rattle.store_world.proofs.Faults.{ends_wanting, ends_wanting_early, ends_wanting_unasked}
-use Rattle.store_world.proofs.LineKinds.{none_found, GoesToTables, goes_to_tables, notarize_step, notarize_none}
+use Rattle.store_world.proofs.LineKinds.{none_found, GoesToTables, goes_to_tables, notarize_step, notarize_none, turn_step, turn_none}
 use Rattle.store_world.proofs.Left.{given, stays_same, left, files_still, beside_by, beside_same}
 use Rattle.store_world.proofs.Validating.{replies_as}
 
@@ -66,9 +66,15 @@ module _ (w : World) (now : ℕ) (none : w.store ≡ None) where
     step_is = notarize_step w now (counted 0) None ∙ ap (λ (o : Option statements.Database). notarized w o now (counted 0) None) none;
     calls = notarize_none w now (counted 0) None none;
   }
+  refuses_stmt (stmts.Policy k algs) needs = record {
+    tells = tt;
+    may = subst (λ (o : Option statements.Database). IfSome o (IsHeard w none_found)) (sym none) tt;
+    step_is = turn_step w now (counted 0) k algs ∙ ap (λ (o : Option statements.Database). turned w o (counted 0) k algs) none;
+    calls = turn_none w now (counted 0) k algs;
+  }
   refuses_stmt stmts.Validate needs = absurd needs
   refuses_stmt stmts.Audit needs = absurd needs
-  refuses_stmt (stmts.Analyse algorithm) needs = absurd needs
+  refuses_stmt (stmts.Analyse algorithm era) needs = absurd needs
   refuses_stmt stmts.Begin needs = absurd needs
   refuses_stmt stmts.Commit needs = absurd needs
   refuses_stmt stmts.Abort needs = absurd needs
@@ -83,9 +89,10 @@ module _ (w : World) (now : ℕ) (none : w.store ≡ None) where
 
 stmt_needs : (stmt : Stmt) → IsStatementLine (lines.Plain stmt) → NeedsStore (lines.Plain stmt)
 stmt_needs stmts.Notarize on = absurd on
+stmt_needs (stmts.Policy k algs) on = absurd on
 stmt_needs stmts.Validate on = absurd on
 stmt_needs stmts.Audit on = absurd on
-stmt_needs (stmts.Analyse algorithm) on = absurd on
+stmt_needs (stmts.Analyse algorithm era) on = absurd on
 stmt_needs stmts.Begin on = absurd on
 stmt_needs stmts.Commit on = absurd on
 stmt_needs stmts.Abort on = absurd on

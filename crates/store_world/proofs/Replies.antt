@@ -34,6 +34,7 @@ answer_replies audits.Closed result is = none fails.NoMemory result is
 answer_replies (audits.ClockBack last) result is = replied (refusal (refusal_text (audits.ClockBack last))) result is
 answer_replies audits.TooLate result is = replied (refusal (refusal_text audits.TooLate)) result is
 answer_replies audits.StoreFull result is = replied (refusal (refusal_text audits.StoreFull)) result is
+answer_replies audits.TooManyEras result is = replied (refusal (refusal_text audits.TooManyEras)) result is
 answer_replies audits.Full result is = replied (refusal (refusal_text audits.Full)) result is
 answer_replies audits.Broken result is = replied (refusal (refusal_text audits.Broken)) result is
 answer_replies (audits.SealMissing name) result is = replied (refusal (refusal_text (audits.SealMissing name))) result is

@@ -26,6 +26,7 @@ use Rattle.validator.specs.declared.verdict.Verdict.{Verdict}
 use Rattle.validator.specs.declared.fail.AuditFail.{AuditFail}
 use Rattle.validator.specs.Texts.{verdict_text}
 use Rattle.validator.specs.Notarizing.{Heard, heard_of, notarize_fault, filed_fault, next_batches, frontier_for}
+use Rattle.validator.specs.Turning.{Turn}
 use Rattle.validator.specs.Reaching.{with_frontier_for}
 use Rattle.validator.specs.Verdicts.{IsFoundIn, mark_of}
 use Rattle.validator.proofs.Growing.{IsFiledUpTo, ended_within, need_follows, notarized_more, counted_more}
@@ -37,10 +38,10 @@ use Rattle.forensic_report.specs.Finding.{IsAnalysisIn, IsSoundAnalysis}
 use Rattle.forensic_report.proofs.Sound.{sound_in}
 use Rattle.store_world.specs.World.{World, with_store, history_or, history_of}
 use Rattle.store_world.specs.Found.{Found}
-use Rattle.store_world.specs.Steps.{Step, step, filed, filed_for, reached, carried_out, intent_in, unless, notarized, marked, validated, has_more, piece_audited, analysed, algorithm_of, on_tables}
+use Rattle.store_world.specs.Steps.{Step, step, filed, filed_for, reached, carried_out, intent_in, unless, notarized, turn_in, turns_world, turned, marked, validated, has_more, piece_audited, analysed, algorithm_of, on_tables}
 use Rattle.store_world.specs.Finding.{MayFile, FindsVerdict, MayFind}
 use Rattle.store_world.specs.Laws.{HoldsFiled, IsSoundWorld, HasFitHeader, SoundWorldsStaySound}
-use Rattle.store_world.specs.NoAlteration.{IsSoundVerdict, TellsNoAlteration}
+use Rattle.store_world.specs.NoAlteration.{IsSoundVerdict, IsNotFaulted, TellsNoAlteration}
 use Rattle.store_world.proofs.Adding.{Adds, step_adds}
 use Rattle.store_world.proofs.Validating.{validated_anew}
 use Rattle.store_world.proofs.Analysing.{analysed_stays}
@@ -65,7 +66,7 @@ module _ (w : World) (fits : HasFitHeader w) (sound : IsSoundWorld w) where
       where
         by : HoldsFiled (filed_for w) w.id (Some (history ws.header ws.items)) → HoldsFiled (filed_for w) w.id (Some (history ws.header (ws.items ++ items.Txn added.txn ∷ [])))
         by (inl none) = inl none
-        by (inr known) = inr (known.0, known.1, added_stays (filed_for w) w.id known.0 ws.header ws.items (items.Txn added.txn) fit.0 known.2 added.later)
+        by (inr known) = inr (known.0, known.1, added_stays (filed_for w) w.id known.0 ws.header ws.items (items.Txn added.txn) fit.0 known.2 added.later tt)
 
   of_tables : (line : Line) (now : ℕ) → IsSoundAndFit (on_tables w w.store line now).world
   of_tables line now = by w.store refl
@@ -78,10 +79,10 @@ module _ (w : World) (fits : HasFitHeader w) (sound : IsSoundWorld w) where
 
   -- ---- a notarization
 
-  not_refused : IfSome (history_of w) (λ held. filed_fault (filed_for w) held ≡ None)
+  not_refused : IfSome (history_of w) (IsNotFaulted w)
   not_refused = by (history_of w) sound
     where
-      by : (o : Option History) → HoldsFiled (filed_for w) w.id o → IfSome o (λ held. filed_fault (filed_for w) held ≡ None)
+      by : (o : Option History) → HoldsFiled (filed_for w) w.id o → IfSome o (IsNotFaulted w)
       by None held = tt
       by (Some h) (inl none) = ap (λ (bs : List Batch). filed_fault bs h) none
       by (Some h) (inr known) = sound_not_refused (filed_for w) w.id known.0 h known.2
@@ -129,7 +130,7 @@ module _ (w : World) (fits : HasFitHeader w) (sound : IsSoundWorld w) where
         → HoldsFiled (filed_for w) w.id (Some (history ws.header (with_frontier_for o ws.items)))
     still None follows held = held
     still (Some moment) follows (inl none) = inl none
-    still (Some moment) follows (inr known) = inr (known.0, known.1, added_stays (filed_for w) w.id known.0 ws.header ws.items (items.Frontier moment) (fit ws is).0 known.2 (follows moment refl))
+    still (Some moment) follows (inr known) = inr (known.0, known.1, added_stays (filed_for w) w.id known.0 ws.header ws.items (items.Frontier moment) (fit ws is).0 known.2 (follows moment refl) tt)
 
     filed_before : IsFiledUpTo (filed_for w) (history ws.header ws.items) (length (filed_for w))
     filed_before = by (holds ws is)
@@ -182,6 +183,28 @@ module _ (w : World) (fits : HasFitHeader w) (sound : IsSoundWorld w) where
       by (Some ws) is hears = subst (λ (h : Heard). IsSoundAndFit (notarized w (Some ws) now h refusal).world) (sym hears)
           (of_fault ws is now refusal (notarize_fault (statements.tail_of_database ws) false now ws.items (heard_of (filed_for w) (history ws.header ws.items))) refl)
 
+  -- ---- a policy
+
+  -- its tile is behind the sealed ones
+  module _ (ws : statements.Database) (is : w.store ≡ Some ws) (k algs : ℕ) where
+    abbrev turn : Turn
+    turn = turn_in ws (heard_of (filed_for w) (history ws.header ws.items)) k algs
+
+    with_policy : HoldsFiled (filed_for w) w.id (Some (history ws.header ws.items)) → HoldsFiled (filed_for w) w.id (Some (history ws.header (ws.items ++ turn.item ∷ [])))
+    with_policy (inl none) = inl none
+    with_policy (inr known) = inr (known.0, known.1, added_stays (filed_for w) w.id known.0 ws.header ws.items turn.item (fit ws is).0 known.2 tt (omega (arith, known.1)))
+
+    turn_sound : (f : Option AuditFail) → IsSoundAndFit (unless f w (turns_world w ws turn)).world
+    turn_sound (Some fail) = (sound, fits)
+    turn_sound None = (with_policy (holds ws is), fit ws is)
+
+  of_policy : (heard : Heard) (k algs : ℕ) → IfSome w.store (λ store. heard ≡ heard_of (filed_for w) (history store.header store.items)) → IsSoundAndFit (turned w w.store heard k algs).world
+  of_policy heard k algs hears = by w.store refl hears
+    where
+      by : (o : Option statements.Database) → w.store ≡ o → IfSome o (λ store. heard ≡ heard_of (filed_for w) (history store.header store.items)) → IsSoundAndFit (turned w o heard k algs).world
+      by None is hears = (sound, fits)
+      by (Some ws) is hears = subst (λ (h : Heard). IsSoundAndFit (turned w (Some ws) h k algs).world) (sym hears) (turn_sound ws is k algs (turn ws is k algs).fault)
+
   -- what is filed was heard
   filed_heard : (o : Option statements.Database) (found : Found) (now : ℕ) → IfSome o (MayFile w now found) → IfSome o (λ store. found.heard ≡ heard_of (filed_for w) (history store.header store.items))
   filed_heard None found now may = tt
@@ -218,10 +241,10 @@ module _ (w : World) (fits : HasFitHeader w) (sound : IsSoundWorld w) where
   of_analysis : (algorithm : Algorithm) (found : Result Analysis AnalyseFail) (body : List ℕ) → IsSoundAndFit (analysed w algorithm found body).world
   of_analysis algorithm found body = subst IsSoundAndFit (sym (analysed_stays w algorithm found body)) (sound, fits)
 
-  none_by : (algorithm : Algorithm) (o : Option History) (batches : List Batch) (found : Result Analysis AnalyseFail) → HoldsFiled batches w.id o → IsAnalysisIn algorithm batches o found → IsSoundAnalysis found
-  none_by algorithm o batches found (inl none) shows = inl (Unsealed, subst (λ (bs : List Batch). IsAnalysisIn algorithm bs o found) none shows, refl)
-  none_by algorithm None batches found (inr known) shows = absurd known.2
-  none_by algorithm (Some h) batches found (inr known) shows = sound_in algorithm batches w.id known.0 h found known.2.filed shows
+  none_by : (algorithm : Algorithm) (era : Option ℕ) (o : Option History) (batches : List Batch) (found : Result Analysis AnalyseFail) → HoldsFiled batches w.id o → IsAnalysisIn algorithm era batches o found → IsSoundAnalysis found
+  none_by algorithm era o batches found (inl none) shows = inl (Unsealed era, subst (λ (bs : List Batch). IsAnalysisIn algorithm era bs o found) none shows, refl)
+  none_by algorithm era None batches found (inr known) shows = absurd known.2
+  none_by algorithm era (Some h) batches found (inr known) shows = sound_in algorithm era batches w.id known.0 h found known.2.filed shows
 
   -- ---- a line
 
@@ -235,11 +258,12 @@ module _ (w : World) (fits : HasFitHeader w) (sound : IsSoundWorld w) where
     of_stmt : (stmt : Stmt) → Stays (lines.Plain stmt)
     unfolding step
     of_stmt stmts.Notarize may = let both = of_notarization now found.heard found.refusal (filed_heard w.store found now may) in (both.0, both.1, not_refused)
+    of_stmt (stmts.Policy k algs) may = let both = of_policy found.heard k algs may in (both.0, both.1, not_refused)
     of_stmt stmts.Validate may = let both = of_validation now found.verdict found.refusal in (both.0, both.1, clean_by (history_of w) (filed_for w) found.verdict sound may.0)
     of_stmt stmts.Audit may = let both = of_audit (has_more w) now found.verdict found.refusal in (both.0, both.1, clean_last (has_more w) now found may)
-    of_stmt (stmts.Analyse algorithm) may =
+    of_stmt (stmts.Analyse algorithm era) may =
         let both = of_analysis (algorithm_of algorithm) found.analysis found.body in
-        (both.0, both.1, none_by (algorithm_of algorithm) (history_of w) (filed_for w) found.analysis sound may.0)
+        (both.0, both.1, none_by (algorithm_of algorithm) era (history_of w) (filed_for w) found.analysis sound may.0)
     of_stmt stmt may = beside (of_tables (lines.Plain stmt) now)
 
     of_line : (line : Line) → Stays line

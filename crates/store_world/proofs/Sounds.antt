@@ -57,7 +57,7 @@ module _ (kept later_kept : Machine) (s later : Opened) (line : Line) (now : ℕ
       in_new : (x : Database) → Adds w.store x → Stores x.header x.items c → HoldsNotarized batches id n (history_in (stored c))
       in_new x (inl is) stores = to_bytes batches id n w.store.header w.store.items c (subst (λ (y : Database). Stores y.header y.items c) is stores) was
       in_new x (inr added) stores = to_bytes batches id n w.store.header (w.store.items ++ items.Txn added.txn ∷ []) c (subst (λ (y : Database). Stores y.header y.items c) added.is stores)
-          (added_stays batches id n w.store.header w.store.items (items.Txn added.txn) fits_own was added.later)
+          (added_stays batches id n w.store.header w.store.items (items.Txn added.txn) fits_own was added.later tt)
 
       in_either : StoresEither w.store (serve w line now).world.store c → HoldsNotarized batches id n (history_in (stored c))
       in_either (inl stores) = to_bytes batches id n w.store.header w.store.items c stores was

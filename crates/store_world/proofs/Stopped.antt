@@ -105,6 +105,7 @@ module _ (id now : ℕ) (from to : Option Auditing) (fail : LineFail) (old new :
       found = p.audits.found;
       trace = p.audits.trace;
       asked = p.audits.asked;
+      few = p.audits.few;
     };
     reply = p.reply;
     stands = tt;
@@ -113,7 +114,7 @@ module _ (id now : ℕ) (from to : Option Auditing) (fail : LineFail) (old new :
   stmt_stops : (stmt : Stmt) → GoesByBytes (lines.Plain stmt) id from to now (Err fail) old new → GoesByBytes (lines.Plain stmt) id from None now (Err fail) old new
   stmt_stops stmts.Validate told = told
   stmt_stops stmts.Audit told = piece_stops told
-  stmt_stops (stmts.Analyse algorithm) told = told
+  stmt_stops (stmts.Analyse algorithm era) told = told
   stmt_stops stmt told = tt
 
   line_stops : (line : Line) → GoesByBytes line id from to now (Err fail) old new → GoesByBytes line id from None now (Err fail) old new

@@ -11,14 +11,14 @@ use Rattle.validator.specs.declared.verdict.Verdict.{Verdict}
 use Rattle.validator.specs.declared.verdict.Verdict.TheVariants as verdicts
 use Rattle.validator.specs.declared.fail.AuditFail.{AuditFail}
 use Rattle.validator.specs.Verdicts.{mark_of}
-use Rattle.validator.specs.Texts.{verdict_text}
+use Rattle.validator.specs.Texts.{verdict_text, turned_text}
 use Rattle.forensic_report.specs.declared.algorithm.Algorithm.{Algorithm}
 use Rattle.forensic_report.specs.declared.fail.AnalyseFail.{AnalyseFail}
 use Rattle.forensic_report.specs.Analysis.{Analysis}
 use Rattle.forensic_report.specs.Texts.{head_line}
 use Rattle.validator.specs.Notarizing.{Heard}
 use Rattle.store_world.specs.World.{World, with_audited}
-use Rattle.store_world.specs.Steps.{Step, refuses, unless, intent_in, carried_out, notarized, validated, piece_audited, analysed, marked}
+use Rattle.store_world.specs.Steps.{Step, refuses, unless, intent_in, carried_out, notarized, turn_in, turns_world, turned, validated, piece_audited, analysed, marked}
 use Rattle.store_world.specs.Acknowledged.{ok_text}
 
 -- it begins as `ok` and a number
@@ -59,6 +59,13 @@ notarized_no w None now heard refusal ok = (let first = ok.first in omega (arith
 notarized_no w (Some store) now heard refusal ok =
     let i = intent_in store now heard in
     unless_no i.fault w (carried_out w store i refusal) (unless_no refusal _ _ (λ ok. (let first = ok.first in omega (arith, first)))) ok
+
+pub turned_no : (w : World) (o : Option statements.Database) (heard : Heard) (k algs : ℕ) → SaysOk (turned w o heard k algs).text → ⊥
+unfolding turned_text
+turned_no w None heard k algs ok = (let first = ok.first in omega (arith, first))
+turned_no w (Some store) heard k algs ok =
+    let t = turn_in store heard k algs in
+    unless_no t.fault w (turns_world w store t) (λ ok. (let first = ok.first in omega (arith, first))) ok
 
 pub verdict_no : (verdict : Verdict) → SaysOk (verdict_text verdict ++ 10 ∷ []) → ⊥
 unfolding verdict_text

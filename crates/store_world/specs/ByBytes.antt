@@ -3,6 +3,8 @@ use Rattle.std.specs.Prelude.{◌≡◌, ◌≤◌, ◌+◌, ℕ, Bool, Option, 
 use Rattle.outside_words.specs.Told.{WhereTold}
 use Rattle.disk_words.specs.Disk as disks
 use Rattle.history_model.specs.Stored.{stored}
+use Rattle.digest_model.specs.Layout.{max_later}
+use Rattle.audit_model.specs.Altered.{history_with}
 use Rattle.stmt_text.specs.declared.stmt.Stmt.TheVariants as stmts
 use Rattle.stmt_text.specs.declared.line.Line.{Line}
 use Rattle.stmt_text.specs.declared.line.Line.TheVariants as lines
@@ -10,7 +12,7 @@ use Rattle.validator.specs.Desk.{Desk, DeskIsLeft}
 use Rattle.validator.specs.declared.verdict.Verdict.{Verdict}
 use Rattle.validator.specs.declared.fail.AuditFail.{AuditFail}
 use Rattle.validator.specs.Texts.{verdict_text}
-use Rattle.validator.specs.Verdicts.{Validates, MakesMark, IsOfValidation}
+use Rattle.validator.specs.Verdicts.{Validates, MakesMark, IsOfValidation, sealed_in}
 use Rattle.audit_steps.specs.declared.auditing.Auditing.{Auditing}
 use Rattle.audit_steps.specs.declared.audit.Audit.{Audit}
 use Rattle.audit_steps.specs.Auditing.{read_by, IsAuditOf}
@@ -30,7 +32,7 @@ use Rattle.store_world.specs.Steps.{IsWorldLine, algorithm_of, why_none}
 abbrev pub NeedsStore : Line → Type 0
 NeedsStore (lines.Plain stmts.Validate) = ⊥
 NeedsStore (lines.Plain stmts.Audit) = ⊥
-NeedsStore (lines.Plain (stmts.Analyse algorithm)) = ⊥
+NeedsStore (lines.Plain (stmts.Analyse algorithm era)) = ⊥
 NeedsStore line = IsWorldLine line
 
 -- a line that needs a store is told why there is none, or memory wants; neither the disk nor the notary is called
@@ -61,7 +63,9 @@ pub record Audits (id now : ℕ) (auditing later : Option Auditing) (answer : Re
   pub found : IfSome old.disk.reads (λ bytes. IsAuditOf id auditing bytes → WhereTold old.notary.lists new.notary.lists (λ lists later.
       WhereLast (λ verdict. Validates id now old.notary.limits (stored bytes) verdict old.notary.trace new.notary.trace lists later) answer))
   pub trace : WhereTold old.notary.trace new.notary.trace (λ was is. WhereLast (λ verdict. MakesMark id now verdict was is) answer)
-  pub asked : IfOk answer (λ audit. new.notary.asked ≤ old.notary.asked + asks audit)
+  -- by few questions, however many eras there may be, and by those of what is stored
+  pub asked : IfOk answer (λ audit. new.notary.asked ≤ old.notary.asked + asks (λ n. max_later) audit)
+  pub few : IfSome old.disk.reads (λ bytes. IsAuditOf id auditing bytes → IfOk answer (λ audit. new.notary.asked ≤ old.notary.asked + asks (sealed_in (history_with id (stored bytes))) audit))
 
 -- what a piece of an audit came to is told, and then the auditor stands where it says
 pub record TellsPiece (id : ℕ) (auditing later : Option Auditing) (now : ℕ) (result : Result Answered LineFail) (old new : Desk) : Type 0 where
@@ -71,14 +75,14 @@ pub record TellsPiece (id : ℕ) (auditing later : Option Auditing) (now : ℕ) 
   pub stands : OnOk result (StandsAt answer later)
 
 -- what an analysis came to is told
-pub record TellsReport (id : ℕ) (algorithm : Algorithm) (now : ℕ) (result : Result Answered LineFail) (old new : Desk) : Type 0 where
+pub record TellsReport (id : ℕ) (algorithm : Algorithm) (era : Option ℕ) (now : ℕ) (result : Result Answered LineFail) (old new : Desk) : Type 0 where
   pub answer : Result Report AnalyseFail
-  pub reports : Reports id algorithm now answer old new
+  pub reports : Reports id algorithm era now answer old new
   pub reply : IsReported answer result
 
 -- A validation and an analysis go by the stored bytes and what is filed alone, and a piece of an audit by what was read before, too.
 abbrev pub GoesByBytes : Line → ℕ → Option Auditing → Option Auditing → ℕ → Result Answered LineFail → Desk → Desk → Type 0
 GoesByBytes (lines.Plain stmts.Validate) id auditing later now result old new = TellsVerdict id now result old new
 GoesByBytes (lines.Plain stmts.Audit) id auditing later now result old new = TellsPiece id auditing later now result old new
-GoesByBytes (lines.Plain (stmts.Analyse algorithm)) id auditing later now result old new = TellsReport id (algorithm_of algorithm) now result old new
+GoesByBytes (lines.Plain (stmts.Analyse algorithm era)) id auditing later now result old new = TellsReport id (algorithm_of algorithm) era now result old new
 GoesByBytes line id auditing later now result old new = Unit {0}

@@ -46,13 +46,13 @@ MayJudge (Ok verdict) = Unit {0}
 MayJudge (Err (fails.SealMissing name)) = Unit {0}
 MayJudge (Err fail) = ⊥
 
--- some analysis, or what refuses one by this algorithm
-abbrev pub MayAnalyse : Algorithm → Result Analysis AnalyseFail → Type 0
-MayAnalyse algorithm (Ok a) = Unit {0}
-MayAnalyse algorithm (Err analyses.DiskFault) = ⊥
-MayAnalyse algorithm (Err analyses.NotaryFault) = ⊥
-MayAnalyse algorithm (Err analyses.NoMemory) = ⊥
-MayAnalyse algorithm (Err fail) = IsOfAnalysis algorithm fail
+-- some analysis, or what refuses one by this algorithm, of this era or of all
+abbrev pub MayAnalyse : Algorithm → Option ℕ → Result Analysis AnalyseFail → Type 0
+MayAnalyse algorithm era (Ok a) = Unit {0}
+MayAnalyse algorithm era (Err analyses.DiskFault) = ⊥
+MayAnalyse algorithm era (Err analyses.NotaryFault) = ⊥
+MayAnalyse algorithm era (Err analyses.NoMemory) = ⊥
+MayAnalyse algorithm era (Err fail) = IsOfAnalysis algorithm era fail
 
 -- without a history one of nothing filed, or of an altered header
 abbrev pub AnalysesNone : Result Analysis AnalyseFail → Type 0
@@ -66,9 +66,10 @@ MayBeValidated w found = MayJudge found.verdict × MayRefuseMark found.refusal �
 -- What any notary allows a line to find. While an audit goes on, nothing is looked for.
 abbrev pub MayTell : World → Line → Found → Type 0
 MayTell w (lines.Plain stmts.Notarize) found = MaySpeak found.heard.against × MayRefuse found.refusal
+MayTell w (lines.Plain (stmts.Policy k algs)) found = MaySpeak found.heard.against
 MayTell w (lines.Plain stmts.Validate) found = MayBeValidated w found
 MayTell w (lines.Plain stmts.Audit) found = OnFalse (has_more w) (MayBeValidated w found)
-MayTell w (lines.Plain (stmts.Analyse algorithm)) found = MayAnalyse (algorithm_of algorithm) found.analysis × (history_of w ≡ None → AnalysesNone found.analysis)
+MayTell w (lines.Plain (stmts.Analyse algorithm era)) found = MayAnalyse (algorithm_of algorithm) era found.analysis × (history_of w ≡ None → AnalysesNone found.analysis)
 MayTell w line found = Unit {0}
 
 -- ---- where it holds the lists of the world
@@ -82,9 +83,13 @@ full_unless false = Some fails.Full
 abbrev pub have_room : World → List Batch → Bool
 have_room w batches = fitting (room_in w.limits w.lists) batches == length batches
 
--- it says what it holds; and where nothing speaks against the store it takes what there is room for
+-- it says what it holds
+abbrev pub IsHeard : World → Found → statements.Database → Type 0
+IsHeard w found store = found.heard ≡ heard_of (filed_for w) (history store.header store.items)
+
+-- and where nothing speaks against the store it takes what there is room for
 pub record MayFile (w : World) (now : ℕ) (found : Found) (store : statements.Database) : Type 0 where
-  pub heard : found.heard ≡ heard_of (filed_for w) (history store.header store.items)
+  pub heard : IsHeard w found store
   pub refusal : (intent_in store now found.heard).fault ≡ None → found.refusal ≡ full_unless (have_room w (intent_in store now found.heard).batches)
 
 -- it takes a mark where there is room for it
@@ -99,8 +104,9 @@ FindsVerdict w now found = IsFoundIn (filed_for w) (history_of w) found.verdict 
 -- What a line may find there.
 abbrev pub MayFind : World → Line → ℕ → Found → Type 0
 MayFind w (lines.Plain stmts.Notarize) now found = IfSome w.store (MayFile w now found)
+MayFind w (lines.Plain (stmts.Policy k algs)) now found = IfSome w.store (IsHeard w found)
 MayFind w (lines.Plain stmts.Validate) now found = FindsVerdict w now found
 MayFind w (lines.Plain stmts.Audit) now found = OnFalse (has_more w) (FindsVerdict w now found)
-MayFind w (lines.Plain (stmts.Analyse algorithm)) now found = IsAnalysisIn (algorithm_of algorithm) (filed_for w) (history_of w) found.analysis
+MayFind w (lines.Plain (stmts.Analyse algorithm era)) now found = IsAnalysisIn (algorithm_of algorithm) era (filed_for w) (history_of w) found.analysis
     × IfOk found.analysis (λ a. found.body ≡ body_text (algorithm_of algorithm) (kept_of w.lists w.id now) a)
 MayFind w line now found = Unit {0}

@@ -67,6 +67,7 @@ audit_calls false w now found = validate_calls w now found
 -- The calls of the notary by a line that found this.
 unfoldable pub notary_calls : World → Line → ℕ → Found → List Call
 notary_calls w (lines.Plain stmts.Notarize) now found = notarize_calls w w.store now found.heard
+notary_calls w (lines.Plain (stmts.Policy k algs)) now found = []
 notary_calls w (lines.Plain stmts.Validate) now found = validate_calls w now found.verdict
 notary_calls w (lines.Plain stmts.Audit) now found = audit_calls (has_more w) w now found.verdict
 notary_calls w line now found = []

@@ -50,4 +50,5 @@ abbrev pub asking : NotaryLine → Line
 asking asked.Notarize = lines.Plain stmts.Notarize
 asking asked.Validate = lines.Plain stmts.Validate
 asking asked.Audit = lines.Plain stmts.Audit
-asking (asked.Analyse algorithm) = lines.Plain (stmts.Analyse algorithm)
+asking (asked.Policy k algs) = lines.Plain (stmts.Policy k algs)
+asking (asked.Analyse algorithm era) = lines.Plain (stmts.Analyse algorithm era)

@@ -21,9 +21,10 @@ use Rattle.statement_core.specs.Replies as replies
 use Rattle.validator.specs.declared.verdict.Verdict.{Verdict}
 use Rattle.validator.specs.declared.fail.AuditFail.{AuditFail}
 use Rattle.validator.specs.Notarizing.{Heard, Intent, intent_of}
+use Rattle.validator.specs.Turning.{Turn, turn_of}
 use Rattle.validator.specs.Verdicts.{mark_of}
 use Rattle.byte_grammar.specs.Numbered.{numbered}
-use Rattle.validator.specs.Texts.{verdict_text, refusal_text}
+use Rattle.validator.specs.Texts.{verdict_text, turned_text, refusal_text}
 use Rattle.forensic_report.specs.declared.algorithm.Algorithm.{Algorithm}
 use Rattle.forensic_report.specs.declared.algorithm.Algorithm.TheVariants as algorithms
 use Rattle.forensic_report.specs.declared.fail.AnalyseFail.{AnalyseFail}
@@ -111,6 +112,21 @@ abbrev pub notarized : World → Option statements.Database → ℕ → Heard �
 notarized w None now heard refusal = has_no_store w
 notarized w (Some store) now heard refusal = unless (intent_in store now heard).fault w (carried_out w store (intent_in store now heard) refusal)
 
+-- ---- a policy
+
+-- what a policy is to do, where this is heard
+abbrev pub turn_in : statements.Database → Heard → ℕ → ℕ → Turn
+turn_in store heard k algs = turn_of (statements.tail_of_database store) false store.items heard k algs
+
+-- its item is stored, and it is told which era begins, and from which tile on
+abbrev pub turns_world : World → statements.Database → Turn → Step
+turns_world w store t = says (with_store w (statements.with_item store t.item)) (turned_text t.turned)
+
+-- nothing is done where there is no store, or something speaks against it
+abbrev pub turned : World → Option statements.Database → Heard → ℕ → ℕ → Step
+turned w None heard k algs = has_no_store w
+turned w (Some store) heard k algs = unless (turn_in store heard k algs).fault w (turns_world w store (turn_in store heard k algs))
+
 -- ---- a validation
 
 -- a mark is added, where there is one and it is taken
@@ -166,9 +182,10 @@ analysed w algorithm (Err fail) body = refuses w (reports.refusal_text fail)
 -- What a line does at these clock seconds, where this was found.
 unfoldable pub step : World → Line → ℕ → Found → Step
 step w (lines.Plain stmts.Notarize) now found = notarized w w.store now found.heard found.refusal
+step w (lines.Plain (stmts.Policy k algs)) now found = turned w w.store found.heard k algs
 step w (lines.Plain stmts.Validate) now found = validated w now found.verdict found.refusal
 step w (lines.Plain stmts.Audit) now found = piece_audited (has_more w) w now found.verdict found.refusal
-step w (lines.Plain (stmts.Analyse algorithm)) now found = analysed w (algorithm_of algorithm) found.analysis found.body
+step w (lines.Plain (stmts.Analyse algorithm era)) now found = analysed w (algorithm_of algorithm) found.analysis found.body
 step w line now found = on_tables w w.store line now
 
 -- ---- the lines that a world takes: those that one of its parts answers

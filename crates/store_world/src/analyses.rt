@@ -1,11 +1,12 @@
 //! Analyses.
 
-ghost use Rattle.std.specs.Prelude.{◌≡◌, ⊤, false, IfErr, IsErrOf, OnOk};
+ghost use Rattle.std.specs.Prelude.{◌≡◌, ⊤, true, false, IfErr, IsErrOf, OnOk};
 ghost use Rattle.outside_words.specs.Faults.{HasCause, HidesNoFault};
 ghost use Rattle.disk_words.specs.Disk as disks;
 ghost use Rattle.notary_link.specs.Notary as notaries;
 ghost use Rattle.stmt_text.specs.declared.line.Line.TheVariants as lines;
 ghost use Rattle.stmt_text.specs.declared.stmt.Stmt.TheVariants as stmts;
+ghost use Rattle.stmt_text.specs.Statements.{may_name_era};
 ghost use Rattle.validator.specs.Desk.{KeepsSound, desk};
 ghost use Rattle.forensic_report.specs.declared.fail.AnalyseFail.TheVariants as analyses;
 ghost use Rattle.forensic_report.specs.Fails.{disk_in_doubt, notary_in_doubt};
@@ -54,18 +55,20 @@ fn answer_to(alloc: Global, answer: Result<Report, AnalyseFail>) -> Result<Answe
     }
 }
 
-/// Analyses what is stored under an id, at these clock seconds.
+/// Analyses what is stored under an id, the tiles of one era or all, at these clock seconds.
 pub(crate) fn answer_analysis<D: Disk, N: Notary>(
     alloc: Global,
     disk: &mut D,
     notary: &mut N,
     id: u64,
     algorithm: LineAlgorithm,
+    era: Option<u32>,
     now: u64,
 ) -> Result<Answered, LineFail>
-    ensures report { TellsReport id (algorithm_of algorithm) now result
+    requires era { may_name_era algorithm era ≡ true }
+    ensures report { TellsReport id (algorithm_of algorithm) era now result
         (desk (D.state disk.old) (N.state notary.old)) (desk (D.state disk.new) (N.state notary.new)) }
-    ensures told { StepsWithout (lines.Plain (stmts.Analyse algorithm)) now result id
+    ensures told { StepsWithout (lines.Plain (stmts.Analyse algorithm era)) now result id
         (D.state disk.old) (D.state disk.new) (N.state notary.old) (N.state notary.new) }
     ensures sound { KeepsSound (λ before. ⊤)
         (desk (D.state disk.old) (N.state notary.old)) (desk (D.state disk.new) (N.state notary.new)) }
@@ -77,6 +80,6 @@ pub(crate) fn answer_analysis<D: Disk, N: Notary>(
     ensures notary_counted { HidesNone (N.state notary.old) (N.state notary.new) result }
 {
     reports_show();
-    let answer = analyse(alloc, disk, notary, id, algorithm_of(algorithm), now);
+    let answer = analyse(alloc, disk, notary, id, algorithm_of(algorithm), era, now);
     answer_to(alloc, answer)
 }

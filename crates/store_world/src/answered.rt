@@ -2,7 +2,7 @@
 
 ghost use Rattle.std.specs.Prelude.{◌≡◌, ◌++◌, ◌∷◌, [], IfOk};
 ghost use Rattle.byte_grammar.specs.Numbered.{numbered};
-ghost use Rattle.validator.specs.Texts.{verdict_text, refusal_text};
+ghost use Rattle.validator.specs.Texts.{verdict_text, turned_text, refusal_text};
 ghost use Rattle.forensic_report.specs.Fails as reports;
 ghost use Rattle.store_world.specs.Answers.{said, refusal, reported, audit_text};
 ghost use Rattle.store_world.specs.Steps.{why_none, sealed_text};
@@ -11,7 +11,7 @@ use audit_steps::Audit;
 use forensic_report::{AnalyseFail, Report};
 use std::alloc::{AllocError, Global};
 use tuple_bytes::Blob;
-use validator::{AuditFail, Verdict, put_refusal, put_verdict};
+use validator::{AuditFail, Turned, Verdict, put_refusal, put_turned, put_verdict};
 
 /// The text of a reply, and whether it is a refusal.
 #[derive(Debug, Drop)]
@@ -47,6 +47,18 @@ pub(crate) fn sealed(alloc: Global, tiles: u32) -> Result<Answered, AllocError>
     ensures value { IfOk result (λ answered. answered ≡ said (sealed_text tiles)) }
 {
     counted(alloc, b"sealed ", tiles)
+}
+
+/// Which era begins, and from which tile on.
+pub(crate) fn turned(alloc: Global, turned: Turned) -> Result<Answered, AllocError>
+    ensures value { IfOk result (λ answered. answered ≡ said (turned_text turned)) }
+{
+    let mut words = Vec::new(alloc);
+    put_turned(alloc, &mut words, turned)?;
+    Ok(Answered {
+        refused: false,
+        text: line_of(words)?,
+    })
 }
 
 /// What a validation found.

@@ -3,17 +3,18 @@
 //! A `World` is the id of a store, what is stored under it, if anything, its sessions, what the notary holds, and how
 //! many items its auditor has read. `step` says of every world and line the next world and the reply. A `World` of the
 //! code keeps the id, the open store and its sessions, and the auditor, and is lent the disk and the notary at each
-//! call. Sessions go with their store: a notarization, a validation and an analysis leave them; none is begun where
-//! there is no store. The auditor goes on behind what it has read, whatever lines stand between; after a failure, and
-//! where the store is opened anew, it begins anew.
+//! call. Sessions go with their store: a notarization, a policy, a validation and an analysis leave them; none is
+//! begun where there is no store. The auditor goes on behind what it has read, whatever lines stand between; after a
+//! failure, and where the store is opened anew, it begins anew.
 //!
 //! | Line | World after it | Reply |
 //! |---|---|---|
 //! | a statement on tables, or a line of a session | as `step` of `session_model` says | as it says |
 //! | `notarize` | a Frontier more, where one is needed, and a batch more for each tile that has ended | `sealed N`, the number of sealed tiles |
+//! | `policy K ALGS` | a Policy item more, of the tile behind the sealed ones | `era E from tile J`, the number that the era gets, and that tile |
 //! | `validate` | a mark more, where something was filed | the verdict: `clean N`, `header altered N`, `altered N from M`, `unsealed` |
 //! | `audit` | where more than 256 items are left, with so many more read; else as after `validate`, with none read | `auditing N`, the number of items read; else what `validate` says |
-//! | `analyse` | as before | the report of `forensic_report` |
+//! | `analyse`, of all sealed tiles or of those of one era | as before | the report of `forensic_report` |
 //! | any other that is refused | as before; after `Full` with what there was room for | `refused NAME` |
 //!
 //! Without a store all but `validate`, `audit` and `analyse` are `refused NotAStore`. Those three read either format; over
@@ -47,7 +48,7 @@
 //! | only a line that the notary answers ends in a fault of the notary; only such a line, or one that stores, in one of the disk | `only` of `World::line` and of `told`, by `MayEndIn` |
 //! | a piece of an audit that goes on leaves the notary as it was, and ends in no fault of it | `quiet`, `unasked` of `told`, by `EndsUnasked` |
 //! | where the clock speaks against a notarization before anything is asked, it ends in no fault | `timely` of `told`, by `EndsTimely` |
-//! | any notary allows `notarize` the refusals `Broken`, `SealMissing`, `Full` and `OutOfTurn`; `validate` and the last piece of an audit a verdict, `SealMissing` and `Full`; `analyse` an analysis or a refusal of its algorithm. Without a history a verdict or an analysis tells only that nothing was filed or that the header is altered, or there is `Full` | `MayTell` |
+//! | any notary allows `notarize` the refusals `Broken`, `SealMissing`, `Full` and `OutOfTurn`; `policy` the first two; `validate` and the last piece of an audit a verdict, `SealMissing` and `Full`; `analyse` an analysis or a refusal of its algorithm. Without a history a verdict or an analysis tells only that nothing was filed or that the header is altered, or there is `Full` | `MayTell` |
 //! | the store of the id is opened, or there is none | `value` of `World::enter` |
 //! | a world whose store is what was filed stays so at every line, and no line tells of an alteration | [`sound_worlds_stay_sound`] |
 //! | a line that is replied `ok N` leaves a store that has the transaction N, and no line takes an item away | [`steps_acknowledge`], [`steps_only_append`] |

@@ -19,7 +19,7 @@ ghost use Rattle.store_world.specs.ByBytes.{NeedsStore, IsToldNone, GoesByBytes}
 
 use crate::analyses::answer_analysis;
 use crate::answered::{Answered, no_open_store};
-use crate::audits::{answer_notarization, answer_validation};
+use crate::audits::{answer_notarization, answer_policy, answer_validation};
 use crate::fail::LineFail;
 use crate::pieces::answer_audit;
 use crate::statements::answer_statement;
@@ -78,6 +78,9 @@ pub(crate) fn answer_with_store<D: Disk, N: Notary>(
 {
     match asked_of_notary(line) {
         Some(NotaryLine::Notarize) => answer_notarization(alloc, store, disk, notary, now),
+        Some(NotaryLine::Policy { k, algs }) => {
+            answer_policy(alloc, store, disk, notary, k, algs)
+        }
         Some(NotaryLine::Validate) => {
             let id = store.header().id;
             answer_validation(alloc, disk, notary, id, now)
@@ -86,9 +89,9 @@ pub(crate) fn answer_with_store<D: Disk, N: Notary>(
             let id = store.header().id;
             answer_audit(alloc, auditor, disk, notary, id, now)
         }
-        Some(NotaryLine::Analyse { algorithm }) => {
+        Some(NotaryLine::Analyse { algorithm, era }) => {
             let id = store.header().id;
-            answer_analysis(alloc, disk, notary, id, algorithm, now)
+            answer_analysis(alloc, disk, notary, id, algorithm, era, now)
         }
         None => answer_statement(alloc, sessions, store, disk, line, now),
     }
@@ -114,6 +117,7 @@ pub(crate) fn answer_without_store<D: Disk, N: Notary>(
     now: u64,
 ) -> Result<Answered, LineFail>
     requires is_line { IsWorldLine line.now }
+    requires fits { FitsParts line.now }
     ensures none { NeedsStore line.now → IsToldNone is_old result
         (desk (D.state disk.old) (N.state notary.old)) (desk (D.state disk.new) (N.state notary.new)) }
     ensures bytes { GoesByBytes line.now id auditor.old auditor.new now result
@@ -133,14 +137,14 @@ pub(crate) fn answer_without_store<D: Disk, N: Notary>(
     match asked_of_notary(line) {
         Some(NotaryLine::Validate) => answer_validation(alloc, disk, notary, id, now),
         Some(NotaryLine::Audit) => answer_audit(alloc, auditor, disk, notary, id, now),
-        Some(NotaryLine::Analyse { algorithm }) => {
-            answer_analysis(alloc, disk, notary, id, algorithm, now)
+        Some(NotaryLine::Analyse { algorithm, era }) => {
+            answer_analysis(alloc, disk, notary, id, algorithm, era, now)
         }
-        Some(NotaryLine::Notarize) | None => no_answer(alloc, is_old),
+        Some(NotaryLine::Notarize | NotaryLine::Policy { .. }) | None => no_answer(alloc, is_old),
     }
 }
 
-/// Whether a world takes a line: a statement on tables, `notarize`, `validate`, `audit` or
+/// Whether a world takes a line: a statement on tables, `notarize`, `policy`, `validate`, `audit` or
 /// `analyse`, or any line of a session.
 pub fn is_world_line(line: &Line) -> bool
     ensures value { IsTrue result ↔ IsWorldLine line.now }

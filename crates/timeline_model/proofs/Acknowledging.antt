@@ -13,9 +13,9 @@ use Rattle.tuple_bytes.specs.declared.item.Item.TheVariants as items
 use Rattle.tuple_bytes.specs.declared.item.Txn.{Txn}
 use Rattle.tuple_bytes.specs.declared.op.Op.{Op}
 use Rattle.tuple_bytes.specs.Limits.{max_moment}
-use Rattle.history_model.specs.Stored.{stored}
 use Rattle.history_model.specs.History.{History, history, txns, txn_in}
 use Rattle.store_engine.specs.Refusals.{commit_fault}
+use Rattle.store_engine.specs.Leaving.{Takes}
 use Rattle.stmt_text.specs.declared.error.ParseFail.{ParseFail}
 use Rattle.stmt_text.specs.declared.event.Event.TheVariants as events
 use Rattle.stmt_text.specs.declared.stmt.LineAlgorithm.{LineAlgorithm}
@@ -37,7 +37,7 @@ use Rattle.store_world.specs.World as worlds
 use Rattle.store_world.specs.World.{old_under}
 use Rattle.store_world.specs.Steps as world_steps
 use Rattle.store_world.proofs.Acknowledging.{promised}
-use Rattle.store_world.proofs.Texts.{SaysOk, says_ok, reply_ok, refusal_no, notarized_no, validated_no, audited_no, analysed_no}
+use Rattle.store_world.proofs.Texts.{SaysOk, says_ok, reply_ok, refusal_no, notarized_no, turned_no, validated_no, audited_no, analysed_no}
 use Rattle.store_world.specs.Steps.{why_none, on_tables, notarized, validated, has_more, algorithm_of}
 use Rattle.txn_journal.specs.Create.{is_free}
 use Rattle.timeline_model.specs.Scene.{Scene, Crash, entered_anew, nothing_yet, store_in, world_with, world_of, held}
@@ -53,7 +53,7 @@ use Rattle.timeline_model.proofs.Events.{fit_after, nothing_fit}
 use Rattle.timeline_model.proofs.StayBytes.{still_fit}
 use Rattle.timeline_model.proofs.Sessions.{AreFit, IsFit, asked_fit}
 use Rattle.timeline_model.proofs.Spellings.{IsFitOp}
-use Rattle.timeline_model.proofs.Fitting.{few}
+use Rattle.timeline_model.proofs.Fitting.{few, takes_txn}
 use Rattle.timeline_model.proofs.Sound.{stored_held, one_stored, stores_whole}
 use Rattle.timeline_model.proofs.SoundLines.{stored_without_crash, event_good}
 
@@ -128,14 +128,17 @@ module _ (i : ℕ) (t : Scene) (line : Line) (found : Found) (store : statements
       small : txn.number < 2 ^ 32
       small = few i t store is bytes_before ops some fit free
 
+      in_file : Takes t.bytes (items.Txn txn)
+      in_file = takes_txn i t store is bytes_before ops some fit free
+
       acknowledges : Acknowledges (items_added (Some store) s.world.store) t (over_world t w line found s).next
       acknowledges = record {
         txn = txn;
-        one = one_stored i t line found store is bytes_before no_calls s ops some fit free store_same;
+        one = one_stored i t line found store is bytes_before no_calls s (items.Txn txn) in_file store_same;
         before = history store.header store.items;
         held_before = stored_held store.header store.items t (record { header_is = facts.header; items_are = facts.items; format = facts.format });
         held_now = stored_held store.header (store.items ++ items.Txn txn ∷ []) (over_world t w line found s).next.scene
-            (stores_whole i t line found store is bytes_before no_calls s ops some fit free store_same);
+            (stores_whole i t line found store is bytes_before no_calls s (items.Txn txn) in_file store_same);
         counted = refl;
         few_yet = (let lt = small in omega (arith, lt));
         text = text_of_step ∙ ap (λ (x : Answer). reply_text (reply_of x)) answer ∙ committed_text txn.number;
@@ -167,6 +170,11 @@ unfolding world_steps.step
 over_notarize t None found ok = no_refusal t (codes "NotAStore") ok
 over_notarize t (Some i) found ok = notarized_no (world_of t i) (world_of t i).store t.clock found.heard found.refusal ok
 
+over_policy : (t : Scene) (k algs : ℕ) (o : Option ℕ) (found : Found) → SaysOk (over_store t o (lines.Plain (stmts.Policy k algs)) found).next.text → ⊥
+unfolding world_steps.step
+over_policy t k algs None found ok = no_refusal t (codes "NotAStore") ok
+over_policy t k algs (Some i) found ok = turned_no (world_of t i) (world_of t i).store found.heard k algs ok
+
 over_validate : (t : Scene) (o : Option ℕ) (found : Found) → SaysOk (over_store t o (lines.Plain stmts.Validate) found).next.text → ⊥
 unfolding world_steps.step
 over_validate t None found ok = no_refusal t (codes "NotAStore") ok
@@ -177,10 +185,10 @@ unfolding world_steps.step
 over_audit t None found ok = no_refusal t (codes "NotAStore") ok
 over_audit t (Some i) found ok = audited_no (has_more (world_of t i)) (world_of t i) t.clock found.verdict found.refusal ok
 
-over_analyse : (t : Scene) (algorithm : LineAlgorithm) (o : Option ℕ) (found : Found) → SaysOk (over_store t o (lines.Plain (stmts.Analyse algorithm)) found).next.text → ⊥
+over_analyse : (t : Scene) (algorithm : LineAlgorithm) (era o : Option ℕ) (found : Found) → SaysOk (over_store t o (lines.Plain (stmts.Analyse algorithm era)) found).next.text → ⊥
 unfolding world_steps.step
-over_analyse t algorithm None found ok = no_refusal t (codes "NotAStore") ok
-over_analyse t algorithm (Some i) found ok = analysed_no (world_of t i) (algorithm_of algorithm) found.analysis found.body ok
+over_analyse t algorithm era None found ok = no_refusal t (codes "NotAStore") ok
+over_analyse t algorithm era (Some i) found ok = analysed_no (world_of t i) (algorithm_of algorithm) found.analysis found.body ok
 
 says_only_ok : (t : Scene) → SaysOk (says t (codes "ok")).text → ⊥
 says_only_ok t ok = (let third = ok.third in omega (arith, third))
@@ -202,13 +210,14 @@ changed_not false t later ok = no_refusal t (codes "NoPlace") ok
 stmt_acks : (t : Scene) (stmt : Stmt) (found : Found) → IsDrillLine (lines.Plain stmt) → FitsParts (lines.Plain stmt) → IsFit t → IfOk (stored_by t.id t (Ok (lines.Plain stmt)) found) t (act t (lines.Plain stmt) found).next
 unfolding act world_steps.step notary_calls
 stmt_acks t stmts.Notarize found is parts fits ok = absurd (over_notarize t t.id found ok)
+stmt_acks t (stmts.Policy k algs) found is parts fits ok = absurd (over_policy t k algs t.id found ok)
 stmt_acks t stmts.Validate found is parts fits ok = absurd (over_validate t t.id found ok)
 stmt_acks t stmts.Audit found is parts fits ok = absurd (over_audit t t.id found ok)
 stmt_acks t (stmts.Now moment) found is parts fits ok = absurd (says_only_ok t ok)
 stmt_acks t stmts.Begin found is parts fits ok = absurd is
 stmt_acks t stmts.Commit found is parts fits ok = absurd is
 stmt_acks t stmts.Abort found is parts fits ok = absurd is
-stmt_acks t (stmts.Analyse algorithm) found is parts fits ok = absurd (over_analyse t algorithm t.id found ok)
+stmt_acks t (stmts.Analyse algorithm era) found is parts fits ok = absurd (over_analyse t algorithm era t.id found ok)
 stmt_acks t stmt found is parts fits ok = over_tables t t.id (lines.Plain stmt) parts found fits (goes_to_tables (lines.Plain stmt) tt) ok
 
 line_acks : (t : Scene) (line : Line) (found : Found) → IsDrillLine line → FitsParts line → IsFit t → IfOk (stored_by t.id t (Ok line) found) t (act t line found).next

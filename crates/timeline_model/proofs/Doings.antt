@@ -31,13 +31,14 @@ use Rattle.statement_core.specs.Database as statements
 use Rattle.audit_model.specs.Altered.{history_in, history_with, under_id}
 use Rattle.validator.specs.declared.verdict.Verdict.{Verdict}
 use Rattle.validator.specs.declared.fail.AuditFail.{AuditFail}
+use Rattle.validator.specs.Notarizing.{Heard}
 use Rattle.validator.specs.Verdicts.{IsFoundIn, mark_of}
 use Rattle.validator.specs.Texts.{verdict_text, refusal_text}
 use Rattle.store_world.specs.Found.{Found}
 use Rattle.store_world.specs.World as worlds
 use Rattle.store_world.specs.World.{with_audited, with_mark, history_or, is_new, old_under}
 use Rattle.store_world.specs.Steps as world_steps
-use Rattle.store_world.specs.Steps.{on_tables, validated, algorithm_of, marked, has_more, audits_on, piece_audited}
+use Rattle.store_world.specs.Steps.{on_tables, unless, turn_in, turns_world, turned, validated, algorithm_of, marked, has_more, audits_on, piece_audited}
 use Rattle.store_world.specs.Finding.{FindsVerdict}
 use Rattle.store_world.proofs.Analysing.{analysed_stays}
 use Rattle.store_world.proofs.LineKinds.{GoesToTables}
@@ -305,10 +306,26 @@ audit_acts id t (Some i) found may =
     let w = world_with t i (store_in i t.bytes) in
     audits id i t (lines.Plain stmts.Audit) found (store_in i t.bytes) refl (audit_few (has_more w) w t.clock found.verdict) (has_more w) may
 
+-- ---- a policy
+
+policy_lists : (w : worlds.World) (o : Option statements.Database) (heard : Heard) (k algs : ℕ) → (turned w o heard k algs).world.lists ≡ w.lists
+policy_lists w None heard k algs = refl
+policy_lists w (Some store) heard k algs = by (turn_in store heard k algs).fault
+  where
+    by : (fault : Option AuditFail) → (unless fault w (turns_world w store (turn_in store heard k algs))).world.lists ≡ w.lists
+    by (Some fail) = refl
+    by None = refl
+
+pub policy_acts : (id : ℕ) (t : Scene) (k algs : ℕ) (o : Option ℕ) (found : Found) → ActsEither id t (over_store t o (lines.Plain (stmts.Policy k algs)) found)
+unfolding world_of world_steps.step notary_calls
+policy_acts id t k algs None found = without_notary id t (over_store t None (lines.Plain (stmts.Policy k algs)) found) refl refl
+policy_acts id t k algs (Some i) found = without_notary id t (over_store t (Some i) (lines.Plain (stmts.Policy k algs)) found) refl
+    (policy_lists (world_of t i) (store_in i t.bytes) found.heard k algs)
+
 -- ---- an analysis
 
-pub analyse_acts : (id : ℕ) (t : Scene) (algorithm : LineAlgorithm) (o : Option ℕ) (found : Found) → ActsEither id t (over_store t o (lines.Plain (stmts.Analyse algorithm)) found)
+pub analyse_acts : (id : ℕ) (t : Scene) (algorithm : LineAlgorithm) (era o : Option ℕ) (found : Found) → ActsEither id t (over_store t o (lines.Plain (stmts.Analyse algorithm era)) found)
 unfolding world_of world_steps.step notary_calls
-analyse_acts id t algorithm None found = without_notary id t (over_store t None (lines.Plain (stmts.Analyse algorithm)) found) refl refl
-analyse_acts id t algorithm (Some i) found = without_notary id t (over_store t (Some i) (lines.Plain (stmts.Analyse algorithm)) found) refl
+analyse_acts id t algorithm era None found = without_notary id t (over_store t None (lines.Plain (stmts.Analyse algorithm era)) found) refl refl
+analyse_acts id t algorithm era (Some i) found = without_notary id t (over_store t (Some i) (lines.Plain (stmts.Analyse algorithm era)) found) refl
     (ap (λ (w : worlds.World). w.lists) (analysed_stays (world_of t i) (algorithm_of algorithm) found.analysis found.body))

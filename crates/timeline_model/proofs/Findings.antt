@@ -6,7 +6,7 @@ use Rattle.std.proofs.lemmas.Bool.{cases_lt}
 use Rattle.byte_grammar.specs.Reading.{IsBytes}
 use Rattle.history_model.specs.Stored.{stored}
 use Rattle.history_model.specs.History.{History}
-use Rattle.digest_model.specs.Layout.{Layout, layout, first_granule, max_granules}
+use Rattle.digest_model.specs.Layout.{layout, first_granule, max_granules}
 use Rattle.digest_model.specs.Digests.{cum}
 use Rattle.digest_model.proofs.Follows.{follow}
 use Rattle.digest_model.proofs.Layouts.{adjoin, ends_within, fewer}
@@ -37,9 +37,9 @@ use Rattle.forensic_report.specs.declared.algorithm.Algorithm.{Algorithm}
 use Rattle.forensic_report.specs.declared.algorithm.Algorithm.TheVariants.{Mono, Tiled, TiledExactly, A3d}
 use Rattle.forensic_report.specs.declared.fail.AnalyseFail.{AnalyseFail}
 use Rattle.forensic_report.specs.declared.fail.AnalyseFail.TheVariants as analyse_fails
-use Rattle.forensic_report.specs.Analysis.{Analysis, Region, Found}
+use Rattle.forensic_report.specs.Analysis.{Extent, Analysis, Region, Found}
 use Rattle.forensic_report.specs.Finding as analysing
-use Rattle.forensic_report.specs.Finding.{IsRegion, has_chains, IsFoundOf, IsAnalysisIn}
+use Rattle.forensic_report.specs.Finding.{extent_of, IsRegion, has_era, has_chains, IsFoundOf, IsAnalysisIn}
 use Rattle.forensic_report.specs.Texts.{kept_of, body_text}
 use Rattle.forensic_report.proofs.Filed.{not_absent}
 use Rattle.stmt_text.specs.declared.stmt.LineAlgorithm.{LineAlgorithm}
@@ -48,8 +48,8 @@ use Rattle.stmt_text.specs.declared.line.Line.TheVariants as lines
 use Rattle.store_world.specs.Found.{Found as FoundOf}
 use Rattle.store_world.specs.World.{World, with_audited, history_or, old_under}
 use Rattle.store_world.specs.Steps as world_steps
-use Rattle.store_world.specs.Steps.{algorithm_of, intent_in, unless, carried_out, notarized, marked, validated, has_more, piece_audited, analysed}
-use Rattle.store_world.specs.Finding.{MayFile, MayMark, FindsVerdict, MayFind, full_unless}
+use Rattle.store_world.specs.Steps.{algorithm_of, intent_in, unless, carried_out, notarized, turned, marked, validated, has_more, piece_audited, analysed}
+use Rattle.store_world.specs.Finding.{IsHeard, MayFile, MayMark, FindsVerdict, MayFind, full_unless}
 use Rattle.timeline_model.specs.Scene.{Scene, nothing_yet, store_in, world_of, held, batches_of}
 use Rattle.timeline_model.specs.Timeline.{Event, after, IsTimeline}
 use Rattle.timeline_model.specs.Filed.{IsFiledOver, HasClash}
@@ -141,22 +141,22 @@ module _ (batches : List Batch) (id n : ℕ) (h s : History) (checked : IsAudit 
       ]
 
   -- and so is an analysis by the chain
-  analysis_region : (r : Result Analysis AnalyseFail) → IsRegion chain (layout s) n r → (region : Option ℕ) × BeginsRegion chain n region × (r ≡ told (Found (layout s) n (Region region)))
-  analysis_region (Ok (Found l tiles (Region region))) is = (region, is.2, ap (λ (x : Layout). told (Found x tiles (Region region))) is.0 ∙ ap (λ (k : ℕ). told (Found (layout s) k (Region region))) is.1)
-  analysis_region (Err (analyse_fails.SealMissing name)) is = absurd (not_absent batches id n h s checked.filed (names.Cum is.0) (cum_planned (layout h) n is.0 is.1) is.3)
-  analysis_region r is = absurd is
+  analysis_region : (extent : Extent) → extent.tiles ≡ n → (r : Result Analysis AnalyseFail) → IsRegion chain extent r → (region : Option ℕ) × BeginsRegion chain n region × (r ≡ told (Found extent (Region region)))
+  analysis_region extent many (Ok (Found found (Region region))) is = (region, subst (λ (k : ℕ). BeginsRegion chain k region) many is.1, ap (λ (x : Extent). told (Found x (Region region))) is.0)
+  analysis_region extent many (Err (analyse_fails.SealMissing name)) is = absurd (not_absent batches id n h s checked.filed (names.Cum is.0) (cum_planned (layout h) n is.0 (let below = is.1 in omega (arith, below, many))) is.3)
+  analysis_region extent many r is = absurd is
 
-  one_analysed : (algorithm : Algorithm) (r q : Result Analysis AnalyseFail) → analysing.IsFoundBy algorithm batches n s r → analysing.IsFoundBy algorithm batches n s q → (r ≡ q) ⊎ HashClash h (Some s) n
-  one_analysed Mono r q x y =
-      let one = analysis_region r x in
-      let other = analysis_region q y in
+  one_analysed : (algorithm : Algorithm) (era : Option ℕ) (r q : Result Analysis AnalyseFail) → analysing.IsFoundBy algorithm era batches n s r → analysing.IsFoundBy algorithm era batches n s q → (r ≡ q) ⊎ HashClash h (Some s) n
+  one_analysed Mono era r q x y =
+      let one = analysis_region (extent_of None s n) refl r x in
+      let other = analysis_region (extent_of None s n) refl q y in
       elim (one_region n refl one.0 other.0 one.1 other.1) [
-        | inl same ↦ inl (one.2 ∙ ap (λ (region : Option ℕ). told (Found (layout s) n (Region region))) same ∙ sym other.2)
+        | inl same ↦ inl (one.2 ∙ ap (λ (region : Option ℕ). told (Found (extent_of None s n) (Region region))) same ∙ sym other.2)
         | inr clash ↦ inr clash
       ]
-  one_analysed Tiled r q x y = inl (x ∙ sym y)
-  one_analysed (TiledExactly kappa) r q x y = inl (x ∙ sym y)
-  one_analysed A3d r q x y = inl (x ∙ sym y)
+  one_analysed Tiled era r q x y = inl (x ∙ sym y)
+  one_analysed (TiledExactly kappa) era r q x y = inl (x ∙ sym y)
+  one_analysed A3d era r q x y = inl (x ∙ sym y)
 
 -- ---- of a file, where a header that is answered the same is the one that was filed, or there is a clash
 
@@ -180,25 +180,29 @@ module _ (batches : List Batch) (id n : ℕ) (h : History) (C : Type 0) where
   one_verdict None r q known x y = inl (x ∙ sym y)
   one_verdict (Some s) r q known x y = verdict_at s r q (header_answer batches s n) (known s refl) x y
 
-  module _ (algorithm : Algorithm) (s : History) (r q : Result Analysis AnalyseFail) where
-    analysis_within : (b : Bool) → Checked s → analysing.IsFoundWithin b algorithm batches n s r → analysing.IsFoundWithin b algorithm batches n s q → (r ≡ q) ⊎ C
-    analysis_within true (inl checked) x y = elim (one_analysed batches id n h s checked.0 algorithm r q x y) [ inl same ↦ inl same | inr clash ↦ inr (checked.1 clash) ]
+  module _ (algorithm : Algorithm) (era : Option ℕ) (s : History) (r q : Result Analysis AnalyseFail) where
+    analysis_within : (b : Bool) → Checked s → analysing.IsFoundWithin b algorithm era batches n s r → analysing.IsFoundWithin b algorithm era batches n s q → (r ≡ q) ⊎ C
+    analysis_within true (inl checked) x y = elim (one_analysed batches id n h s checked.0 algorithm era r q x y) [ inl same ↦ inl same | inr clash ↦ inr (checked.1 clash) ]
     analysis_within true (inr clash) x y = inr clash
     analysis_within false known x y = inl (x ∙ sym y)
 
-    analysis_with : (b : Bool) → Checked s → analysing.IsFoundWith b algorithm batches n s r → analysing.IsFoundWith b algorithm batches n s q → (r ≡ q) ⊎ C
+    analysis_with : (b : Bool) → Checked s → analysing.IsFoundWith b algorithm era batches n s r → analysing.IsFoundWith b algorithm era batches n s q → (r ≡ q) ⊎ C
     analysis_with true known x y = analysis_within (nat_le (first_granule (layout s) n) max_granules) known x y
     analysis_with false known x y = inl (x ∙ sym y)
 
-    analysis_at : (a : Answer) → (a ≡ Same → Checked s) → analysing.IsFoundAt a algorithm batches n s r → analysing.IsFoundAt a algorithm batches n s q → (r ≡ q) ⊎ C
-    analysis_at Same known x y = analysis_with (has_chains algorithm (layout s) n) (known refl) x y
+    analysis_of_era : (b : Bool) → Checked s → analysing.IsFoundIn b algorithm era batches n s r → analysing.IsFoundIn b algorithm era batches n s q → (r ≡ q) ⊎ C
+    analysis_of_era true known x y = analysis_with (has_chains algorithm era s n) known x y
+    analysis_of_era false known x y = inl (x ∙ sym y)
+
+    analysis_at : (a : Answer) → (a ≡ Same → Checked s) → analysing.IsFoundAt a algorithm era batches n s r → analysing.IsFoundAt a algorithm era batches n s q → (r ≡ q) ⊎ C
+    analysis_at Same known x y = analysis_of_era (has_era era s) (known refl) x y
     analysis_at Differs known x y = inl (x ∙ sym y)
     analysis_at Absent known x y = inl (x ∙ sym y)
 
-  one_analysis : (algorithm : Algorithm) (file : Option History) (r q : Result Analysis AnalyseFail) → ((s : History) → file ≡ Some s → header_answer batches s n ≡ Same → Checked s)
-      → IsFoundOf algorithm batches n file r → IsFoundOf algorithm batches n file q → (r ≡ q) ⊎ C
-  one_analysis algorithm None r q known x y = inl (x ∙ sym y)
-  one_analysis algorithm (Some s) r q known x y = analysis_at algorithm s r q (header_answer batches s n) (known s refl) x y
+  one_analysis : (algorithm : Algorithm) (era : Option ℕ) (file : Option History) (r q : Result Analysis AnalyseFail) → ((s : History) → file ≡ Some s → header_answer batches s n ≡ Same → Checked s)
+      → IsFoundOf algorithm era batches n file r → IsFoundOf algorithm era batches n file q → (r ≡ q) ⊎ C
+  one_analysis algorithm era None r q known x y = inl (x ∙ sym y)
+  one_analysis algorithm era (Some s) r q known x y = analysis_at algorithm era s r q (header_answer batches s n) (known s refl) x y
 
 -- n sealed tiles have a batch each, and the header has one
 verdict_of : (batches : List Batch) (n : ℕ) (file : Option History) (r : Result Verdict AuditFail) → length batches ≡ n + 1 → IsFoundIn batches file r → IsVerdict batches n file r
@@ -251,10 +255,10 @@ module _ (limits : NotaryLimits) (es : List Event) (id : ℕ) (is_timeline : IsT
   verdicts_one (inr (h, n, over, kept)) r q x y =
       one_verdict batches id n h (HasFiledClash t es id) file r q (checked h n over) (verdict_of batches n file r over.count x) (verdict_of batches n file q over.count y)
 
-  analyses_one : (algorithm : Algorithm) → Kept t es id → (r q : Result Analysis AnalyseFail) → IsAnalysisIn algorithm batches file r → IsAnalysisIn algorithm batches file q → (r ≡ q) ⊎ HasFiledClash t es id
-  analyses_one algorithm (inl none) r q x y = inl (subst (λ (bs : List Batch). IsAnalysisIn algorithm bs file r) none x ∙ sym (subst (λ (bs : List Batch). IsAnalysisIn algorithm bs file q) none y))
-  analyses_one algorithm (inr (h, n, over, kept)) r q x y =
-      one_analysis batches id n h (HasFiledClash t es id) algorithm file r q (checked h n over) (found_of algorithm batches n file r over.count x) (found_of algorithm batches n file q over.count y)
+  analyses_one : (algorithm : Algorithm) (era : Option ℕ) → Kept t es id → (r q : Result Analysis AnalyseFail) → IsAnalysisIn algorithm era batches file r → IsAnalysisIn algorithm era batches file q → (r ≡ q) ⊎ HasFiledClash t es id
+  analyses_one algorithm era (inl none) r q x y = inl (subst (λ (bs : List Batch). IsAnalysisIn algorithm era bs file r) none x ∙ sym (subst (λ (bs : List Batch). IsAnalysisIn algorithm era bs file q) none y))
+  analyses_one algorithm era (inr (h, n, over, kept)) r q x y =
+      one_analysis batches id n h (HasFiledClash t es id) algorithm era file r q (checked h n over) (found_of algorithm era batches n file r over.count x) (found_of algorithm era batches n file q over.count y)
 
 -- ---- so the line does the same
 
@@ -278,6 +282,10 @@ module _ (w : World) (now : ℕ) where
       by : (fault : Option AuditFail) → intent.fault ≡ fault → unless fault w (carried_out w store intent one.refusal) ≡ unless fault w (carried_out w store intent other.refusal)
       by None free = ap (carried_out w store intent) (same free)
       by (Some fail) against = refl
+
+  turned_same : (k algs : ℕ) (one other : FoundOf) (o : Option statements.Database) → IfSome o (IsHeard w one) → IfSome o (IsHeard w other) → turned w o one.heard k algs ≡ turned w o other.heard k algs
+  turned_same k algs one other None x y = refl
+  turned_same k algs one other (Some store) x y = ap (λ (h : Heard). turned w (Some store) h k algs) (x ∙ sym y)
 
   -- whatever its auditor has read
   marked_same : (read : ℕ) (verdict : Result Verdict AuditFail) (r q : Option AuditFail) → IfOk verdict (λ v. MayMark w (mark_of v now) r) → IfOk verdict (λ v. MayMark w (mark_of v now) q)
@@ -317,16 +325,16 @@ module _ (w : World) (now : ℕ) where
   unfolding world_steps.step
   audits_one one other x y verdicts = elim (audited_one (has_more w) one other x y verdicts) [ inl same ↦ inl (record { finds = same.0; step = same.1 }) | inr clash ↦ inr clash ]
 
-  analyses_as_one : {C : Type 0} (algorithm : LineAlgorithm) (one other : FoundOf) → MayFind w (lines.Plain (stmts.Analyse algorithm)) now one → MayFind w (lines.Plain (stmts.Analyse algorithm)) now other
-      → (one.analysis ≡ other.analysis) ⊎ C → DoesSame w (lines.Plain (stmts.Analyse algorithm)) now one other ⊎ C
+  analyses_as_one : {C : Type 0} (algorithm : LineAlgorithm) (era : Option ℕ) (one other : FoundOf) → MayFind w (lines.Plain (stmts.Analyse algorithm era)) now one → MayFind w (lines.Plain (stmts.Analyse algorithm era)) now other
+      → (one.analysis ≡ other.analysis) ⊎ C → DoesSame w (lines.Plain (stmts.Analyse algorithm era)) now one other ⊎ C
   unfolding world_steps.step
-  analyses_as_one algorithm one other x y (inl same) = inl (record {
+  analyses_as_one algorithm era one other x y (inl same) = inl (record {
     finds = same;
     step = ap (λ (r : Result Analysis AnalyseFail). analysed w (algorithm_of algorithm) r one.body) same
         ∙ analysed_same (algorithm_of algorithm) other.analysis one.body other.body
         (subst (λ (r : Result Analysis AnalyseFail). IfOk r (λ a. one.body ≡ body_text (algorithm_of algorithm) (kept_of w.lists w.id now) a)) same x.1) y.1;
   })
-  analyses_as_one algorithm one other x y (inr clash) = inr clash
+  analyses_as_one algorithm era one other x y (inr clash) = inr clash
 
 found_one : (limits : NotaryLimits) (es : List Event) (id : ℕ) (one other : FoundOf) → IsTimeline (nothing_yet limits) es → let t = after (nothing_yet limits) es in FindsVerdict (world_of t id) t.clock one → FindsVerdict (world_of t id) t.clock other
     → (one.verdict ≡ other.verdict) ⊎ HasFiledClash (nothing_yet limits) es id
@@ -341,8 +349,10 @@ findings_one limits es id (lines.Plain stmts.Notarize) one other is x y =
     inl (record { finds = tt; step = filed_same (world_of (after (nothing_yet limits) es) id) (after (nothing_yet limits) es).clock one other (world_of (after (nothing_yet limits) es) id).store x y })
 findings_one limits es id (lines.Plain stmts.Validate) one other is x y = validates_one (world_of (after (nothing_yet limits) es) id) (after (nothing_yet limits) es).clock one other x y (found_one limits es id one other is x y)
 findings_one limits es id (lines.Plain stmts.Audit) one other is x y = audits_one (world_of (after (nothing_yet limits) es) id) (after (nothing_yet limits) es).clock one other x y (found_one limits es id one other is)
-findings_one limits es id (lines.Plain (stmts.Analyse algorithm)) one other is x y = analyses_as_one (world_of (after (nothing_yet limits) es) id) (after (nothing_yet limits) es).clock algorithm one other x y
-    (analyses_one limits es id is (algorithm_of algorithm) (each_kept limits es id is) one.analysis other.analysis
-    (subst (λ (o : Option History). IsAnalysisIn (algorithm_of algorithm) (batches_of (after (nothing_yet limits) es) id) o one.analysis) (file_is limits es id is) x.0)
-    (subst (λ (o : Option History). IsAnalysisIn (algorithm_of algorithm) (batches_of (after (nothing_yet limits) es) id) o other.analysis) (file_is limits es id is) y.0))
+findings_one limits es id (lines.Plain (stmts.Policy k algs)) one other is x y =
+    inl (record { finds = tt; step = turned_same (world_of (after (nothing_yet limits) es) id) (after (nothing_yet limits) es).clock k algs one other (world_of (after (nothing_yet limits) es) id).store x y })
+findings_one limits es id (lines.Plain (stmts.Analyse algorithm era)) one other is x y = analyses_as_one (world_of (after (nothing_yet limits) es) id) (after (nothing_yet limits) es).clock algorithm era one other x y
+    (analyses_one limits es id is (algorithm_of algorithm) era (each_kept limits es id is) one.analysis other.analysis
+    (subst (λ (o : Option History). IsAnalysisIn (algorithm_of algorithm) era (batches_of (after (nothing_yet limits) es) id) o one.analysis) (file_is limits es id is) x.0)
+    (subst (λ (o : Option History). IsAnalysisIn (algorithm_of algorithm) era (batches_of (after (nothing_yet limits) es) id) o other.analysis) (file_is limits es id is) y.0))
 findings_one limits es id line one other is x y = inl (record { finds = tt; step = refl })

@@ -10,6 +10,7 @@ use Rattle.std.proofs.lemmas.Option.{same_Some}
 use Rattle.std.proofs.lemmas.List.{append-nil, drop_at, take_all}
 use Rattle.std.proofs.lemmas.List.FromFn.{take-map-range_with_len, length-map-range_with_len}
 use Rattle.std.proofs.lemmas.List.Elements.{All-nil, All-cons, filter_map-append}
+use Rattle.std.proofs.lemmas.List.Sums.{fold-append}
 use Rattle.byte_grammar.specs.Reading.{IsBytes}
 use Rattle.disk_words.specs.Disk as disks
 use Rattle.disk_words.specs.Record.{image_of}
@@ -22,9 +23,10 @@ use Rattle.tuple_bytes.specs.Spelling.{spell_frontier, FitsHeader}
 use Rattle.history_model.specs.Stored.{stored}
 use Rattle.history_model.specs.History.{History, history, rows, txns, txn_in, is_in_granule}
 use Rattle.history_model.proofs.Stores.{stored_history}
-use Rattle.digest_model.specs.Layout.{Layout, layout, first_granule, max_granules, SameTiles}
-use Rattle.digest_model.specs.Digests.{cum, header_digest}
+use Rattle.digest_model.specs.Layout.{Layout, layout, policy_of, first_era, with_item, first_granule, max_granules, SameTiles}
+use Rattle.digest_model.specs.Digests.{cum}
 use Rattle.digest_model.proofs.Follows.{follow}
+use Rattle.digest_model.proofs.EraLaws.{itself}
 use Rattle.notary_link.specs.declared.answer.Answer.{Answer}
 use Rattle.notary_link.specs.declared.name.Name.TheVariants as names
 use Rattle.notary_link.specs.declared.seal.Seal.{Seal}
@@ -48,7 +50,7 @@ use Rattle.policy_eras.specs.Policy.{first_past}
 use Rattle.validator.specs.Tiles.{tiles_at, end_of}
 use Rattle.validator.specs.Notarizing.{Heard, heard_of, next_batches, frontier_for, else_cause, early_fault, fault_by, chain_fault, filed_fault, room_fault, notarize_fault}
 use Rattle.validator.specs.Reaching.{with_frontier_for}
-use Rattle.validator.proofs.Growing.{ended_within, around_places}
+use Rattle.validator.proofs.Growing.{ended_within}
 use Rattle.store_world.specs.Found.{Found}
 use Rattle.store_world.specs.World as worlds
 use Rattle.store_world.specs.World.{with_batches}
@@ -67,7 +69,7 @@ use Rattle.timeline_model.proofs.Acts.{Acts}
 use Rattle.timeline_model.proofs.Bytes.{all_calls, one_last}
 use Rattle.timeline_model.proofs.Doings.{ActsOn, ActsEither, without_notary, spelled_of, StoreIs, store_is}
 use Rattle.digest_model.proofs.Layouts.{ascends}
-use Rattle.digest_model.proofs.Layouts as layouts
+use Rattle.timeline_model.proofs.EraAnswers.{same_layout, same_header_answer}
 
 -- ---- calls of the notary, one after the other
 
@@ -157,30 +159,36 @@ frontier_is l t now count moment e = by (nat_le count (tiles_at l t.header now))
 abbrev chain_by : ℕ → Answer → ℕ → ℕ → Option AuditFail
 chain_by last a end past = if nat_le end max_granules then fault_by (names.Cum last) a else Some (fails.SealMissing (names.Cum past))
 
--- the first tile that is never sealed
-past_alike : (l m : Layout) → ((n : ℕ) → SameTiles n l m) → first_past l ≡ first_past m
-past_alike l m places = (let many = layouts.counts l (max_granules + 1) in layouts.same_tile_of l m (max_granules + 1) max_granules (places (max_granules + 1)) (omega (arith, many)))
+same_chain : (batches : List Batch) (h s : History) (tile : ℕ) → cum h tile ≡ cum s tile → answers batches h (names.Cum tile) ≡ answers batches s (names.Cum tile)
+unfolding digest
+same_chain batches h s tile same = ap (answer batches (names.Cum tile)) same
 
--- what speaks against a history goes by its header, its tiles and its transactions
-fault_alike : (batches : List Batch) (h s : History) → h.header ≡ s.header → ((n : ℕ) → SameTiles n (layout h) (layout s)) → ((g : ℕ) → rows h g ≡ rows s g) → filed_fault batches h ≡ filed_fault batches s
-unfolding digest header_answer
-fault_alike [] h s one places same = refl
-fault_alike (first ∷ []) h s one places same = ap (λ (header : Header). fault_by names.Header (answer (first ∷ []) names.Header (header_digest header))) one
-fault_alike (first ∷ second ∷ rest) h s one places same =
+-- with the same eras all tiles are alike
+tiles_alike : (h s : History) → policy_of h ≡ policy_of s → (n : ℕ) → SameTiles n (layout h) (layout s)
+tiles_alike h s eras n = subst (SameTiles n (layout h)) (same_layout h s eras) (itself n (layout h))
+
+-- what speaks against a history goes by its header, its eras and its transactions
+fault_alike : (batches : List Batch) (h s : History) → h.header ≡ s.header → policy_of h ≡ policy_of s → ((g : ℕ) → rows h g ≡ rows s g) → filed_fault batches h ≡ filed_fault batches s
+fault_alike [] h s one eras same = refl
+fault_alike (first ∷ []) h s one eras same = ap (fault_by names.Header) (same_header_answer (first ∷ []) h s 0 (tiles_alike h s eras 0) one)
+fault_alike (first ∷ second ∷ rest) h s one eras same =
     let last : ℕ = length rest in
     let batches : List Batch = first ∷ second ∷ rest in
-    let header : Header → Option AuditFail → Option AuditFail = λ x. else_cause (fault_by names.Header (answer batches names.Header (header_digest x))) in
-    let chain : cum h last ≡ cum s last = follow.cums h s last (places (last + 1)) (record { header = one; rows = λ g below. same g }) in
-    let begin : first_granule (layout h) (suc last) ≡ first_granule (layout s) (suc last) = layouts.same_begins (layout h) (layout s) (suc last) (places (suc last)) in
-    let past : first_past (layout h) ≡ first_past (layout s) = past_alike (layout h) (layout s) places in
-    ap (λ (x : Header). header x (chain_fault batches h last)) one
-    ∙ ap (λ (a : Answer). header s.header (chain_by last a (first_granule (layout h) (suc last)) (first_past (layout h)))) (ap (answer batches (names.Cum last)) chain)
-    ∙ ap (λ (end : ℕ). header s.header (chain_by last (answers batches s (names.Cum last)) end (first_past (layout h)))) begin
-    ∙ ap (λ (tile : ℕ). header s.header (chain_by last (answers batches s (names.Cum last)) (first_granule (layout s) (suc last)) tile)) past
+    let l : layout h ≡ layout s = same_layout h s eras in
+    let chain : cum h last ≡ cum s last = follow.cums h s last (tiles_alike h s eras (last + 1)) (record { header = one; rows = λ g below. same g }) in
+    ap (λ (a : Answer). else_cause (fault_by names.Header a) (chain_fault batches h last)) (same_header_answer batches h s (suc last) (tiles_alike h s eras (suc last)) one)
+    ∙ ap (λ (a : Answer). else_cause (fault_by names.Header (header_answer batches s (suc last))) (chain_by last a (first_granule (layout h) (suc last)) (first_past (layout h)))) (same_chain batches h s last chain)
+    ∙ ap (λ (m : Layout). else_cause (fault_by names.Header (header_answer batches s (suc last))) (chain_by last (answers batches s (names.Cum last)) (first_granule m (suc last)) (first_past m))) l
 
 frontier_rows : (header : Header) (is : List Item) (moment g : ℕ) → rows (history header is) g ≡ rows (history header (is ++ items.Frontier moment ∷ [])) g
 unfolding rows
 frontier_rows header is moment g = ap (filter (is_in_granule header g)) (sym (filter_map-append txn_in is (items.Frontier moment ∷ []) ∙ append-nil (txns is)))
+
+-- a frontier leaves the eras
+around_eras : (header : Header) (is : List Item) (need : Option ℕ) → policy_of (history header is) ≡ policy_of (history header (with_frontier_for need is))
+unfolding policy_of
+around_eras header is None = refl
+around_eras header is (Some moment) = sym (fold-append with_item (first_era header) is (items.Frontier moment ∷ []))
 
 around_rows : (header : Header) (is : List Item) (need : Option ℕ) (g : ℕ) → rows (history header is) g ≡ rows (history header (with_frontier_for need is)) g
 around_rows header is None g = refl
@@ -335,7 +343,7 @@ module _ (i : ℕ) (t : Scene) (found : Found) (store : statements.Database) (is
       batches = subst (λ (x : ℕ). after.lists.batches x ≡ t.lists.batches x ++ take (suc j) next) (sym own) more.here;
       seals = subst (λ (x : ℕ). map (λ (b : Batch). b.seals) (take (suc j) next) ≡ map (batch s) (range_with_len (length (t.lists.batches x)) (length (take (suc j) next)))) (sym own) seals_are;
       within = subst (λ (x : ℕ). first_granule (layout s) (length (t.lists.batches x) + length (take (suc j) next) - 1) ≤ max_granules) (sym own) tiles_within;
-      free = subst (λ (x : ℕ). filed_fault (t.lists.batches x) s ≡ None) (sym own) (sym (fault_alike batches h s refl (around_places store.header store.items need) (around_rows store.header store.items need)) ∙ ap (λ (x : Heard). x.against) (sym hears) ∙ later_causes.0);
+      free = subst (λ (x : ℕ). filed_fault (t.lists.batches x) s ≡ None) (sym own) (sym (fault_alike batches h s refl (around_eras store.header store.items need) (around_rows store.header store.items need)) ∙ ap (λ (x : Heard). x.against) (sym hears) ∙ later_causes.0);
       moments = subst (λ (c : ℕ). All (λ (b : Batch). b.moment ≡ c) (take (suc j) next)) (sym clock_same) moments_are;
       marks = more.marks id;
     }))
@@ -361,7 +369,7 @@ module _ (i : ℕ) (t : Scene) (found : Found) (store : statements.Database) (is
         tiles_within =
             let last : ℕ = length batches + length (take (suc j) next) - 1 in
             let le = ascends (layout h) last (tiles_at (layout h) store.header now) (omega (arith, length_is, few, many, count_is)) in
-            let begin = layouts.same_begins (layout h) (layout s) last (around_places store.header store.items need last) in
+            let begin : first_granule (layout h) last ≡ first_granule (layout s) last = ap (λ (l : Layout). first_granule l last) (same_layout h s (around_eras store.header store.items need)) in
             omega (arith, le, within, begin)
 
     -- of so many, under any id; where it is none, whatever the bytes are

@@ -29,21 +29,22 @@ use Rattle.session_model.specs.Steps.{reply_of}
 use Rattle.session_model.specs.Steps as session_steps
 use Rattle.session_model.specs.Later.{IsLater}
 use Rattle.session_model.specs.Runs.{Logs, no_logs}
-use Rattle.session_model.proofs.Later.{later_same, later_frontier}
+use Rattle.session_model.proofs.Later.{later_same, later_frontier, later_policy}
 use Rattle.session_model.proofs.Serials.{AreHeld, line_goes, all_later}
 use Rattle.store_world.specs.Found.{Found}
 use Rattle.store_world.specs.World as worlds
 use Rattle.store_world.specs.World.{no_sessions}
 use Rattle.store_world.specs.Steps as world_steps
-use Rattle.store_world.specs.Steps.{reached, notarized, validated, has_more, piece_audited, on_tables, algorithm_of}
+use Rattle.store_world.specs.Finding.{MayFind}
+use Rattle.store_world.specs.Steps.{reached, notarized, unless, turn_in, turns_world, turned, validated, has_more, piece_audited, on_tables, algorithm_of}
 use Rattle.store_world.proofs.Acknowledging.{by_line}
 use Rattle.store_world.proofs.Analysing.{analysed_stays}
 use Rattle.timeline_model.specs.Scene.{Scene, Crash, nothing_yet, entered_anew, sessions_over, store_in, world_with, world_of}
 use Rattle.timeline_model.specs.Lines.{Act, quiet, says, refuses, over_store, header_at, makes, inits, altered, shortened, brings, act}
-use Rattle.timeline_model.specs.Timeline.{Event, calls_in, stopped, crashed, crashed_behind, under, without_crash, act_on, step, after, FitsReading, IsTimeline, MayCome}
+use Rattle.timeline_model.specs.Timeline.{Event, calls_in, stopped, crashed, crashed_behind, under, without_crash, act_on, step, after, FitsReading, MayBeFound, IsTimeline, MayCome}
 use Rattle.timeline_model.specs.Stepping.{IsWhole}
 use Rattle.timeline_model.specs.Sessions.{begun_under, begun_in, told_more, told_under, told, SessionsAreSerial}
-use Rattle.timeline_model.proofs.Events.{fit_after, nothing_fit}
+use Rattle.timeline_model.proofs.Events.{found_without_crash, fit_after, nothing_fit}
 use Rattle.timeline_model.proofs.Sessions.{IsFit, notarized_rest, validated_rest, audited_rest}
 use Rattle.store_world.proofs.Validating.{with_validated, with_audit}
 use Rattle.timeline_model.proofs.Statements.{with_begun, notarized_store, step_stores}
@@ -103,15 +104,25 @@ module _ (w : worlds.World) (now : ℕ) (logs : Logs) where
       later None e = later_same store
       later (Some moment) e = later_frontier store moment (need_follows (layout (history store.header store.items)) (statements.tail_of_database store) store.items refl now heard.count moment e)
 
+  turned_held : (heard : Heard) (k algs : ℕ) (o : Option statements.Database) → w.store ≡ o → HeldIn (store_of w) logs → HeldIn (store_of (turned w o heard k algs).world) logs
+  turned_held heard k algs None is held = held
+  turned_held heard k algs (Some store) is held = by (turn_in store heard k algs).fault
+    where
+      by : (fault : Option AuditFail) → HeldIn (store_of (unless fault w (turns_world w store (turn_in store heard k algs))).world) logs
+      by (Some fail) = held
+      by None = goes_on store (statements.with_item store (turn_in store heard k algs).item) (turns_world w store (turn_in store heard k algs)).world (later_policy store _ _ k algs) refl refl
+          (subst (λ (x : Option statements.Database). HeldIn (option_map (with_begun w) x) logs) is held)
+
   plain_held : (stmt : Stmt) (new : worlds.World) → HeldIn (store_of new) logs → HeldIn (store_of new) (told_more logs (store_of w) (Ok (lines.Plain stmt)) now)
   plain_held stmt new held = subst (HeldIn (store_of new)) (sym (told_plain (store_of w) stmt now logs)) held
 
   step_held : (line : Line) (found : Found) → HeldIn (store_of w) logs → HeldIn (store_of (world_steps.step w line now found).world) (told_more logs (store_of w) (Ok line) now)
   step_held line found held = by_line (λ line s. HeldIn (store_of s.world) (told_more logs (store_of w) (Ok line) now)) w line now found (λ line. tables_held w.store refl line held)
       (plain_held stmts.Notarize (notarized w w.store now found.heard found.refusal).world (notarized_held found.heard found.refusal w.store refl held))
+      (λ k algs. plain_held (stmts.Policy k algs) (turned w w.store found.heard k algs).world (turned_held found.heard k algs w.store refl held))
       (plain_held stmts.Validate (validated w now found.verdict found.refusal).world (stays_held (validated w now found.verdict found.refusal).world (with_validated w now found.verdict found.refusal).same.store (validated_rest w w.audited now found.verdict found.refusal).sessions held))
       (plain_held stmts.Audit (piece_audited (has_more w) w now found.verdict found.refusal).world (stays_held (piece_audited (has_more w) w now found.verdict found.refusal).world (with_audit (has_more w) w now found.verdict found.refusal).same.store (audited_rest (has_more w) w now found.verdict found.refusal).sessions held))
-      (λ algorithm. plain_held (stmts.Analyse algorithm) (world_steps.analysed w (algorithm_of algorithm) found.analysis found.body).world
+      (λ algorithm era. plain_held (stmts.Analyse algorithm era) (world_steps.analysed w (algorithm_of algorithm) found.analysis found.body).world
       (subst (λ (x : worlds.World). HeldIn (store_of x) logs) (sym (analysed_stays w (algorithm_of algorithm) found.analysis found.body)) held))
 
 -- ---- a scene
@@ -151,28 +162,28 @@ same_store t id = by (store_in id t.bytes)
     by (Some store) = refl
 
 module _ (t : Scene) (fits : IsFit t) (logs : Logs) (held : HeldIn (begun_in t) logs) where
-  with_id : (id : ℕ) (line : Line) (found : Found) → FitsParts line → HeldIn (begun_under (Some id) t) logs
+  with_id : (id : ℕ) (line : Line) (found : Found) → FitsParts line → MayFind (world_of t id) line t.clock found → HeldIn (begun_under (Some id) t) logs
       → HeldIn (begun_under (Some id) (over_store t (Some id) line found).next.scene) (told_more logs (begun_under (Some id) t) (Ok line) t.clock)
-  with_id id line found parts here =
+  with_id id line found parts may here =
       let s = world_steps.step (world_of t id) line t.clock found in
-      let read = read_by id t line found fits parts s.world.store (step_stores (world_of t id) line t.clock found) in
+      let read = read_by id t line found fits parts may s.world.store (step_stores (world_of t id) line t.clock found) in
       subst (λ (x : Option statements.Database). HeldIn (option_map (λ store. record { store = store; sessions = s.world.sessions }) x) (told_more logs (begun_under (Some id) t) (Ok line) t.clock)) (sym read)
       (subst (λ (x : Option sessions.Service). HeldIn (store_of s.world) (told_more logs x (Ok line) t.clock)) (same_store t id)
       (step_held (world_of t id) t.clock logs line found (subst (λ (x : Option sessions.Service). HeldIn x logs) (sym (same_store t id)) here)))
 
-  over_held : (o : Option ℕ) → t.id ≡ o → (line : Line) (found : Found) → FitsParts line → HeldIn (begun_under o t) logs
+  over_held : (o : Option ℕ) → t.id ≡ o → (line : Line) (found : Found) → FitsParts line → MayBeFound o t (Ok line) found → HeldIn (begun_under o t) logs
       → HeldIn (begun_under o (over_store t o line found).next.scene) (told_more logs (begun_under o t) (Ok line) t.clock)
-  over_held None is line found parts here = tt
-  over_held (Some id) is line found parts here = with_id id line found parts here
+  over_held None is line found parts may here = tt
+  over_held (Some id) is line found parts may here = with_id id line found parts may here
 
   -- the drill's id stays
   same_id : (o : Option ℕ) (line : Line) (found : Found) → (over_store t o line found).next.scene.id ≡ t.id
   same_id None line found = refl
   same_id (Some id) line found = refl
 
-  over : (line : Line) (found : Found) → FitsParts line → HeldIn (begun_in (over_store t t.id line found).next.scene) (told_more logs (begun_in t) (Ok line) t.clock)
-  over line found parts =
-      subst (λ (o : Option ℕ). HeldIn (begun_under o (over_store t t.id line found).next.scene) (told_more logs (begun_in t) (Ok line) t.clock)) (sym (same_id t.id line found)) (over_held t.id refl line found parts held)
+  over : (line : Line) (found : Found) → FitsParts line → MayBeFound t.id t (Ok line) found → HeldIn (begun_in (over_store t t.id line found).next.scene) (told_more logs (begun_in t) (Ok line) t.clock)
+  over line found parts may =
+      subst (λ (o : Option ℕ). HeldIn (begun_under o (over_store t t.id line found).next.scene) (told_more logs (begun_in t) (Ok line) t.clock)) (sym (same_id t.id line found)) (over_held t.id refl line found parts may held)
 
   inits_held : (id : ℕ) (header : Header) → HeldIn (begun_in (inits (entered_anew (record t { id = Some id })) header).next.scene) logs
   inits_held id header = by (nat_lt max_moment t.clock) (is_free t.bytes)
@@ -203,23 +214,23 @@ module _ (t : Scene) (fits : IsFit t) (logs : Logs) (held : HeldIn (begun_in t) 
   brings_held (events.Alter place bytes) = altered_held place bytes
   brings_held (events.Cut n) = shortened_held n
 
-  stmt_held : (stmt : Stmt) (found : Found) → FitsParts (lines.Plain stmt) → HeldIn (begun_in (act t (lines.Plain stmt) found).next.scene) (told_more logs (begun_in t) (Ok (lines.Plain stmt)) t.clock)
+  stmt_held : (stmt : Stmt) (found : Found) → FitsParts (lines.Plain stmt) → MayBeFound t.id t (Ok (lines.Plain stmt)) found → HeldIn (begun_in (act t (lines.Plain stmt) found).next.scene) (told_more logs (begun_in t) (Ok (lines.Plain stmt)) t.clock)
   unfolding act
-  stmt_held (stmts.Now moment) found parts =
+  stmt_held (stmts.Now moment) found parts may =
       subst (λ (o : Option sessions.Service). HeldIn o (told_more logs (begun_in t) (Ok (lines.Plain (stmts.Now moment))) t.clock)) (sym (clock_same t.id t moment))
       (subst (HeldIn (begun_in t)) (sym (told_plain (begun_in t) (stmts.Now moment) t.clock logs)) held)
-  stmt_held stmt found parts = over (lines.Plain stmt) found parts
+  stmt_held stmt found parts may = over (lines.Plain stmt) found parts may
 
-  act_held : (line : Line) (found : Found) → FitsParts line → HeldIn (begun_in (act t line found).next.scene) (told_more logs (begun_in t) (Ok line) t.clock)
+  act_held : (line : Line) (found : Found) → FitsParts line → MayBeFound t.id t (Ok line) found → HeldIn (begun_in (act t line found).next.scene) (told_more logs (begun_in t) (Ok line) t.clock)
   unfolding act
-  act_held (lines.Plain stmt) found parts = stmt_held stmt found parts
-  act_held (lines.Drill event) found parts = subst (HeldIn (begun_in (brings t event).next.scene)) (sym (told_drill (begun_in t) event t.clock logs)) (brings_held event)
-  act_held (lines.InSession n stmt) found parts = over (lines.InSession n stmt) found parts
-  act_held lines.Blank found parts = over lines.Blank found parts
+  act_held (lines.Plain stmt) found parts may = stmt_held stmt found parts may
+  act_held (lines.Drill event) found parts may = subst (HeldIn (begun_in (brings t event).next.scene)) (sym (told_drill (begun_in t) event t.clock logs)) (brings_held event)
+  act_held (lines.InSession n stmt) found parts may = over (lines.InSession n stmt) found parts may
+  act_held lines.Blank found parts may = over lines.Blank found parts may
 
-  reading_held : (line : Result Line ParseFail) (found : Found) → FitsReading line → HeldIn (begun_in (act_on t line found).next.scene) (told_more logs (begun_in t) line t.clock)
-  reading_held (Ok line) found parts = act_held line found parts
-  reading_held (Err fail) found parts = subst (HeldIn (begun_in t)) (sym (told_none (begun_in t) fail t.clock logs)) held
+  reading_held : (line : Result Line ParseFail) (found : Found) → FitsReading line → MayBeFound t.id t line found → HeldIn (begun_in (act_on t line found).next.scene) (told_more logs (begun_in t) line t.clock)
+  reading_held (Ok line) found parts may = act_held line found parts may
+  reading_held (Err fail) found parts may = subst (HeldIn (begun_in t)) (sym (told_none (begun_in t) fail t.clock logs)) held
 
 -- ---- all events
 
@@ -229,7 +240,7 @@ event_held t e logs fits may held =
     let same = crash_same t.id t None in
     under_held (without_crash t) (act_on (without_crash t) e.line e.found) t.crash (told_more logs (begun_in t) e.line t.clock)
     (subst (λ (o : Option sessions.Service). HeldIn (begun_in (act_on (without_crash t) e.line e.found).next.scene) (told_more logs o e.line t.clock)) same
-    (reading_held (without_crash t) (still_fit t fits) logs (subst (λ (o : Option sessions.Service). HeldIn o logs) (sym same) held) e.line e.found may.fits))
+    (reading_held (without_crash t) (still_fit t fits) logs (subst (λ (o : Option sessions.Service). HeldIn o logs) (sym same) held) e.line e.found may.fits (found_without_crash t.id t e.line e.found may.found)))
 
 all_held : (t : Scene) (es : List Event) → IsFit t → HeldIn (begun_in t) no_logs → IsTimeline t es → HeldIn (begun_in (after t es)) (told t es)
 unfolding after told

@@ -8,7 +8,6 @@ use Rattle.history_model.specs.declared.change.TableFail.{TableFail}
 use Rattle.history_model.specs.declared.change.Write.{Write}
 use Rattle.history_model.specs.Answers.{prepared}
 use Rattle.history_model.specs.State.{after_ops}
-use Rattle.history_model.specs.Stored.{stored}
 use Rattle.notary_link.specs.declared.mark.Mark.{Mark}
 use Rattle.store_engine.specs.declared.fail.StoreFail.{StoreFail}
 use Rattle.stmt_text.specs.declared.stmt.Stmt.{Stmt}
@@ -34,7 +33,7 @@ use Rattle.store_world.specs.Found.{Found}
 use Rattle.store_world.specs.World as worlds
 use Rattle.store_world.specs.World.{no_sessions, with_audited}
 use Rattle.store_world.specs.Steps as world_steps
-use Rattle.store_world.specs.Steps.{Step, notarized, intent_in, carried_out, unless, validated, has_more, piece_audited, algorithm_of, marked, on_tables}
+use Rattle.store_world.specs.Steps.{Step, notarized, intent_in, carried_out, unless, turn_in, turns_world, turned, validated, has_more, piece_audited, algorithm_of, marked, on_tables}
 use Rattle.store_world.proofs.Acknowledging.{by_line}
 use Rattle.store_world.proofs.Analysing.{analysed_stays}
 use Rattle.timeline_model.specs.Scene.{Scene, sessions_over, world_of, store_in}
@@ -109,6 +108,12 @@ notarized_rest w (Some store) is now heard refusal =
     let rest : KeepsRest w (world_steps.filed (worlds.with_store w (world_steps.reached i.frontier store)) i.batches) = record { id = refl; old = refl; limits = refl; sessions = refl; store = sym (ap is_some is) } in
     unless_rest w i.fault w (carried_out w store i refusal) (rest_same w) (unless_rest w refusal _ _ rest rest)
 
+pub turned_rest : (w : worlds.World) (o : Option statements.Database) → w.store ≡ o → (heard : Heard) (k algs : ℕ) → KeepsRest w (turned w o heard k algs).world
+turned_rest w None is heard k algs = rest_same w
+turned_rest w (Some store) is heard k algs =
+    let turn = turn_in store heard k algs in
+    unless_rest w turn.fault w (turns_world w store turn) (rest_same w) (record { id = refl; old = refl; limits = refl; sessions = refl; store = sym (ap is_some is) })
+
 -- whatever its auditor has read
 read_rest : (w : worlds.World) (read : ℕ) → KeepsRest w (with_audited w read)
 read_rest w read = record { id = refl; old = refl; limits = refl; sessions = refl; store = refl }
@@ -155,9 +160,10 @@ tables_under w (Some store) line now fits = record { id = refl; old = refl; limi
 
 pub step_under : (w : worlds.World) (line : Line) (now : ℕ) (found : Found) → FitsParts line → StaysUnder w (world_steps.step w line now found).world
 step_under w line now found = by_line (λ line s. FitsParts line → StaysUnder w s.world) w line now found (λ line. tables_under w w.store line now)
-    (λ fits. stays_under w (notarized w w.store now found.heard found.refusal).world (notarized_rest w w.store refl now found.heard found.refusal)) (λ fits. stays_under w (validated w now found.verdict found.refusal).world (validated_rest w w.audited now found.verdict found.refusal))
+    (λ fits. stays_under w (notarized w w.store now found.heard found.refusal).world (notarized_rest w w.store refl now found.heard found.refusal))
+    (λ k algs fits. stays_under w (turned w w.store found.heard k algs).world (turned_rest w w.store refl found.heard k algs)) (λ fits. stays_under w (validated w now found.verdict found.refusal).world (validated_rest w w.audited now found.verdict found.refusal))
     (λ fits. stays_under w (piece_audited (has_more w) w now found.verdict found.refusal).world (audited_rest (has_more w) w now found.verdict found.refusal))
-    (λ algorithm fits. subst (StaysUnder w) (sym (analysed_stays w (algorithm_of algorithm) found.analysis found.body)) (stays_under w w (rest_same w)))
+    (λ algorithm era fits. subst (StaysUnder w) (sym (analysed_stays w (algorithm_of algorithm) found.analysis found.body)) (stays_under w w (rest_same w)))
 
 -- ---- the world of a scene
 

@@ -41,6 +41,8 @@ use Rattle.validator.specs.declared.verdict.Verdict.{Verdict}
 use Rattle.validator.specs.declared.fail.AuditFail.{AuditFail}
 use Rattle.validator.specs.Notarizing.{Heard, heard_of, notarize_fault, next_batches, frontier_for}
 use Rattle.validator.specs.Reaching.{with_frontier_for}
+use Rattle.validator.specs.Texts.{refusal_text}
+use Rattle.validator.specs.Turning.{Turn}
 use Rattle.validator.specs.Verdicts.{mark_of}
 use Rattle.validator.proofs.Growing.{IsFiledUpTo, need_follows, counted_more, notarized_more}
 use Rattle.store_world.specs.Found.{Found}
@@ -49,8 +51,8 @@ use Rattle.store_world.proofs.SoundWorlds.{sound_worlds}
 use Rattle.store_world.specs.World as worlds
 use Rattle.store_world.specs.World.{history_or, old_under}
 use Rattle.store_world.specs.Steps as world_steps
-use Rattle.store_world.specs.Steps.{notarized, intent_in, carried_out, validated, has_more, piece_audited, analysed, algorithm_of, reached}
-use Rattle.store_world.specs.Finding.{MayFile, MayFind}
+use Rattle.store_world.specs.Steps.{notarized, intent_in, carried_out, turn_in, turns_world, turned, validated, has_more, piece_audited, analysed, algorithm_of, reached}
+use Rattle.store_world.specs.Finding.{IsHeard, MayFile, MayFind}
 use Rattle.store_world.proofs.LineKinds.{goes_to_tables}
 use Rattle.store_world.proofs.Analysing.{analysed_stays}
 use Rattle.timeline_model.specs.Scene.{Scene, Crash, entered_anew, nothing_yet, store_in, world_with, world_of, held, batches_of}
@@ -68,9 +70,10 @@ use Rattle.timeline_model.proofs.Events.{found_without_crash, fit_after, nothing
 use Rattle.timeline_model.proofs.StayBytes.{still_fit}
 use Rattle.timeline_model.proofs.Sessions.{IsFit}
 use Rattle.store_world.proofs.Validating.{with_validated, with_audit}
+use Rattle.timeline_model.proofs.Turning.{behind_sealed, policy_takes}
 use Rattle.timeline_model.proofs.Sealing as sealing
 use Rattle.timeline_model.proofs.Sealing.{HasMore, more_with, calls_file, take_inner, frontier_items}
-use Rattle.timeline_model.proofs.Sound.{IsSoundScene, Extends, IsGood, SoundEither, good_same, under_sound, quiet_sound, init_sound, stored_held, stays, tables_by, tables_sound}
+use Rattle.timeline_model.proofs.Sound.{IsSoundScene, Extends, IsGood, SoundEither, good_same, under_sound, quiet_sound, init_sound, stored_held, stays, gets, tables_by, tables_sound}
 use Rattle.digest_model.specs.Layout.{layout}
 
 -- ---- a validation, and a piece of an audit
@@ -128,18 +131,54 @@ audit_sound t (Some i) found = audit_by i t found (store_in i t.bytes)
 
 -- ---- an analysis
 
-analyse_by : (i : ℕ) (t : Scene) (algorithm : LineAlgorithm) (found : Found) → (o : Option statements.Database)
-    → SoundEither (items_added o (analysed (world_with t i o) (algorithm_of algorithm) found.analysis found.body).world.store) t (over_world t (world_with t i o) (lines.Plain (stmts.Analyse algorithm)) found (analysed (world_with t i o) (algorithm_of algorithm) found.analysis found.body))
+analyse_by : (i : ℕ) (t : Scene) (algorithm : LineAlgorithm) (era : Option ℕ) (found : Found) → (o : Option statements.Database)
+    → SoundEither (items_added o (analysed (world_with t i o) (algorithm_of algorithm) found.analysis found.body).world.store) t (over_world t (world_with t i o) (lines.Plain (stmts.Analyse algorithm era)) found (analysed (world_with t i o) (algorithm_of algorithm) found.analysis found.body))
 unfolding notary_calls
-analyse_by i t algorithm found o =
+analyse_by i t algorithm era found o =
     let stays_so = analysed_stays (world_with t i o) (algorithm_of algorithm) found.analysis found.body in
-    asked_by i t (lines.Plain (stmts.Analyse algorithm)) found o (analysed (world_with t i o) (algorithm_of algorithm) found.analysis found.body)
+    asked_by i t (lines.Plain (stmts.Analyse algorithm era)) found o (analysed (world_with t i o) (algorithm_of algorithm) found.analysis found.body)
     (ap (λ (w : worlds.World). w.store) stays_so) (λ id. ap (λ (w : worlds.World). w.lists.batches id) stays_so) (λ n id. ap (λ (calls : List Call). (with_calls calls t.lists).batches id) (take_none n))
 
-analyse_sound : (t : Scene) (algorithm : LineAlgorithm) (o : Option ℕ) (found : Found) → SoundEither (stored_by o t (Ok (lines.Plain (stmts.Analyse algorithm))) found) t (over_store t o (lines.Plain (stmts.Analyse algorithm)) found)
+analyse_sound : (t : Scene) (algorithm : LineAlgorithm) (era o : Option ℕ) (found : Found) → SoundEither (stored_by o t (Ok (lines.Plain (stmts.Analyse algorithm era))) found) t (over_store t o (lines.Plain (stmts.Analyse algorithm era)) found)
 unfolding world_of world_steps.step
-analyse_sound t algorithm None found = quiet_sound [] t (refuses t (codes "NotAStore")) refl refl
-analyse_sound t algorithm (Some i) found = analyse_by i t algorithm found (store_in i t.bytes)
+analyse_sound t algorithm era None found = quiet_sound [] t (refuses t (codes "NotAStore")) refl refl
+analyse_sound t algorithm era (Some i) found = analyse_by i t algorithm era found (store_in i t.bytes)
+
+-- ---- a policy
+
+module _ (i : ℕ) (t : Scene) (k algs : ℕ) (exponent : k ≤ 10) (chains : algs ≤ 3) (found : Found) (fits : IsFit t) where
+  abbrev policy_line : Line
+  policy_line = lines.Plain (stmts.Policy k algs)
+
+  module _ (store : statements.Database) (is : store_in i t.bytes ≡ Some store) (hears : found.heard ≡ heard_of (t.lists.batches i) (history store.header store.items)) where
+    abbrev turn_world : worlds.World
+    turn_world = world_with t i (Some store)
+
+    abbrev turn : Turn
+    turn = turn_in store found.heard k algs
+
+    no_calls : notary_calls turn_world policy_line t.clock found ≡ []
+    unfolding notary_calls
+    no_calls = refl
+
+    behind : (id n : ℕ) → store.header.id ≡ id → length (batches_of t id) ≡ n + 1 → n ≤ found.heard.count - 1
+    behind id n own many = behind_sealed i t found store is hears k algs n (ap (λ (x : ℕ). length (t.lists.batches x)) (sym (store_is i t.bytes store is).own ∙ own) ∙ many)
+
+    turned_by : (fault : Option AuditFail) → turn.fault ≡ fault → SoundEither (items_added (Some store) (world_steps.unless fault turn_world (turns_world turn_world store turn)).world.store) t (over_world t turn_world policy_line found (world_steps.unless fault turn_world (turns_world turn_world store turn)))
+    turned_by (Some fail) cause = stays i t policy_line found store is fits.bytes no_calls (items_added (Some store) (Some store)) (world_steps.refuses turn_world (refusal_text fail)) refl refl
+    turned_by None free = gets i t policy_line found store is fits.bytes no_calls (turns_world turn_world store turn) turn.item (policy_takes i t found store is hears k algs exponent chains free) refl tt behind refl
+
+  policy_by : (o : Option statements.Database) → store_in i t.bytes ≡ o → IfSome o (IsHeard (world_with t i o) found)
+      → SoundEither (items_added o (turned (world_with t i o) o found.heard k algs).world.store) t (over_world t (world_with t i o) policy_line found (turned (world_with t i o) o found.heard k algs))
+  unfolding notary_calls
+  policy_by None is hears = tables_by i t policy_line ((exponent, chains), refl) found fits None is (turned (world_with t i None) None found.heard k algs) refl refl
+  policy_by (Some store) is hears = turned_by store is hears (turn_in store found.heard k algs).fault refl
+
+policy_sound : (t : Scene) (k algs : ℕ) → k ≤ 10 → algs ≤ 3 → (o : Option ℕ) (found : Found) → MayBeFound o t (Ok (lines.Plain (stmts.Policy k algs))) found → IsFit t
+    → SoundEither (stored_by o t (Ok (lines.Plain (stmts.Policy k algs))) found) t (over_store t o (lines.Plain (stmts.Policy k algs)) found)
+unfolding world_of world_steps.step
+policy_sound t k algs exponent chains None found may fits = quiet_sound [] t (refuses t (codes "NotAStore")) refl refl
+policy_sound t k algs exponent chains (Some i) found may fits = policy_by i t k algs exponent chains found fits (store_in i t.bytes) refl may
 
 -- ---- a notarization
 
@@ -213,7 +252,7 @@ module _ (i : ℕ) (t : Scene) (found : Found) (store : statements.Database) (is
         by : (o : Option ℕ) → need ≡ o → HoldsFiled (batches_of t id) id (Some h) → HoldsFiled (batches_of t id) id (Some (history store.header (with_frontier_for o store.items)))
         by None e held_filed = held_filed
         by (Some moment) e (inl none) = inl none
-        by (Some moment) e (inr known) = inr (known.0, known.1, added_stays (batches_of t id) id known.0 store.header store.items (items.Frontier moment) (sealing.fits i t found store is bytes_before) known.2 (need_follows (layout h) tail store.items refl now found.heard.count moment e))
+        by (Some moment) e (inr known) = inr (known.0, known.1, added_stays (batches_of t id) id known.0 store.header store.items (items.Frontier moment) (sealing.fits i t found store is bytes_before) known.2 (need_follows (layout h) tail store.items refl now found.heard.count moment e) tt)
 
     -- with some of the next batches
     more_filed : notarize_fault tail false now store.items found.heard ≡ None → (j : ℕ) → suc j ≤ length next → HoldsFiled (batches ++ take (suc j) next) i (Some s)
@@ -377,13 +416,14 @@ notarize_sound t (Some i) found may fits = with_store i t found fits (store_in i
 stmt_sound : (t : Scene) (stmt : Stmt) (found : Found) → IsDrillLine (lines.Plain stmt) → FitsParts (lines.Plain stmt) → MayBeFound t.id t (Ok (lines.Plain stmt)) found → IsFit t → SoundEither (stored_by t.id t (Ok (lines.Plain stmt)) found) t (act t (lines.Plain stmt) found)
 unfolding act world_steps.step notary_calls
 stmt_sound t stmts.Notarize found is parts may fits = notarize_sound t t.id found may fits
+stmt_sound t (stmts.Policy k algs) found is parts may fits = policy_sound t k algs parts.0.0 parts.0.1 t.id found may fits
 stmt_sound t stmts.Validate found is parts may fits = validate_sound t t.id found
 stmt_sound t stmts.Audit found is parts may fits = audit_sound t t.id found
 stmt_sound t (stmts.Now moment) found is parts may fits = quiet_sound (stored_by t.id t (Ok (lines.Plain (stmts.Now moment))) found) t (says (record t { clock = moment }) (codes "ok")) refl refl
 stmt_sound t stmts.Begin found is parts may fits = absurd is
 stmt_sound t stmts.Commit found is parts may fits = absurd is
 stmt_sound t stmts.Abort found is parts may fits = absurd is
-stmt_sound t (stmts.Analyse algorithm) found is parts may fits = analyse_sound t algorithm t.id found
+stmt_sound t (stmts.Analyse algorithm era) found is parts may fits = analyse_sound t algorithm era t.id found
 stmt_sound t stmt found is parts may fits = tables_sound t t.id (lines.Plain stmt) parts found fits (goes_to_tables (lines.Plain stmt) tt)
 
 line_sound : (t : Scene) (line : Line) (found : Found) → IsDrillLine line → IsFromInside (Ok line) → FitsParts line → MayBeFound t.id t (Ok line) found → IsFit t → SoundEither (stored_by t.id t (Ok line) found) t (act t line found)

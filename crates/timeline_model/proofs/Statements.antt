@@ -1,4 +1,4 @@
--- What a line stores: nothing, a transaction, or a Frontier.
+-- What a line stores: nothing, a transaction, a Frontier, or a policy.
 use Rattle.std.proofs.Common.{◌≡◌, ◌⊎◌, inl, inr, ℕ, ◌≤◌, false, List, [], ◌∷◌, ◌++◌, length, drop, Option, Some, None, refl, sym, ap, subst, ◌∙◌}
 use Rattle.std.proofs.lemmas.List.{drop_at}
 use Rattle.tuple_bytes.specs.declared.item.Item.{Item}
@@ -19,7 +19,7 @@ use Rattle.session_model.proofs.Storing.{AsksFor, stores_or_not}
 use Rattle.store_world.specs.Found.{Found}
 use Rattle.store_world.specs.World as worlds
 use Rattle.store_world.specs.Steps as world_steps
-use Rattle.store_world.specs.Steps.{on_tables, notarized, intent_in, carried_out, reached, validated, has_more, algorithm_of}
+use Rattle.store_world.specs.Steps.{on_tables, notarized, intent_in, carried_out, reached, turn_in, turns_world, turned, validated, has_more, algorithm_of}
 use Rattle.store_world.proofs.Acknowledging.{by_line}
 use Rattle.store_world.proofs.Analysing.{analysed_stays}
 use Rattle.store_world.proofs.Validating.{with_validated, with_audit}
@@ -77,32 +77,51 @@ pub record IsFrontierOf (w : worlds.World) (now : ℕ) (new : Option statements.
   pub need : frontier_for (layout (history store.header store.items)) (tail_of_database store) now heard.count ≡ Some moment
   pub new_is : new ≡ Some (statements.with_frontier store moment)
 
--- the store of a world stays, or has one of these more
-abbrev pub Stores : worlds.World → Line → ℕ → Option statements.Database → Type 0
-Stores w line now new = (new ≡ w.store) ⊎ IsTxnOf w line now new ⊎ IsFrontierOf w now new
+-- the policy that a line asks for, by what was heard
+pub record IsPolicyOf (w : worlds.World) (line : Line) (found : Found) (new : Option statements.Database) : Type 0 where
+  pub k : ℕ
+  pub algs : ℕ
+  pub line_is : line ≡ lines.Plain (stmts.Policy k algs)
+  pub store : statements.Database
+  pub store_is : w.store ≡ Some store
+  pub free : (turn_in store found.heard k algs).fault ≡ None
+  pub new_is : new ≡ Some (statements.with_item store (turn_in store found.heard k algs).item)
 
-module _ (w : worlds.World) (line : Line) (now : ℕ) where
-  of_tables : (o : Option statements.Database) → w.store ≡ o → Stores w line now (on_tables w o line now).world.store
+-- the store of a world stays, or has one of these more
+abbrev pub Stores : worlds.World → Line → ℕ → Found → Option statements.Database → Type 0
+Stores w line now found new = (new ≡ w.store) ⊎ IsTxnOf w line now new ⊎ IsFrontierOf w now new ⊎ IsPolicyOf w line found new
+
+module _ (w : worlds.World) (line : Line) (now : ℕ) (found : Found) where
+  of_tables : (o : Option statements.Database) → w.store ≡ o → Stores w line now found (on_tables w o line now).world.store
   of_tables None is = inl refl
   of_tables (Some store) is = elim (stores_or_not (with_begun w store) line now) [
     | inl same ↦ inl (ap (λ (x : statements.Database). Some x) same ∙ sym is)
     | inr one ↦ inr (inl (record { store = store; store_is = is; ops = one.ops; asked = one.asked; some = one.some; free = one.free; new_is = ap (λ (x : statements.Database). Some x) one.store }))
   ]
 
-  of_notarize : (heard : Heard) (refusal : Option AuditFail) (o : Option statements.Database) → w.store ≡ o → Stores w line now (notarized w o now heard refusal).world.store
+  of_notarize : (heard : Heard) (refusal : Option AuditFail) (o : Option statements.Database) → w.store ≡ o → Stores w line now found (notarized w o now heard refusal).world.store
   of_notarize heard refusal None is = inl refl
   of_notarize heard refusal (Some store) is = elim (notarized_store w store now heard refusal) [
     | inl same ↦ inl same
-    | inr gets ↦ subst (Stores w line now) (sym gets.is) (by gets.free (frontier_for (layout (history store.header store.items)) (tail_of_database store) now heard.count) refl)
+    | inr gets ↦ subst (Stores w line now found) (sym gets.is) (by gets.free (frontier_for (layout (history store.header store.items)) (tail_of_database store) now heard.count) refl)
   ]
     where
-      by : notarize_fault (tail_of_database store) false now store.items heard ≡ None → (need : Option ℕ) → frontier_for (layout (history store.header store.items)) (tail_of_database store) now heard.count ≡ need → Stores w line now (Some (reached need store))
+      by : notarize_fault (tail_of_database store) false now store.items heard ≡ None → (need : Option ℕ) → frontier_for (layout (history store.header store.items)) (tail_of_database store) now heard.count ≡ need → Stores w line now found (Some (reached need store))
       by free None need = inl (sym is)
-      by free (Some moment) need = inr (inr (record { heard = heard; store = store; store_is = is; free = free; moment = moment; need = need; new_is = refl }))
+      by free (Some moment) need = inr (inr (inl (record { heard = heard; store = store; store_is = is; free = free; moment = moment; need = need; new_is = refl })))
 
-pub step_stores : (w : worlds.World) (line : Line) (now : ℕ) (found : Found) → Stores w line now (world_steps.step w line now found).world.store
-step_stores w line now found = by_line (λ line s. Stores w line now s.world.store) w line now found (λ line. of_tables w line now w.store refl) (of_notarize w (lines.Plain stmts.Notarize) now found.heard found.refusal w.store refl)
-    (inl (with_validated w now found.verdict found.refusal).same.store) (inl (with_audit (has_more w) w now found.verdict found.refusal).same.store) (λ algorithm. inl (ap (λ (x : worlds.World). x.store) (analysed_stays w (algorithm_of algorithm) found.analysis found.body)))
+of_policy : (w : worlds.World) (now : ℕ) (found : Found) (k algs : ℕ) (o : Option statements.Database) → w.store ≡ o → Stores w (lines.Plain (stmts.Policy k algs)) now found (turned w o found.heard k algs).world.store
+of_policy w now found k algs None is = inl refl
+of_policy w now found k algs (Some store) is = by (turn_in store found.heard k algs).fault refl
+  where
+    by : (fault : Option AuditFail) → (turn_in store found.heard k algs).fault ≡ fault
+        → Stores w (lines.Plain (stmts.Policy k algs)) now found (world_steps.unless fault w (turns_world w store (turn_in store found.heard k algs))).world.store
+    by (Some fail) cause = inl refl
+    by None free = inr (inr (inr (record { k = k; algs = algs; line_is = refl; store = store; store_is = is; free = free; new_is = refl })))
+
+pub step_stores : (w : worlds.World) (line : Line) (now : ℕ) (found : Found) → Stores w line now found (world_steps.step w line now found).world.store
+step_stores w line now found = by_line (λ line s. Stores w line now found s.world.store) w line now found (λ line. of_tables w line now found w.store refl) (of_notarize w (lines.Plain stmts.Notarize) now found found.heard found.refusal w.store refl)
+    (λ k algs. of_policy w now found k algs w.store refl) (inl (with_validated w now found.verdict found.refusal).same.store) (inl (with_audit (has_more w) w now found.verdict found.refusal).same.store) (λ algorithm era. inl (ap (λ (x : worlds.World). x.store) (analysed_stays w (algorithm_of algorithm) found.analysis found.body)))
 
 -- the items of that
 module _ (w : worlds.World) (line : Line) (now : ℕ) (new : Option statements.Database) where
@@ -116,6 +135,9 @@ module _ (w : worlds.World) (line : Line) (now : ℕ) (new : Option statements.D
 
   pub txn_added : (txn : IsTxnOf w line now new) → items_added w.store new ≡ items.Txn (new_txn txn.store txn.ops now) ∷ []
   txn_added txn = one_added txn.store (with_txn txn.store (new_txn txn.store txn.ops now)) (items.Txn (new_txn txn.store txn.ops now)) txn.store_is txn.new_is refl
+
+  pub policy_added : (found : Found) (policy : IsPolicyOf w line found new) → items_added w.store new ≡ (turn_in policy.store found.heard policy.k policy.algs).item ∷ []
+  policy_added found policy = one_added policy.store (statements.with_item policy.store (turn_in policy.store found.heard policy.k policy.algs).item) (turn_in policy.store found.heard policy.k policy.algs).item policy.store_is policy.new_is refl
 
   pub frontier_added : (frontier : IsFrontierOf w now new) → items_added w.store new ≡ items.Frontier frontier.moment ∷ []
   frontier_added frontier = one_added frontier.store (statements.with_frontier frontier.store frontier.moment) (items.Frontier frontier.moment) frontier.store_is frontier.new_is refl

@@ -25,7 +25,8 @@ use Rattle.session_model.specs.Service.{Session}
 use Rattle.store_world.specs.Found.{Found}
 use Rattle.store_world.specs.World as worlds
 use Rattle.store_world.specs.Steps as world_steps
-use Rattle.store_world.specs.Steps.{IsWorldStmt, IsWorldLine}
+use Rattle.store_world.specs.Steps.{IsWorldStmt, IsWorldLine, turn_in}
+use Rattle.store_world.specs.Finding.{MayFind}
 use Rattle.store_engine.specs.Appended.{with_record}
 use Rattle.store_engine.specs.Leaving.{Takes}
 use Rattle.store_engine.proofs.Appended.{append_adds, append_puts, stores_record}
@@ -34,14 +35,14 @@ use Rattle.store_world.specs.LineCalls.{items_added, with_items, end_of_store}
 use Rattle.store_world.proofs.Tables.{none_old}
 use Rattle.timeline_model.specs.Scene.{Scene, Crash, nothing_yet, sessions_over, store_under, store_as, store_in, world_of}
 use Rattle.timeline_model.specs.Lines.{Act, Next, over_world, over_store, act}
-use Rattle.timeline_model.specs.Timeline.{Event, calls_in, crashed_behind, under, without_crash, act_on, step, after, FitsReading}
+use Rattle.timeline_model.specs.Timeline.{Event, calls_in, crashed_behind, under, without_crash, act_on, step, after, FitsReading, MayBeFound}
 use Rattle.timeline_model.specs.Stepping.{IsWhole, left_by, TakesItsStep, LinesTakeTheirStep}
 use Rattle.timeline_model.proofs.Doings.{StoreIs, store_is}
-use Rattle.timeline_model.proofs.Statements.{new_txn, with_begun, Stores, step_stores, same_added, txn_added, frontier_added}
+use Rattle.timeline_model.proofs.Statements.{new_txn, with_begun, Stores, step_stores, same_added, txn_added, frontier_added, policy_added}
 use Rattle.timeline_model.proofs.StayBytes.{still_fit}
 use Rattle.timeline_model.proofs.Sessions.{IsFit, asked_fit, step_under, world_fit, world_over, none_over}
 use Rattle.timeline_model.proofs.Sealing as sealing
-use Rattle.timeline_model.proofs.Fitting.{takes_txn}
+use Rattle.timeline_model.proofs.Fitting.{takes_txn, takes_policy}
 use Rattle.timeline_model.proofs.Events.{fit_after, nothing_fit}
 
 -- ---- a store with an item more
@@ -87,7 +88,7 @@ module _ (id : ℕ) (t : Scene) (store : statements.Database) (is : store_in id 
 
 -- ---- a line
 
-module _ (id : ℕ) (t : Scene) (line : Line) (found : Found) (scene_fits : IsFit t) (fits : FitsParts line) where
+module _ (id : ℕ) (t : Scene) (line : Line) (found : Found) (scene_fits : IsFit t) (fits : FitsParts line) (may : MayFind (world_of t id) line t.clock found) where
   abbrev bytes : IsBytes t.bytes
   bytes = scene_fits.bytes
 
@@ -101,7 +102,7 @@ module _ (id : ℕ) (t : Scene) (line : Line) (found : Found) (scene_fits : IsFi
   with_one : (new : Option statements.Database) (store : statements.Database) (item : Item) → w.store ≡ Some store → items_added w.store new ≡ item ∷ [] → bytes_to new ≡ with_items store.end (item ∷ []) t.bytes
   with_one new store item is one = ap (λ (o : Option statements.Database). with_items (end_of_store o) (items_added w.store new) t.bytes) is ∙ ap (λ (its : List Item). with_items store.end its t.bytes) one
 
-  pub read_by : (new : Option statements.Database) → Stores w line t.clock new → store_in id (bytes_to new) ≡ new
+  pub read_by : (new : Option statements.Database) → Stores w line t.clock found new → store_in id (bytes_to new) ≡ new
   unfolding world_of
   read_by new (inl same) = ap (λ (its : List Item). store_in id (with_items (end_of_store w.store) its t.bytes)) (same_added w line t.clock new same) ∙ sym same
   read_by new (inr (inl txn)) =
@@ -109,14 +110,19 @@ module _ (id : ℕ) (t : Scene) (line : Line) (found : Found) (scene_fits : IsFi
       let item : Item = items.Txn (new_txn txn.store txn.ops t.clock) in
       let y_is : bytes_to new ≡ with_items txn.store.end (item ∷ []) t.bytes = with_one new txn.store item txn.store_is (txn_added w line t.clock new txn) in
       ap (λ (y : List ℕ). store_in id y) y_is ∙ read_more id t txn.store txn.store_is bytes item in_file ∙ sym txn.new_is
-  read_by new (inr (inr frontier)) =
+  read_by new (inr (inr (inl frontier))) =
       let item : Item = items.Frontier frontier.moment in
       let in_file = sealing.frontier_takes id t (record found { heard = frontier.heard }) frontier.store frontier.store_is bytes frontier.free frontier.moment frontier.need in
       let y_is : bytes_to new ≡ with_items frontier.store.end (item ∷ []) t.bytes = with_one new frontier.store item frontier.store_is (frontier_added w line t.clock new frontier) in
       ap (λ (y : List ℕ). store_in id y) y_is ∙ read_more id t frontier.store frontier.store_is bytes item in_file ∙ sym frontier.new_is
+  read_by new (inr (inr (inr policy))) =
+      let item : Item = (turn_in policy.store found.heard policy.k policy.algs).item in
+      let in_file = takes_policy t scene_fits id line found fits may new policy in
+      let y_is : bytes_to new ≡ with_items policy.store.end (item ∷ []) t.bytes = with_one new policy.store item policy.store_is (policy_added w line t.clock new found policy) in
+      ap (λ (y : List ℕ). store_in id y) y_is ∙ read_more id t policy.store policy.store_is bytes item in_file ∙ sym policy.new_is
 
   -- and what is stored in the first format stays
-  old_by : (new : Option statements.Database) → Stores w line t.clock new → old_under id (bytes_to new) ≡ old_under id t.bytes
+  old_by : (new : Option statements.Database) → Stores w line t.clock found new → old_under id (bytes_to new) ≡ old_under id t.bytes
   unfolding world_of
   old_by new (inl same) = ap (λ (its : List Item). old_under id (with_items (end_of_store w.store) its t.bytes)) (same_added w line t.clock new same)
   old_by new (inr (inl txn)) =
@@ -124,11 +130,16 @@ module _ (id : ℕ) (t : Scene) (line : Line) (found : Found) (scene_fits : IsFi
       let item : Item = items.Txn (new_txn txn.store txn.ops t.clock) in
       let y_is : bytes_to new ≡ with_items txn.store.end (item ∷ []) t.bytes = with_one new txn.store item txn.store_is (txn_added w line t.clock new txn) in
       ap (old_under id) y_is ∙ old_same id t txn.store txn.store_is bytes item in_file
-  old_by new (inr (inr frontier)) =
+  old_by new (inr (inr (inl frontier))) =
       let item : Item = items.Frontier frontier.moment in
       let in_file = sealing.frontier_takes id t (record found { heard = frontier.heard }) frontier.store frontier.store_is bytes frontier.free frontier.moment frontier.need in
       let y_is : bytes_to new ≡ with_items frontier.store.end (item ∷ []) t.bytes = with_one new frontier.store item frontier.store_is (frontier_added w line t.clock new frontier) in
       ap (old_under id) y_is ∙ old_same id t frontier.store frontier.store_is bytes item in_file
+  old_by new (inr (inr (inr policy))) =
+      let item : Item = (turn_in policy.store found.heard policy.k policy.algs).item in
+      let in_file = takes_policy t scene_fits id line found fits may new policy in
+      let y_is : bytes_to new ≡ with_items policy.store.end (item ∷ []) t.bytes = with_one new policy.store item policy.store_is (policy_added w line t.clock new found policy) in
+      ap (old_under id) y_is ∙ old_same id t policy.store policy.store_is bytes item in_file
 
   abbrev s : world_steps.Step
   s = world_steps.step w line t.clock found
@@ -191,12 +202,12 @@ behind_refused : (crash : Option Crash) (next : Next) → (behind crash next).is
 behind_refused None next = refl
 behind_refused (Some crash) next = refl
 
-event_takes : (t : Scene) (e : Event) (id : ℕ) (line : Line) → IsFit t → FitsReading e.line → t.id ≡ Some id → e.line ≡ Ok line → IsWorldLine line → IsWhole t e → TakesItsStep t id line e.found (step t e.line e.found)
+event_takes : (t : Scene) (e : Event) (id : ℕ) (line : Line) → IsFit t → FitsReading e.line → MayFind (world_of t id) line t.clock e.found → t.id ≡ Some id → e.line ≡ Ok line → IsWorldLine line → IsWhole t e → TakesItsStep t id line e.found (step t e.line e.found)
 unfolding step world_of
-event_takes t e id line scene_fits fits own line_is on passes =
+event_takes t e id line scene_fits fits may own line_is on passes =
     let act_is : act_on (without_crash t) e.line e.found ≡ over_world (without_crash t) (world_of (without_crash t) id) line e.found (world_steps.step (world_of (without_crash t) id) line t.clock e.found) =
     ap (λ (l : Result Line ParseFail). act_on (without_crash t) l e.found) line_is ∙ line_act (without_crash t) line e.found on ∙ ap (λ (o : Option ℕ). over_store (without_crash t) o line e.found) own in
-    let takes_it = takes id (without_crash t) line e.found (still_fit t scene_fits) (subst FitsReading line_is fits) refl in
+    let takes_it = takes id (without_crash t) line e.found (still_fit t scene_fits) (subst FitsReading line_is fits) may refl in
     let next_is = under_whole (without_crash t) (act_on (without_crash t) e.line e.found) t.crash passes ∙ ap (λ (a : Act). behind t.crash a.next) act_is in
     let next = (over_world (without_crash t) (world_of (without_crash t) id) line e.found (world_steps.step (world_of (without_crash t) id) line t.clock e.found)).next in
     record {
@@ -205,6 +216,10 @@ event_takes t e id line scene_fits fits own line_is on passes =
       refused = ap (λ (n : Next). n.is_refused) next_is ∙ behind_refused t.crash next ∙ takes_it.refused;
     }
 
+-- what the line finds in the world that stands
+found_at : (t : Scene) (o : Option ℕ) (id : ℕ) (l : Result Line ParseFail) (line : Line) (found : Found) → o ≡ Some id → l ≡ Ok line → MayBeFound o t l found → MayFind (world_of t id) line t.clock found
+found_at t o id l line found own line_is may = subst (λ (x : Result Line ParseFail). MayBeFound (Some id) t x found) line_is (subst (λ (x : Option ℕ). MayBeFound x t l found) own may)
+
 pub take_step : LinesTakeTheirStep
 take_step limits e es id line is own line_is on passes =
-    event_takes (after (nothing_yet limits) es) e id line (fit_after (nothing_yet limits) es (nothing_fit limits) is.0) is.1.fits own line_is on passes
+    event_takes (after (nothing_yet limits) es) e id line (fit_after (nothing_yet limits) es (nothing_fit limits) is.0) is.1.fits (found_at (after (nothing_yet limits) es) (after (nothing_yet limits) es).id id e.line line e.found own line_is is.1.found) own line_is on passes

@@ -18,7 +18,7 @@ use Rattle.timeline_model.specs.Filed.{IsFiledOver, HasClash}
 abbrev pub FindsSame : World → Line → Found → Found → Type 0
 FindsSame w (lines.Plain stmts.Validate) one other = one.verdict ≡ other.verdict
 FindsSame w (lines.Plain stmts.Audit) one other = OnFalse (has_more w) (one.verdict ≡ other.verdict)
-FindsSame w (lines.Plain (stmts.Analyse algorithm)) one other = one.analysis ≡ other.analysis
+FindsSame w (lines.Plain (stmts.Analyse algorithm era)) one other = one.analysis ≡ other.analysis
 FindsSame w line one other = Unit {0}
 
 -- so the line does the same, whatever else of the findings matters to it

@@ -1,4 +1,4 @@
-use Rattle.std.proofs.Common.{Ok, Err}
+use Rattle.std.proofs.Common.{ℕ, Ok, Err}
 use Rattle.std.proofs.lemmas.Result.{err_from_is_err_and}
 use Rattle.store_world.specs.declared.fail.LineFail.TheVariants.{NoMemory}
 use Rattle.store_world.proofs.Notarizing.{notarization, stays_header}
@@ -24,5 +24,5 @@ returns-in-Err-clause-told g c kept auditing =
     let S = g.D.Disk.state in
     let N = g.N.Notary.state in
     notarization c.args.now c.args.store.now c.notarize.new.store (S c.args.disk.now) (S c.notarize.new.disk) (N c.args.notary.now) (N c.notarize.new.notary) c.requires.open
-    (stays_header (Err c.in-Err.fail) c.args.store.now c.notarize.new.store c.in-Err.ensures.open)
+    (stays_header {A = ℕ} (Err c.in-Err.fail) c.args.store.now c.notarize.new.store c.in-Err.ensures.open)
     (g.met.D.Disk.only_now c.args.disk.now) (Err c.in-Err.fail) c.answer_to.result c.answer_to.ensures.value c.in-Err.ensures.early c.in-Err.ensures.turn kept auditing c.in-Err.ensures.told

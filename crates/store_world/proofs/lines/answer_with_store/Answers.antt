@@ -14,6 +14,12 @@ returns-in-None-clause-notary_frame g c = notary_frames.goes_on_same _
 pub returns-in-Some-Notarize-clause-sound : goal.returns-in-Some-Notarize-clause-sound
 returns-in-Some-Notarize-clause-sound g c = sound_where _ (StandsOver (alone c.args.sessions.now c.args.store.now c.args.auditor.now)) (λ b stands. (stands.0.store.items, stands.1.store.open_on)) (g.D.Disk.state c.args.disk.now) (g.D.Disk.state c.answer_notarization.new.disk) (g.N.Notary.state c.args.notary.now) (g.N.Notary.state c.answer_notarization.new.notary) c.answer_notarization.ensures.sound
 
+pub returns-in-Some-Policy-clause-sound : goal.returns-in-Some-Policy-clause-sound
+returns-in-Some-Policy-clause-sound g c = sound_where _ (StandsOver (alone c.args.sessions.now c.args.store.now c.args.auditor.now)) (λ b stands. (stands.0.store.items, stands.1.store.open_on)) (g.D.Disk.state c.args.disk.now) (g.D.Disk.state c.answer_policy.new.disk) (g.N.Notary.state c.args.notary.now) (g.N.Notary.state c.answer_policy.new.notary) c.answer_policy.ensures.sound
+
+pub returns-in-Some-Validate-clause-sound : goal.returns-in-Some-Validate-clause-sound
+returns-in-Some-Validate-clause-sound g c = sound_where _ (StandsOver (alone c.args.sessions.now c.args.store.now c.args.auditor.now)) (λ b stands. tt) (g.D.Disk.state c.args.disk.now) (g.D.Disk.state c.answer_validation.new.disk) (g.N.Notary.state c.args.notary.now) (g.N.Notary.state c.answer_validation.new.notary) c.answer_validation.ensures.sound
+
 pub returns-in-Some-Analyse-clause-sound : goal.returns-in-Some-Analyse-clause-sound
 returns-in-Some-Analyse-clause-sound g c = sound_where _ (StandsOver (alone c.args.sessions.now c.args.store.now c.args.auditor.now)) (λ b stands. tt) (g.D.Disk.state c.args.disk.now) (g.D.Disk.state c.answer_analysis.new.disk) (g.N.Notary.state c.args.notary.now) (g.N.Notary.state c.answer_analysis.new.notary) c.answer_analysis.ensures.sound
 

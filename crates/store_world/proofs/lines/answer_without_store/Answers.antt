@@ -12,7 +12,7 @@ use Rattle.store_world.proofs.Faults.{ends_wanting}
 use Rattle.store_world.proofs.Nowhere.{nowhere}
 use Rattle.store_world.proofs.lines.answer_without_store.Goals as goal
 
--- ---- `notarize`
+-- ---- `notarize`, or `policy`
 
 pub returns-in-Some-Notarize-clause-told : goal.returns-in-Some-Notarize-clause-told
 returns-in-Some-Notarize-clause-told g c =
