@@ -1,6 +1,6 @@
--- Without a fault, within the limits and with a notary that is trusted, `notarize`, `validate` and `analyse` end as they are defined.
-use Rattle.std.proofs.Common.{◌≡◌, ◌⊎◌, ◌<◌, ℕ, suc, Bool, true, false, List, [], ◌∷◌, length, Option, Some, None, refl, sym, ap, subst, ◌∙◌, arith, inl, inr, ⊎_elim, Result, Ok, Err}
-use Rattle.std.specs.Prelude.{IfSome, is_some, ◌==◌, nat_le, if◌then◌else◌}
+-- Without a fault, within the limits and with a notary that is trusted, `notarize`, `policy`, `validate` and `analyse` end as they are defined.
+use Rattle.std.proofs.Common.{◌≡◌, ◌⊎◌, ◌<◌, ◌≤◌, ℕ, suc, Bool, true, false, List, [], ◌∷◌, length, Option, Some, None, refl, sym, ap, subst, ◌∙◌, arith, inl, inr, ⊎_elim, Result, Ok, Err}
+use Rattle.std.specs.Prelude.{IfSome, IfErr, is_some, ◌==◌, nat_le, if◌then◌else◌}
 use Rattle.std.specs.Option.{option_map}
 use Rattle.byte_grammar.specs.Reading.{IsBytes}
 use Rattle.tuple_bytes.specs.declared.header.Header.{Header}
@@ -9,7 +9,7 @@ use Rattle.history_model.specs.History.{History, history, txns, last_moment}
 use Rattle.history_model.specs.Stored.{stored}
 use Rattle.history_model.specs.StoredHistory.{IsHistory}
 use Rattle.history_model.proofs.Stores.{stored_history}
-use Rattle.digest_model.specs.Layout.{layout, first_granule, max_granules}
+use Rattle.digest_model.specs.Layout.{layout, policy_of, first_granule, max_granules}
 use Rattle.digest_model.specs.Laws.{HasSpelling}
 use Rattle.digest_model.proofs.Spelled.{has_spelling}
 use Rattle.notary_link.specs.declared.answer.Answer.{Answer}
@@ -27,11 +27,14 @@ use Rattle.store_engine.specs.Opened.{Opened, IsOpenOn}
 use Rattle.store_engine.specs.Refusals.{Tail, tail_of}
 use Rattle.validator.specs.declared.verdict.Verdict.{Verdict}
 use Rattle.validator.specs.declared.verdict.Verdict.TheVariants as verdicts
+use Rattle.validator.specs.declared.turned.Turned.{Turned}
 use Rattle.validator.specs.declared.fail.AuditFail.{AuditFail}
 use Rattle.validator.specs.declared.fail.AuditFail.TheVariants as fails
 use Rattle.tuple_bytes.specs.declared.item.Item.{Item}
 use Rattle.validator.specs.Notarizing.{Heard, heard_of, Intent, intent_of, else_cause, fault_by, chain_fault, IsEarly, early_fault, filed_fault, room_fault, frontier_for, next_batches, notarize_fault, IsRefusedBy}
 use Rattle.validator.specs.Reaching.{IsReached, Notarizes}
+use Rattle.validator.specs.Turning.{turn_of, IsOfTurning, Turns}
+use Rattle.validator.specs.Steps.{counted}
 use Rattle.validator.proofs.Telling as listed
 use Rattle.validator.specs.Filing.{Files, FilesFor}
 use Rattle.validator.specs.Verdicts.{IsFound, IsFoundIn, IsNotMarked, Validates, mark_of}
@@ -48,8 +51,10 @@ use Rattle.line_runs.specs.declared.status.Status.{Status}
 use Rattle.line_runs.specs.declared.status.Status.TheVariants as statuses
 use Rattle.line_runs.specs.Devices.{Content, Desk, Devices, AllGoOn, HasCauses, content}
 use Rattle.dragoon_app.specs.Audited.{NotarizesOn, NotarizesHeader, ValidatesOn, notarize_outcome, validate_outcome, verdict_status}
+use Rattle.dragoon_app.specs.Turned.{policy_outcome, TurnsHeader, TurnsOn}
 use Rattle.dragoon_app.specs.Analysed.{AnalysesOn, analyse_outcome, report_status}
-use Rattle.dragoon_app.specs.Completes.{NoneFailed, DeskTells, IsTrusted, MayFileAt, tail_in, EndsJudged, EndsSealed, MayNotarize, MayValidate, MayAnalyse}
+use Rattle.dragoon_app.specs.Completes.{NoneFailed, DeskTells, IsTrusted, MayFileAt, tail_in, EndsJudged, EndsSealed, MayNotarize, MayTurn, MayValidate, MayAnalyse}
+use Rattle.dragoon_app.proofs.Eras.{none_lacks}
 use Rattle.dragoon_app.proofs.Completing.{disk_told, lists_told, telling, if_told, on_store, said_well}
 
 -- ---- what the bytes hold
@@ -203,6 +208,7 @@ module _ (n : ℕ) (h : History) (header : Header) (bytes : List ℕ) (are : IsB
     notarized_status later (Err (fails.ClockBack last)) early refused files disk notary = absurd (subst (λ (o : Option AuditFail). IsEarly {A = ℕ} o (Err (fails.ClockBack last))) may.early early)
     notarized_status later (Err fails.TooLate) early refused files disk notary = absurd (subst (λ (o : Option AuditFail). IsEarly {A = ℕ} o (Err fails.TooLate)) may.early early)
     notarized_status later (Err fails.StoreFull) early refused files disk notary = absurd (subst IsOfFiled (fault_is fails.StoreFull refused) (filed_of (lists.batches header.id) (history header (stored bytes).items)))
+    notarized_status later (Err fails.TooManyEras) early refused files disk notary = absurd (subst IsOfFiled (fault_is fails.TooManyEras refused) (filed_of (lists.batches header.id) (history header (stored bytes).items)))
     notarized_status later (Err fails.Broken) early refused files disk notary = fault_broken header.id n h bytes are spelled (lists.batches header.id) trusted header is (fault_is fails.Broken refused)
     notarized_status later (Err (fails.SealMissing name)) early refused files disk notary = absurd (fault_missing header.id n h bytes are spelled (lists.batches header.id) trusted header is name (fault_is (fails.SealMissing name) refused))
 
@@ -227,6 +233,48 @@ module _ (n : ℕ) (h : History) (header : Header) (bytes : List ℕ) (are : IsB
         (subst (λ (x : Header). FilesFor x.id old.notary.limits (next_batches (history x (stored bytes).items) now (length (lists.batches x.id))) answer lists later) header_is files))
         disk notary
 
+  -- ---- `policy`
+
+  module _ (k algs : ℕ) (room : (turn_of (tail_in header bytes) false (stored bytes).items (counted (length (lists.batches header.id))) k algs).fault ≡ None) where
+    -- what refuses it was heard
+    turn_fault_is : (fail : AuditFail) → (turn_of (tail_in header bytes) false (stored bytes).items (heard_of (lists.batches header.id) (history header (stored bytes).items)) k algs).fault ≡ Some fail → filed_fault (lists.batches header.id) (history header (stored bytes).items) ≡ Some fail
+    turn_fault_is fail e =
+        let filed = filed_fault (lists.batches header.id) (history header (stored bytes).items) in
+        else_alone filed fail (sym (ap (else_cause filed) room) ∙ e)
+
+    turned_status : (answer : Result Turned AuditFail) → IfErr answer IsOfTurning
+        → IsRefusedBy (turn_of (tail_in header bytes) false (stored bytes).items (heard_of (lists.batches header.id) (history header (stored bytes).items)) k algs).fault answer
+        → ((policy_outcome answer).status ≡ statuses.DiskFault → ⊥) → ((policy_outcome answer).status ≡ statuses.NotaryFault → ⊥)
+        → EndsSealed n h bytes (policy_outcome answer).status
+    turned_status (Ok turned) of refused disk notary = tt
+    turned_status (Err fails.Full) of refused disk notary = absurd of
+    turned_status (Err fails.DiskFault) of refused disk notary = absurd (disk refl)
+    turned_status (Err fails.NotaryFault) of refused disk notary = absurd (notary refl)
+    turned_status (Err fails.NoMemory) of refused disk notary = tt
+    turned_status (Err (fails.OutOfTurn count)) of refused disk notary = absurd of
+    turned_status (Err fails.Closed) of refused disk notary = absurd (disk refl)
+    turned_status (Err (fails.ClockBack last)) of refused disk notary = absurd of
+    turned_status (Err fails.TooLate) of refused disk notary = absurd of
+    turned_status (Err fails.StoreFull) of refused disk notary = absurd (subst IsOfFiled (turn_fault_is fails.StoreFull refused) (filed_of (lists.batches header.id) (history header (stored bytes).items)))
+    turned_status (Err fails.TooManyEras) of refused disk notary = absurd (subst IsOfFiled (turn_fault_is fails.TooManyEras refused) (filed_of (lists.batches header.id) (history header (stored bytes).items)))
+    turned_status (Err fails.Broken) of refused disk notary = fault_broken header.id n h bytes are spelled (lists.batches header.id) trusted header is (turn_fault_is fails.Broken refused)
+    turned_status (Err (fails.SealMissing name)) of refused disk notary = absurd (fault_missing header.id n h bytes are spelled (lists.batches header.id) trusted header is name (turn_fault_is (fails.SealMissing name) refused))
+
+    turned : (answer : Result Turned AuditFail) (s later_s : Opened) (old new : Desk) (after : List ℕ) → s.header ≡ header → s.at.is_closed ≡ false → IsOpenOn s (stored bytes).items bytes
+        → IfErr answer IsOfTurning → (m : Turns k algs (stored bytes).items answer s later_s old new bytes after) → m.heard ≡ heard_of (lists.batches s.header.id) (history s.header (stored bytes).items)
+        → ((policy_outcome answer).status ≡ statuses.DiskFault → ⊥) → ((policy_outcome answer).status ≡ statuses.NotaryFault → ⊥)
+        → EndsSealed n h bytes (policy_outcome answer).status
+    turned answer s later_s old new after header_is is_open at of m heard_is disk notary =
+        let tail = tail_is s header bytes header_is at in
+        let hears : Header → Heard = λ x. heard_of (lists.batches x.id) (history x (stored bytes).items) in
+        let refused : IsRefusedBy (turn_of (tail_of s) s.at.is_closed (stored bytes).items (hears s.header) k algs).fault answer =
+        subst (λ (x : Heard). IsRefusedBy (turn_of (tail_of s) s.at.is_closed (stored bytes).items x k algs).fault answer) heard_is m.does.refused in
+        turned_status answer of
+        (subst (λ (x : Header). IsRefusedBy (turn_of (tail_in header bytes) false (stored bytes).items (hears x) k algs).fault answer) header_is
+        (subst (λ (t : Tail). IsRefusedBy (turn_of t false (stored bytes).items (hears s.header) k algs).fault answer) tail
+        (subst (λ (b : Bool). IsRefusedBy (turn_of (tail_of s) b (stored bytes).items (hears s.header) k algs).fault answer) is_open refused)))
+        disk notary
+
 pub notarize_completes : (id : ℕ) (result : Status) (old new : Devices) → NotarizesOn id result old new → HasCauses result old new → AllGoOn old new → (n : ℕ) (h : History) (header : Header) (held : Content) → MayNotarize id n h header held old new → EndsSealed n h held.bytes result
 notarize_completes id result old new on causes goes n h header held may = ⊎_elim
     (λ (e : result ≡ statuses.NoMemory). subst (EndsSealed n h held.bytes) (sym e) tt)
@@ -242,6 +290,25 @@ notarize_completes id result old new on causes goes n h header held may = ⊎_el
         (notarized n h header held.bytes may.desk.store.are_bytes may.filed.spelled may.is_store.has.header_is held.lists trusted old.desk.notary.limits once.now (may.room once.now once.taken)
         once.answer once.done.store once.done.later_store old.desk new.desk at.0 lists.0 refl once.done.header_is once.done.is_open
         (if_told old.desk.disk.reads held.bytes _ may.desk.store.told once.done.opened) once.done.early at.1 lists.1.0 lists.1.1
+        (λ e. may.none_failed.disk (once.disk_cause e)) (λ e. may.none_failed.notary (once.notary_cause e))))
+        once.said
+
+pub policy_completes : (id k algs : ℕ) (result : Status) (old new : Devices) → TurnsOn id k algs result old new → HasCauses result old new → AllGoOn old new → (n : ℕ) (h : History) (header : Header) (held : Content) → MayTurn k algs id n h header held old new → EndsSealed n h held.bytes result
+policy_completes id k algs result old new on causes goes n h header held may = ⊎_elim
+    (λ (e : result ≡ statuses.NoMemory). subst (EndsSealed n h held.bytes) (sym e) tt)
+    (λ (once : TurnsHeader k algs header result old new). by once (disk_told old new held (λ before after. Turns k algs (stored before).items once.answer once.done.store once.done.later_store old.desk new.desk before after) goes may.desk once.done.turns))
+    (on_store id (TurnsHeader k algs) result old new may.none_failed goes header held.bytes may.desk.store may.is_store on)
+  where
+    by : (once : TurnsHeader k algs header result old new) → ((after : List ℕ) × Turns k algs (stored held.bytes).items once.answer once.done.store once.done.later_store old.desk new.desk held.bytes after) → EndsSealed n h held.bytes result
+    by once at =
+        let lists = lists_told old new held _ may.none_failed goes may.desk at.1.told in
+        let trusted = subst (λ (x : ℕ). IsTrusted (held.lists.batches x) x n h held.bytes) (sym may.is_store.has.id_is) may.filed.trusted in
+        let room = subst (λ (x : ℕ). (turn_of (tail_in header held.bytes) false (stored held.bytes).items (counted (length (held.lists.batches x))) k algs).fault ≡ None) (sym may.is_store.has.id_is) may.room in
+        said_well (EndsSealed n h held.bytes) result (λ e. may.none_failed.out (causes.write e)) tt (policy_outcome once.answer) old.out new.out
+        (λ e. subst (EndsSealed n h held.bytes) (sym e)
+        (turned n h header held.bytes may.desk.store.are_bytes may.filed.spelled may.is_store.has.header_is held.lists trusted k algs room
+        once.answer once.done.store once.done.later_store old.desk new.desk at.0 once.done.header_is once.done.is_open
+        (if_told old.desk.disk.reads held.bytes _ may.desk.store.told once.done.opened) once.done.none_other at.1 lists.1
         (λ e. may.none_failed.disk (once.disk_cause e)) (λ e. may.none_failed.notary (once.notary_cause e))))
         once.said
 
@@ -272,47 +339,50 @@ module _ (id n : ℕ) (h : History) (bytes : List ℕ) (are : IsBytes bytes) (sp
   judged now limits (Err fails.StoreFull) was is later room disk notary v = absurd v
   judged now limits (Err fails.Closed) was is later room disk notary v = absurd v
   judged now limits (Err fails.Broken) was is later room disk notary v = absurd v
+  judged now limits (Err fails.TooManyEras) was is later room disk notary v = absurd v
   judged now limits (Err (fails.OutOfTurn count)) was is later room disk notary v = absurd v
 
   -- ---- `analyse`
 
-  analysed_none : (algorithm : Algorithm) (fail : AnalyseFail) (s : Option History) → IsAnalysisIn algorithm [] s (Err fail) → ⊥
-  analysed_none algorithm fail s is = absurd cc
+  analysed_none : (algorithm : Algorithm) (era : Option ℕ) (fail : AnalyseFail) (s : Option History) → IsAnalysisIn algorithm era [] s (Err fail) → ⊥
+  analysed_none algorithm era fail s is = absurd cc
 
   -- an analysis of what is trusted isn't refused so
-  refuses_none : (algorithm : Algorithm) (fail : AnalyseFail) → (NotaryOf (lists.batches id) id h n × (HashClash h (history_in (stored bytes)) n → ⊥) → ⊥) → IsAnalysis algorithm id (lists.batches id) (stored bytes) (Err fail) → ⊥
-  refuses_none algorithm fail some is = ⊎_elim
-      (λ (none : lists.batches id ≡ []). analysed_none algorithm fail (history_with id (stored bytes)) (subst (λ (bs : List Batch). IsAnalysisIn algorithm bs (history_with id (stored bytes)) (Err fail)) none is))
+  refuses_none : (algorithm : Algorithm) (era : Option ℕ) (fail : AnalyseFail) → (NotaryOf (lists.batches id) id h n × (HashClash h (history_in (stored bytes)) n → ⊥) → ⊥) → IsAnalysis algorithm era id (lists.batches id) (stored bytes) (Err fail) → ⊥
+  refuses_none algorithm era fail some is = ⊎_elim
+      (λ (none : lists.batches id ≡ []). analysed_none algorithm era fail (history_with id (stored bytes)) (subst (λ (bs : List Batch). IsAnalysisIn algorithm era bs (history_with id (stored bytes)) (Err fail)) none is))
       some trusted
 
-  found_at : (algorithm : Algorithm) (old : Desk) (filed : notaries.State) (fail : AnalyseFail) → old.disk.reads ≡ Some bytes → old.notary.lists ≡ Some lists → (is_some filed.lists ≡ false → ⊥)
-      → IsFoundOn algorithm id old.disk old.notary filed (Err fail) → IsAnalysis algorithm id (lists.batches id) (stored bytes) (Err fail)
-  found_at algorithm old filed fail reads told still found = (telling old.notary.lists filed.lists lists _ told still (if_told old.disk.reads bytes _ reads found)).1
+  found_at : (algorithm : Algorithm) (era : Option ℕ) (old : Desk) (filed : notaries.State) (fail : AnalyseFail) → old.disk.reads ≡ Some bytes → old.notary.lists ≡ Some lists → (is_some filed.lists ≡ false → ⊥)
+      → IsFoundOn algorithm era id old.disk old.notary filed (Err fail) → IsAnalysis algorithm era id (lists.batches id) (stored bytes) (Err fail)
+  found_at algorithm era old filed fail reads told still found = (telling old.notary.lists filed.lists lists _ told still (if_told old.disk.reads bytes _ reads found)).1
 
-  reported : (algorithm : Algorithm) (now : ℕ) (old : Desk) (later : notaries.State) (answer : Result Report AnalyseFail) → has_chains algorithm (layout h) n ≡ true
+  reported : (algorithm : Algorithm) (era : Option ℕ) (now : ℕ) (old : Desk) (later : notaries.State) (answer : Result Report AnalyseFail) → IfSome era (λ e. IfSome (history_in (stored bytes)) (λ s. e ≤ length (policy_of s).later)) → has_chains algorithm era h n ≡ true
       → old.disk.reads ≡ Some bytes → old.notary.lists ≡ Some lists → (is_some later.lists ≡ false → ⊥)
       → ((analyse_outcome answer).status ≡ statuses.DiskFault → ⊥) → ((analyse_outcome answer).status ≡ statuses.NotaryFault → ⊥)
-      → Analyses algorithm id now old.disk old.notary later answer → EndsJudged (analyse_outcome answer).status
-  reported algorithm now old later (Ok report) chains reads told still disk notary found = by report.altered
+      → Analyses algorithm era id now old.disk old.notary later answer → EndsJudged (analyse_outcome answer).status
+  reported algorithm era now old later (Ok report) has chains reads told still disk notary found = by report.altered
     where
       by : (altered : Bool) → EndsJudged (report_status altered)
       by true = tt
       by false = tt
-  reported algorithm now old later (Err analyses.DiskFault) chains reads told still disk notary found = absurd (disk refl)
-  reported algorithm now old later (Err analyses.NotaryFault) chains reads told still disk notary found = absurd (notary refl)
-  reported algorithm now old later (Err analyses.NoMemory) chains reads told still disk notary found = tt
-  reported algorithm now old later (Err (analyses.SealMissing name)) chains reads told still disk notary found =
-      let is = found_at algorithm old later (analyses.SealMissing name) reads told still found in
-      absurd (refuses_none algorithm (analyses.SealMissing name) (λ some. some.1 (refusals_clash.missing algorithm (lists.batches id) id n h bytes name some.0 spelled (held_history id n h bytes are spelled (lists.batches id)) is)) is)
-  reported algorithm now old later (Err analyses.NotSealedSo) chains reads told still disk notary found =
-      let is = found_at algorithm old later analyses.NotSealedSo reads told still found in
-      absurd (refuses_none algorithm analyses.NotSealedSo (λ some. ⊎_elim
-      (λ (none : has_chains algorithm (layout h) n ≡ false). let e : true ≡ false = sym chains ∙ none in absurd cc)
+  reported algorithm era now old later (Err analyses.DiskFault) has chains reads told still disk notary found = absurd (disk refl)
+  reported algorithm era now old later (Err analyses.NotaryFault) has chains reads told still disk notary found = absurd (notary refl)
+  reported algorithm era now old later (Err analyses.NoMemory) has chains reads told still disk notary found = tt
+  reported algorithm era now old later (Err (analyses.SealMissing name)) has chains reads told still disk notary found =
+      let is = found_at algorithm era old later (analyses.SealMissing name) reads told still found in
+      absurd (refuses_none algorithm era (analyses.SealMissing name) (λ some. some.1 (refusals_clash.missing algorithm era (lists.batches id) id n h bytes name some.0 spelled (held_history id n h bytes are spelled (lists.batches id)) is)) is)
+  reported algorithm era now old later (Err analyses.NoEra) has chains reads told still disk notary found =
+      absurd (none_lacks algorithm era (lists.batches id) id bytes has (found_at algorithm era old later analyses.NoEra reads told still found))
+  reported algorithm era now old later (Err analyses.NotSealedSo) has chains reads told still disk notary found =
+      let is = found_at algorithm era old later analyses.NotSealedSo reads told still found in
+      absurd (refuses_none algorithm era analyses.NotSealedSo (λ some. ⊎_elim
+      (λ (none : has_chains algorithm era h n ≡ false). let e : true ≡ false = sym chains ∙ none in absurd cc)
       (λ (clash : HashClash h (history_in (stored bytes)) n). some.1 clash)
-      (refusals_clash.chains algorithm (lists.batches id) id n h bytes some.0 spelled (held_history id n h bytes are spelled (lists.batches id)) is)) is)
-  reported algorithm now old later (Err (analyses.NotaryInconsistent era level index)) chains reads told still disk notary found =
-      let is = found_at algorithm old later (analyses.NotaryInconsistent era level index) reads told still found in
-      absurd (refuses_none algorithm (analyses.NotaryInconsistent era level index) (λ some. refusals_clash.consistent algorithm (lists.batches id) id n era level index h bytes (Err (analyses.NotaryInconsistent era level index)) some.0 is refl) is)
+      (refusals_clash.chains algorithm era (lists.batches id) id n h bytes some.0 spelled (held_history id n h bytes are spelled (lists.batches id)) is)) is)
+  reported algorithm era now old later (Err (analyses.NotaryInconsistent number level index)) has chains reads told still disk notary found =
+      let is = found_at algorithm era old later (analyses.NotaryInconsistent number level index) reads told still found in
+      absurd (refuses_none algorithm era (analyses.NotaryInconsistent number level index) (λ some. refusals_clash.consistent algorithm era (lists.batches id) id n number level index h bytes (Err (analyses.NotaryInconsistent number level index)) some.0 is refl) is)
 
 module _ (id : ℕ) (result : Status) (old new : Devices) (causes : HasCauses result old new) (goes : AllGoOn old new) (n : ℕ) (h : History) (held : Content) where
   still_lists : NoneFailed old new → DeskTells held old.desk → is_some new.desk.notary.lists ≡ false → ⊥
@@ -327,10 +397,10 @@ module _ (id : ℕ) (result : Status) (old new : Devices) (causes : HasCauses re
       (λ e. may.none_failed.disk (once.disk_cause e)) (λ e. may.none_failed.notary (once.notary_cause e)) v.1))
       once.said
 
-  pub analyse_completes : (algorithm : Algorithm) → AnalysesOn id algorithm result old new → MayAnalyse algorithm id n h held old new → EndsJudged result
-  analyse_completes algorithm once may =
+  pub analyse_completes : (algorithm : Algorithm) (era : Option ℕ) → AnalysesOn id algorithm era result old new → MayAnalyse algorithm era id n h held old new → EndsJudged result
+  analyse_completes algorithm era once may =
       said_well EndsJudged result (λ e. may.none_failed.out (causes.write e)) tt (analyse_outcome once.answer) old.out new.out
       (λ e. subst EndsJudged (sym e)
-      (reported id n h held.bytes may.desk.store.are_bytes may.filed.spelled held.lists may.filed.trusted algorithm once.now old.desk new.desk.notary once.answer may.chains may.desk.store.told may.desk.notary
+      (reported id n h held.bytes may.desk.store.are_bytes may.filed.spelled held.lists may.filed.trusted algorithm era once.now old.desk new.desk.notary once.answer may.era_is may.chains may.desk.store.told may.desk.notary
       (still_lists may.none_failed may.desk) (λ e. may.none_failed.disk (once.disk_cause e)) (λ e. may.none_failed.notary (once.notary_cause e)) once.done.analyses))
       once.said

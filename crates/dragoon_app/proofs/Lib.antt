@@ -9,6 +9,7 @@ pub mod Ended
 pub mod Once
 pub mod Auditing
 pub mod Notarized
+pub mod Turned
 pub mod SoundKept
 pub mod Unaltered
 pub mod Analysing
@@ -16,5 +17,6 @@ pub mod Defined
 pub mod Migrating
 pub mod Completing
 pub mod CompletingMoves
+pub mod Eras
 pub mod CompletingAudits
 pub mod Completed

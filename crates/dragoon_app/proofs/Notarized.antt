@@ -30,7 +30,7 @@ use Rattle.dragoon_app.proofs.Once.{once_from}
 
 -- ---- from the state before the store was opened
 
-unchanged_then : (old mid new : disks.State) → disks.Unchanged old mid → disks.Unchanged mid new → disks.Unchanged old new
+pub unchanged_then : (old mid new : disks.State) → disks.Unchanged old mid → disks.Unchanged mid new → disks.Unchanged old new
 unchanged_then old mid new first next = record {
   reads = next.reads ∙ first.reads;
   trace = next.trace ∙ first.trace;
@@ -40,30 +40,35 @@ unchanged_then old mid new first next = record {
 
 -- ---- a notarization
 
-calls_from : (calls : List disks.Call) (r : Result (Unit {0}) DiskFail) (first old new : disks.State) → old.trace ≡ first.trace → MakesCalls calls r old new → MakesCalls calls r first new
+pub calls_from : (calls : List disks.Call) (r : Result (Unit {0}) DiskFail) (first old new : disks.State) → old.trace ≡ first.trace → MakesCalls calls r old new → MakesCalls calls r first new
 calls_from calls (Ok done) first old new e made = made ∙ ap (after_calls is_done calls) e
 calls_from calls (Err disk_fails.Failed) first old new e made = subst (λ t. StopsAtFailed is_done has_failed calls t new.trace) e made
 calls_from calls (Err disk_fails.NoMemory) first old new e made = subst (λ t. StopsBefore is_done calls t new.trace) e made
 
 module _ (calls : List disks.Call) (first old new : disks.State) (e : old.trace ≡ first.trace) where
-  abbrev Made : Result (Unit {0}) DiskFail → disks.State → Type 0
+  abbrev pub Made : Result (Unit {0}) DiskFail → disks.State → Type 0
   Made r s = MakesCalls calls r s new
 
-  none_or : (r : Result (Unit {0}) DiskFail) → ((new.trace ≡ old.trace) ⊎ Made r old) → ((new.trace ≡ first.trace) ⊎ Made r first)
+  pub none_or : (r : Result (Unit {0}) DiskFail) → ((new.trace ≡ old.trace) ⊎ Made r old) → ((new.trace ≡ first.trace) ⊎ Made r first)
   none_or r h = ⊎_elim (λ (same : new.trace ≡ old.trace). inl (same ∙ e)) (λ (made : Made r old). inr (calls_from calls r first old new e made)) h
+
+  -- for want of memory all of them were made, or some
+  pub wanting_or : ((new.trace ≡ old.trace) ⊎ Made (Ok tt) old ⊎ Made (Err disk_fails.NoMemory) old) → ((new.trace ≡ first.trace) ⊎ Made (Ok tt) first ⊎ Made (Err disk_fails.NoMemory) first)
+  wanting_or made = ⊎_elim (λ (same : new.trace ≡ old.trace). inl (same ∙ e))
+      (λ (some : Made (Ok tt) old ⊎ Made (Err disk_fails.NoMemory) old). inr (⊎_elim (λ (m : Made (Ok tt) old). inl (calls_from calls (Ok tt) first old new e m)) (λ (m : Made (Err disk_fails.NoMemory) old). inr (calls_from calls (Err disk_fails.NoMemory) first old new e m)) some)) made
 
   makes_from : {A : Type 0} (result : Result A AuditFail) → MakesFor calls result old new → MakesFor calls result first new
   makes_from (Ok done) made = calls_from calls (Ok tt) first old new e made
   makes_from (Err fails.Full) made = calls_from calls (Ok tt) first old new e made
   makes_from (Err fails.NotaryFault) made = none_or (Ok tt) made
   makes_from (Err fails.DiskFault) made = none_or (Err disk_fails.Failed) made
-  makes_from (Err fails.NoMemory) made = ⊎_elim (λ (same : new.trace ≡ old.trace). inl (same ∙ e))
-      (λ (some : Made (Ok tt) old ⊎ Made (Err disk_fails.NoMemory) old). inr (⊎_elim (λ (m : Made (Ok tt) old). inl (calls_from calls (Ok tt) first old new e m)) (λ (m : Made (Err disk_fails.NoMemory) old). inr (calls_from calls (Err disk_fails.NoMemory) first old new e m)) some)) made
+  makes_from (Err fails.NoMemory) made = wanting_or made
   makes_from (Err (fails.ClockBack last)) made = made ∙ e
   makes_from (Err fails.TooLate) made = made ∙ e
   makes_from (Err fails.StoreFull) made = made ∙ e
   makes_from (Err fails.Closed) made = made ∙ e
   makes_from (Err fails.Broken) made = made ∙ e
+  makes_from (Err fails.TooManyEras) made = made ∙ e
   makes_from (Err (fails.SealMissing name)) made = made ∙ e
   makes_from (Err (fails.OutOfTurn count)) made = calls_from calls (Ok tt) first old new e made
 
@@ -82,6 +87,7 @@ stands_from (Err fails.TooLate) reached left reached' left' shut f g s = g s
 stands_from (Err fails.StoreFull) reached left reached' left' shut f g s = g s
 stands_from (Err fails.Closed) reached left reached' left' shut f g s = g s
 stands_from (Err fails.Broken) reached left reached' left' shut f g s = g s
+stands_from (Err fails.TooManyEras) reached left reached' left' shut f g s = g s
 stands_from (Err (fails.SealMissing name)) reached left reached' left' shut f g s = g s
 stands_from (Err (fails.OutOfTurn count)) reached left reached' left' shut f g s = f s
 
@@ -94,6 +100,7 @@ notarizes_from now items result s later_s first old new before after filed later
       heard = m.heard;
       may = m.may;
       told = m.told;
+      asked = m.asked;
       does = record {
         free = λ some. (unchanged_then first old new same (n.free some).0, (n.free some).1);
         refused = n.refused;
@@ -117,7 +124,7 @@ pub notarizes_opened : (now : ℕ) (answer : Result ℕ AuditFail) (s later_s : 
     → (IsSome (early_fault (tail_of s) s.at.is_closed now) → IsLeft s later_s old.disk new.disk × (new.notary ≡ old.notary))
     → IfSome old.disk.reads (λ bytes. IsOpenOn s (stored bytes).items bytes)
     → WhereTold old.disk.reads new.disk.reads (λ before after. (items : List Item) → IsOpenOn s items before → Notarizes now items answer s later_s old new before after)
-    → new.notary.asked ≤ old.notary.asked + 2
+    → new.notary.asked ≤ old.notary.asked + 258
     → NotarizesStore s.header now answer old new
 notarizes_opened now answer s later_s old new is_open early untouched opened told asked = record {
   store = s;

@@ -35,6 +35,7 @@ status_of_audit fails.StoreFull = statuses.Full
 status_of_audit fails.Full = statuses.Full
 status_of_audit fails.Closed = statuses.DiskFault
 status_of_audit fails.Broken = statuses.Broken
+status_of_audit fails.TooManyEras = statuses.TooManyEras
 status_of_audit (fails.SealMissing name) = statuses.SealMissing name
 status_of_audit (fails.OutOfTurn count) = statuses.OutOfTurn count
 status_of_audit fails.NoMemory = statuses.NoMemory
@@ -81,8 +82,8 @@ pub record NotarizesStore (header : Header) (now : ℕ) (answer : Result ℕ Aud
   pub early : IsEarly (early_fault (tail_of store) false now) answer
   pub untouched : IsSome (early_fault (tail_of store) false now) → DeskIsLeft old new
   pub notarizes : WhereTold old.disk.reads new.disk.reads (λ before after. Notarizes now (stored before).items answer store later_store old new before after)
-  -- of the header and the last sealed tile, whatever is told
-  pub asked : new.notary.asked ≤ old.notary.asked + 2
+  -- of the header, of as many eras as there may be and the next one, and of the last sealed tile, whatever is told
+  pub asked : new.notary.asked ≤ old.notary.asked + 258
 
 abbrev pub NotarizesHeader : Header → Effect
 NotarizesHeader header = DoesOnce notarize_outcome (NotarizesStore header)

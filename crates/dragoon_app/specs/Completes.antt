@@ -1,6 +1,6 @@
 -- How a call ends that meets no fault and no limit, where the notary holds what was filed of one history: in one of a few ways,
 -- each with the output that its command defines, or for want of memory.
-use Rattle.std.specs.Prelude.{◌≡◌, ◌⊎◌, ◌<◌, ◌≤◌, ℕ, false, true, List, [], length, Option, Some, None, IsSome}
+use Rattle.std.specs.Prelude.{◌≡◌, ◌⊎◌, ◌<◌, ◌≤◌, ℕ, false, true, List, [], length, Option, Some, None, IsSome, IfSome}
 use Rattle.outside_words.specs.Faults.{Rose}
 use Rattle.disk_words.specs.Disk as disks
 use Rattle.outside_io.specs.Source as sources
@@ -12,7 +12,7 @@ use Rattle.tuple_bytes.specs.Limits.{max_moment}
 use Rattle.history_model.specs.History.{History, history}
 use Rattle.history_model.specs.declared.format.Format.TheVariants.{Two}
 use Rattle.history_model.specs.Stored.{stored, format_of}
-use Rattle.digest_model.specs.Layout.{layout}
+use Rattle.digest_model.specs.Layout.{layout, policy_of}
 use Rattle.digest_model.specs.Spelled.{HasSpelling}
 use Rattle.notary_link.specs.declared.notary.NotaryLimits.{NotaryLimits}
 use Rattle.notary_link.specs.Batches.{Batch}
@@ -25,6 +25,8 @@ use Rattle.segment_file.specs.LaidOut.{laid_out}
 use Rattle.store_engine.specs.Refusals.{Tail}
 use Rattle.statement_core.specs.Database.{tail_of_database}
 use Rattle.validator.specs.Notarizing.{early_fault, room_fault, frontier_for, next_batches}
+use Rattle.validator.specs.Turning.{turn_of}
+use Rattle.validator.specs.Steps.{counted}
 use Rattle.forensic_report.specs.declared.algorithm.Algorithm.{Algorithm}
 use Rattle.forensic_report.specs.Finding.{has_chains}
 use Rattle.dragoon_app.specs.declared.command.Command.{Command}
@@ -118,7 +120,7 @@ EndsJudged statuses.Altered = Unit {0}
 EndsJudged statuses.NoMemory = Unit {0}
 EndsJudged s = ⊥
 
--- `notarize`: it is broken only where the bytes have another header than h, or show a sealed granule otherwise
+-- `notarize` and `policy`: the store is broken only where the bytes have another header than h, or show a sealed granule otherwise
 abbrev pub EndsSealed : ℕ → History → List ℕ → Status → Type 0
 EndsSealed n h bytes statuses.Ok = Unit {0}
 EndsSealed n h bytes statuses.NoMemory = Unit {0}
@@ -168,12 +170,21 @@ pub record MayValidate (id n : ℕ) (h : History) (held : Content) (old new : De
   pub filed : IsFiled id n h held
   pub room : marks_in_all held.lists < old.desk.notary.limits.marks
 
--- the notary is trusted, and the history has the chains that are asked for
-pub record MayAnalyse (algorithm : Algorithm) (id n : ℕ) (h : History) (held : Content) (old new : Devices) : Type 0 where
+-- there is a header of the id, the notary is trusted, there are fewer eras than there may be, and there is room for one more
+pub record MayTurn (k algs id n : ℕ) (h : History) (header : Header) (held : Content) (old new : Devices) : Type 0 where
+  pub none_failed : NoneFailed old new
+  pub desk : DeskTells held old.desk
+  pub is_store : HasSegments id header held.bytes
+  pub filed : IsFiled id n h held
+  pub room : (turn_of (tail_in header held.bytes) false (stored held.bytes).items (counted (length (held.lists.batches id))) k algs).fault ≡ None
+
+-- the notary is trusted, the store has the era, and the history has the chains that are asked for
+pub record MayAnalyse (algorithm : Algorithm) (era : Option ℕ) (id n : ℕ) (h : History) (held : Content) (old new : Devices) : Type 0 where
   pub none_failed : NoneFailed old new
   pub desk : DeskTells held old.desk
   pub filed : IsFiled id n h held
-  pub chains : has_chains algorithm (layout h) n ≡ true
+  pub era_is : IfSome era (λ e. IfSome (history_in (stored held.bytes)) (λ s. e ≤ length (policy_of s).later))
+  pub chains : has_chains algorithm era h n ≡ true
 
 -- there is a header of the id, the target is free, and there is room for what is stored
 pub record MayMigrate (id : ℕ) (header : Header) (bytes there : List ℕ) (old new : AllDevices) : Type 0 where
@@ -198,7 +209,8 @@ Completes (Some (commands.Init s)) result old new = (bytes : List ℕ) → MayIn
 Completes (Some (commands.Run id scripted)) result old new = (header : Header) (held : Content) → MayRun id header held old.devices new.devices → EndsReplied result
 Completes (Some (commands.Notarize id)) result old new = (n : ℕ) (h : History) (header : Header) (held : Content) → MayNotarize id n h header held old.devices new.devices → EndsSealed n h held.bytes result
 Completes (Some (commands.Validate id)) result old new = (n : ℕ) (h : History) (held : Content) → MayValidate id n h held old.devices new.devices → EndsJudged result
-Completes (Some (commands.Analyse id algorithm)) result old new = (n : ℕ) (h : History) (held : Content) → MayAnalyse algorithm id n h held old.devices new.devices → EndsJudged result
+Completes (Some (commands.Policy id k algs)) result old new = (n : ℕ) (h : History) (header : Header) (held : Content) → MayTurn k algs id n h header held old.devices new.devices → EndsSealed n h held.bytes result
+Completes (Some (commands.Analyse id algorithm era)) result old new = (n : ℕ) (h : History) (held : Content) → MayAnalyse algorithm era id n h held old.devices new.devices → EndsJudged result
 Completes (Some (commands.Make id seed count)) result old new = (header : Header) (held : Content) → MayMake id header held old.devices new.devices → EndsReplied result
 Completes (Some (commands.Migrate id)) result old new = (header : Header) (bytes there : List ℕ) → MayMigrate id header bytes there old new → EndsDone result
 Completes (Some commands.Drill) result old new = MayDrill old.devices new.devices → EndsReplied result

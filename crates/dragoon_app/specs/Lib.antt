@@ -7,6 +7,7 @@ pub mod Init
 pub mod Linked
 pub mod Linking
 pub mod Audited
+pub mod Turned
 pub mod Parts
 pub mod Analysed
 pub mod Drilled

@@ -9,6 +9,7 @@ pub(crate) enum Ask {
     Make,
     Drill,
     Notarize,
+    Policy,
     Validate,
     Analyse,
     Migrate,
@@ -47,7 +48,12 @@ impl Ask {
 
     /// Whether it takes no store of the first format.
     pub(crate) fn adds(self) -> bool {
-        self == Ask::Run || self == Ask::Make || self == Ask::Notarize
+        self == Ask::Run || self == Ask::Make || self.files_or_turns()
+    }
+
+    /// Whether it holds the store against what is filed before it adds to one of them.
+    fn files_or_turns(self) -> bool {
+        self == Ask::Notarize || self == Ask::Policy
     }
 
     /// The id that its words give of a store that is there.
@@ -69,7 +75,7 @@ impl Ask {
 
     /// Whether it holds one thing against another, or says what is there.
     pub(crate) fn compares(self) -> bool {
-        self.only_asks() || self == Ask::Notarize || self == Ask::Run || self == Ask::Make
+        self.only_asks() || self.adds()
     }
 
     /// Whether what it replies may be a verdict over a file.
@@ -95,6 +101,8 @@ fn named(word: &str) -> Ask {
         Ask::Drill
     } else if word == "notarize" {
         Ask::Notarize
+    } else if word == "policy" {
+        Ask::Policy
     } else if word == "validate" {
         Ask::Validate
     } else if word == "analyse" {

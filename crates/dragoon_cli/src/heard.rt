@@ -68,6 +68,9 @@ pub(crate) struct Heard<'a> {
     piece: Front,
     /// Whether something was filed with the notary, or marked.
     pub(crate) is_filed: bool,
+    /// Whether an era was begun, and whether one at tile 0, so that no tile was held against what is filed.
+    is_turned: bool,
+    pub(crate) is_turned_uncompared: bool,
     /// Whether a report says that something happened between a moment and an earlier one.
     pub(crate) goes_back: bool,
 }
@@ -86,6 +89,8 @@ impl<'a> Heard<'a> {
             altered: Front::new(),
             piece: Front::new(),
             is_filed: false,
+            is_turned: false,
+            is_turned_uncompared: false,
             goes_back: false,
         }
     }
@@ -141,6 +146,10 @@ impl<'a> Heard<'a> {
     fn hear(&mut self, reply: Front) {
         let text = reply.text();
         self.is_filed = self.is_filed || text.starts_with("sealed ") || is_of_validate(text);
+        if text.starts_with("era ") {
+            self.is_turned = true;
+            self.is_turned_uncompared = self.is_turned_uncompared || text.ends_with(" tile 0");
+        }
         if let Some(refused) = refused_of_made(text) {
             self.refused_of_made = refused;
         }
@@ -185,7 +194,7 @@ impl<'a> Heard<'a> {
 
     /// Whether the notary was given or asked something.
     pub(crate) fn uses_notary(&self) -> bool {
-        self.is_filed || self.verdict.length > 0
+        self.is_filed || self.is_turned || self.verdict.length > 0
     }
 }
 

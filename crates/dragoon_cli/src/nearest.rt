@@ -19,6 +19,8 @@ enum Slot {
     Steps,
     Algorithm,
     Kappa,
+    Era,
+    EraNumber,
 }
 
 /// A command, what has to follow it, and what may.
@@ -28,7 +30,7 @@ struct Form {
     more: &'static [Slot],
 }
 
-const FORMS: [Form; 9] = [
+const FORMS: [Form; 10] = [
     Form {
         word: "link",
         needed: &[],
@@ -60,6 +62,11 @@ const FORMS: [Form; 9] = [
         more: &[],
     },
     Form {
+        word: "policy",
+        needed: &[Slot::Id, Slot::Exponent, Slot::Algorithms],
+        more: &[],
+    },
+    Form {
         word: "validate",
         needed: &[Slot::Id],
         more: &[],
@@ -67,7 +74,7 @@ const FORMS: [Form; 9] = [
     Form {
         word: "analyse",
         needed: &[Slot::Id, Slot::Algorithm],
-        more: &[Slot::Kappa],
+        more: &[Slot::Kappa, Slot::Era, Slot::EraNumber],
     },
     Form {
         word: "migrate",
@@ -96,14 +103,21 @@ impl fmt::Display for Slot {
             ),
             Slot::Steps => write!(f, "N, 1 to 100000"),
             Slot::Algorithm => write!(f, "ALG, one of mono, tiled, tiled KAPPA and a3d"),
-            Slot::Kappa => write!(f, "KAPPA, 1 to 1024, behind `tiled` alone"),
+            Slot::Kappa => write!(f, "KAPPA, 1 to 1024, or `era E`, or nothing"),
+            Slot::Era => write!(f, "`era E`, or nothing"),
+            Slot::EraNumber => write!(f, "E, the number of an era, 0 to 4294967295"),
         }
     }
 }
 
 impl Slot {
-    /// Behind `tiled` or another word.
-    fn takes(self, word: &str, is_tiled: bool) -> bool {
+    /// Whether it takes nothing there, so that the next place takes the word: behind this one.
+    fn is_passed_over(self, word: &str, before: &str) -> bool {
+        self == Slot::Kappa && before != "mono" && (before != "tiled" || word == "era")
+    }
+
+    /// Behind another word.
+    fn takes(self, word: &str, before: &str) -> bool {
         match self {
             Slot::Id | Slot::Seed => is_number(word, 0, u64::MAX),
             Slot::Width => is_number(word, 1, 86_400),
@@ -112,7 +126,9 @@ impl Slot {
             Slot::Scripted => word == "scripted",
             Slot::Steps => is_number(word, 1, 100_000),
             Slot::Algorithm => word == "mono" || word == "tiled" || word == "a3d",
-            Slot::Kappa => is_tiled && is_number(word, 1, 1_024),
+            Slot::Kappa => before == "tiled" && is_number(word, 1, 1_024),
+            Slot::Era => word == "era",
+            Slot::EraNumber => is_number(word, 0, u64::from(u32::MAX)),
         }
     }
 }
@@ -262,13 +278,16 @@ fn are_paths(paths: &str) -> bool {
 /// The first word that can't stand where it stands, or what is missing.
 fn wrong_behind<'a>(form: &Form, rest: &'a [String]) -> Wrong<'a> {
     let command = form.word;
-    let mut is_tiled = false;
-    let mut words = rest.iter();
+    let mut before = "";
+    let mut words = rest;
     for slot in form.needed.iter().chain(form.more.iter()) {
-        match words.next() {
-            Some(word) if slot.takes(word.as_str(), is_tiled) => is_tiled = word.as_str()
-                == "tiled",
-            Some(word) => return wrong_at(command, word.as_str(), *slot, is_tiled),
+        match words.split_first() {
+            Some((word, _)) if slot.is_passed_over(word.as_str(), before) => {}
+            Some((word, behind)) if slot.takes(word.as_str(), before) => {
+                before = word.as_str();
+                words = behind;
+            }
+            Some((word, _)) => return wrong_at(command, word.as_str(), *slot, before),
             None => {
                 return Wrong::Missing {
                     command,
@@ -277,7 +296,7 @@ fn wrong_behind<'a>(form: &Form, rest: &'a [String]) -> Wrong<'a> {
             }
         }
     }
-    match words.next() {
+    match words.first() {
         Some(word) if names_device(word.as_str()) => wrong_device(word.as_str()),
         Some(word) => Wrong::TooMany {
             command,
@@ -287,10 +306,10 @@ fn wrong_behind<'a>(form: &Form, rest: &'a [String]) -> Wrong<'a> {
     }
 }
 
-fn wrong_at<'a>(command: &'static str, word: &'a str, slot: Slot, is_tiled: bool) -> Wrong<'a> {
+fn wrong_at<'a>(command: &'static str, word: &'a str, slot: Slot, before: &str) -> Wrong<'a> {
     if names_device(word) {
         wrong_device(word)
-    } else if slot == Slot::Kappa && !is_tiled {
+    } else if slot == Slot::Kappa && before == "mono" {
         Wrong::TooMany { command, word }
     } else {
         Wrong::Word {
@@ -307,7 +326,8 @@ const STATEMENTS: [&str; 13] = [
     "begin", "commit", "abort",
 ];
 
-const COMMANDS: &str = "link, init, run, make, drill, notarize, validate, analyse and migrate";
+const COMMANDS: &str =
+    "link, init, run, make, drill, notarize, policy, validate, analyse and migrate";
 
 /// The command that is nearest: in other letters, or where two changes of a letter lead to it. Without memory it is none.
 fn nearest(alloc: Global, word: &str) -> Option<&'static str> {

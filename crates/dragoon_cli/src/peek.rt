@@ -31,6 +31,8 @@ pub(crate) enum Found {
     },
     Store {
         header: Header,
+        /// The algorithms that the header and each policy have.
+        in_all: u8,
         format: Format,
         behind: Option<Behind>,
     },
@@ -175,9 +177,10 @@ fn look_into(alloc: Global, disk: &mut Peek) -> Result<Found, DiskFail> {
     }
     if let Some(front) = read_front(disk)? {
         let Front { format, header } = front;
-        let behind = walk_store(alloc, disk, length, format)?;
+        let (of_policies, behind) = walk_store(alloc, disk, length, format)?;
         return Ok(Found::Store {
             header,
+            in_all: header.algs & of_policies,
             format,
             behind,
         });
@@ -214,20 +217,34 @@ fn walk_book(
     ))
 }
 
-/// Goes over all records of a store, in any of its segments: what stands behind the last closed gate.
+/// Goes over all records of a store, in any of its segments: the algorithms that each policy has, and what stands behind the
+/// last closed gate.
 fn walk_store(
     alloc: Global,
     disk: &mut Peek,
     length: u64,
     format: Format,
-) -> Result<Option<Behind>, DiskFail> {
+) -> Result<(u8, Option<Behind>), DiskFail> {
     let mut records = SegmentRecords::at_first(alloc, disk, format)?;
+    let mut algs = u8::MAX;
     for _ in 0..u64::MAX {
         if !records.advance(disk)? {
             break;
         }
+        algs &= algorithms_of(records.payload()).unwrap_or(u8::MAX);
     }
-    behind_gate::<StoreShape>(alloc, disk, records.place(), length)
+    Ok((
+        algs,
+        behind_gate::<StoreShape>(alloc, disk, records.place(), length)?,
+    ))
+}
+
+/// The algorithms of a policy: behind `03`, a tile and a granule of four bytes each, and an exponent.
+fn algorithms_of(payload: &[u8]) -> Option<u8> {
+    match payload.first() {
+        Some(3) => payload.get(10).copied(),
+        _ => None,
+    }
 }
 
 fn behind_gate<S: Shape>(

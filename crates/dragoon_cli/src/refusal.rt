@@ -24,11 +24,11 @@ const MEANINGS_IN_JOINS: [(&str, &str); 3] = [
     ),
 ];
 
-const MEANINGS: [(&str, &str); 30] = [
+const MEANINGS: [(&str, &str); 32] = [
     ("Syntax", "the line isn't in the grammar"),
     (
         "NumberTooWide",
-        "a number is out of its range: a value has 64 bits with its sign, a moment is at most 1099511627775, KAPPA 1 to 1024",
+        "a number is out of its range: a value has 64 bits with its sign, a moment is at most 1099511627775, KAPPA 1 to 1024, an era at most 4294967295",
     ),
     (
         "NotScripted",
@@ -77,8 +77,16 @@ const MEANINGS: [(&str, &str); 30] = [
         "somebody else filed meanwhile: `notarize` again",
     ),
     (
+        "TooManyEras",
+        "the store has 256 eras, which is the most: go on with another store, for other tiles",
+    ),
+    (
+        "NoEra",
+        "the store has no era of that number: `examples/look.py` says which it has",
+    ),
+    (
         "NotSealedSo",
-        "the store has none of the chains that this analysis needs",
+        "a tile that this analysis looks at lacks the chains that it needs",
     ),
     (
         "NotaryInconsistent",

@@ -407,15 +407,15 @@ fn tell_other<W: fmt::Write>(ending: &Ending<'_, '_>, f: &mut fmt::Formatter<W>)
     }
 }
 
-/// The analyses of which a store that was found has the chains.
+/// The analyses of which all tiles of a store that was found have the chains.
 #[derive(Clone, Copy)]
 pub(crate) struct Analyses(pub(crate) Found);
 
 impl fmt::Display for Analyses {
     fn fmt<W: fmt::Write>(&self, f: &mut fmt::Formatter<W>) -> fmt::Result {
         match self.0 {
-            Found::Store { header, .. } if header.algs == 1 => write!(f, "`mono` or `tiled`"),
-            Found::Store { header, .. } if header.algs == 2 => write!(f, "`mono` or `a3d`"),
+            Found::Store { in_all: 1, .. } => write!(f, "`mono` or `tiled`"),
+            Found::Store { in_all: 2, .. } => write!(f, "`mono` or `a3d`"),
             _ => write!(f, "`mono`"),
         }
     }
@@ -525,15 +525,26 @@ impl fmt::Display for Ending<'_, '_> {
                 f,
                 "{notary} has no room for another mark: go on with another book"
             ),
+            Status::Full if self.ask == Ask::Policy => {
+                write!(f, "{store} is full: go on with another store")
+            }
             Status::Full => write!(
                 f,
                 "{store} or {notary} is full: go on with another store and another book"
+            ),
+            Status::TooManyEras => write!(
+                f,
+                "{store} has 256 eras, which is the most: go on with another store, for other tiles"
+            ),
+            Status::NoEra => write!(
+                f,
+                "{store} has no era of that number: `examples/look.py` says which it has"
             ),
             Status::NotSealedSo => {
                 let others = Analyses(store.found);
                 write!(
                     f,
-                    "{store} has none of the chains that this analysis needs: take {others}"
+                    "a tile of {store} that this analysis looks at lacks the chains that it needs: take {others}"
                 )
             }
             Status::NotaryInconsistent { .. } => write!(

@@ -27,21 +27,24 @@ Ask
 
 File and check
   notarize ID       files the digests of the tiles that have ended, and prints `sealed N`
+  policy ID K ALGS  gives the tiles behind those that are filed 2^K granules and these algorithms,
+                    and prints `era E from tile J`
   validate ID       holds the store against what was filed, and prints the verdict:
                     `unsealed`, `clean N`, `header altered N`, or `altered N from J`, J being a tile
   analyse ID ALG    reports which granules are altered, and since when, by the algorithm `mono`,
-                    `tiled`, `tiled KAPPA` or `a3d`
-  run ID            takes notarize, validate and analyse as lines, without ID, and `audit`, which
-                    validates in pieces
+                    `tiled`, `tiled KAPPA` or `a3d`; behind the last three `era E` may stand
+  run ID            takes notarize, policy, validate and analyse as lines, without ID, and `audit`,
+                    which validates in pieces
 
 It ends with
-  0  done                          7  the input failed          14  the clock is behind the store
-  1  altered: not what was filed   8  the output failed         15  the clock is too far ahead
-  2  these words are no command    9  no memory was left        16  store or notary is full
-  3  a line was refused           10  nothing filed: altered    17  the input is too long
-  4  no store of this id          11  a digest is missing       18  the store lacks the chains
-  5  the store's file failed      12  somebody else filed       19  the notary contradicts itself
-  6  the notary failed            13  the file is taken         20  the store is of the old format
+  0  done                          8  the output failed         16  store or notary is full
+  1  altered: not what was filed   9  no memory was left        17  the input is too long
+  2  these words are no command   10  nothing filed: altered    18  the store lacks the chains
+  3  a line was refused           11  a digest is missing       19  the notary contradicts itself
+  4  no store of this id          12  somebody else filed       20  the store is of the old format
+  5  the store's file failed      13  the file is taken         21  the store has 256 eras
+  6  the notary failed            14  the clock is behind       22  the store has no such era
+  7  the input failed             15  the clock is ahead
 
 docs/COMMANDS.md  the statements, the replies and the statuses
 docs/DRILLS.md    how to write a drill

@@ -37,7 +37,7 @@ pub(crate) enum Wanted {
 
 /// What stands in a run and in a drill.
 const STATEMENTS: &str =
-    "create, insert, update, delete, get, scan, history, over, notarize, validate, audit, analyse";
+    "create, insert, update, delete, get, scan, history, over, notarize, policy, validate, audit, analyse";
 
 const SESSION: &str = "the name of a session, s0 to s15";
 

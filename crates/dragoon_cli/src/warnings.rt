@@ -24,9 +24,15 @@ enum Warning<'a> {
     Unsealed {
         ending: &'a Ending<'a, 'a>,
     },
-    HeaderAlone,
+    HeaderAlone {
+        of_era: bool,
+    },
     /// What is filed first is compared with nothing.
     First {
+        ending: &'a Ending<'a, 'a>,
+    },
+    /// An era was begun where no tile is filed.
+    TurnedUncompared {
         ending: &'a Ending<'a, 'a>,
     },
     /// An audit came to no verdict.
@@ -73,6 +79,7 @@ pub(crate) fn tell_warnings<R: Eprint>(rt: &R, ending: &Ending<'_, '_>) -> io::R
         gone(ending),
         compared(ending),
         first(ending),
+        turned(ending),
         auditing(ending),
         altered(ending),
         clock_of(ending),
@@ -124,7 +131,8 @@ fn compared<'a>(ending: &'a Ending<'a, 'a>) -> Option<Warning<'a>> {
         return Some(Warning::Unsealed { ending });
     }
     if said == "clean 0" || said.ends_with(" tiles 0 clean") {
-        return Some(Warning::HeaderAlone);
+        let of_era = said.split(' ').any(|word| word == "era");
+        return Some(Warning::HeaderAlone { of_era });
     }
     None
 }
@@ -138,6 +146,15 @@ fn first<'a>(ending: &'a Ending<'a, 'a>) -> Option<Warning<'a>> {
         && !ending.notaries.are_in_memory()
     {
         Some(Warning::First { ending })
+    } else {
+        None
+    }
+}
+
+/// An era was begun over a notary that had no tile of the store. A drill has a notary of its own.
+fn turned<'a>(ending: &'a Ending<'a, 'a>) -> Option<Warning<'a>> {
+    if ending.heard.is_turned_uncompared && ending.ask.uses_notary() {
+        Some(Warning::TurnedUncompared { ending })
     } else {
         None
     }
@@ -248,6 +265,10 @@ fn tell_unsealed<W: fmt::Write>(ending: &Ending<'_, '_>, f: &mut fmt::Formatter<
 fn tell_unknown<W: fmt::Write>(ending: &Ending<'_, '_>, f: &mut fmt::Formatter<W>) -> fmt::Result {
     let notary = &ending.notaries;
     write!(f, "{notary} had nothing that was filed under ")?;
+    tell_id(ending, f)
+}
+
+fn tell_id<W: fmt::Write>(ending: &Ending<'_, '_>, f: &mut fmt::Formatter<W>) -> fmt::Result {
     match ending.id() {
         Some(id) => write!(f, "the id {id}"),
         None => write!(f, "this id"),
@@ -261,7 +282,7 @@ fn tell_altered<W: fmt::Write>(ending: &Ending<'_, '_>, f: &mut fmt::Formatter<W
     if said.starts_with("header ") {
         return write!(
             f,
-            "{store} doesn't begin as the store that was filed: keep it and {notary} as they are, copy them, and compare with older copies; docs/OPERATING.md"
+            "{store} doesn't begin as the store that was filed, or has other eras: keep it and {notary} as they are, copy them, and compare with older copies; docs/OPERATING.md"
         );
     }
     if said.starts_with("altered ") {
@@ -368,10 +389,24 @@ impl fmt::Display for Warning<'_> {
                 "no {word} was named: {what} stood in memory, and is gone"
             ),
             Warning::Unsealed { ending } => tell_unsealed(ending, f),
-            Warning::HeaderAlone => write!(
+            Warning::HeaderAlone { of_era: true } => write!(
+                f,
+                "only the header and the eras were compared: no tile of this era is filed yet, and no row is compared before its tile is"
+            ),
+            Warning::HeaderAlone { of_era: false } => write!(
                 f,
                 "only the header was compared: no tile is filed yet, and no row is compared before its tile is"
             ),
+            Warning::TurnedUncompared { ending } => {
+                let store = &ending.store;
+                let notary = &ending.notaries;
+                write!(f, "{notary} had no sealed tile under ")?;
+                tell_id(ending, f)?;
+                write!(
+                    f,
+                    ": the era begins at tile 0, and no tile was compared. If tiles of {store} are filed in another book, it isn't what was filed there any more: put back the copy from before; docs/OPERATING.md"
+                )
+            }
             Warning::First { ending } => {
                 tell_unknown(ending, f)?;
                 write!(

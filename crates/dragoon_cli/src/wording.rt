@@ -81,12 +81,7 @@ const NUMBER: &str = "a number";
 fn drill_fits(word: Token<'_>, rest: Rest<'_>) -> Result<(), Wrong> {
     let text = word.bytes;
     if text == b"init".as_slice() {
-        let (algorithms, rest) = rest.digits(NUMBER)?.digits(NUMBER)?.digits(NUMBER)?.token();
-        algorithms.has_to(
-            is_algorithms(algorithms.bytes),
-            Wanted::Has("m, t, a or ta"),
-        )?;
-        rest.end()
+        algorithms_fit(rest.digits(NUMBER)?.digits(NUMBER)?.digits(NUMBER)?)
     } else if text == b"crash".as_slice() {
         rest.digits(NUMBER)?.digits(NUMBER)?.end()
     } else if text == b"alter".as_slice() {
@@ -99,6 +94,16 @@ fn drill_fits(word: Token<'_>, rest: Rest<'_>) -> Result<(), Wrong> {
     } else {
         statement_fits(word, rest, Wanted::InDrill)
     }
+}
+
+/// The algorithms, and nothing behind them.
+fn algorithms_fit(rest: Rest<'_>) -> Result<(), Wrong> {
+    let (algorithms, rest) = rest.token();
+    algorithms.has_to(
+        is_algorithms(algorithms.bytes),
+        Wanted::Has("m, t, a or ta"),
+    )?;
+    rest.end()
 }
 
 fn is_algorithms(token: &[u8]) -> bool {
@@ -121,6 +126,7 @@ fn session_fits(word: Token<'_>, rest: Rest<'_>) -> Result<(), Wrong> {
 
 fn is_of_notary(text: &[u8]) -> bool {
     text == b"notarize".as_slice()
+        || text == b"policy".as_slice()
         || text == b"validate".as_slice()
         || text == b"audit".as_slice()
         || text == b"analyse".as_slice()
@@ -140,6 +146,8 @@ fn statement_fits(word: Token<'_>, rest: Rest<'_>, wanted: Wanted) -> Result<(),
         scan_fits(rest.name()?)
     } else if text == b"over".as_slice() {
         over_fits(rest)
+    } else if text == b"policy".as_slice() {
+        policy_fits(rest)
     } else if text == b"analyse".as_slice() {
         analyse_fits(rest)
     } else if is_of_notary(text) {
@@ -241,16 +249,46 @@ fn over_fits(rest: Rest<'_>) -> Result<(), Wrong> {
     }
 }
 
+fn policy_fits(rest: Rest<'_>) -> Result<(), Wrong> {
+    let (exponent, rest) = rest.token();
+    exponent.has_to(
+        is_exponent(exponent.bytes),
+        Wanted::Has("K, 0 to 10, without zeros at its front,"),
+    )?;
+    algorithms_fit(rest)
+}
+
+fn is_exponent(token: &[u8]) -> bool {
+    match token {
+        [digit] => digit.is_ascii_digit(),
+        _ => token == b"10".as_slice(),
+    }
+}
+
 fn analyse_fits(rest: Rest<'_>) -> Result<(), Wrong> {
     let (name, rest) = rest.token();
-    if name.bytes == b"mono".as_slice() || name.bytes == b"a3d".as_slice() {
+    if name.bytes == b"mono".as_slice() {
         return rest.end();
+    }
+    if name.bytes == b"a3d".as_slice() {
+        return era_fits(rest);
     }
     let is_tiled = name.bytes == b"tiled".as_slice();
     name.has_to(is_tiled, Wanted::Has("mono, tiled, tiled KAPPA or a3d"))?;
-    if rest.is_at_end() {
-        Ok(())
+    let (next, _) = rest.token();
+    if rest.is_at_end() || next.bytes == b"era".as_slice() {
+        era_fits(rest)
     } else {
-        rest.digits("KAPPA, 1 to 1024, or nothing")?.end()
+        era_fits(rest.digits("KAPPA, 1 to 1024, or `era E`, or nothing")?)
     }
+}
+
+/// `era E` or the end.
+fn era_fits(rest: Rest<'_>) -> Result<(), Wrong> {
+    if rest.is_at_end() {
+        return Ok(());
+    }
+    rest.word(b"era", "`era E` or nothing")?
+        .digits("the number of an era")?
+        .end()
 }

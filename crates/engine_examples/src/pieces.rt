@@ -5,13 +5,13 @@ ghost use Rattle.step_count.specs.Blank.{IsBlankOf};
 use crate::stores::{FALLING, LATE, holding};
 use audit_steps::{Audit, Auditor};
 use disk_model::MemDisk;
-use notary_link::{MemNotary, NotaryLimits};
+use notary_link::{Answer, MemNotary, NotaryLimits};
 use std::alloc::Global;
 use std::marker::Brand;
 use std::test::Fail;
 use step_count::{Blank, Ledger, Steps};
 use store_engine::Store;
-use validator::{AuditFail, Verdict, notarize};
+use validator::{AuditFail, Turned, Verdict, ask_header, notarize, policy};
 
 /// A Frontier at moment 480, where tile 0 ends, behind its length.
 const FRONTIER: &[u8] = b"\0\0\0\x09\x02\0\0\0\0\0\0\x01\xe0";
@@ -78,6 +78,33 @@ fn an_audit_ends_where_a_granule_falls(rt: HostRuntime) -> Result<(), Fail> {
     notarize(alloc, &mut store, &mut disk, &mut notary, 1_500)?;
     let clean = Audit::Found {
         verdict: Verdict::Clean { tiles: 1 },
+    };
+    let answers = audit_thrice::<Brand>(alloc, &mut disk, &mut notary, Blank::new(1))?;
+    assert_eq!(rt; answers, [clean; 3]);
+    Ok(())
+}
+
+/// From the policy's tile on a tile has one granule. The audit holds what it kept of both eras against what was filed;
+/// with fewer tiles the policy would be an era that no file has.
+#[test]
+fn an_audit_goes_on_over_a_policy(rt: HostRuntime) -> Result<(), Fail> {
+    let alloc = rt.alloc();
+    let mut disk = holding(alloc, &[FRONTIER])?;
+    let mut notary = roomy(alloc);
+    let mut store = Store::open_store(alloc, &mut disk, 7)?;
+    notarize(alloc, &mut store, &mut disk, &mut notary, 1_500)?;
+    let turned = policy(alloc, &mut store, &mut disk, &mut notary, 0, 3)?;
+    assert_eq!(rt; turned, Turned { era: 1, tile: 1 });
+    assert_eq!(rt;
+        notarize(alloc, &mut store, &mut disk, &mut notary, 1_540)?,
+        2
+    );
+    for (tiles, answer) in [(2, Answer::Same), (1, Answer::Differs)] {
+        let answered = ask_header(&mut notary, 7, store.header(), store.eras(), tiles)?;
+        assert_eq!(rt; answered, answer);
+    }
+    let clean = Audit::Found {
+        verdict: Verdict::Clean { tiles: 2 },
     };
     let answers = audit_thrice::<Brand>(alloc, &mut disk, &mut notary, Blank::new(1))?;
     assert_eq!(rt; answers, [clean; 3]);

@@ -1,14 +1,16 @@
-//! The seals of two stores against those of another program.
+//! The seals of stores against those of another program.
 
-ghost use Rattle.std.specs.Prelude.{◌≤◌, ◌*◌, ◌^◌, IfOk, IfSome};
+ghost use Rattle.std.specs.Prelude.{◌≤◌, IfOk, IfSome};
 ghost use Rattle.std.specs.List.{All};
 ghost use Rattle.step_count.specs.Blank.{IsBlankOf};
 ghost use Rattle.history_model.specs.Stored.{IsStorable};
 ghost use Rattle.tuple_bytes.specs.Limits.{max_granules};
+ghost use Rattle.tuple_bytes.specs.Spelling.{FitsHeader};
 
 use chain_state::Chains;
 use history_model::Spelled;
 use notary_link::Seals;
+use policy_eras::{Eras, MAX_GRANULES};
 use seal_plan::Plan;
 use std::alloc::{AllocError, Global};
 use std::marker::Brand;
@@ -60,56 +62,61 @@ fn read_all(alloc: Global, rows: &[(u8, u16, u8)]) -> Result<Items, AllocError>
     Ok(items)
 }
 
-/// The seals of the last of so many tiles.
+/// The same items, and behind them policies by their tile, granule, exponent and algorithms.
+fn read_with(
+    alloc: Global,
+    rows: &[(u8, u16, u8)],
+    policies: &[(u8, u8, u8, u8)],
+) -> Result<Items, AllocError>
+    ensures { IfOk result (λ items. All IsStorable items) }
+{
+    let mut items = read_all(alloc, rows)?;
+    for (tile, granule, k, algs) in policies {
+        let spelling = [3, 0, 0, 0, *tile, 0, 0, 0, *granule, *k, *algs];
+        if let Some(item) = read(alloc, &spelling)? {
+            items.push(item)?;
+        }
+    }
+    Ok(items)
+}
+
+/// The seals of the last of so many tiles; none where these end behind the last granule.
 fn last_batch<L: Ledger>(
     blank: Blank,
     alloc: Global,
-    id: u64,
-    k: u8,
+    header: &Header,
     tiles: u32,
     items: &Items,
 ) -> Result<Seals, AllocError>
     requires blank { IsBlankOf L.name L.parts blank }
-    requires exponent { k ≤ 10 }
-    requires within { tiles * 2 ^ k ≤ max_granules }
+    requires header { FitsHeader header.now }
     requires storable { All IsStorable items.now }
 {
     let mut steps = Steps::<L>::new(blank);
-    let header = Header {
-        id,
-        epoch: 0,
-        width: 60,
-        k,
-        algs: 3,
-    };
     let spelled = Spelled::of(alloc, items)?;
-    Plan::new(alloc, &header, &spelled, tiles, &mut steps)?.batch(alloc, tiles)
+    let eras = Eras::of(alloc, header, &spelled)?;
+    if eras.first(tiles) > u64::from(MAX_GRANULES) {
+        return Ok(Seals::new(alloc));
+    }
+    Plan::new(alloc, header, &spelled, tiles, &mut steps)?.batch(alloc, tiles)
 }
 
 /// The seals of the last tile that has ended where a granule begins, of kept chains, where there are any.
 fn kept_batch<L: Ledger>(
     blank: Blank,
     alloc: Global,
-    id: u64,
-    k: u8,
+    header: &Header,
     granule: u32,
     items: &Items,
 ) -> Result<Option<Seals>, AllocError>
     requires blank { IsBlankOf L.name L.parts blank }
-    requires exponent { k ≤ 10 }
+    requires header { FitsHeader header.now }
     requires within { granule ≤ max_granules }
     requires storable { All IsStorable items.now }
 {
     let mut steps = Steps::<L>::new(blank);
-    let header = Header {
-        id,
-        epoch: 0,
-        width: 60,
-        k,
-        algs: 3,
-    };
     let spelled = Spelled::of(alloc, items)?;
-    match Chains::from_items(alloc, &header, &spelled, &mut steps)? {
+    match Chains::from_items(alloc, header, &spelled, &mut steps)? {
         Some(mut chains) => {
             chains.close_to(alloc, granule)?;
             let last = chains.tiles();
@@ -117,6 +124,20 @@ fn kept_batch<L: Ledger>(
             Ok(Some(seals))
         }
         None => Ok(None),
+    }
+}
+
+/// A header of this id, under which granules have a minute.
+fn header(id: u64, k: u8, algs: u8) -> Header
+    requires small { (k ≤ 10) × (algs ≤ 3) }
+    ensures fits { FitsHeader result }
+{
+    Header {
+        id,
+        epoch: 0,
+        width: 60,
+        k,
+        algs,
     }
 }
 
@@ -167,14 +188,44 @@ const OF_FALLING: [&str; 7] = [
     "e4f1a967809fc9d72cea55b85a8a5aff3f70c832f5eca2387439563cfad55f46",
 ];
 
+/// Era 1 and era 2 begin at tile 1, so that era 1 has no tile; a policy of another granule has no effect.
+const POLICIES: [(u8, u8, u8, u8); 3] = [(1, 4, 0, 1), (1, 5, 0, 3), (1, 4, 1, 2)];
+
+/// The eras 1 and 2, the chain, and the nodes 0 0, 0 1 and 1 0 of era 2.
+const OF_TURNED: [&str; 6] = [
+    "3c583a57ca698a2373bc9d704ab6e25073271e6c1471b134b48579e05eb4876e",
+    "976b619fce86f5990462b3e4ab89c81b6537efee19cd6cef741873fc6e2eefa7",
+    "687f24440d4e6d9985c0ffab7ef33910fb83a5033262a193289eef6b432e8f99",
+    "8dfa4c4c75260b93de2d9ced16c565a43053ff83fb656d6b324eb21cb240fbce",
+    "990f582142f21a83ce738e9451e18b6160f9a6e8702f99f380f94708683233c1",
+    "6c1755b70777ecb6c1df964845526c1fc9cce46f01d58e5b47f55f07ea21f088",
+];
+
+/// The chain, and the nodes 0 2, 0 3, 1 1 and 2 0 of era 2.
+const OF_THE_NEXT: [&str; 5] = [
+    "1225f934dc788752d5a7eaae1f832b232a33d1ce861309cf214fd8b8bb99d9b7",
+    "4ad60f5cc889759b33db0e7e51a92f4c343d563aa4d31ffaf69077e0cee75c92",
+    "635705c66e879557d1eeb867baca2a55f723eddcd56ef9a497b5fe5ac1b7c336",
+    "9920604db859e363bf2620ad11dcd21f4e0c64d63868c725076164c1a3671e0c",
+    "a3d1f24c4352ea94c6fc3c8d52663c8647920c426e5260cc9d02922509890519",
+];
+
 #[test]
 fn a_batch_has_the_seals_of_another_program(rt: HostRuntime) -> Result<(), Fail> {
     let alloc = rt.alloc();
     let items = read_all(alloc, &WORKED)?;
-    let worked = last_batch::<Brand>(Blank::new(1), alloc, 7, 3, 1, &items)?;
+    let worked = last_batch::<Brand>(Blank::new(1), alloc, &header(7, 3, 3), 1, &items)?;
     let items = read_all(alloc, &FALLING)?;
-    let falling = last_batch::<Brand>(Blank::new(1), alloc, 9, 1, 2, &items)?;
-    for (seals, wanted) in [(&worked, OF_WORKED.as_slice()), (&falling, &OF_FALLING)] {
+    let falling = last_batch::<Brand>(Blank::new(1), alloc, &header(9, 1, 3), 2, &items)?;
+    let items = read_with(alloc, &WORKED, &POLICIES)?;
+    let turned = last_batch::<Brand>(Blank::new(1), alloc, &header(7, 2, 1), 2, &items)?;
+    let next = last_batch::<Brand>(Blank::new(1), alloc, &header(7, 2, 1), 3, &items)?;
+    for (seals, wanted) in [
+        (&worked, OF_WORKED.as_slice()),
+        (&falling, &OF_FALLING),
+        (&turned, &OF_TURNED),
+        (&next, &OF_THE_NEXT),
+    ] {
         assert_eq!(rt; seals.as_slice().len(), wanted.len());
         for (seal, text) in seals.as_slice().iter().zip(wanted) {
             assert_eq!(rt; hex::encode(alloc, seal.digest)?.as_str(), *text);
@@ -187,14 +238,14 @@ fn a_batch_has_the_seals_of_another_program(rt: HostRuntime) -> Result<(), Fail>
 fn kept_chains_have_the_seals_of_another_program(rt: HostRuntime) -> Result<(), Fail> {
     let alloc = rt.alloc();
     let items = read_all(alloc, &WORKED)?;
-    let kept = kept_batch::<Brand>(Blank::new(1), alloc, 7, 3, 8, &items)?;
+    let kept = kept_batch::<Brand>(Blank::new(1), alloc, &header(7, 3, 3), 8, &items)?;
     let seals = kept.unwrap_or(Seals::new(alloc));
     assert_eq!(rt; seals.as_slice().len(), OF_WORKED.len());
     for (seal, text) in seals.as_slice().iter().zip(&OF_WORKED) {
         assert_eq!(rt; hex::encode(alloc, seal.digest)?.as_str(), *text);
     }
     let items = read_all(alloc, &FALLING)?;
-    let none = kept_batch::<Brand>(Blank::new(1), alloc, 9, 1, 4, &items)?;
+    let none = kept_batch::<Brand>(Blank::new(1), alloc, &header(9, 1, 3), 4, &items)?;
     assert!(rt; none.is_none());
     Ok(())
 }

@@ -1,6 +1,8 @@
 //! A store in memory, and a notary that holds its digests.
 
+ghost use Rattle.std.specs.Prelude.{◌≡◌, None};
 ghost use Rattle.tuple_bytes.specs.Spelling.{FitsHeader};
+ghost use Rattle.forensic_report.specs.declared.algorithm.Algorithm.TheVariants.{Mono};
 
 use disk_model::MemDisk;
 use forensic_report::{Algorithm, AnalyseFail, analyse};
@@ -43,15 +45,29 @@ fn header_of(k: u8, algs: u8) -> Header
     }
 }
 
-/// A store with a row in each of these granules, by its key.
-fn store_of(alloc: Global, header: &Header, rows: &[(u8, u8)]) -> Result<MemDisk, AllocError>
+/// The tiles from tile 1 on, which begins at granule 4, have two granules each, and the tree.
+const TURN: [u8; 11] = [3, 0, 0, 0, 1, 0, 0, 0, 4, 1, 2];
+
+/// What a store holds: whether its tiles turn, and a row in each of these granules, by its key.
+#[derive(Clone, Copy)]
+pub(crate) struct Held {
+    pub turns: bool,
+    pub rows: &'static [(u8, u8)],
+}
+
+/// A store that holds so much.
+fn store_of(alloc: Global, header: &Header, held: Held) -> Result<MemDisk, AllocError>
     requires fits { FitsHeader header.now }
 {
     let head = encode_head(header);
     let mut bytes = Vec::new(alloc);
     bytes.extend_from_slice(&head)?;
+    if held.turns {
+        bytes.extend_from_slice(&[0xA7, 0, 0, 0, 11])?;
+        bytes.extend_from_slice(&TURN)?;
+    }
     let mut number = 0u8;
-    for (granule, key) in rows {
+    for (granule, key) in held.rows {
         number = number.wrapping_add(1);
         bytes.extend_from_slice(&[0xA7, 0, 0, 0, 37])?;
         bytes.extend_from_slice(&insert(number, u16::from(*granule) * 60, *key))?;
@@ -76,15 +92,25 @@ fn file(
     alloc: Global,
     notary: &mut MemNotary,
     header: &Header,
-    rows: &[(u8, u8)],
+    held: Held,
     now: u64,
 ) -> Result<(), Fail>
     requires fits { FitsHeader header.now }
 {
-    let mut disk = store_of(alloc, header, rows)?;
+    let mut disk = store_of(alloc, header, held)?;
     let mut store = Store::open_store(alloc, &mut disk, ID)?;
     notarize(alloc, &mut store, &mut disk, notary, now)?;
     Ok(())
+}
+
+/// The era that is named; the chain over all tiles is that of none.
+fn era_named(algorithm: Algorithm, era: Option<u32>) -> Option<u32>
+    ensures mono { algorithm ≡ Mono → result ≡ None }
+{
+    match algorithm {
+        Algorithm::Mono => None,
+        _ => era,
+    }
 }
 
 /// Whether a report says that something is altered, and its text.
@@ -93,9 +119,11 @@ pub(crate) fn report(
     disk: &mut MemDisk,
     notary: &mut MemNotary,
     algorithm: Algorithm,
+    era: Option<u32>,
     now: u64,
 ) -> Result<(bool, Vec<u8>), AnalyseFail> {
-    let report = analyse(alloc, disk, notary, ID, algorithm, now)?;
+    let era = era_named(algorithm, era);
+    let report = analyse(alloc, disk, notary, ID, algorithm, era, now)?;
     let text = report.text.as_slice().to_vec(alloc)?;
     Ok((report.altered, text))
 }
@@ -116,7 +144,7 @@ pub(crate) struct Stood {
 pub(crate) fn report_of(alloc: Global, stood: &Stood) -> Result<(bool, Vec<u8>), Fail> {
     let header = header_of(stood.k, 3);
     let mut notary = empty(alloc);
-    file(alloc, &mut notary, &header, stood.filed, stood.at)?;
+    file(alloc, &mut notary, &header, rows(stood.filed), stood.at)?;
     for (moment, tiles, outcome) in stood.marks {
         let mark = Mark {
             moment: *moment,
@@ -125,6 +153,42 @@ pub(crate) fn report_of(alloc: Global, stood: &Stood) -> Result<(bool, Vec<u8>),
         };
         notary.mark(ID, mark)?;
     }
-    let mut disk = store_of(alloc, &header, stood.stored)?;
-    Ok(report(alloc, &mut disk, &mut notary, stood.algorithm, stood.now)?)
+    let mut disk = store_of(alloc, &header, rows(stood.stored))?;
+    Ok(report(
+        alloc,
+        &mut disk,
+        &mut notary,
+        stood.algorithm,
+        None,
+        stood.now,
+    )?)
+}
+
+/// These rows, in tiles that don't turn.
+fn rows(rows: &'static [(u8, u8)]) -> Held {
+    Held { turns: false, rows }
+}
+
+/// A store of two eras, of which three tiles are sealed, and whose row in granule 5 was changed; and the
+/// notary.
+pub(crate) fn turned(alloc: Global) -> Result<(MemDisk, MemNotary), Fail> {
+    let header = header_of(2, 1);
+    let mut notary = empty(alloc);
+    file(alloc, &mut notary, &header, rows(&[]), 240)?;
+    let filed = Held {
+        turns: true,
+        rows: &[(5, 1)],
+    };
+    file(alloc, &mut notary, &header, filed, 480)?;
+    let mark = Mark {
+        moment: 480,
+        tiles: 3,
+        outcome: Outcome::Clean,
+    };
+    notary.mark(ID, mark)?;
+    let stored = Held {
+        turns: true,
+        rows: &[(5, 2)],
+    };
+    Ok((store_of(alloc, &header, stored)?, notary))
 }

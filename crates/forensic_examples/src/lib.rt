@@ -5,7 +5,7 @@
 //!
 //! | File | Shows |
 //! |---|---|
-//! | `reports` | reports, and how many nodes a descent asks |
+//! | `reports` | reports, of all tiles and of those of an era, and how many nodes a descent asks |
 //! | `spans` | when a tile was changed; how many events a diagram has |
 #![tactic(auto)]
 

@@ -1,8 +1,8 @@
 //! Whole reports: which granules are found, how many nodes are asked for them, and when the tiles were changed.
 
-use crate::desk::{Stood, empty, report, report_of};
+use crate::desk::{Stood, empty, report, report_of, turned};
 use disk_model::MemDisk;
-use forensic_report::Algorithm;
+use forensic_report::{Algorithm, AnalyseFail};
 use notary_link::Outcome;
 use std::test::Fail;
 
@@ -90,8 +90,52 @@ fn where_nothing_is_filed_nothing_is_read(rt: HostRuntime) -> Result<(), Fail> {
     let alloc = rt.alloc();
     let mut disk = MemDisk::new(alloc);
     disk.failing([1].to_vec(alloc)?, Vec::new(alloc));
-    let told = report(alloc, &mut disk, &mut empty(alloc), Algorithm::A3d, 0)?;
-    let text = b"report a3d id 7 tiles 0 unsealed\n";
+    let told = report(
+        alloc,
+        &mut disk,
+        &mut empty(alloc),
+        Algorithm::A3d,
+        Some(1),
+        0,
+    )?;
+    let text = b"report a3d id 7 era 1 tiles 0 unsealed\n";
     assert_eq!(rt; (told.0, told.1.as_slice()), (false, text.as_slice()));
+    Ok(())
+}
+
+/// Of a store of two eras: by which algorithm, of which era, and what is answered.
+const OF_ERAS: [(Algorithm, Option<u32>, Result<&str, AnalyseFail>); 5] = [
+    (
+        Algorithm::A3d,
+        Some(1),
+        Ok(
+            "report a3d id 7 era 1 tiles 2 altered\n\
+            granule 5 when 480 to 500\n\
+            checks 5\n\
+            first change in tile 1 when 480 to 500\n\
+            diagram\n         240 N..\n         480 .N.\n         480 ..N\n         480 vvv\n         500 .X.\n",
+        ),
+    ),
+    (
+        Algorithm::Tiled,
+        Some(0),
+        Ok("report tiled id 7 era 0 tiles 1 clean\n"),
+    ),
+    (Algorithm::A3d, None, Err(AnalyseFail::NotSealedSo)),
+    (Algorithm::A3d, Some(0), Err(AnalyseFail::NotSealedSo)),
+    (Algorithm::Tiled, Some(2), Err(AnalyseFail::NoEra)),
+];
+
+#[test]
+fn an_era_has_a_report_of_its_own(rt: HostRuntime) -> Result<(), Fail> {
+    let alloc = rt.alloc();
+    let (mut disk, mut notary) = turned(alloc)?;
+    for (algorithm, era, answer) in &OF_ERAS {
+        let told = report(alloc, &mut disk, &mut notary, *algorithm, *era, 500);
+        match (told, answer) {
+            (Ok(told), Ok(text)) => assert_eq!(rt; told.1.as_slice(), text.as_bytes()),
+            (told, answer) => assert_eq!(rt; told.err(), answer.err()),
+        }
+    }
     Ok(())
 }

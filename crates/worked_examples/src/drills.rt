@@ -60,6 +60,16 @@ a batch is filed where its Frontier is durable, which takes four calls, and each
 2 clean 0; ok; refused ClockBack 60
 3 clean 1; ok; refused ClockBack 60
 
+a policy is stored or isn't, and leaves what is filed
+< init 7 60 0 m; create t k int; insert t 1; now 60; notarize
+> ready 7; ok 1; ok 2; ok; sealed 1
+! policy 1 a
+= era 1 from tile 1
+? validate; policy 0 t
+@ 000 000 000 010 111.
+0 clean 1; era 1 from tile 1
+1 clean 1; era 2 from tile 1
+
 a mark is there or isn't: it takes the one call
 < init 7 60 0 m; create t k int; insert t 1; now 60; notarize; now 90
 > ready 7; ok 1; ok 2; ok; sealed 1; ok

@@ -16,6 +16,8 @@ mod desk;
 #[cfg(test)]
 mod drills;
 #[cfg(test)]
+mod eras;
+#[cfg(test)]
 mod limits;
 #[cfg(test)]
 mod makes;

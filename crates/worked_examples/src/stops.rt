@@ -64,14 +64,15 @@ type Asked = (
     (&'static str, &'static str),
 );
 
-/// The questions are the count; then the count, the header and the last link. The changing calls are the header's
-/// batch, that of the tile, and the mark.
-const ASKED: [Asked; 12] = [
+/// The questions are the count; then the count, the header, the era behind the last one and the last link. The
+/// changing calls are the header's batch, that of the tile, and the mark.
+const ASKED: [Asked; 13] = [
     (0, (1, 0), 6, BEFORE_FILING, RETRY),
     (0, (2, 0), 6, BEFORE_VERDICT, RETRY),
     (0, (3, 0), 6, BEFORE_VERDICT, RETRY),
     (0, (4, 0), 6, BEFORE_VERDICT, RETRY),
-    (0, (5, 0), 0, REPLIES, RETRY),
+    (0, (5, 0), 6, BEFORE_VERDICT, RETRY),
+    (0, (6, 0), 0, REPLIES, RETRY),
     (0, (0, 1), 6, BEFORE_FILING, RETRY),
     (0, (0, 2), 6, BEFORE_FILING, RETRY),
     (0, (0, 3), 6, BEFORE_VERDICT, RETRY),

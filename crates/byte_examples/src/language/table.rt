@@ -421,6 +421,55 @@ pub const SPANS: [Case; 16] = [
     ("over 0 to 9 scan t", "Syntax", "no such query"),
 ];
 
+pub const NOTARY: [Case; 18] = [
+    ("audit 1", "Syntax", "nothing stands behind audit"),
+    ("s1 audit", "Syntax", "which is not for sessions"),
+    ("policy 0 m", "policy 0 m", "other tiles from here on"),
+    ("policy 10 ta", "policy 10 ta", "of any size and chains"),
+    ("policy 11 m", "Syntax", "but no larger"),
+    ("policy 01 m", "Syntax", "with no zero at the front"),
+    ("policy 1 at", "Syntax", "no such chains"),
+    ("policy 1", "Syntax", "both are named"),
+    ("s1 policy 1 m", "Syntax", "nor in a session"),
+    (
+        "analyse a3d era 1",
+        "analyse a3d era 1",
+        "an analysis of an era",
+    ),
+    (
+        "analyse tiled era 0",
+        "analyse tiled era 0",
+        "of the first one",
+    ),
+    (
+        "analyse tiled 2 era 04294967295",
+        "analyse tiled 2 era 4294967295",
+        "or the last",
+    ),
+    (
+        "analyse tiled era 4294967296",
+        "NumberTooWide",
+        "one past it",
+    ),
+    (
+        "analyse tiled 0 era 1",
+        "NumberTooWide",
+        "none is too few, as without an era",
+    ),
+    (
+        "analyse tiled era 1 2",
+        "Syntax",
+        "the candidates stand first",
+    ),
+    ("analyse a3d era", "Syntax", "an era has a number"),
+    ("analyse a3d era -1", "Syntax", "without a sign"),
+    (
+        "analyse mono era 1",
+        "Syntax",
+        "an analysis by regions is of all eras",
+    ),
+];
+
 pub const DRILLS: [Case; 27] = [
     ("init 0 1 0 m", "init 0 1 0 m", "the least numbers"),
     (
