@@ -1,14 +1,14 @@
 #!/usr/bin/env python3
 """Draws the corruption diagram of a report: tiles across, events down.
 
-    python3 examples/diagram_svg.py [REPORT] >report.svg
+    python3 examples/diagram_svg.py [--store STORE] [REPORT] >report.svg
 
 REPORT is a file with what `analyse` printed, or else the report comes on standard input:
 `./dragoon store=PATH notary=PATH analyse 7 tiled | python3 examples/diagram_svg.py >report.svg`.
 
 Each sign of the diagram is a coloured field, and whoever points at a line reads what it says. The span in which a bad tile
-was changed is shaded, and that of the first change is outlined. The picture is made from the report's lines alone, so it says no more than they do. Where the report
-has no diagram, the picture says so.
+was changed is shaded, and that of the first change is outlined. The picture is made from the report's lines alone, so it says no more
+than they do. With a store it marks where its eras begin, as the store says now. Where the report has no diagram, the picture says so.
 """
 import re
 import sys
@@ -16,6 +16,7 @@ from html import escape
 
 sys.dont_write_bytecode = True
 from parts.script import Refused, put
+from parts.store import Store
 
 CELL, LEAST_LEFT, TOP = 24, 130, 64
 SIGNS = {  # colour of the field, colour of the sign, what it says
@@ -67,6 +68,10 @@ def box(x, y, width, height, style):
     return f'<rect x="{x}" y="{y}" width="{width}" height="{height}" {style}/>'
 
 
+def upright(x, from_y, to_y):
+    return f'<line x1="{x}" y1="{from_y}" x2="{x}" y2="{to_y}"/>'
+
+
 def word(x, y, text, style):
     return f'<text x="{x}" y="{y}" {style}>{escape(text)}</text>'
 
@@ -91,9 +96,14 @@ def told(signs):
     return f"{over}: the header was another" if "H" in signs else f"this analysis: tile{'s' * (len(at) > 1)} {' '.join(map(str, at))} {'are' if len(at) > 1 else 'is'} bad"
 
 
-def drawn(head, events, tiles, granules, first, date=str):
-    """The fields; over them the shades and the outline, from the row of one moment to that of the other; then the signs, and what
-    each line says."""
+def begun(eras, count):
+    """The tiles below a number at which later eras begin, each with the last one that begins there."""
+    return {era.tile: number for number, era in enumerate(eras) if number and era.tile < count}
+
+
+def drawn(head, events, tiles, granules, first, eras=(), date=str):
+    """The fields; over them the shades and the outline, from the row of one moment to that of the other; then the signs, what each
+    line says, and where eras begin."""
     last = len(events) - 1
     count = len(events[last][1])
     left = max(LEAST_LEFT, 8 * max(len(date(moment)) for moment, _ in events) + 20)
@@ -125,13 +135,25 @@ def drawn(head, events, tiles, granules, first, date=str):
         x, y = 10 + place % 2 * 200, low + place // 2 * 22
         words += [box(x, y - 14, 18, 18, f'fill="{back}"'), word(x + 5, y, sign, f'fill="{front}"'), word(x + 26, y, says, "")]
     words.append(word(10, low + 68, "shaded: when a bad tile was changed; outlined: the first change", ""))
+    borders = begun(eras, count)
+    for tile, number in borders.items():
+        words.append(f'<g stroke="#444444" stroke-dasharray="4 3"><title>era {number} begins at tile {tile}</title>{upright(left + CELL * tile, TOP - 6, TOP + CELL * (last + 1))}</g>')
+    if borders:
+        words.append(word(10, low + 90, "dashed: an era begins at this tile", ""))
     width = max(left + CELL * count + 20, 9 * len(head) + 20, 540)
-    return picture(width, low + 84, fields + shades + signs + words)
+    return picture(width, low + (106 if borders else 84), fields + shades + signs + words)
 
 
 def main(words):
     if words == ["--help"]:
         return print(__doc__.strip())
+    eras = ()
+    if words[:1] == ["--store"] and len(words) > 1:
+        try:
+            eras = Store(words[1]).eras
+        except Refused as why:
+            return f"diagram_svg: {why}"
+        words = words[2:]
     if len(words) > 1 or words and words[0].startswith("-"):
         print(f"usage: {__doc__.splitlines()[2].strip()}", file=sys.stderr)
         return 2
@@ -146,7 +168,7 @@ def main(words):
     if len({len(signs) for _, signs in events}) > 1:
         return "diagram_svg: the report isn't whole: its events have not the same tiles"
     if events:
-        made = drawn(head, events, *rest)
+        made = drawn(head, events, *rest, eras)
     else:
         why = "the diagram was left out: it would have more than 64 events" if "diagram left out" in text else "there is no diagram"
         parts = [word(10, 24, head, 'font-weight="bold"'), word(10, 52, why, 'fill="#444444"')]

@@ -87,13 +87,13 @@ def moment_in(payload):
 
 
 def front_lines(side, other):
-    """What differs in the headers, and in the items that no program writes."""
+    """What differs in the headers, and in the policies."""
     for name in HEADER:
         ours, theirs = getattr(side.store, name), getattr(other.store, name)
         if ours != theirs:
             yield f"header: {SAID[name]} {ours} in the store, {theirs} in the copy"
     if side.policies != other.policies:
-        yield f"policies, which no program writes: {len(side.policies)} in the store, {len(other.policies)} in the copy"
+        yield f"policies: {len(side.policies)} in the store, {len(other.policies)} in the copy, and not the same; look.py says which eras they begin"
 
 
 def compare(side, other, granule, zone):

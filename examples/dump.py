@@ -12,7 +12,8 @@ On a store that `init` makes they give the same rows at the same moments, counte
 
 With --granule only the transactions of granule G are written, and with --from or --to those from a moment on and up to a moment.
 A part goes only into a store that has all before it: a dump of more than 67,108,863 bytes is given to several runs, part by part.
-A Frontier and a policy stand there as comments, since no statement stores one.
+A Frontier stands there as a comment, since no statement stores one. So does a policy, which goes by the sealed tiles of a book. So the
+store that is made anew has one era. Where STORE has more, it isn't what was filed of STORE.
 
 What an honest writer can't have stored is a comment, too: an operation that fits no table, a text that no statement can spell,
 or a moment that falls. Standard error says of how many transactions that is so, and the status is 1. It is 0 if all is written,

@@ -3,7 +3,7 @@
 
     python3 examples/look.py [--json] [--zone ZONE] STORE [BOOK ID]
 
-Of the store: its id, granules and chains, its first second and its last moment, its tables with their columns and rows, and what
+Of the store: its id, granules, chains and eras, its first second and its last moment, its tables with their columns and rows, and what
 room is left. Of the book: up to which moment the store is filed, what stands behind that, and its last mark. Of both: the bytes that
 stand behind the gate that ends them. Dates are those of ZONE, as Europe/Zurich, or else of UTC. With --json it is one object, in
 which all times are numbers.
@@ -20,7 +20,7 @@ import verify
 from parts import moments
 from parts.book import Book, nothing_of, said
 from parts.script import Refused, counted, end, number, plain, words_of
-from parts.store import GRANULES, LIMIT, Frontier, Policy, Store, Tables, Transaction, hidden
+from parts.store import GRANULES, LIMIT, Frontier, Policy, Store, Tables, Transaction, chains, hidden
 
 
 def of_store(store):
@@ -37,9 +37,10 @@ def of_store(store):
                 counts["misfits"] += tables.apply(operation) is not None
     return {
         "store": store.path, "bytes": len(store.content), "format": store.format, "id": store.id, "first_second": store.epoch, "last_moment": last,
-        "granule_seconds": store.width, "granules_in_a_tile": 1 << store.k, "chains": store.chains(),
+        "granule_seconds": store.width, "granules_in_a_tile": 1 << store.k, "chains": chains(store.eras[0]),
+        "later_eras": [{"tile": it.tile, "granule": it.granule, "granules_in_a_tile": 1 << it.k, "chains": chains(it)} for it in store.eras[1:]],
         "transactions": counts[Transaction], "frontiers": counts[Frontier],
-        "policies": counts[Policy], "misfits": counts["misfits"], "granules_with_transactions": len(granules),
+        "policies": counts[Policy], "policies_without_effect": counts[Policy] - len(store.eras) + 1, "misfits": counts["misfits"], "granules_with_transactions": len(granules),
         "tables": {name: {"rows": len(tables.keys[name]), "columns": dict(columns)} for name, columns in sorted(tables.columns.items())},
         "bytes_left": max(0, LIMIT - 1 - store.gate()), "granules_left": max(0, GRANULES - 1 - last // store.width),
         "full_second": store.epoch + GRANULES * store.width, "behind_the_end": store.behind(),
@@ -50,7 +51,7 @@ def of_book(book, store, id):
     """What the book says of the store under the id."""
     batches, marks = book.batches(id), book.marks(id)
     tiles = max(0, len(batches) - 1)
-    filed = tiles * store.tile_width
+    filed = store.end_of(tiles)
     behind = [len(item.payload) + 5 for item in store.transactions() if item.moment >= filed]
     header = dict(batches[0].seals).get("header") if batches else None
     return {
@@ -82,8 +83,11 @@ def store_lines(it, date):
     yield "transactions", f"{it['transactions']:,}, in {counted(it['granules_with_transactions'], 'granule')}"
     if it["misfits"]:
         yield "misfits", f"{counted(it['misfits'], 'operation')} that fit no table: no honest writer stores such"
-    if it["policies"]:
-        yield "policies", f"{counted(it['policies'], 'item')} that no program writes, and on which no answer depends"
+    for number, era in enumerate(it["later_eras"], 1):
+        in_a_tile = counted(era["granules_in_a_tile"], "granule")
+        yield f"era {number}", f"from tile {era['tile']} on, granule {era['granule']}: {in_a_tile} to a tile; {era['chains']}"
+    if it["policies_without_effect"]:
+        yield "no effect", f"policies that begin no era: {it['policies_without_effect']:,}; stored over an older book, or by another hand"
     granules = counted(it["granules_left"], "granule")
     yield "room left", f"{counted(it['bytes_left'], 'byte')}; {granules}, until {date(it['full_second'])}"
     yield "behind its end", hidden(it["behind_the_end"]) if it["behind_the_end"] else "nothing"

@@ -6,10 +6,10 @@
 It says the verdict in words; of which store and book that is, with their SHA-256, and when; each altered granule, when it was changed
 and what stands in it now; the diagram; what was filed and validated; what the algorithm can't say; and what to do next.
 
-It asks over copies, so it writes neither file, and the SHA-256 are those of what was asked. ALG is mono, tiled, `tiled KAPPA` or a3d.
-Where none is given it is a3d for a store with the tree, tiled for one with tile chains, else mono. Dates are those of ZONE, as
-Europe/Zurich, or else of UTC. It ends with 0 if the page is made, whatever the verdict, and with 3 if there is no report. DRAGOON
-names another program than ./dragoon.
+It asks over copies, so it writes neither file, and the SHA-256 are those of what was asked. ALG is mono, tiled, `tiled KAPPA` or a3d,
+and behind the last three ` era E` may stand: --alg 'a3d era 1'. Where none is given it is a3d where all sealed tiles have the tree,
+tiled where all have tile chains, else mono. Dates are those of ZONE, as Europe/Zurich, or else of UTC. It ends with 0 if the page is
+made, whatever the verdict, and with 3 if there is no report. DRAGOON names another program than ./dragoon.
 """
 import hashlib
 import os
@@ -21,7 +21,7 @@ import verify
 from parts import moments, page, report as reports
 from parts.book import Batch, Book, said
 from parts.script import algorithm, ask_report, counted, end, number, words_of
-from parts.store import Store
+from parts.store import Store, chains
 
 MOST_GRANULES, MOST_TRANSACTIONS, MOST_OPERATIONS, MOST_EVENTS = 50, 50, 20, 40
 COLOUR = {"clean": "good", "altered": "bad", "header altered": "bad", "unsealed": "open"}
@@ -37,7 +37,8 @@ class Page:
         is_read = verify.header_of(asked.store) and self.report.verdict != "header altered"
         self.store = Store(given.store, asked.store) if is_read else None
         self.shown = self.report.found[:MOST_GRANULES]
-        self.standing = reports.Standing(self.store, self.report, self.shown, MOST_TRANSACTIONS) if is_read else None
+        self.until = reports.filed_until(self.store, self.report, self.book) if is_read else None
+        self.standing = reports.Standing(self.store, self.until, self.shown, MOST_TRANSACTIONS) if is_read else None
 
     def date(self, second):
         return moments.date(second, self.given.zone)
@@ -52,14 +53,21 @@ class Page:
         yield "Id", str(self.report.id)
         yield "Algorithm", page.safe(self.report.algorithm)
         if self.store:
-            tile = f"{1 << self.store.k} to a tile of {moments.length(self.store.tile_width)}"
-            yield "Granules", f"{moments.length(self.store.width)} each, {tile}; {self.store.chains()}"
+            yield "Granules", f"{moments.length(self.store.width)} each"
+            yield from self.eras()
             yield "First second", f"{page.safe(self.date(self.store.epoch))} ({self.store.epoch})"
             yield "Filed", self.filed()
 
+    def eras(self):
+        """Each era of the store: where it begins, and what its tiles are."""
+        for at, era in enumerate(self.store.eras):
+            since = f"from tile {era.tile} on: " if at else ""
+            tile = f"{1 << era.k} to a tile of {moments.length(self.store.width << era.k)}"
+            yield f"Era {at}" if len(self.store.eras) > 1 else "Tiles", f"{since}{tile}; {chains(era)}"
+
     def filed(self):
-        until = self.report.tiles * self.store.tile_width
-        up_to = f"{counted(self.report.tiles, 'tile')}, what was stored before {self.date(self.store.epoch + until)}"
+        until, tiles = self.until, max(0, len(self.book.batches(self.report.id)) - 1)
+        up_to = f"{counted(tiles, 'tile')}, what was stored before {self.date(self.store.epoch + until)}"
         behind = f"What was stored since, {counted(self.standing.behind, 'transaction')}, was compared with nothing."
         return page.safe(f"{up_to if until else 'No tile yet'}. {behind}")
 
@@ -105,7 +113,7 @@ class Page:
         head, events, *rest = diagram_svg.read(self.report.text)
         if not events:
             return "<p>The diagram was left out: it would have more than 64 events or tiles.</p>"
-        drawn = diagram_svg.drawn(head, events, *rest, date=self.date)
+        drawn = diagram_svg.drawn(head, events, *rest, self.store.eras if self.store else (), date=self.date)
         return f'<div class="wide">{drawn}</div><p class=soft>Point at a line to read what it says. Tiles go across, events down.</p>'
 
     def events(self):

@@ -1,13 +1,14 @@
 #!/usr/bin/env python3
 """Holds a store against a notary's book. For whoever trusts nobody: written from docs/FORMATS.md and from nothing else.
 
-    python3 examples/verify.py STORE BOOK ID
+    python3 examples/verify.py STORE BOOK ID [--era E]
 
 It computes every digest that is planned for the sealed tiles, and compares each with the one that was filed under ID. The
 first line is the verdict, as `validate` words it: `unsealed`, `clean N`, `altered N from P` or `header altered N`. N is the
 number of sealed tiles, and P the first one with a digest that differs. Behind `altered` stands a line for each name: `NAME`
 where the digest differs, else `NAME is not filed` or `NAME is not planned`. Where only a digest of the book was altered, standard error
-says so; `validate` compares fewer, and may say `clean` then. It writes no file, and
+says so; `validate` compares fewer, and may say `clean` then. With `--era E` it compares the tiles of that era alone, by their
+parts and nodes: the chain at a tile's end goes by all tiles before, too. N is the number of the era's sealed tiles then. It writes no file, and
 ends with 0 if nothing differs, 1 if something does, 2 on other words, and 3 if a file can't be read or is no book.
 """
 import functools
@@ -17,9 +18,11 @@ import sys
 from collections import Counter, namedtuple
 from itertools import zip_longest
 
-OPEN, FIRST_GATE, GRANULES = 0xA7, 64, 1_048_576
+OPEN, FIRST_GATE, GRANULES, ERAS = 0xA7, 64, 1_048_576, 256
 SEGMENT, SEGMENTS, LETTERS = 65_536, 1_024, {b"DRAGOON1": 1, b"DRAGOON2": 2}
 
+# the first tile of an era and its first granule, and the exponent and the algorithms of its tiles; a policy has the same
+Era = namedtuple("Era", "tile granule k algorithms")
 # what a notary was given: `seals` is how that many of them are spelled
 Batch = namedtuple("Batch", "id index moment count seals")
 Mark = namedtuple("Mark", "id moment tiles outcome bad")
@@ -64,13 +67,10 @@ class Source:
             raise ValueError("no bool")
 
     def item(self):
-        """The moment of a transaction, or None for a Frontier or a policy."""
+        """The moment of a transaction, the era that a policy names, or None for a Frontier."""
         kind = self.number(1, 1, 3)
         if kind == 3:
-            self.take(8)
-            self.number(1, 0, 10)
-            self.number(1, 0, 3)
-            return None
+            return Era(self.number(4), self.number(4), self.number(1, 0, 10), self.number(1, 0, 3))
         self.take(4 if kind == 1 else 0)
         moment = self.number(8)
         for _ in range(self.number(2, 1, 256) if kind == 1 else 0):
@@ -213,36 +213,101 @@ def digest(*parts):
     return hashlib.sha256(b"".join(parts)).digest()
 
 
-def ended_nodes(granule, leaf, waiting):
-    """The nodes whose last granule is this one. `waiting` are those that have no right neighbour yet, the lowest last."""
-    level, index, value = 0, granule, leaf
-    yield f"node 0 {granule}", leaf
+# ---- eras
+
+
+def era_at(eras, tile):
+    """The number of a tile's era."""
+    return max(at for at, era in enumerate(eras) if era.tile <= tile)
+
+
+def first_of(eras, tile):
+    """The first granule of a tile."""
+    era = eras[era_at(eras, tile)]
+    return era.granule + (tile - era.tile << era.k)
+
+
+def eras_of(content):
+    """The eras of a store, in order."""
+    *_, k, algorithms = header_of(content)
+    eras = [Era(0, 0, k, algorithms)]
+    for item, _ in records(content, *STORE):
+        is_later = isinstance(item, Era) and len(eras) < ERAS and eras[-1].tile <= item.tile
+        if is_later and item.granule == first_of(eras, item.tile):
+            eras.append(item)
+    return eras
+
+
+def tiles_within(eras):
+    """How many tiles end at most behind the last granule."""
+    last = [era for era in eras if era.granule <= GRANULES][-1]
+    return last.tile + (GRANULES - last.granule >> last.k)
+
+
+def range_of(eras, tiles, era):
+    """The tiles of an era among so many."""
+    end = min([it.tile for it in eras[era + 1 :]] + [tiles])
+    return range(eras[era].tile, max(eras[era].tile, end))
+
+
+def sealed_eras(eras, tiles):
+    """The names and digests of the eras, from 1 on, that begin at one of so many tiles."""
+    for at, era in enumerate(eras):
+        if at and era.tile < tiles:
+            yield f"era {at}", digest(b"\x06", number(at, 4), number(era.tile, 4), number(era.granule, 4), number(era.k, 1), number(era.algorithms, 1))
+
+
+def are_filed(eras, tiles, batches):
+    """Whether these are the eras that were filed: each is the same, and the next one isn't known."""
+    filed, planned = {}, dict(sealed_eras(eras, tiles))
+    for name, value in (seal for batch in batches for seal in batch):
+        filed.setdefault(name, value)
+    return all(filed.get(name) == value for name, value in planned.items()) and f"era {len(planned) + 1}" not in filed
+
+
+# ---- digests
+
+
+def ended_nodes(era, index, leaf, waiting):
+    """The nodes whose last leaf is this one. `waiting` are those of the era that have no right neighbour yet, the lowest last."""
+    level, value, of_era = 0, leaf, f"{era} " if era else ""
+    yield f"node {of_era}0 {index}", leaf
     while index % 2:
         level, index = level + 1, index // 2
         value = digest(b"\x04", number(level, 1), number(index, 4), waiting.pop(), value)
-        yield f"node {level} {index}", value
+        yield f"node {of_era}{level} {index}", value
     waiting.append(value)
 
 
+def parts(tile, k, leaves):
+    """The digests of a tile's parts."""
+    yield f"tile {tile} whole", digest(b"\x03", number(tile, 4), b"\xff", *leaves)
+    for bit in range(k):
+        part = (leaf for place, leaf in enumerate(leaves) if not place >> bit & 1)
+        yield f"tile {tile} bit {bit}", digest(b"\x03", number(tile, 4), number(bit, 1), *part)
+
+
 def plan(content, tiles):
-    fields, _id, width, k, algorithms = header_of(content)
-    granules, waiting, cum = [[] for _ in range(tiles << k)], [], digest(b"\x00", fields)
+    """The digests that are planned for each batch."""
+    fields, _id, width, *_ = header_of(content)
+    eras = eras_of(content)
+    granules, waiting, cum = [[] for _ in range(first_of(eras, tiles))], {}, digest(b"\x00", fields)
     for moment, item in records(content, *STORE):
-        if moment is not None and moment // width < len(granules):
+        if isinstance(moment, int) and moment // width < len(granules):
             granules[moment // width].append(item)
     yield {"header": digest(b"\x05", fields)}
+    begun = dict(sealed_eras(eras, tiles))
     for tile in range(tiles):
-        begin, leaves, nodes = tile << k, [], {}
-        for granule, items in enumerate(granules[begin : begin + (1 << k)], begin):
+        number_of_era, first, leaves, nodes = era_at(eras, tile), first_of(eras, tile), [], {}
+        era = eras[number_of_era]
+        for granule, items in enumerate(granules[first : first + (1 << era.k)], first):
             for item in items:
                 cum = digest(b"\x01", cum, item)
             leaves.append(digest(b"\x02", number(granule, 4), *(number(len(it), 4) + it for it in items)))
-            nodes.update(ended_nodes(granule, leaves[-1], waiting))
-        chains = {f"tile {tile} whole": digest(b"\x03", number(tile, 4), b"\xff", *leaves)}
-        for bit in range(k):
-            part = (leaf for place, leaf in enumerate(leaves) if not place >> bit & 1)
-            chains[f"tile {tile} bit {bit}"] = digest(b"\x03", number(tile, 4), number(bit, 1), *part)
-        yield {f"cum {tile}": cum, **(chains if algorithms & 1 else {}), **(nodes if algorithms & 2 else {})}
+            nodes.update(ended_nodes(number_of_era, granule - era.granule, leaves[-1], waiting.setdefault(number_of_era, [])))
+        names = (f"era {at}" for at, it in enumerate(eras) if at and it.tile == tile)
+        chains = dict(parts(tile, era.k, leaves))
+        yield {**{name: begun[name] for name in names}, f"cum {tile}": cum, **(chains if era.algorithms & 1 else {}), **(nodes if era.algorithms & 2 else {})}
 
 
 def is_book(content):
@@ -284,16 +349,33 @@ def differences(planned, filed):
     yield from (f"{name} is not planned" for name in filed if name not in planned)
 
 
-def report(store, batches, id):
+def of_era(seals):
+    """Those digests of a batch that go by the transactions of its tile's era alone."""
+    return {name: value for name, value in seals.items() if name.startswith(("tile ", "node "))}
+
+
+def compared(batches, tiles, found):
+    """The lines on what was found in these batches, of which that of tile j is the one behind j."""
+    bad = [batch - 1 for batch, names in zip(batches, found) if names]
+    return [f"altered {tiles} from {bad[0]}" if bad else f"clean {tiles}", *(name for names in found for name in names)]
+
+
+def report(store, batches, id, era=None):
     header, tiles = header_of(store), len(batches) - 1
     if not batches:
         return ["unsealed"]
-    if header is None or header[1] != id or next(plan(store, 0)) != dict(batches[0]):
+    if header is None or header[1] != id or next(plan(store, 0)) != dict(batches[0]) or not are_filed(eras_of(store), tiles, batches):
         return [f"header altered {tiles}"]
-    planned = plan(store, min(tiles, GRANULES >> header[3]))
-    found = [list(differences(*both)) for both in zip_longest(planned, map(dict, batches), fillvalue={})]
-    bad = [batch - 1 for batch, names in enumerate(found) if names]
-    return [f"altered {tiles} from {bad[0]}" if bad else f"clean {tiles}", *(name for names in found for name in names)]
+    eras = eras_of(store)
+    both = list(zip_longest(plan(store, min(tiles, tiles_within(eras))), map(dict, batches), fillvalue={}))
+    if era is None:
+        return compared(range(len(both)), tiles, [list(differences(*it)) for it in both])
+    if era >= len(eras):
+        raise ValueError(f"the eras of the store are 0 to {len(eras) - 1}, and {era} is none of them")
+    if eras[era].algorithms == 0:
+        raise ValueError(f"era {era} has no tile chains and no tree, so nothing can be compared that goes by its tiles alone")
+    batches = [tile + 1 for tile in range_of(eras, tiles, era)]
+    return compared(batches, len(batches), [list(differences(*map(of_era, both[batch]))) for batch in batches])
 
 
 def tell_of_book(store, lines):
@@ -301,8 +383,9 @@ def tell_of_book(store, lines):
     verdict, *names = lines
     if not names or any(name.endswith("ed") for name in names):
         return
-    is_right = f"cum {int(verdict.split()[1]) - 1}" not in names
-    if is_right or header_of(store)[4] and all(name.startswith("cum ") for name in names):
+    eras = eras_of(store)
+    is_right = verdict.startswith("altered") and f"cum {int(verdict.split()[1]) - 1}" not in names
+    if is_right or all(name.startswith("cum ") and eras[era_at(eras, int(name[4:]))].algorithms for name in names):
         print("verify: other digests over the same transactions don't differ: what was altered is the book, and not the store", file=sys.stderr)
 
 
@@ -328,19 +411,28 @@ def say(text, name="verify"):
         sys.exit(3)
 
 
+def is_number(word):
+    return re.fullmatch(r"0|[1-9][0-9]{0,19}", word) is not None and int(word) < 1 << 64
+
+
 def main(words):
-    if len(words) != 3 or not re.fullmatch(r"0|[1-9][0-9]{0,19}", words[2]) or int(words[2]) >= 1 << 64:
+    options = words[3:]
+    is_call = len(words) == 3 or len(options) == 2 and options[0] == "--era"
+    bad = [word for word in words[2:3] + options[1:] if not is_number(word)]
+    if not is_call or bad:
         print(__doc__, file=sys.stdout if words == ["--help"] else sys.stderr)
-        if len(words) == 3:
-            print(f"verify: {plain(words[2])} is no number from 0 to {(1 << 64) - 1} without a zero in front", file=sys.stderr)
+        if is_call:
+            print(f"verify: {plain(bad[0])} is no number from 0 to {(1 << 64) - 1} without a zero in front", file=sys.stderr)
         return 0 if words == ["--help"] else 2
+    era = int(options[1]) if options else None
     try:
         store, book = (open(name, "rb").read() for name in words[:2])
-        lines = report(store, batches_of(book, int(words[2])), int(words[2]))
+        lines = report(store, batches_of(book, int(words[2])), int(words[2]), era)
         tell_hidden(words[0], store, STORE)
         tell_hidden(words[1], book, BOOK)
         tell_little(lines[0], words[0], store, words[2])
-        tell_of_book(store, lines)
+        if era is None:
+            tell_of_book(store, lines)
     except (OSError, ValueError) as fault:
         print(f"verify: {plain(fault.filename)}: {fault.strerror}" if isinstance(fault, OSError) else f"verify: {fault}", file=sys.stderr)
         return 3

@@ -1,12 +1,12 @@
 #!/usr/bin/env python3
-"""Holds examples/verify.py against `validate` and `analyse a3d`: their verdicts, and the granules where there is a tree.
+"""Holds examples/verify.py against `validate` and `analyse a3d`, of all eras and of each: their verdicts, and the granules where there is a tree.
 
     python3 examples/checks/verify.py [COUNT]
 
 On the worked store, on the altered one, on the worked one with each of its bytes changed, and on COUNT made stores (1,000 if
-none is given), each with an id, a width, an exponent, chains and statements of its own: as it is, and with one byte changed. Then
-on as many of more than 65,536 bytes, as they are and damaged. All stand in both formats. Only format 2 is made by the program, and
-format 1 has the same items, laid out by hand.
+none is given), each with an id, a width, an exponent, chains, statements and up to six policies of its own: as it is, and with one
+byte changed. Some of the policies are put in by hand, and most of those begin no era. Then on as many of more than 65,536 bytes, as they
+are and damaged. All stand in both formats. Only format 2 is made by the program, and format 1 has the same items, laid out by hand.
 """
 import importlib.util
 import pathlib
@@ -17,7 +17,7 @@ import tempfile
 from program import EXAMPLES, Wrong, count_of, dragoon, script
 
 sys.path.insert(0, str(EXAMPLES))
-from parts.laid import in_format, record
+from parts.laid import in_format, laid, record
 
 spec = importlib.util.spec_from_file_location("examples_verify", EXAMPLES / "verify.py")
 verify = importlib.util.module_from_spec(spec)
@@ -32,15 +32,46 @@ def agrees(store, book, id, what):
     verdict, *names = verify.report(store.read_bytes(), verify.batches_of(book.read_bytes(), int(id)), int(id))
     if (wanted := dragoon(*devices, "validate", id)) != (int("altered" in verdict), verdict + "\n"):
         raise Wrong(f"{what}: validate says {wanted}, and verify {verdict}")
+    eras = verify.eras_of(store.read_bytes()) if verify.header_of(store.read_bytes()) else []
     status, found = dragoon(*devices, "analyse", id, "a3d")
     if status <= 1 and verdict.startswith("altered"):
-        granules = [line.split()[1] for line in found.splitlines() if line.startswith("granule ")]
-        leaves = [name.split()[2] for name in names if name.startswith("node 0 ")]
-        if granules != leaves:
-            raise Wrong(f"{what}: analyse names {granules}, and verify {leaves}")
+        same_granules(found, eras, names, what)
     elif bool(names) != verdict.startswith("altered"):
         raise Wrong(f"{what}: {verdict}, with {len(names)} names")
+    if verdict.startswith(("clean", "altered")):
+        agrees_on_eras(store, book, id, eras, what)
     return verdict
+
+
+def same_granules(found, eras, names, what):
+    """Whether a report names the granules of these leaves. Those of an era are counted from its first granule on."""
+    granules = [int(line.split()[1]) for line in found.splitlines() if line.startswith("granule ")]
+    nodes = [name.split()[1:] for name in names if name.startswith("node ")]
+    leaves = [int(node[-1]) + eras[int(node[0]) if len(node) == 3 else 0].granule for node in nodes if node[-2] == "0"]
+    if granules != leaves:
+        raise Wrong(f"{what}: analyse names {granules}, and verify {leaves}")
+
+
+def agrees_on_eras(store, book, id, eras, what):
+    """Compares the two on the first three eras, on the last one, and on one that the store hasn't."""
+    for era in sorted({*range(min(3, len(eras))), len(eras) - 1, len(eras)}):
+        words = "analyse", id, "a3d", "era", str(era)
+        status, found = dragoon(f"store={store}", f"notary={book}", *words)
+        if era == len(eras) or not eras[era].algorithms & 2:
+            wanted = "fault NoEra" if era == len(eras) else "fault NotSealedSo" if verify.range_of(eras, tiles_in(book, id), era) else None
+            if wanted and found != wanted + "\n":
+                raise Wrong(f"{what}: analyse of era {era} says {found}")
+            continue
+        verdict, *names = verify.report(store.read_bytes(), verify.batches_of(book.read_bytes(), int(id)), int(id), era)
+        tiles, said = verdict.split()[1], verdict.split()[0]
+        nodes = any(name.startswith("node ") for name in names)
+        if found.splitlines()[:1] != [f"report a3d id {id} era {era} tiles {tiles} {'altered' if nodes else 'clean'}"] or status != int(nodes):
+            raise Wrong(f"{what}: analyse of era {era} says {found.splitlines()[:1]}, and verify {said} {tiles}")
+        same_granules(found, eras, names, what)
+
+
+def tiles_in(book, id):
+    return len(verify.batches_of(book.read_bytes(), int(id))) - 1
 
 
 def changed(content, place, value):
@@ -109,7 +140,13 @@ def a_script(rng, width):
             moment += rng.choice([0, 1, rng.randint(0, width), width, rng.randint(0, 9 * width)])
             lines.append(f"now {moment}")
         lines.append(rng.choice([a_statement(rng, kinds)] * 20 + ["notarize", "validate"]))
+    for _ in range(rng.choice([0, 0, 1, 2, 6])):
+        lines.insert(rng.randint(2, len(lines)), a_policy(rng))
     return "\n".join(lines + [f"now {moment + rng.choice([0, width, 40 * width])}", "notarize\n"])
+
+
+def a_policy(rng):
+    return f"policy {rng.randint(0, 5)} {rng.choice(['m', 't', 'a', 'ta'])}"
 
 
 def a_large_script(rng, width):
@@ -119,7 +156,23 @@ def a_large_script(rng, width):
     for key in range(1_500 if most == 300 else 20 * 32_000 // most):
         moment += rng.choice([0, 0, 1, width, 3 * width])
         lines += [f"now {moment}", f"insert t {key} '{rng.choice('ab') * rng.randint(most // 2, most)}'"]
+        if rng.random() < 3 / (20 * 32_000 // most):
+            lines += ["notarize", a_policy(rng)]
     return "\n".join(lines + [f"now {moment + 40 * width}", "notarize\n"])
+
+
+def with_policies(rng, content):
+    """The same store with policies put in by hand, most of which begin no era: at a tile before the last era's or behind it, with the
+    granule of another tile, or in great number.
+    """
+    fields, payloads = verify.header_of(content)[0], [payload for _, payload in verify.records(content, *verify.STORE)]
+    for _ in range(rng.choice([1, 2, 6, 6, 300])):
+        eras = verify.eras_of(laid(fields, payloads))
+        tile = rng.choice([eras[-1].tile, eras[-1].tile + rng.randint(0, 4), rng.randint(0, 9), rng.getrandbits(32)])
+        granule = verify.first_of(eras, tile) + rng.choice([0, 0, 0, 1, -1, 7])
+        payload = b"\3" + verify.number(tile, 4) + verify.number(granule & 0xFFFF_FFFF, 4) + bytes([rng.randint(0, 10), rng.randint(0, 3)])
+        payloads.insert(rng.randint(0, len(payloads)), payload)
+    return laid(fields, payloads)
 
 
 def one_byte(rng, content):
@@ -149,13 +202,23 @@ def behind_records(rng, content):
     return content[:gate] + new + content[gate + len(new) :], f"{len(new)} bytes put at the gate {gate}"
 
 
+def in_policy(rng, content):
+    """A bit of a policy turned, where there is one: its gate, its length, its tag or a field."""
+    places = [place - len(payload) - 5 for begin, limit in verify.ranges(content, verify.STORE[2])
+              for value, payload, place in verify.run(content, begin, limit, verify.Source.item, verify.STORE[1]) if isinstance(value, verify.Era)]
+    if not places:
+        return one_byte(rng, content)
+    place, bit = rng.choice(places) + rng.randrange(16), 1 << rng.randrange(8)
+    return changed(content, place, content[place] ^ bit), f"byte {place} of a policy changed"
+
+
 def letters(rng, content):
     """The letters of the other format, or of none."""
     letter = rng.choice(b"012399aD\0")
     return changed(content, 8, letter), f"letter {letter}"
 
 
-DAMAGE = one_byte, one_byte, one_byte, a_gate, a_gate, an_end, behind_records, behind_records, letters
+DAMAGE = one_byte, one_byte, one_byte, in_policy, in_policy, a_gate, a_gate, an_end, behind_records, behind_records, letters
 
 
 def made(folder, seed, lines, damage):
@@ -169,6 +232,12 @@ def made(folder, seed, lines, damage):
     content, verdicts = store.read_bytes(), []
     if in_format(content, 2) != content:
         raise Wrong(f"made store {seed}: records don't stand where FORMATS.md says that a writer puts them")
+    if seed % 2:
+        content = with_policies(rng, content)
+        store.write_bytes(content)
+        book.unlink()
+        dragoon(f"store={store}", f"notary={book}", "run", id, "scripted", lines="notarize\n")
+        content = store.read_bytes()
     for whole in (content, in_format(content, 1)):
         what = f"made store {seed}, {whole[1:9].decode()}, {len(whole)} bytes"
         store.write_bytes(whole)
@@ -186,7 +255,7 @@ def main(words):
         folder = pathlib.Path(name)
         as_a_user()
         worked(folder)
-        for lines, damage, what in ((a_script, [one_byte], "with one byte changed"), (a_large_script, DAMAGE, "above 65,536 bytes, damaged")):
+        for lines, damage, what in ((a_script, [one_byte, in_policy], "with one byte changed"), (a_large_script, DAMAGE, "above 65,536 bytes, damaged")):
             verdicts = [verdict for seed in range(count) for verdict in made(folder, seed, lines, damage)]
             told = ", ".join(f"{verdicts.count(it)} {it}" for it in sorted(set(verdicts)))
             print(f"verify: agrees on {count} made stores in both formats, and on each {what}: {told}")

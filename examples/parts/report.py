@@ -11,8 +11,9 @@ from .store import Create, Tables, hidden, what_is
 
 # granules are ranges, each with its first and its last; `tile` is one that fails, or None
 Found = namedtuple("Found", "ranges tile since until")
-Report = namedtuple("Report", "text algorithm id tiles verdict found first")
-HEAD = re.compile(r"report (mono|tiled(?: \d+)?|a3d) id (\d+) tiles (\d+) (unsealed|clean|altered|header altered)")
+# `era` is the one that was asked for, or None; `tiles` are its sealed ones then, else all of them
+Report = namedtuple("Report", "text algorithm id era tiles verdict found first")
+HEAD = re.compile(r"report (mono|tiled(?: \d+)?|a3d) id (\d+)(?: era (\d+))? tiles (\d+) (unsealed|clean|altered|header altered)")
 BACKWARDS = "this span ends before it begins: a clock went back, or the book has a foreign mark. The granules don't depend on it"
 
 
@@ -46,16 +47,22 @@ def read(text):
         raise Refused(f"this is no report: {plain(text[:80])}")
     found = [it for it in map(found_in, text.splitlines()) if it]
     first = re.search(r"^first change in tile (\d+) when (\d+) to (\d+)$", text, re.MULTILINE)
-    return Report(text, head[1], int(head[2]), int(head[3]), head[4], found, first and tuple(map(int, first.groups())))
+    era = head[3] and int(head[3])
+    return Report(text, head[1], int(head[2]), era, int(head[4]), head[5], found, first and tuple(map(int, first.groups())))
+
+
+def filed_until(store, report, book):
+    """The moment up to which tiles are filed, of whatever era."""
+    return store.end_of(max(0, len(book.batches(report.id)) - 1))
 
 
 class Standing:
     """One pass over a store. Of each of these it has the first transactions that its granules have now, and how many they are; and
-    the columns of the tables, and how many transactions came behind what is filed.
+    the columns of the tables, and how many transactions came behind this moment.
     """
 
-    def __init__(self, store, report, founds, most):
-        until, tables, self.behind = report.tiles * store.tile_width, Tables(), 0
+    def __init__(self, store, until, founds, most):
+        tables, self.behind = Tables(), 0
         self.first, self.counts = [[] for _ in founds], [0] * len(founds)
         places = sorted((first, last, at) for at, found in enumerate(founds) for first, last in found.ranges)
         for transaction in store.transactions():
@@ -91,12 +98,15 @@ def headed(found):
 
 def verdict(report, content, book):
     """The verdict in a few words, and in a sentence."""
-    tiles = counted(report.tiles, "tile")
+    tiles = counted(report.tiles, "tile") + (f" of era {report.era}" if report.era is not None else "")
     if report.verdict == "unsealed":
         ids = book.ids()
         filed = f"Under {' and '.join(map(str, ids[:9]))} something is filed." if ids else f"Of the book: {nothing_of(book)}."
         compared = f"Nothing was filed under the id {report.id}, so nothing was compared."
         return "Nothing was filed", f"{compared} {filed} Of the file that was asked: {what_is(content)}."
+    if report.verdict == "clean" and report.era is not None:
+        of_it = "was compared with what was filed, and is the same" if report.tiles else "is filed yet, so none of its transactions was compared"
+        return "Clean", f"The header and the eras are those that were filed. What stands in {tiles if report.tiles else 'no tile of that era'} {of_it}."
     if report.verdict == "clean" and not report.tiles:
         return "Clean so far", "The header is the one that was filed. No tile is filed yet, so no transaction was compared."
     if report.verdict == "clean":
@@ -141,6 +151,8 @@ def cannot_say(report):
             yield "By a3d the altered granules are named and no other, where the header is the one that was filed."
         yield "What the granules had in them before isn't in the book, since it keeps digests alone. A copy has it."
         yield "Which event changed a granule, and who did it, isn't said. Some event in the span did."
+    if report.era is not None and report.verdict != "header altered":
+        yield f"Only the filed tiles of era {report.era} were compared. Of the other eras this says nothing: ask without an era, or for each."
     if report.verdict != "unsealed":
         yield "What stands behind the filed tiles was compared with nothing. A change before its tile was filed counts as what was filed."
     yield "All of this is only as good as the book: hold it against the copies and sums that others have."

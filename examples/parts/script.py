@@ -1,5 +1,7 @@
 """How the scripts beside this folder take their words, ask the program over copies, and end."""
 import argparse
+import functools
+import operator
 import pathlib
 import re
 import subprocess
@@ -35,8 +37,8 @@ def number(word, most=(1 << 64) - 1):
 
 
 def algorithm(word):
-    if not re.fullmatch("mono|tiled( ([1-9][0-9]{0,2}|10[01][0-9]|102[0-4]))?|a3d", word):
-        raise argparse.ArgumentTypeError(f"{plain(word)} is none of mono, tiled, 'tiled KAPPA' and a3d")
+    if not re.fullmatch("mono|(tiled( ([1-9][0-9]{0,2}|10[01][0-9]|102[0-4]))?|a3d)( era (0|[1-9][0-9]{0,9}))?", word):
+        raise argparse.ArgumentTypeError(f"{plain(word)} is none of mono, tiled, 'tiled KAPPA' and a3d, or of these but mono with ' era E' behind it")
     return word
 
 
@@ -93,12 +95,24 @@ def ask(store, book, *words):
 
 
 def ask_report(given):
-    """What `analyse` says. Where no algorithm is given it is the one that names least, of those that the store has."""
+    """What `analyse` says. Where no algorithm is given it is the one that names least, of those that all sealed tiles have."""
     if given.alg:
         return ask(given.store, given.book, "analyse", given.id, *given.alg.split())
-    header = verify.header_of(content_of(given.store, verify.FIRST_GATE + 1))
-    best = ("mono", "tiled", "a3d", "a3d")[header[4]] if header else "mono"
+    best = ("mono", "tiled", "a3d", "a3d")[common_algorithms(content_of(given.store), content_of(given.book), given.id)]
     return ask(given.store, given.book, "analyse", given.id, best)
+
+
+def common_algorithms(store, book, id):
+    """The algorithms that all sealed tiles have: those of the header, where none is sealed or the book is none."""
+    if verify.header_of(store) is None:
+        return 0
+    try:
+        tiles = len(verify.batches_of(book, id)) - 1
+    except ValueError:
+        tiles = 0
+    eras = verify.eras_of(store)
+    of_tiles = [era.algorithms for at, era in enumerate(eras) if verify.range_of(eras, tiles, at)]
+    return functools.reduce(operator.and_, of_tiles, of_tiles[0] if of_tiles else eras[0].algorithms)
 
 
 # ---- the end

@@ -6,6 +6,7 @@ import re
 from collections import namedtuple
 
 import verify
+from verify import Era as Policy
 from .script import Refused, content_of, counted, plain, tell
 
 LIMIT, GRANULES, LAST_SECOND, LONGEST_LINE = 67_108_864, verify.GRANULES, 1_099_511_627_775, 65_536
@@ -13,8 +14,6 @@ KINDS = {1: "int", 2: "text", 3: "bytes", 4: "bool"}
 
 Transaction = namedtuple("Transaction", "number moment operations payload")
 Frontier = namedtuple("Frontier", "moment")
-# the exponent and the algorithms from a tile on
-Policy = namedtuple("Policy", "tile granule k algorithms")
 Create = namedtuple("Create", "table columns")
 Put = namedtuple("Put", "table values")
 Remove = namedtuple("Remove", "table key")
@@ -79,7 +78,7 @@ class Store:
         self.fields, self.id, self.width, self.k, self.algorithms = verify.header_of(self.content)
         self.format = verify.LETTERS[self.content[1:9]]
         self.epoch = int.from_bytes(self.fields[8:16], "big")
-        self.tile_width = self.width << self.k
+        self.eras = verify.eras_of(self.content)
 
     def items(self):
         return (item for item, _ in verify.records(self.content, *RECORDS))
@@ -107,8 +106,14 @@ class Store:
         if behind := self.behind():
             tell(f"behind the end of {plain(self.path)} stand {hidden(behind)}")
 
-    def chains(self):
-        return ("the chain over all transactions alone", "tile chains", "the tree", "tile chains and the tree")[self.algorithms]
+    def end_of(self, tiles):
+        """The moment at which so many tiles have ended."""
+        return verify.first_of(self.eras, tiles) * self.width
+
+
+def chains(era):
+    """Which chains the tiles of an era have, in words."""
+    return ("the chain over all transactions alone", "tile chains", "the tree", "tile chains and the tree")[era.algorithms]
 
 
 def hidden(count):
