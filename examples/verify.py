@@ -310,6 +310,12 @@ def plan(content, tiles):
         yield {**{name: begun[name] for name in names}, f"cum {tile}": cum, **(chains if era.algorithms & 1 else {}), **(nodes if era.algorithms & 2 else {})}
 
 
+def begins_as(content, letters):
+    """Whether these letters stand behind the first byte. One of them may be damaged."""
+    there = content[1 : 1 + len(letters)]
+    return len(there) == len(letters) and sum(map(int.__ne__, there, letters)) <= 1
+
+
 def is_book(content):
     """Whether the head is a book's."""
     return len(content) > FIRST_GATE and content[:FIRST_GATE] == b"\xa7DRAGBOK1" + bytes(55)
@@ -334,7 +340,7 @@ def in_turn(filings):
 def batches_of(content, id):
     """The batches that are filed under the id, each as a list of seals."""
     if not is_book(content):
-        front = ": it begins as one, and its front is cut or damaged" if content[1:9] == b"DRAGBOK1" else ""
+        front = ": it begins as one, and its front is cut or damaged" if begins_as(content, b"DRAGBOK") else ""
         raise ValueError(f"the second file is no notary's book{front}")
     try:
         filings = list(in_turn(filing for filing, _ in records(content, *BOOK)))

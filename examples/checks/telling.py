@@ -34,6 +34,8 @@ UNSTORED = "nothing of it is stored"
 OTHER_ID = "dragoon: the store worked.store has the id 7, and not 8"
 OLD = "store=old.store"
 OLD_ID = "the store old.store has the id 7, and not 8, and begins at 1970-01-01 00:00:00 UTC: name the right file and id"
+FRONT = "the front of a store, cut or damaged: a making that was cut off leaves such bytes, and so does whoever damages a store. Keep it as it is, and look for copies; docs/OPERATING.md"
+COPIES_FIRST = "it stays as it is, so look for copies first (docs/OPERATING.md)"
 IS_OLD = "the store old.store is a file of the first format, to which nothing is added: `target=FILE migrate ID` writes what it holds to a new one"
 
 
@@ -183,6 +185,18 @@ ROWS = [
      ["dragoon: the store none was missing: nothing was compared", MARKED]),
     ("an analysis of a store that is empty", lambda: pathlib.Path("none").touch(), ["store=none", BOOK, "analyse", "7", "mono"], "", 1, None,
      ["dragoon: the store none was empty: nothing was compared"]),
+    ("a store made over a damaged head", lambda: put("worked.store", 30, b"\x09"), [STORE, "init", "7", "60", "3", "ta"], "", 13, "fault AlreadyThere\n",
+     [f"dragoon: the store worked.store holds {FRONT}"]),
+    ("a store made over a text of some length", lambda: pathlib.Path("text").write_bytes(b"some notes of mine\n" * 9), ["store=text", "init", "7", "60", "3", "ta"], "", 13, "fault AlreadyThere\n",
+     ["dragoon: the store text holds neither a store nor a notary's book, and stays as it is: name another file"]),
+    ("a migration over one that was cut off", lambda: put("worked.store", 0, b"\0"), [OLD, "target=worked.store", "migrate", "7"], "", 13, "fault AlreadyThere\n",
+     ["dragoon: the target worked.store holds the front of a store, cut or damaged, and stays as it is: name another file"]),
+    ("a store with a turned letter", lambda: put("worked.store", 5, b"o"), [STORE, "run", "7"], "", 4, "fault NotAStore\n",
+     [f"dragoon: the store worked.store holds {FRONT}"]),
+    ("a store with a turned letter, validated", lambda: put("worked.store", 1, b"\x04"), [STORE, BOOK, "validate", "7"], "", 1, "header altered 1\n",
+     ["dragoon: the store worked.store holds the front of a store, cut or damaged", "dragoon: the store worked.store doesn't begin as .."]),
+    ("a book with a turned letter", lambda: put("worked.book", 7, b"k"), [STORE, BOOK, "validate", "7"], "", 6, "fault NotaryFault\n",
+     [f"dragoon: the notary's book worked.book holds the front of a notary's book, cut or damaged; {COPIES_FIRST}"]),
     ("a validation without a store", None, [BOOK, "validate", "7"], "", 1, "header altered 1\n",
      ["dragoon: no store=FILE was named: nothing was compared", MARKED]),
     ("a drill's line that isn't whole", None, ["drill"], "init 7 60 3 ta\ncrash 4\n", 3, "ready 7\nrefused Syntax\n",

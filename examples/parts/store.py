@@ -128,13 +128,14 @@ def what_is(content):
     header = verify.header_of(content)
     if header:
         return f"it is a store with the id {header[1]}"
-    if content[:9] == b"\xa7DRAGBOK1":
-        is_whole = len(content) > 64 and not any(content[9:64])
-        return "it is a notary's book" if is_whole else "it begins as a notary's book, whose front is cut or damaged"
     if content[1:9] in verify.LETTERS and content[0] != verify.OPEN:
         return "it is a store whose header's gate is closed"
     if content[1:9] in verify.LETTERS:
         return "it begins as a store, and " + ("ends within the header" if len(content) < 65 else "its header has a field that no store has")
+    if verify.begins_as(content, b"DRAGOON"):
+        return "it begins as a store, and one of its letters is damaged"
+    if verify.begins_as(content, b"DRAGBOK"):
+        return "it is a notary's book" if verify.is_book(content) else "it begins as a notary's book, whose front is cut or damaged"
     if len(content) == 1:
         return "it has 1 byte"
     if not any(content):

@@ -58,15 +58,26 @@ pub(crate) enum Letters {
 
 impl Letters {
     fn of(head: &[u8]) -> Letters {
-        let letters = head.get(1..).unwrap_or(&[]);
-        if letters.starts_with(b"DRAGOON".as_slice()) {
+        if is_near(head, b"DRAGOON".as_slice()) {
             Letters::Store
-        } else if letters.starts_with(b"DRAGBOK".as_slice()) {
+        } else if is_near(head, b"DRAGBOK".as_slice()) {
             Letters::Book
         } else {
             Letters::None
         }
     }
+}
+
+/// Whether these letters stand behind the first byte. One of them may be damaged.
+fn is_near(head: &[u8], letters: &[u8]) -> bool {
+    let there = head.get(1..).unwrap_or(&[]);
+    let mut same: usize = 1;
+    for (letter, byte) in letters.iter().zip(there) {
+        if letter == byte {
+            same = same.saturating_add(1);
+        }
+    }
+    same >= letters.len()
 }
 
 /// Bytes behind the last closed gate that an append which was cut off doesn't leave.

@@ -116,6 +116,14 @@ impl Ending<'_, '_> {
     }
 }
 
+/// Whether it begins as a store, and is none.
+fn is_front(found: Found) -> bool {
+    match found {
+        Found::Empty { letters, .. } | Found::Other { letters } => letters == Letters::Store,
+        _ => false,
+    }
+}
+
 /// Whether the call was carried out to its end.
 pub(crate) fn is_done(ending: &Ending<'_, '_>) -> bool {
     matches!(
@@ -347,13 +355,21 @@ fn is_not_writable(error: io::Error) -> bool {
     error.kind() == ErrorKind::PermissionDenied || error.kind() == ErrorKind::ReadOnlyFilesystem
 }
 
+const COPIES_FIRST: &str = "it stays as it is, so look for copies first (docs/OPERATING.md)";
+
 // Of a book that is none.
 fn tell_odd<W: fmt::Write>(device: &Named<'_>, f: &mut fmt::Formatter<W>) -> fmt::Result {
     match device.found {
         Found::Book { .. } => write!(
             f,
-            "{device} is damaged: its records don't follow one another as a notary's do; it stays as it is, so look for copies first (docs/OPERATING.md)"
+            "{device} is damaged: its records don't follow one another as a notary's do; {COPIES_FIRST}"
         ),
+        Found::Other {
+            letters: Letters::Book,
+        } => {
+            let kind = Kind(device.found);
+            write!(f, "{device} {kind}; {COPIES_FIRST}")
+        }
         found => {
             let kind = Kind(found);
             write!(
@@ -390,21 +406,18 @@ fn tell_other<W: fmt::Write>(ending: &Ending<'_, '_>, f: &mut fmt::Formatter<W>)
                 "{store} {kind}: make one by `init`, or name the right file"
             )
         }
-        (
-            _,
-            Found::Empty {
-                letters: Letters::Store,
-                ..
-            }
-            | Found::Other {
-                letters: Letters::Store,
-            },
-        ) => write!(
-            f,
-            "{store} {kind}: a making that was cut off leaves such bytes, and so does whoever damages a store. Keep it as it is, and look for copies; docs/OPERATING.md"
-        ),
+        (_, found) if is_front(found) => tell_front(store, f),
         _ => write!(f, "{store} {kind}: name the right file"),
     }
+}
+
+// Of a file that begins as a store.
+fn tell_front<W: fmt::Write>(device: &Named<'_>, f: &mut fmt::Formatter<W>) -> fmt::Result {
+    let kind = Kind(device.found);
+    write!(
+        f,
+        "{device} {kind}: a making that was cut off leaves such bytes, and so does whoever damages a store. Keep it as it is, and look for copies; docs/OPERATING.md"
+    )
 }
 
 /// The analyses of which all tiles of a store that was found have the chains.
@@ -465,16 +478,8 @@ fn tell_too_late<W: fmt::Write>(store: &Named<'_>, f: &mut fmt::Formatter<W>) ->
 }
 
 fn tell_taken<W: fmt::Write>(store: &Named<'_>, f: &mut fmt::Formatter<W>) -> fmt::Result {
-    match store.found {
-        Found::Store { .. } | Found::Book { .. } => {
-            let kind = Kind(store.found);
-            write!(f, "{store} {kind}, and stays as it is: name another file")
-        }
-        _ => write!(
-            f,
-            "{store} holds something and stays as it is: name another file"
-        ),
-    }
+    let kind = Kind(store.found);
+    write!(f, "{store} {kind}, and stays as it is: name another file")
 }
 
 impl fmt::Display for Ending<'_, '_> {
@@ -514,6 +519,7 @@ impl fmt::Display for Ending<'_, '_> {
                 write!(f, "somebody else filed with {notary}: `notarize` again")
             }
             Status::AlreadyThere if moves => tell_taken(target, f),
+            Status::AlreadyThere if is_front(store.found) => tell_front(store, f),
             Status::AlreadyThere => tell_taken(store, f),
             Status::ClockBack { last } => tell_clock_back(store, last, f),
             Status::TooLate => tell_too_late(store, f),
