@@ -35,7 +35,11 @@ OTHER_ID = "dragoon: the store worked.store has the id 7, and not 8"
 OLD = "store=old.store"
 OLD_ID = "the store old.store has the id 7, and not 8, and begins at 1970-01-01 00:00:00 UTC: name the right file and id"
 FRONT = "the front of a store, cut or damaged: a making that was cut off leaves such bytes, and so does whoever damages a store. Keep it as it is, and look for copies; docs/OPERATING.md"
+OTHER_RUN = f"{OTHER_ID}, and begins at 1970-01-01 00:00:00 UTC: name the right file and id"
+KNOWN = "filed under the id 7: a store of that id was there. Look for its file or for copies, and make none anew; docs/OPERATING.md"
+HAS_TILE = f"dragoon: the notary's book worked.book has 1 tile {KNOWN}"
 COPIES_FIRST = "it stays as it is, so look for copies first (docs/OPERATING.md)"
+DAMAGED = f"dragoon: the notary's book worked.book is damaged: its records don't follow one another as a notary's do; {COPIES_FIRST}"
 IS_OLD = "the store old.store is a file of the first format, to which nothing is added: `target=FILE migrate ID` writes what it holds to a new one"
 
 
@@ -59,6 +63,14 @@ def many_items():
     """The table of the new store is its first item of 300."""
     new_store()
     call(["store=new.store", "run", "7"], "create t k int\n" + "".join(f"insert t {key}\n" for key in range(299)))
+
+
+def book_of_9():
+    """The book of another store: its batches are filed under the id 9."""
+    new_store()
+    call(["store=new.store", "notary=worked.book", "notarize", "7"], "")
+    for place in (70, 131):
+        put("worked.book", place, (9).to_bytes(8, "big"))
 
 
 def later_book():
@@ -182,9 +194,32 @@ ROWS = [
     ("a run by the clock whose report runs back", later_book, ["store=altered.store", BOOK, "run", "7"], "analyse mono\n", 0, None,
      [f"dragoon: the store altered.store {KEEP}; docs/ANALYSIS.md says how to read the report", WENT_BACK]),
     ("a validation of a store that is missing", None, ["store=none", BOOK, "validate", "7"], "", 1, "header altered 1\n",
-     ["dragoon: the store none was missing: nothing was compared", MARKED]),
+     ["dragoon: the store none was missing: nothing was compared", HAS_TILE, MARKED]),
     ("an analysis of a store that is empty", lambda: pathlib.Path("none").touch(), ["store=none", BOOK, "analyse", "7", "mono"], "", 1, None,
-     ["dragoon: the store none was empty: nothing was compared"]),
+     ["dragoon: the store none was empty: nothing was compared", HAS_TILE]),
+    ("a run over a store that is missing, and its book has it", None, ["store=none", BOOK, "run", "7"], "", 4, "fault NotAStore\n",
+     ["dragoon: the store none is missing: name the right file", HAS_TILE]),
+    ("a filing of one, and of three books one has it", lambda: shutil.copy("worked.book", "c"), ["store=none", QUORUM, "notarize", "7"], "", 4, "fault NotAStore\n",
+     ["dragoon: the store none is missing: name the right file", "dragoon: notary 1 of 3 (a) was missing; ..", "dragoon: notary 2 of 3 (b) was missing; ..", f"dragoon: notary 3 of 3 (c) has 1 tile {KNOWN}", f"dragoon: {LOST}"]),
+    ("a store made anew, and its book has its header", lambda: (new_store(), call(["store=new.store", "notary=new.book", "notarize", "7"], "")), ["store=none", "notary=new.book", "init", "7", "60", "3", "ta"], "", 0, "ready 7\n",
+     [f"dragoon: the notary's book new.book has the header {KNOWN}", "dragoon: the notary's book new.book isn't used by this command"]),
+    ("a store made beside a book that hasn't it", None, ["store=none", BOOK, "init", "8", "60", "3", "ta"], "", 0, "ready 8\n",
+     ["dragoon: the notary's book worked.book isn't used by this command"]),
+    ("a run over a store that is missing, beside a damaged book", two_batches_with_one_index, ["store=none", BOOK, "run", "7"], "", 4, "fault NotAStore\n",
+     ["dragoon: the store none is missing: name the right file", DAMAGED]),
+    ("another id, and the book has it", None, [STORE, BOOK, "run", "8"], "", 4, "fault NotAStore\n", [OTHER_RUN]),
+    ("another id, and the book has that one", store_8, ["store=new.store", BOOK, "run", "7"], "", 4, "fault NotAStore\n",
+     ["dragoon: the store new.store has the id 8, and not 7, and begins at ..", HAS_TILE]),
+    ("another id, and a book that is missing", None, [STORE, "notary=none", "run", "8"], "", 4, "fault NotAStore\n",
+     [OTHER_RUN, "dragoon: the notary's book none was missing"]),
+    ("another id, and a store for a book", None, [STORE, "notary=old.store", "run", "8"], "", 4, "fault NotAStore\n",
+     [OTHER_RUN, "dragoon: the notary's book old.store holds a store of the first format with the id 7, which begins at 1970-01-01 00:00:00 UTC"]),
+    ("another id, and a damaged book, in a run", two_batches_with_one_index, [STORE, BOOK, "run", "8"], "", 4, "fault NotAStore\n", [OTHER_RUN, DAMAGED]),
+    ("another id, and a book of a third one", book_of_9, [STORE, BOOK, "notarize", "8"], "", 4, "fault NotAStore\n",
+     [OTHER_RUN, "dragoon: the notary's book worked.book has nothing that was filed under the id 7 or 8"]),
+    ("another id, and a book with a closed gate", lambda: put("worked.book", 125, b"\x00"), [STORE, BOOK, "run", "8"], "", 4, "fault NotAStore\n",
+     [OTHER_RUN, f"dragoon: the notary's book worked.book ends at byte 126, and 787 bytes stand behind it: {BEHIND}"]),
+    ("a run over format 1, and a damaged book", two_batches_with_one_index, [OLD, BOOK, "run", "7"], "", 20, "fault OldFormat\n", [f"dragoon: {IS_OLD}", DAMAGED]),
     ("a store made over a damaged head", lambda: put("worked.store", 30, b"\x09"), [STORE, "init", "7", "60", "3", "ta"], "", 13, "fault AlreadyThere\n",
      [f"dragoon: the store worked.store holds {FRONT}"]),
     ("a store made over a text of some length", lambda: pathlib.Path("text").write_bytes(b"some notes of mine\n" * 9), ["store=text", "init", "7", "60", "3", "ta"], "", 13, "fault AlreadyThere\n",

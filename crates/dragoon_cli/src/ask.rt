@@ -58,7 +58,12 @@ impl Ask {
 
     /// The id that its words give of a store that is there.
     pub(crate) fn id(self, call: &[String]) -> Option<u64> {
-        if !self.uses_store() || self == Ask::Link || self == Ask::Init {
+        self.named_id(call).filter(|_| self != Ask::Init)
+    }
+
+    /// The same, also of a store that is to be made.
+    pub(crate) fn named_id(self, call: &[String]) -> Option<u64> {
+        if !self.uses_store() || self == Ask::Link {
             return None;
         }
         call.get(1)?.as_str().parse::<u64>().ok()

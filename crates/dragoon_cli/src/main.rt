@@ -8,6 +8,7 @@
 //! |---|---|
 //! | a line of progress, and how lines are given at a terminal | `progress`, moved by `watched` |
 //! | what a file was before the call, by a look of its own | `peek` |
+//! | what a book says of an id without a store | `known` |
 //! | which reply was refused first, and to which line | `heard`, `lines` |
 //! | which sessions are left without a commit | `sessions` |
 //! | which notary of a quorum failed, or differed | `ballot`, told by `members` |
@@ -17,8 +18,9 @@
 //! | words that are no command | `nearest` |
 //!
 //! None of this changes output or status. What is told is made from values that the call has left behind. The look comes
-//! before the call and is done with its file and its memory by then; where it fails nothing is told of the file. Where
-//! memory is wanting for a line or a guess it is left out, and what standard error doesn't take is lost.
+//! before the call and is done with its file and its memory by then; where it fails nothing is told of the file. Behind a
+//! call that found no store, books are read once more. Where memory is wanting for a line or a guess it is left out, and
+//! what standard error doesn't take is lost.
 #![tactic(auto)]
 
 ghost use Rattle.std.specs.Prelude.{◌≡◌, ◌≤◌, IfOk, length};
@@ -29,6 +31,7 @@ mod date;
 mod device;
 mod faults;
 mod heard;
+mod known;
 mod lines;
 mod members;
 mod nearest;
@@ -51,6 +54,7 @@ mod wording;
 use crate::ask::Ask;
 use crate::device::Device;
 use crate::heard::Heard;
+use crate::known::{Known, Missed};
 use crate::lines::Lines;
 use crate::members::quorum_of;
 use crate::peek::{Found, look};
@@ -356,6 +360,7 @@ fn carry_out<'a, R: Runtime + Files<File = File> + AllocGlobal + Drop>(
     named_store.was_written = store.is_written();
     named_target.error = target.below().error();
     named_target.was_written = target.is_written();
+    let missed = Missed::of(ask, call, status, named_store.found);
     for (place, (named, member)) in named_books
         .iter_mut()
         .zip(notary.into_members())
@@ -366,6 +371,10 @@ fn carry_out<'a, R: Runtime + Files<File = File> + AllocGlobal + Drop>(
         named.was_made = disk.below().was_made();
         named.was_written = disk.is_written();
         named.odd = shared.ballot.odd(place);
+        named.known = match missed {
+            Some(missed) => missed.known_by(rt, rt.alloc(), named.path),
+            None => Known::Unasked,
+        };
     }
     let ending = Ending {
         ask,

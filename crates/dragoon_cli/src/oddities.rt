@@ -3,9 +3,11 @@
 
 use crate::ask::Ask;
 use crate::ballot::Odd;
+use crate::known::Known;
 use crate::peek::{Behind, Found};
 use crate::telling::{
-    Called, Ending, IS_OLD, Kind, Named, Notaries, OtherId, Was, is_done, tell_member_failed,
+    Called, Ending, IS_OLD, Kind, Knows, Named, Notaries, OtherId, Was, is_done, tell_damaged,
+    tell_member_failed,
 };
 use dragoon_app::Status;
 use history_model::Format;
@@ -36,6 +38,17 @@ enum Oddity<'a> {
         device: &'a Named<'a>,
     },
     OtherId(OtherId<'a>),
+    /// No store of an id was found, and a book has it.
+    Knows(Knows<'a>),
+    /// A book that wasn't asked is one that no notary takes.
+    Damaged {
+        book: &'a Named<'a>,
+    },
+    /// A book that wasn't asked has neither the id of the words nor that of the store.
+    Foreign {
+        book: &'a Named<'a>,
+        other: OtherId<'a>,
+    },
     /// Nothing is added to a store of its format.
     Old {
         store: &'a Named<'a>,
@@ -83,8 +96,10 @@ pub(crate) fn tell_oddities<R: Eprint>(rt: &R, ending: &Ending<'_, '_>) -> io::R
         say(rt, nothing_in(ending, book))?;
         say(rt, strange_in(ending, book))?;
         say(rt, odd_in(ending, book))?;
+        say(rt, unasked(ending, book))?;
     }
     let others = [
+        ending.knows().map(Oddity::Knows),
         overwritten(ending),
         unused(store, ending.ask.uses_store()),
         unused(&ending.copy, false),
@@ -118,9 +133,11 @@ fn is_told(ending: &Ending<'_, '_>, device: &Named<'_>) -> bool {
     is_of_fault || device.error.is_some()
 }
 
-/// Whether it made the calls of a notary that the words speak of.
+/// Whether it made the calls of a notary that the words speak of. A run that ended before its first line might have made some.
 fn uses_notary(ending: &Ending<'_, '_>) -> bool {
-    ending.ask.uses_notary() && (ending.ask != Ask::Run || ending.heard.uses_notary())
+    let heard = ending.heard;
+    let is_cut_short = heard.replies == 0 && !is_done(ending);
+    ending.ask.uses_notary() && (ending.ask != Ask::Run || heard.uses_notary() || is_cut_short)
 }
 
 /// Whether it was missing, or empty.
@@ -225,6 +242,21 @@ fn odd_in<'a>(ending: &'a Ending<'a, 'a>, device: &'a Named<'a>) -> Option<Oddit
     }
     let ask = ending.ask;
     Some(Oddity::Odd { device, ask })
+}
+
+/// What is odd about a book that the call didn't come to ask.
+fn unasked<'a>(ending: &'a Ending<'a, 'a>, book: &'a Named<'a>) -> Option<Oddity<'a>> {
+    match (book.known, ending.other_id()) {
+        (Known::Damaged, _) if !is_told(ending, book) => Some(Oddity::Damaged { book }),
+        (
+            Known::Batches {
+                of_id: 0,
+                of_store: 0,
+            },
+            Some(other),
+        ) => Some(Oddity::Foreign { book, other }),
+        _ => None,
+    }
 }
 
 /// Whether the call failed since all books but this one were missing or empty.
@@ -366,6 +398,15 @@ impl fmt::Display for Oddity<'_> {
                 write!(f, "{device} {kind}")
             }
             Oddity::OtherId(other) => write!(f, "{other}"),
+            Oddity::Knows(knows) => write!(f, "{knows}"),
+            Oddity::Damaged { book } => tell_damaged(book, f),
+            Oddity::Foreign { book, other } => {
+                let OtherId { id, asked, .. } = other;
+                write!(
+                    f,
+                    "{book} has nothing that was filed under the id {id} or {asked}"
+                )
+            }
             Oddity::Old { store } => write!(f, "{store} {IS_OLD}"),
             Oddity::Odd { device, ask } => tell_odd(device, ask, f),
             Oddity::Overwritten { device } => {

@@ -5,6 +5,7 @@ use crate::ask::Ask;
 use crate::ballot::Odd;
 use crate::date::{Date, Moment};
 use crate::heard::Heard;
+use crate::known::Known;
 use crate::lines::Refused;
 use crate::nearest::tell_usage;
 use crate::oddities::tell_oddities;
@@ -32,7 +33,7 @@ pub(crate) enum Called {
 
 /// A device as whoever runs the program knows it: what it is called, its file where one was named, what was found there
 /// before the call, why its last call that failed did so, whether it was missing and was made, whether something was
-/// written to it, and how a notary stood out among others.
+/// written to it, how a notary stood out among others, and what its book says of an id without a store.
 #[derive(Clone, Copy)]
 pub(crate) struct Named<'a> {
     pub(crate) called: Called,
@@ -42,6 +43,7 @@ pub(crate) struct Named<'a> {
     pub(crate) was_made: bool,
     pub(crate) was_written: bool,
     pub(crate) odd: Odd,
+    pub(crate) known: Known,
 }
 
 impl<'a> Named<'a> {
@@ -54,6 +56,7 @@ impl<'a> Named<'a> {
             was_made: false,
             was_written: false,
             odd: Odd::No,
+            known: Known::Unasked,
         }
     }
 }
@@ -94,8 +97,16 @@ pub(crate) struct Ending<'a, 'w> {
 #[derive(Clone, Copy)]
 pub(crate) struct OtherId<'a> {
     store: &'a Named<'a>,
+    pub(crate) id: u64,
+    pub(crate) asked: u64,
+}
+
+/// A book that has an id of which no store stood where one was named.
+#[derive(Clone, Copy)]
+pub(crate) struct Knows<'a> {
+    book: &'a Named<'a>,
     id: u64,
-    asked: u64,
+    batches: u32,
 }
 
 impl Ending<'_, '_> {
@@ -113,6 +124,43 @@ impl Ending<'_, '_> {
             }
             _ => None,
         }
+    }
+
+    /// The first such book. Of a store that is cut or damaged the line of the fault says what to look for.
+    pub(crate) fn knows(&self) -> Option<Knows<'_>> {
+        let id = self.ask.named_id(self.call)?;
+        let is_told = match self.status {
+            Status::NotAStore => is_front(self.store.found),
+            Status::OldFormat => true,
+            _ => self.store.path.is_none(),
+        };
+        if is_told {
+            return None;
+        }
+        self.notaries.0.iter().find_map(|book| match book.known {
+            Known::Batches { of_id, .. } if of_id > 0 => Some(Knows {
+                book,
+                id,
+                batches: of_id,
+            }),
+            _ => None,
+        })
+    }
+
+    /// Whether no book has the id, and none hides what it has.
+    fn is_new(&self) -> bool {
+        self.notaries.0.iter().all(|book| match (book.known, book.found) {
+            (Known::Damaged, _)
+            | (
+                _,
+                Found::Book {
+                    behind: Some(_),
+                    ..
+                },
+            ) => false,
+            (Known::Batches { of_id, .. }, _) => of_id == 0,
+            (Known::Unasked, _) => true,
+        })
     }
 }
 
@@ -198,6 +246,26 @@ impl fmt::Display for OtherId<'_> {
     fn fmt<W: fmt::Write>(&self, f: &mut fmt::Formatter<W>) -> fmt::Result {
         let OtherId { store, id, asked } = *self;
         write!(f, "{store} has the id {id}, and not {asked}")
+    }
+}
+
+/// The first batch is the header's, and each later one a tile's.
+impl fmt::Display for Knows<'_> {
+    fn fmt<W: fmt::Write>(&self, f: &mut fmt::Formatter<W>) -> fmt::Result {
+        let Knows { book, id, batches } = *self;
+        write!(f, "{book} has ")?;
+        match batches {
+            0 | 1 => write!(f, "the header")?,
+            2 => write!(f, "1 tile")?,
+            _ => {
+                let tiles = batches.saturating_sub(1);
+                write!(f, "{tiles} tiles")?;
+            }
+        }
+        write!(
+            f,
+            " filed under the id {id}: a store of that id was there. Look for its file or for copies, and make none anew; docs/OPERATING.md"
+        )
     }
 }
 
@@ -355,15 +423,23 @@ fn is_not_writable(error: io::Error) -> bool {
     error.kind() == ErrorKind::PermissionDenied || error.kind() == ErrorKind::ReadOnlyFilesystem
 }
 
+// Of a book whose records no notary takes.
+pub(crate) fn tell_damaged<W: fmt::Write>(
+    device: &Named<'_>,
+    f: &mut fmt::Formatter<W>,
+) -> fmt::Result {
+    write!(
+        f,
+        "{device} is damaged: its records don't follow one another as a notary's do; {COPIES_FIRST}"
+    )
+}
+
 const COPIES_FIRST: &str = "it stays as it is, so look for copies first (docs/OPERATING.md)";
 
 // Of a book that is none.
 fn tell_odd<W: fmt::Write>(device: &Named<'_>, f: &mut fmt::Formatter<W>) -> fmt::Result {
     match device.found {
-        Found::Book { .. } => write!(
-            f,
-            "{device} is damaged: its records don't follow one another as a notary's do; {COPIES_FIRST}"
-        ),
+        Found::Book { .. } => tell_damaged(device, f),
         Found::Other {
             letters: Letters::Book,
         } => {
@@ -400,7 +476,7 @@ fn tell_other<W: fmt::Write>(ending: &Ending<'_, '_>, f: &mut fmt::Formatter<W>)
             f,
             "no store=FILE was named: name one, which `init` makes if it is new"
         ),
-        (_, Found::Missing | Found::Empty { bytes: 0, .. }) => {
+        (_, Found::Missing | Found::Empty { bytes: 0, .. }) if ending.is_new() => {
             write!(
                 f,
                 "{store} {kind}: make one by `init`, or name the right file"
