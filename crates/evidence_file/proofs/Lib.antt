@@ -1,0 +1,9 @@
+pub mod Skips
+pub mod PartLaws
+pub mod FileLaws
+pub mod Steps
+pub mod Counting
+pub mod ShownLaws
+pub mod Leaves
+pub mod Taken
+pub mod Gathered

@@ -1,0 +1,5 @@
+pub mod Evidence
+pub mod Reading
+pub mod Writing
+pub mod Shown
+pub mod Gathering
