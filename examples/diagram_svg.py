@@ -15,7 +15,7 @@ import sys
 from html import escape
 
 sys.dont_write_bytecode = True
-from parts.script import Refused, put
+from parts.script import Refused, plain, put
 from parts.store import Store
 
 CELL, LEAST_LEFT, TOP = 24, 130, 64
@@ -161,7 +161,7 @@ def main(words):
         text = open(words[0]).read() if words else sys.stdin.read()
     except (OSError, UnicodeDecodeError) as fault:
         why = fault.strerror if isinstance(fault, OSError) else "it is no text"
-        return f"diagram_svg: {words[0] if words else 'standard input'} can't be read: {why}"
+        return f"diagram_svg: {plain(words[0]) if words else 'standard input'} can't be read: {why}"
     if not text.startswith("report "):
         return "diagram_svg: this is no report"
     head, events, *rest = read(text)

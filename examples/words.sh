@@ -12,6 +12,9 @@ takes() {
     for word in "$@"; do [[ $word != -* ]] || refuse; done
 }
 
+# plain TEXT: the text, with a `?` for each letter that can't be printed, so that it steers no terminal
+plain() { printf '%s\n' "${1//[^[:print:]]/?}"; }
+
 # refuse: prints the words that the script takes, and ends with 2
 refuse() { sed -n '/^#     /{s/^# */usage: /; s/   .*//; p; q}' "$0" >&2; exit 2; }
 
@@ -20,7 +23,7 @@ is_there() {
     [ ! "$1" "$2" ] || { [ "$1" = -r ] && [ -d "$2" ]; } || return 0
     local what='file that can be read'
     [ "$1" = -r ] || what=folder
-    echo "${0##*/}: there is no $what ${2//[^[:print:]]/?}" >&2
+    plain "${0##*/}: there is no $what $2" >&2
     exit 2
 }
 
@@ -35,7 +38,7 @@ new_folder() {
 }
 made_in() {
     mktemp "${@:3}" 2>/dev/null && return
-    echo "${0##*/}: nothing can be made in the folder ${1//[^[:print:]]/?}: $2" >&2
+    plain "${0##*/}: nothing can be made in the folder $1: $2" >&2
     return 1
 }
 

@@ -5,7 +5,8 @@
 
 Each is run in an empty folder, with an input that never ends and without a program: with `--help` (status 0), with `--wrong words`
 and with nine words that are none (status 2). None may take ten seconds, leave a file, or print a traceback. So it is of a word too
-many behind those that ./dragoon takes alone. Where bench/ is missing, as in an installed copy, examples/ is tried alone.
+many behind those that ./dragoon takes alone. Scripts on duty are given files that aren't there, under a name that would clear the
+terminal: none may print that. Where bench/ is missing, as in an installed copy, examples/ is tried alone.
 """
 import concurrent.futures
 import os
@@ -20,6 +21,15 @@ from program import EXAMPLES, Wrong, count_of
 # what other scripts take in, and is no script itself
 PIECES = {"examples/words.sh", "examples/operate/watched.py", "examples/checks/program.py"}
 HELP, WRONG, NINE = ["--help"], ["--wrong", "words"], ["no", "such", "words", "are", "taken", "by", "any", "script", "here"]
+# what is named in odd letters, and the words of those that are tried so
+ODD = "\x1b[2Jodd"
+NAMED = {
+    "examples/anchor/anchor": ["check", ODD, ODD, ODD], "examples/case": [ODD, ODD, ODD, "7"], "examples/diagram_svg.py": [ODD], "examples/explain": [ODD, ODD, "7"],
+    "examples/fleet/one": [f"{ODD} {ODD} 7"], "examples/fleet/validate_all": [ODD, ODD], "examples/look.py": [ODD], "examples/on_copy": [f"store={ODD}", "link"],
+    "examples/operate/check_dragoon": ["store", ODD], "examples/operate/hold": [ODD, "7"], "examples/operate/job": ["notarize", ODD], "examples/operate/metrics": [ODD, ODD],
+    "examples/operate/serve": [ODD], "examples/quorum/compare": [ODD, "/"], "examples/quorum/mend": [ODD, ODD, "/"], "examples/second_machine/receive": [ODD, "7"],
+    "examples/successor/walk_back": [ODD, ODD, "7"], "examples/verify.py": [ODD, ODD, "7"],
+}
 # a service of Nagios says by 3 that it can't tell
 OTHERWISE = {"examples/operate/check_dragoon": 3}
 
@@ -67,16 +77,27 @@ def answer(call, words):
     return None
 
 
+def shown_raw(call):
+    """What is wrong where a script prints the odd letters of a name as they are, or None."""
+    name, run = call
+    with tempfile.TemporaryDirectory() as folder:
+        place = {**os.environ, "DRAGOON": "/nowhere/dragoon", "TMPDIR": folder, "WAIT": "0"}
+        done = subprocess.run([*run, *NAMED[name]], cwd=folder, env=place, stdin=subprocess.DEVNULL, capture_output=True, text=True, timeout=10)
+    said = done.stdout + done.stderr
+    return f"{name} prints a name's odd letters, or not the name: {said!r}" if "\x1b" in said or "[2Jodd" not in said else None
+
+
 def main(words):
     count_of(words, None, __doc__)
     tries = [(script, kind) for script in scripts() for kind in (HELP, WRONG, NINE)]
     count = len(tries) // 3
     tries += [(call, ["words"]) for call in wrapper()]
     with concurrent.futures.ThreadPoolExecutor(os.cpu_count()) as pool:
-        wrong = [it for it in pool.map(answer, *zip(*tries)) if it]
+        named = [call for call in scripts() if call[0] in NAMED]
+        wrong = [it for it in (*pool.map(answer, *zip(*tries)), *pool.map(shown_raw, named)) if it]
     if wrong:
         raise Wrong(f"{len(wrong)} of {len(tries)}:\n" + "\n".join(wrong))
-    print(f"words: {count} scripts answer --help, and refuse wrong words")
+    print(f"words: {count} scripts answer --help, and refuse wrong words; {len(named)} show a name's odd letters as text")
 
 
 if __name__ == "__main__":
