@@ -167,10 +167,10 @@ def files(folder):
     policy = record(b"\x03" + bytes(8) + b"\x02\x03")
     for name, content in (("cut", worked[:65]), ("hides_all", worked[:64] + b"\xa6" + worked[65:]), ("policy", worked[:64] + policy + worked[64:]),
                           ("empty", b""), ("short", b"x\n"), ("zeros", bytes(500)), ("other_id", worked[:16] + b"\x08" + worked[17:]), ("wide", worked[:28] + b"\x3d" + worked[29:]),
-                          ("closed", b"\0" + worked[1:]), ("text", b"this is a text, and no store\n" * 9), ("hidden", worked[:430] + b"\0" + worked[431:])):
+                          ("closed", b"\0" + worked[1:]), ("turned", worked[:5] + b"o" + worked[6:]), ("text", b"this is a text, and no store\n" * 9), ("hidden", worked[:430] + b"\0" + worked[431:])):
         (folder / name).write_bytes(content)
     book = BOOK.read_bytes()
-    for name, place, byte in (("hides_filings", 64, b"\xa6"), ("other_kind", 130, b"\3"), ("other_digest", 160, b"\0"), ("other_front", 40, b"\1")):
+    for name, place, byte in (("hides_filings", 64, b"\xa6"), ("other_kind", 130, b"\3"), ("other_digest", 160, b"\0"), ("other_front", 40, b"\1"), ("turned_book", 7, b"k")):
         (folder / name).write_bytes(book[:place] + byte + book[place + 1:])
 
 
@@ -196,6 +196,10 @@ SAYS = [
     ("dump.py", ("--granule", "99", WORKED), 0, ("dump: nothing is written",)),
     ("dump.py", ("hides_all",), 0, ("dump: behind the end of", "380 bytes: a crash", "dump: nothing is written")),
     ("dump.py", ("closed",), 3, ("whose header's gate is closed",)),
+    ("look.py", ("turned",), 3, ("is no store: it begins as a store, and one of its letters is damaged",)),
+    ("look.py", (WORKED, "turned_book", "7"), 3, ("is no notary's book: it begins as a notary's book, whose front is cut or damaged",)),
+    ("verify.py", (WORKED, "turned_book", "7"), 3, ("it begins as one, and its front is cut or damaged",)),
+    ("explain", ("turned", BOOK, "7"), 1, ("Header altered: ", "it begins as a store, and one of its letters is damaged")),
     ("differ.py", (ALTERED, WORKED), 1, ("v: 1 in the store, 0 in the copy", "1 of 9 transactions differs, in granule 5;")),
     ("differ.py", ("--granule", "5", ALTERED, WORKED), 1, ("1 of 1 transaction differs, in granule 5;",)),
     ("differ.py", ("--granule", "4", ALTERED, WORKED), 0, ("0 of 1 transaction differ",)),
@@ -328,9 +332,15 @@ def kept(folder):
             raise Wrong(f"{name} {' '.join(map(str, words))} ends with {done.returncode}: {done.stdout + done.stderr}")
         if made_folder and subprocess.run(["sha256sum", "-c", "--quiet", "SHA256SUMS"], cwd=folder / made_folder, capture_output=True).returncode:
             raise Wrong(f"{name}: the sums of {made_folder} don't hold")
-    for words, verdict, says in (((BOOK, ALTERED, "7"), "no verdict", "store is no store: it is a notary's book"), ((WORKED, BOOK, "8"), "unsealed", "store has the id 7, and not 8")):
+    for words, status, verdict, says in (
+        ((BOOK, ALTERED, "7"), 3, "no verdict", "store is no store: it is a notary's book"),
+        ((WORKED, BOOK, "8"), 0, "unsealed", "store has the id 7, and not 8"),
+        ((WORKED, folder / "hides_filings", "7"), 3, "no verdict: the notary's book evidence/book ends at byte 65, and 848 bytes stand behind it", "848 bytes stand behind it"),
+        ((ALTERED, folder / "other_kind", "7"), 3, "no verdict: the notary's book evidence/book ends at byte 126, and 787 bytes stand behind it", "787 bytes stand behind it"),
+        ((folder / "hidden", BOOK, "7"), 3, "no verdict: the store evidence/store ends at byte 431, and 14 bytes stand behind it", "14 bytes stand behind it"),
+    ):
         done = subprocess.run([EXAMPLES / "case", folder / "odd case", *words], stdin=subprocess.DEVNULL, capture_output=True, text=True)
-        if done.stdout.split("\n")[0] != verdict or says not in done.stderr:
+        if (done.returncode, done.stdout.split("\n")[0]) != (status, verdict) or says not in done.stderr:
             raise Wrong(f"case {' '.join(map(str, words))} doesn't say {says}: {done.stdout + done.stderr}")
         shutil.rmtree(folder / "odd case")
     for name, status, place, room, says in (
