@@ -269,7 +269,7 @@ def ends(made, folder):
     store.write_bytes(b"")
     served.start()
     served.ends(4, "<2>dragoon alarm=store store=w command=run status=4 fault NotAStore\n")
-    served.is_alarm("store", 2, "run ended with 4")
+    served.is_alarm("store", 2, "was cut or put back: it has 0 bytes")
     (folder / "away").replace(store)
     served.start()
     served.keeps("run", 0, "open")

@@ -227,7 +227,7 @@ def kills(folder, count):
     def anew():
         store_file.write_bytes(store)
         book_file.write_bytes(short)
-        for known in (watched.kept_file(conf), watched.sealed_file(conf)):
+        for known in (watched.kept_file(conf), watched.sealed_file(conf), watched.length_file(conf)):
             known.unlink(missing_ok=True)
         watched.keep(conf, watched.hold(conf)[0], 2)
 

@@ -28,6 +28,7 @@ Book = collections.namedtuple("Book", "content end tiles filed mark")
 Ended = collections.namedtuple("Ended", "status moment answer")
 Kept = collections.namedtuple("Kept", "id tiles end digest moment")
 Sealed = collections.namedtuple("Sealed", "id tiles moment")
+Length = collections.namedtuple("Length", "id bytes moment")
 
 CLEAN, ALTERED = verify.CLEAN, verify.ALTERED
 # the statuses of a command that say something of the store's file, of the notary, or of the history; all others are faults
@@ -45,6 +46,10 @@ class Unknown(Wrong):
 
 class Rewritten(Wrong):
     """The book isn't what it was. A book only grows."""
+
+
+class Shorter(Wrong):
+    """The store isn't as long as it was. A store only grows."""
 
 
 def date(seconds):
@@ -204,7 +209,8 @@ def kept_in(file, kind):
         return None
     except ValueError as error:
         both = f"{file.with_suffix('.book')} and {file.with_suffix('.sealed')}"
-        raise Wrong(f"{file} is garbled, so nobody knows what the book was: hold it against its copies, then remove {both}") from error
+        which, remove = ("store", file) if kind is Length else ("book", both)
+        raise Wrong(f"{file} is garbled, so nobody knows what the {which} was: hold it against its copies, then remove {remove}") from error
 
 
 def left_in(file):
@@ -297,6 +303,29 @@ def write_whole(path, text):
         os.close(folder)
 
 
+# ---- what `job` keeps of the store
+
+
+def length_file(conf):
+    return pathlib.Path(conf.state) / f"{conf.name}.length"
+
+
+def hold_store(conf, durable=False):
+    """How long the store is, and what was kept of that, or None. It only grows."""
+    kept, (_, length) = kept_in(length_file(conf), Length), content_of(conf.store, 0, durable)
+    if kept and kept.id == conf.id and length < kept.bytes:
+        had = f"{conf.store} was cut or put back: it has {length} bytes, and had {kept.bytes} on {date(kept.moment)}"
+        raise Shorter(f"{had}. Look for the longer one; where this one is to stay, remove {length_file(conf)}")
+    return length, kept
+
+
+def keep_length(conf):
+    """Keeps how long the store is now, where it grew."""
+    length, kept = hold_store(conf, durable=True)
+    if not kept or (kept.id, kept.bytes) != (conf.id, length):
+        write_kept(length_file(conf), Length(conf.id, length, int(time.time())))
+
+
 # ---- how commands ended
 
 
@@ -340,26 +369,34 @@ def hear(conf, command, told):
         is_kept(conf, command, lambda: write_whole(file, f"{date(int(time.time()))}: {behind[1]}\n"))
 
 
-def between_looks(conf, ask):
-    """What is asked, as a status and an answer, between two looks at the book. The second one keeps what the book is then."""
-    try:
-        if os.path.exists(conf.book):
-            begin(conf, *hold(conf, durable=True))
-    except Unknown as why:
-        return CANNOT, str(why)
-    except Wrong as why:
-        return NOTARY_FAULT, str(why)
+def between_looks(conf, ask, files):
+    """What is asked, as a status and an answer, between two looks at both files. The second one keeps what they are then. Where something
+    may be filed the store is held before: a verdict may say more of one that is shorter."""
+    wrong = look_at(conf, lambda: begin(conf, *hold(conf, durable=True)), lambda: files and hold_store(conf))
+    if wrong:
+        return wrong
     status, answer = ask()
     try:
-        if os.path.exists(conf.book):
-            keep_behind(conf, answer)
-    except Wrong as why:
-        return (status, answer) if status else (NOTARY_FAULT, str(why))
+        # how long a store is counts where the program took it
+        wrong = look_at(conf, lambda: keep_behind(conf, answer), lambda: status or keep_length(conf))
     except OSError as error:
-        why = f"{error.filename}: {error.strerror}"
-        return (status, answer) if status else (CANNOT, f"{answer}, and that can't be kept: {why}")
+        wrong = CANNOT, f"{answer}, and that can't be kept: {error.filename}: {error.strerror}"
     # where nothing was ever filed under the id, nobody looks after this store
-    return (NOTARY_FAULT, answer) if answer == "unsealed" and not status else (status, answer)
+    unsealed = (NOTARY_FAULT, answer) if answer == "unsealed" else None
+    return (status, answer) if status else wrong or unsealed or (status, answer)
+
+
+def look_at(conf, book, store):
+    """What a look at the book finds wrong, or one at the store, as a status and words; or None. What is missing isn't looked at."""
+    for path, look, fault in ((conf.book, book, NOTARY_FAULT), (conf.store, store, STORE_FAULT)):
+        try:
+            if os.path.exists(path):
+                look()
+        except Unknown as why:
+            return CANNOT, str(why)
+        except Wrong as why:
+            return fault, str(why)
+    return None
 
 
 def is_kept(conf, command, write):
@@ -407,7 +444,8 @@ def end_file(conf, command):
 
 def tell_alarm(name, command, status, last):
     """One line, with the level that the journal reads."""
-    print(f"<2>dragoon alarm={alarm_of(status)} store={name} command={command} status={status} {last}", file=sys.stderr, flush=True)
+    said = verify.plain(f"alarm={alarm_of(status)} store={name} command={command} status={status} {last}")
+    print(f"<2>dragoon {said}", file=sys.stderr, flush=True)
 
 
 def last_end(conf, command):
