@@ -252,8 +252,13 @@ def begin(conf, book, kept):
     if book.filed is None:
         raise Wrong(f"{conf.book} has no batch of the id {conf.id}: the first `notarize` is made by hand")
     keep(conf, book, book.tiles)
-    print(f"<4>dragoon store={conf.name} nothing was kept of {conf.book}, so its {book.tiles} sealed tiles are believed: "
-        "hold it against its copies", file=sys.stderr, flush=True)
+    tell_believed(conf, f"{conf.book}, so its {book.tiles} sealed tiles")
+
+
+def tell_believed(conf, what):
+    """One line on what was taken as it was found, with the level that the journal reads."""
+    said = verify.plain(f"store={conf.name} nothing was kept of {what} are believed: hold it against its copies")
+    print(f"<4>dragoon {said}", file=sys.stderr, flush=True)
 
 
 def sealed(conf, kept):
@@ -320,10 +325,12 @@ def hold_store(conf, durable=False):
 
 
 def keep_length(conf):
-    """Keeps how long the store is now, where it grew."""
+    """Keeps how long the store is now, where it grew. Where nothing was kept of it, its length is believed, which is told."""
     length, kept = hold_store(conf, durable=True)
     if not kept or (kept.id, kept.bytes) != (conf.id, length):
         write_kept(length_file(conf), Length(conf.id, length, int(time.time())))
+    if not kept or kept.id != conf.id:
+        tell_believed(conf, f"how long {conf.store} was, so its {length} bytes")
 
 
 # ---- how commands ended
