@@ -6,10 +6,12 @@
 It computes every digest that is planned for the sealed tiles, and compares each with the one that was filed under ID. The
 first line is the verdict, as `validate` words it: `unsealed`, `clean N`, `altered N from P` or `header altered N`. N is the
 number of sealed tiles, and P the first one with a digest that differs. Behind `altered` stands a line for each name: `NAME`
-where the digest differs, else `NAME is not filed` or `NAME is not planned`. Where only a digest of the book was altered, standard error
-says so; `validate` compares fewer, and may say `clean` then. With `--era E` it compares the tiles of that era alone, by their
-parts and nodes: the chain at a tile's end goes by all tiles before, too. N is the number of the era's sealed tiles then. It writes no file, and
-ends with 0 if nothing differs, 1 if something does, 2 on other words, and 3 if a file can't be read or is no book.
+where the digest differs, else `NAME is not filed`, or `NAME is not planned` of a tile behind the last granule. Where only the book was
+altered, standard error says so; `validate` compares fewer digests, and may say `clean` then. What else is filed is compared with nothing,
+and named there, too. With `--era E` it compares the tiles of that era alone, by their parts and nodes: the chain at a tile's end goes by
+all tiles before, too. N is the number of the era's sealed tiles then. It writes no file, and ends with 0 if nothing differs, 1 if something
+does, and 2 on other words. It ends with 3 if a file can't be read or is no book, the store has no era E, or that era's tiles have neither
+chains nor a tree.
 """
 import functools
 import hashlib
@@ -244,6 +246,11 @@ def tiles_within(eras):
     return last.tile + (GRANULES - last.granule >> last.k)
 
 
+def has_no_tile(eras, era):
+    """Whether the next era begins at the same tile."""
+    return era + 1 < len(eras) and eras[era + 1].tile == eras[era].tile
+
+
 def range_of(eras, tiles, era):
     """The tiles of an era among so many."""
     end = min([it.tile for it in eras[era + 1 :]] + [tiles])
@@ -350,9 +357,16 @@ def batches_of(content, id):
 
 
 def differences(planned, filed):
+    """Where a batch differs from what is planned. The digests of eras are looked for in all batches, and are_filed compares them."""
+    planned = {name: value for name, value in planned.items() if not name.startswith("era ")}
     yield from (name for name, value in planned.items() if filed.get(name, value) != value)
     yield from (f"{name} is not filed" for name in planned if name not in filed)
-    yield from (f"{name} is not planned" for name in filed if name not in planned)
+    yield from (f"{name} is not planned" for name in filed if not planned)
+
+
+def first_seals(batch):
+    """The digests of a batch by their names, of which the first one counts."""
+    return dict(reversed(batch))
 
 
 def of_era(seals):
@@ -366,36 +380,61 @@ def compared(batches, tiles, found):
     return [f"altered {tiles} from {bad[0]}" if bad else f"clean {tiles}", *(name for names in found for name in names)]
 
 
-def report(store, batches, id, era=None):
-    header, tiles = header_of(store), len(batches) - 1
+def is_header_filed(store, batches, id):
+    header = header_of(store)
+    return header is not None and header[1] == id and first_seals(batches[0]).get("header") == next(plan(store, 0))["header"]
+
+
+def compare(store, batches, id, era=None):
+    """The lines of a report; and what is planned and what is filed for each batch, where that was compared."""
+    tiles = len(batches) - 1
     if not batches:
-        return ["unsealed"]
-    if header is None or header[1] != id or next(plan(store, 0)) != dict(batches[0]) or not are_filed(eras_of(store), tiles, batches):
-        return [f"header altered {tiles}"]
+        return ["unsealed"], []
+    if not is_header_filed(store, batches, id) or not are_filed(eras_of(store), tiles, batches):
+        return [f"header altered {tiles}"], []
     eras = eras_of(store)
-    both = list(zip_longest(plan(store, min(tiles, tiles_within(eras))), map(dict, batches), fillvalue={}))
-    if era is None:
-        return compared(range(len(both)), tiles, [list(differences(*it)) for it in both])
-    if era >= len(eras):
+    if era is not None and era >= len(eras):
         raise ValueError(f"the eras of the store are 0 to {len(eras) - 1}, and {era} is none of them")
-    if eras[era].algorithms == 0:
+    of_it = range(0) if era is None else range_of(eras, tiles, era)
+    if of_it and eras[era].algorithms == 0:
         raise ValueError(f"era {era} has no tile chains and no tree, so nothing can be compared that goes by its tiles alone")
-    batches = [tile + 1 for tile in range_of(eras, tiles, era)]
-    return compared(batches, len(batches), [list(differences(*map(of_era, both[batch]))) for batch in batches])
+    both = list(zip_longest(plan(store, min(tiles, tiles_within(eras))), map(first_seals, batches), fillvalue={}))
+    if era is None:
+        return compared(range(len(both)), tiles, [list(differences(*it)) for it in both]), both
+    found = [list(differences(*map(of_era, both[tile + 1]))) for tile in of_it]
+    return compared([tile + 1 for tile in of_it], len(of_it), found), both
 
 
-def tell_of_book(store, lines):
-    """Says on standard error where a digest of the book alone differs, so that the store is what was filed."""
-    verdict, *names = lines
-    if not names or any(name.endswith("ed") for name in names):
-        return
-    eras = eras_of(store)
-    is_right = verdict.startswith("altered") and f"cum {int(verdict.split()[1]) - 1}" not in names
-    if is_right or all(name.startswith("cum ") and eras[era_at(eras, int(name[4:]))].algorithms for name in names):
+def report(store, batches, id, era=None):
+    return compare(store, batches, id, era)[0]
+
+
+def is_sound(both):
+    """Whether digests that don't differ show that all tiles have what was filed: the chain at the end of the last one, or of an earlier one
+    and the parts or leaves of each behind it.
+    """
+    for tile in reversed(range(len(both) - 1)):
+        planned, filed = both[tile + 1]
+        same = {name for name, value in planned.items() if filed.get(name) == value}
+        if f"cum {tile}" in same:
+            return True
+        leaves = {name for name in planned if re.fullmatch("node (?:[0-9]+ )?0 [0-9]+", name)}
+        if f"tile {tile} whole" not in same and not (leaves and leaves <= same):
+            return False
+    return True
+
+
+def tell_of_book(lines, both):
+    """Says on standard error where the book alone was altered, and what it has that nothing plans."""
+    if lines[1:] and is_sound(both):
         print("verify: other digests over the same transactions don't differ: what was altered is the book, and not the store", file=sys.stderr)
+    more = [name for planned, filed in both if planned for name in filed if name not in planned]
+    if more:
+        named = ", ".join(more[:9]) + (f" and {len(more) - 9} more" if more[9:] else "")
+        print(f"verify: the book has digests that nothing plans where they stand, and nothing was compared with them: {named}", file=sys.stderr)
 
 
-def tell_little(verdict, name, store, id):
+def tell_little(verdict, name, store, id, era=None):
     """Says on standard error where a verdict is of less than it may seem."""
     header = header_of(store)
     if verdict == "unsealed":
@@ -403,6 +442,9 @@ def tell_little(verdict, name, store, id):
         print(f"verify: nothing was compared: the book has nothing that was filed under the id {id}{other}", file=sys.stderr)
     elif verdict.startswith("header altered") and not store:
         print(f"verify: nothing was compared: {plain(name)} is empty", file=sys.stderr)
+    elif verdict == "clean 0" and era is not None:
+        why = f"has no tile: era {era + 1} begins at the same one" if has_no_tile(eras_of(store), era) else "has no filed tile yet"
+        print(f"verify: only the header and the eras were compared: era {era} {why}", file=sys.stderr)
     elif verdict == "clean 0":
         print("verify: only the header was compared: no tile is filed yet", file=sys.stderr)
 
@@ -433,12 +475,11 @@ def main(words):
     era = int(options[1]) if options else None
     try:
         store, book = (open(name, "rb").read() for name in words[:2])
-        lines = report(store, batches_of(book, int(words[2])), int(words[2]), era)
+        lines, both = compare(store, batches_of(book, int(words[2])), int(words[2]), era)
         tell_hidden(words[0], store, STORE)
         tell_hidden(words[1], book, BOOK)
-        tell_little(lines[0], words[0], store, words[2])
-        if era is None:
-            tell_of_book(store, lines)
+        tell_little(lines[0], words[0], store, words[2], era)
+        tell_of_book(lines, both)
     except (OSError, ValueError) as fault:
         print(f"verify: {plain(fault.filename)}: {fault.strerror}" if isinstance(fault, OSError) else f"verify: {fault}", file=sys.stderr)
         return 3

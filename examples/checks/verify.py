@@ -9,6 +9,7 @@ byte changed. Some of the policies are put in by hand, and most of those begin n
 are and damaged. All stand in both formats. Only format 2 is made by the program, and format 1 has the same items, laid out by hand.
 """
 import importlib.util
+import itertools
 import pathlib
 import random
 import sys
@@ -96,6 +97,54 @@ def as_a_user():
     for words, status, text in wanted:
         if (found := script("verify.py", *words)[:2]) != (status, text):
             raise Wrong(f"verify.py {' '.join(map(str, words))} says {found}")
+
+
+def foreign_seals(folder):
+    """What a book has that nothing plans is compared with nothing, and named; and a name that is damaged alters the book alone."""
+    store, book = ((EXAMPLES / name).read_bytes() for name in ("worked.store", "worked.book"))
+    payloads, tried = [payload for _, payload in verify.records(book, *verify.BOOK)], 0
+    (folder / "store").write_bytes(store)
+    for spelled, name in ((b"\x04\0\0\0\2", "era 2"), (b"\x04\0\0\0\0", "era 0"), (b"\x01\0\0\0\x4d", "cum 77"), (b"\x05\0\0\0\x09\0\0\0\0\0", "node 9 0 0"), (b"\x04\0\0\0\1", "era 1")):
+        for batch, front in itertools.product((0, 1), (False, True)):
+            count, seals = int.from_bytes(payloads[batch][21:23], "big"), payloads[batch][23:]
+            seals = spelled + bytes(32) + seals if front else seals + spelled + bytes(32)
+            new = [*payloads[:batch], payloads[batch][:21] + verify.number(count + 1, 2) + seals, *payloads[batch + 1 :]]
+            (folder / "book").write_bytes(book[:64] + b"".join(map(record, new)) + b"\0")
+            verdict = agrees(folder / "store", folder / "book", "7", f"{name} put into batch {batch}")
+            status, said, told = script("verify.py", folder / "store", folder / "book", "7")
+            wanted = (1, "header altered 1", False) if name == "era 1" else (0, "clean 1", True)
+            if (status, said) != (wanted[0], verdict + "\n") or verdict != wanted[1] or (f"nothing was compared with them: {name}\n" in told) != wanted[2]:
+                raise Wrong(f"{name} put into batch {batch}: verify.py says {said + told}")
+            tried += 1
+    for name, place, of_book in (("node 0 3", book.index(b"\3\0\0\0\0\3") + 5, True), ("cum 0", book.index(b"\1\0\0\0\0", 148) + 4, True)):
+        (folder / "book").write_bytes(changed(book, place, 0x40))
+        status, said, told = script("verify.py", folder / "store", folder / "book", "7")
+        if (status, said) != (1, f"altered 1 from 0\n{name} is not filed\n") or ("what was altered is the book, and not the store" in told) != of_book:
+            raise Wrong(f"the name {name} damaged: verify.py says {said + told}")
+        tried += 1
+    print(f"verify: {tried} books with seals that nothing plans, or a damaged name, are told as such")
+
+
+def eras_as_a_user(folder):
+    """What --era says of an era without a tile, of one without chains, of one that isn't there, and of a book with a damaged digest."""
+    store, book = folder / "eras.store", folder / "eras.book"
+    dragoon(f"store={store}", "init", "7", "60", "1", "ta")
+    lines = "create t k int\nnow 240\nnotarize\npolicy 2 a\npolicy 2 m\nnow 1000\ninsert t 1\nnotarize\npolicy 1 a\nnotarize\n"
+    dragoon(f"store={store}", f"notary={book}", "run", "7", "scripted", lines=lines)
+    content = book.read_bytes()
+    whole = content.index(b"\2\0\0\0\0\xff") + 6
+    (folder / "whole.book").write_bytes(changed(content, whole, content[whole] ^ 1))
+    for name, era, status, says in (
+        ("eras.book", "0", 0, ("clean 2\n",)),
+        ("eras.book", "1", 0, ("clean 0\n", "only the header and the eras were compared: era 1 has no tile: era 2 begins at the same one")),
+        ("eras.book", "2", 3, ("era 2 has no tile chains and no tree",)),
+        ("eras.book", "3", 0, ("clean 0\n", "only the header and the eras were compared: era 3 has no filed tile yet")),
+        ("eras.book", "4", 3, ("the eras of the store are 0 to 3, and 4 is none of them",)),
+        ("whole.book", "0", 1, ("altered 2 from 0\ntile 0 whole\n", "what was altered is the book, and not the store")),
+    ):
+        ended, said, told = script("verify.py", store, folder / name, "7", "--era", era)
+        if ended != status or not all(it in said + told for it in says):
+            raise Wrong(f"verify.py of era {era} over {name} ends with {ended}: {said + told}")
 
 
 def worked(folder):
@@ -255,6 +304,8 @@ def main(words):
         folder = pathlib.Path(name)
         as_a_user()
         worked(folder)
+        foreign_seals(folder)
+        eras_as_a_user(folder)
         for lines, damage, what in ((a_script, [one_byte, in_policy], "with one byte changed"), (a_large_script, DAMAGE, "above 65,536 bytes, damaged")):
             verdicts = [verdict for seed in range(count) for verdict in made(folder, seed, lines, damage)]
             told = ", ".join(f"{verdicts.count(it)} {it}" for it in sorted(set(verdicts)))
