@@ -1,37 +1,48 @@
 #!/usr/bin/env python3
 """Shows where two stores differ, transaction by transaction, as a person reads them.
 
-    python3 examples/differ.py [--granule G] [--zone ZONE] STORE COPY
+    python3 examples/differ.py [--granule G] [--zone ZONE] [--book BOOK] STORE COPY
 
 STORE is the one that is in doubt, and COPY one that isn't. A transaction of the one stands beside that of the same number in the
 other. Where they differ both are shown, with their moments and dates, and the names of the columns whose values differ. With
---granule only what has a moment of granule G in one of them counts. Dates are those of ZONE, or else of UTC.
+--granule only what has a moment of granule G in one of them counts. Dates are those of ZONE, or else of UTC. The first line says where
+both files are the same, byte by byte. With --book it says, too, whether COPY is itself what was filed, up to the last tile that ended
+in it.
 
+Headers, policies and Frontiers are compared as well. Of the Frontiers of STORE those count that stand in front of the last item of COPY.
 The last line counts. What stands behind the last transaction of COPY is counted and not shown: that was stored since. Standard error
 says where bytes stand behind the end of one of the two. It ends with 0 if nothing differs up to there, or nothing was compared, with 1
-if something does, and with 3 if a file can't be read or is no store.
+if something does, or COPY isn't what was filed, and with 3 if a file can't be read or is no store.
 """
 import itertools
 import sys
+from collections import Counter
 
 sys.dont_write_bytecode = True
 import verify
 from parts import moments
-from parts.script import ALTERED, counted, end, number, plain, words_of
-from parts.store import Create, Policy, Put, Store, Tables, Transaction, item_of, literal, shown
+from parts.script import ALTERED, content_of, counted, end, number, plain, words_of
+from parts.store import Create, Frontier, Policy, Put, Store, Tables, Transaction, item_of, literal, shown
 
 HEADER = ("id", "epoch", "width", "k", "algorithms")
 SAID = {"id": "id", "epoch": "first second", "width": "width of granules", "k": "exponent of tiles", "algorithms": "chains"}
 
 
 class Side:
-    """One of the two stores, read once: its transactions as they are spelled, its policies, and the columns of its tables."""
+    """One of the two stores, read once: its transactions as they are spelled, its policies, its Frontiers with the number of items in
+    front of each, and the columns of its tables.
+    """
 
     def __init__(self, path):
-        self.store, self.payloads, self.policies, tables = Store(path), [], [], Tables()
+        self.store, self.payloads, self.policies, self.frontiers, self.last, tables = Store(path), [], [], [], 0, Tables()
+        self.count = 0
         for item in self.store.items():
+            self.count += 1
+            self.last = max(self.last, 0 if isinstance(item, Policy) else item.moment)
             if isinstance(item, Policy):
                 self.policies.append(item)
+            elif isinstance(item, Frontier):
+                self.frontiers.append((self.count, item.moment))
             elif isinstance(item, Transaction):
                 self.payloads.append(item.payload)
                 for operation in item.operations:
@@ -94,6 +105,38 @@ def front_lines(side, other):
             yield f"header: {SAID[name]} {ours} in the store, {theirs} in the copy"
     if side.policies != other.policies:
         yield f"policies: {len(side.policies)} in the store, {len(other.policies)} in the copy, and not the same; look.py says which eras they begin"
+    yield from frontier_lines(side, other)
+
+
+def frontier_lines(side, other):
+    """The moments of the Frontiers that differ, up to the last item of the copy. The clock that a store goes by is that of its last item."""
+    theirs = [moment for _, moment in other.frontiers]
+    ours = [moment for place, moment in side.frontiers if place <= other.count]
+    only = Counter(ours) - Counter(theirs), Counter(theirs) - Counter(ours)
+    for name, moments_of, of in (("store", only[0], side), ("copy", only[1], other)):
+        for moment in sorted(moments_of)[:9]:
+            yield f"Frontier: moment {moment}, {moments.date(of.store.epoch + moment)}, in the {name} alone"
+        if len(moments_of) > 9:
+            yield f"Frontier: {len(moments_of) - 9} more in the {name} alone"
+
+
+def copy_line(copy, content, path):
+    """What the book says of the copy, up to the last tile that ended in it: whether it isn't what was filed, and how."""
+    try:
+        batches = verify.batches_of(content, copy.store.id)
+    except ValueError:
+        return False, f"of the copy nothing was compared with a book: {plain(path)} is none"
+    if not batches:
+        return False, f"of the copy nothing was compared with the book: nothing is filed under the id {copy.store.id}"
+    tiles = 0
+    while tiles + 1 < len(batches) and copy.store.end_of(tiles + 1) <= copy.last:
+        tiles += 1
+    lines, both = verify.compare(copy.store.content, batches[: tiles + 1], copy.store.id)
+    if "altered" not in lines[0]:
+        return False, f"the copy is what was filed, as far as it goes: {lines[0]}"
+    if lines[1:] and verify.is_sound(both):
+        return False, f"the copy is what was filed, as far as it goes; of the book some digests are altered: {lines[0]}"
+    return True, f"the copy ISN'T what was filed: {lines[0]}"
 
 
 def compare(side, other, granule, zone):
@@ -120,14 +163,21 @@ def compare(side, other, granule, zone):
 
 
 def main(given):
-    lines, summary = compare(Side(given.store), Side(given.copy), given.granule, given.zone)
-    return "".join(line + "\n" for line in [*lines, summary]), ALTERED if lines else 0
+    side, other, is_altered, front = Side(given.store), Side(given.copy), False, []
+    lines, summary = compare(side, other, given.granule, given.zone)
+    if side.store.content == other.store.content:
+        front = ["the copy is the same as the store, byte by byte"]
+    if given.book:
+        is_altered, said = copy_line(other, content_of(given.book), given.book)
+        front.append(said)
+    return "".join(line + "\n" for line in [*front, *lines, summary]), ALTERED if lines or is_altered else 0
 
 
 def words():
     parser = words_of(__doc__)
     parser.add_argument("--granule", type=number, metavar="G")
     parser.add_argument("--zone", type=moments.zone, default=moments.UTC)
+    parser.add_argument("--book")
     parser.add_argument("store")
     parser.add_argument("copy")
     return parser.parse_args()

@@ -14,6 +14,7 @@ does that. It ends with 0, and with 3 if a file can't be read, is no store or no
 import collections
 import json
 import sys
+import time
 
 sys.dont_write_bytecode = True
 import verify
@@ -37,6 +38,7 @@ def of_store(store):
                 counts["misfits"] += tables.apply(operation) is not None
     return {
         "store": store.path, "bytes": len(store.content), "format": store.format, "id": store.id, "first_second": store.epoch, "last_moment": last,
+        "odd_moment": store.odd_moment(last, int(time.time())),
         "granule_seconds": store.width, "granules_in_a_tile": 1 << store.k, "chains": chains(store.eras[0]),
         "later_eras": [{"tile": it.tile, "granule": it.granule, "granules_in_a_tile": 1 << it.k, "chains": chains(it)} for it in store.eras[1:]],
         "transactions": counts[Transaction], "frontiers": counts[Frontier],
@@ -79,7 +81,8 @@ def store_lines(it, date):
     yield "granules", f"{moments.length(it['granule_seconds'])} each, {in_a_tile} to a tile of {moments.length(tile)}"
     yield "chains", it["chains"]
     yield "begins", f"{date(it['first_second'])}, second {it['first_second']}"
-    yield "last moment", f"{date(it['first_second'] + it['last_moment'])}, moment {it['last_moment']}"
+    odd = f"; {it['odd_moment']}" if it["odd_moment"] else ""
+    yield "last moment", f"{date(it['first_second'] + it['last_moment'])}, moment {it['last_moment']}{odd}"
     yield "transactions", f"{it['transactions']:,}, in {counted(it['granules_with_transactions'], 'granule')}"
     if it["misfits"]:
         yield "misfits", f"{counted(it['misfits'], 'operation')} that fit no table: no honest writer stores such"

@@ -152,7 +152,7 @@ class Page:
         yield page.heading("What this can't say")
         yield page.listed(reports.cannot_say(self.report))
         yield page.heading("What to do next")
-        yield page.listed(reports.what_next(self.report, self.book, self.asked.told), "ol")
+        yield page.listed(reports.what_next(self.report, self.book, self.asked), "ol")
         if self.asked.told:
             yield page.heading("What the program says besides")
             yield "".join(f"<p><code>{page.safe(line)}</code></p>" for line in self.asked.told.splitlines())

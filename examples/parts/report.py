@@ -7,7 +7,7 @@ import verify
 from . import moments
 from .book import nothing_of
 from .script import Refused, counted, plain
-from .store import Create, Tables, hidden, what_is
+from .store import Create, Store, Tables, hidden, what_is
 
 # granules are ranges, each with its first and its last; `tile` is one that fails, or None
 Found = namedtuple("Found", "ranges tile since until")
@@ -158,8 +158,11 @@ def cannot_say(report):
     yield "All of this is only as good as the book: hold it against the copies and sums that others have."
 
 
-def what_next(report, book, told):
-    """What to do next, a sentence each; `told` is what the program told. docs/OPERATING.md has the steps."""
+def what_next(report, book, asked):
+    """What to do next, a sentence each; `asked` has what was asked and told. docs/OPERATING.md has the steps."""
+    told, odd = asked.told, odd_moment(asked)
+    if odd:
+        yield f"File nothing, and hold the store against its copies: of its last moment, {odd}."
     is_hidden = re.search("^dragoon: the store .* bytes stand behind it:", told, re.MULTILINE)
     if is_hidden:
         yield "Store nothing and file nothing: bytes stand behind the store's end, and the next record is written over them."
@@ -167,9 +170,17 @@ def what_next(report, book, told):
     if behind := book.hidden():
         yield f"File nothing and validate nothing with this book: {hidden(behind)}. They stand behind its end, and each call would write over them."
         yield "Look for copies of the book first, and hold it against them: `Bytes behind the end` in docs/NOTARY.md has the steps."
-    if (is_hidden or behind) and report.verdict in ("unsealed", "clean"):
+    if (is_hidden or behind or odd) and report.verdict in ("unsealed", "clean"):
         return
     yield from what_next_by(report)
+
+
+def odd_moment(asked):
+    """What is odd of the store's last moment, in words, or None."""
+    if verify.header_of(asked.store) is None:
+        return None
+    store = Store(None, asked.store)
+    return store.odd_moment(store.last_moment(), asked.at)
 
 
 def what_next_by(report):

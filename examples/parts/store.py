@@ -7,6 +7,7 @@ from collections import namedtuple
 
 import verify
 from verify import Era as Policy
+from . import moments
 from .script import Refused, content_of, counted, plain, tell
 
 LIMIT, GRANULES, LAST_SECOND, LONGEST_LINE = 67_108_864, verify.GRANULES, 1_099_511_627_775, 65_536
@@ -100,6 +101,16 @@ class Store:
     def behind(self):
         """How many bytes stand behind that gate, and behind the records of earlier segments."""
         return sum(verify.behind_ends(self.content, RECORDS))
+
+    def last_moment(self):
+        return max((item.moment for item in self.items() if not isinstance(item, Policy)), default=0)
+
+    def odd_moment(self, last, now):
+        """Why the last moment is none that an honest run has stored by this second of the clock, in words; or None."""
+        if last // self.width >= GRANULES:
+            return "it lies behind the last granule, and no run stores such: an item was altered"
+        ahead = self.epoch + last - now
+        return f"it is ahead of this clock by {moments.length(ahead)}: the clock is behind, or an item was altered" if ahead > 60 else None
 
     def tell_hidden(self):
         """Says on standard error where such bytes stand."""
