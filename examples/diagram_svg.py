@@ -167,6 +167,10 @@ def main(words):
     head, events, *rest = read(text)
     if len({len(signs) for _, signs in events}) > 1:
         return "diagram_svg: the report isn't whole: its events have not the same tiles"
+    # (its last line is that of this analysis, or says that the diagram was left out)
+    is_altered = re.search(" altered$", head) and not head.endswith("header altered")
+    if is_altered and "diagram left out" not in text and not (events and "X" in events[-1][1]):
+        return "diagram_svg: the report ends too early: it says `altered`, and shows no bad tile"
     if events:
         made = drawn(head, events, *rest, eras)
     else:

@@ -40,7 +40,8 @@ def of_store(store):
         "store": store.path, "bytes": len(store.content), "format": store.format, "id": store.id, "first_second": store.epoch, "last_moment": last,
         "odd_moment": store.odd_moment(last, int(time.time())),
         "granule_seconds": store.width, "granules_in_a_tile": 1 << store.k, "chains": chains(store.eras[0]),
-        "later_eras": [{"tile": it.tile, "granule": it.granule, "granules_in_a_tile": 1 << it.k, "chains": chains(it)} for it in store.eras[1:]],
+        "later_eras": [{"tile": it.tile, "granule": it.granule, "granules_in_a_tile": 1 << it.k, "chains": chains(it), "has_no_tile": verify.has_no_tile(store.eras, at)}
+                       for at, it in enumerate(store.eras) if at],
         "transactions": counts[Transaction], "frontiers": counts[Frontier],
         "policies": counts[Policy], "policies_without_effect": counts[Policy] - len(store.eras) + 1, "misfits": counts["misfits"], "granules_with_transactions": len(granules),
         "tables": {name: {"rows": len(tables.keys[name]), "columns": dict(columns)} for name, columns in sorted(tables.columns.items())},
@@ -88,7 +89,7 @@ def store_lines(it, date):
         yield "misfits", f"{counted(it['misfits'], 'operation')} that fit no table: no honest writer stores such"
     for number, era in enumerate(it["later_eras"], 1):
         in_a_tile = counted(era["granules_in_a_tile"], "granule")
-        yield f"era {number}", f"from tile {era['tile']} on, granule {era['granule']}: {in_a_tile} to a tile; {era['chains']}"
+        yield f"era {number}", f"from tile {era['tile']} on, granule {era['granule']}: {in_a_tile} to a tile; {era['chains']}{'; no tile: the next era begins at the same one' if era['has_no_tile'] else ''}"
     if it["policies_without_effect"]:
         yield "no effect", f"policies that begin no era: {it['policies_without_effect']:,}; stored over an older book, or by another hand"
     granules = counted(it["granules_left"], "granule")

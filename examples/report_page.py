@@ -34,8 +34,11 @@ class Page:
         self.given, self.asked = given, asked
         self.report = reports.read(asked.output)
         self.book = Book(given.book, asked.book)
-        is_read = verify.header_of(asked.store) and self.report.verdict != "header altered"
-        self.store = Store(given.store, asked.store) if is_read else None
+        header = verify.header_of(asked.store)
+        is_read = header and self.report.verdict != "header altered"
+        # (of another header, or other eras, nothing but these is shown)
+        self.fields = Store(given.store, asked.store) if header else None
+        self.store = self.fields if is_read else None
         self.shown = self.report.found[:MOST_GRANULES]
         self.until = reports.filed_until(self.store, self.report, self.book) if is_read else None
         self.standing = reports.Standing(self.store, self.until, self.shown, MOST_TRANSACTIONS) if is_read else None
@@ -51,19 +54,22 @@ class Page:
             sum = f'<span class="sum">SHA-256 {hashlib.sha256(content).hexdigest()}</span>'
             yield name, f"{page.safe(path)}, {counted(len(content), 'byte')}<br>{sum}"
         yield "Id", str(self.report.id)
-        yield "Algorithm", page.safe(self.report.algorithm)
-        if self.store:
-            yield "Granules", f"{moments.length(self.store.width)} each"
+        yield "Algorithm", page.safe(reports.algorithm_of(self.report))
+        if self.fields:
+            yield "Granules", f"{moments.length(self.fields.width)} each"
             yield from self.eras()
-            yield "First second", f"{page.safe(self.date(self.store.epoch))} ({self.store.epoch})"
+            yield "First second", f"{page.safe(self.date(self.fields.epoch))} ({self.fields.epoch})"
+        if self.store:
             yield "Filed", self.filed()
 
     def eras(self):
         """Each era of the store: where it begins, and what its tiles are."""
-        for at, era in enumerate(self.store.eras):
+        eras = self.fields.eras
+        for at, era in enumerate(eras):
             since = f"from tile {era.tile} on: " if at else ""
-            tile = f"{1 << era.k} to a tile of {moments.length(self.store.width << era.k)}"
-            yield f"Era {at}" if len(self.store.eras) > 1 else "Tiles", f"{since}{tile}; {chains(era)}"
+            tile = f"{1 << era.k} to a tile of {moments.length(self.fields.width << era.k)}"
+            none = f"; no tile, since era {at + 1} begins at the same one" if verify.has_no_tile(eras, at) else ""
+            yield f"Era {at}" if len(eras) > 1 else "Tiles", f"{since}{tile}; {chains(era)}{none}"
 
     def filed(self):
         until, tiles = self.until, max(0, len(self.book.batches(self.report.id)) - 1)

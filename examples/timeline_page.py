@@ -162,7 +162,9 @@ class Page:
         given, versions = self.given, self.history.versions
         yield f"<h1>{page.safe(given.table)} {page.long(literal(self.history.key))}: its history</h1>"
         is_there = bool(versions) and versions[-1].stop is None
-        state = "The row is there now." if is_there else "The row isn't there now." if versions else "There never was such a row."
+        state = "The row is there now." if is_there else "The row isn't there now." if versions else "The store shows no such row."
+        if behind := self.store.behind():
+            state += f" More of it may stand hidden behind records: {counted(behind, 'byte')}."
         yield f'<div class="verdict {"good" if is_there else "open"}"><b>{counted(len(versions), "version")}</b>{state}</div>'
         yield page.heading("Over time")
         yield from self.lanes()

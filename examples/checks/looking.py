@@ -161,10 +161,27 @@ def no_steering(store):
 # ---- each verdict, and what is refused
 
 
+def with_eras(folder):
+    """A store of three eras, of which one has no tile, and the same with a policy taken away, changed, and put in."""
+    devices = f"store={folder / 'eras'}", f"notary={folder / 'eras_book'}"
+    dragoon(devices[0], "init", "7", "60", "1", "ta")
+    dragoon(*devices, "run", "7", "scripted", lines="create t k int\nnow 240\nnotarize\npolicy 2 ta\npolicy 3 ta\nnow 1800\ninsert t 1\nnotarize\n")
+    content = (folder / "eras").read_bytes()
+    policy, other = (record(b"\3" + struct.pack(">IIBB", 2, 4, k, 3)) for k in (3, 5))
+    place = content.index(policy)
+    (folder / "era_gone").write_bytes(content[:place] + content[place + len(policy) :])
+    (folder / "era_other").write_bytes(content.replace(policy, other))
+    (folder / "era_more").write_bytes(content[:place] + policy + content[place:])
+
+
 def files(folder):
     """The worked files, and others that aren't what they should be."""
     worked = WORKED.read_bytes()
     shutil.copy(BOOK, folder / "book")
+    with_eras(folder)
+    reported = dragoon(f"store={ALTERED}", f"notary={folder / 'book'}", "analyse", "7", "a3d")[1].splitlines(keepends=True)
+    for name, lines in (("whole_report", reported), ("early_report", reported[:-1]), ("earlier_report", reported[:3])):
+        (folder / name).write_text("".join(lines))
     policy = record(b"\x03" + bytes(8) + b"\x02\x03")
     for name, content in (("cut", worked[:65]), ("hides_all", worked[:64] + b"\xa6" + worked[65:]), ("policy", worked[:64] + policy + worked[64:]),
                           ("empty", b""), ("short", b"x\n"), ("zeros", bytes(500)), ("other_id", worked[:16] + b"\x08" + worked[17:]), ("wide", worked[:28] + b"\x3d" + worked[29:]),
@@ -234,6 +251,14 @@ SAYS = [
     ("explain", (WORKED, "other_kind", "7"), 0, ("Clean so far: ", "File nothing and validate nothing with this book: 787 bytes")),
     ("explain", ("hidden", BOOK, "7"), 0, ("Clean: ", "Store nothing and file nothing: bytes stand behind the store's end")),
     ("explain", ("other_id", BOOK, "7"), 1, ("its id is 8, and not 7",)),
+    ("look.py", ("eras",), 0, ("era 1           from tile 2 on, granule 4: 4 granules to a tile; tile chains and the tree; no tile: the next era begins at the same one\n", "era 2 from tile 2 on, granule 4: 8 granules to a tile; tile chains and the tree room left")),
+    ("explain", ("--alg", "a3d era 0", "eras", "eras_book", "7"), 0, ("Clean: ", "by a3d, era 0.", "What stands in 2 tiles of era 0 was compared with what was filed, and is the same.")),
+    ("explain", ("--alg", "a3d era 1", "eras", "eras_book", "7"), 0, ("Nothing of era 1 is filed: ", "Era 1 has no tile, since era 2 begins at the same one. So no transaction was compared.")),
+    ("report_page.py", ("--alg", "tiled era 1", "eras", "eras_book", "7"), 0, ("<b>Nothing of era 1 is filed</b>", "<dd>tiled, era 1</dd>", "; no tile, since era 2 begins at the same one</dd>")),
+    ("explain", ("era_gone", "eras_book", "7"), 1, ("Eras altered: ", "The header is the one that was filed. Its eras aren't: era 2 was filed, and no such era begins at a filed tile.")),
+    ("explain", ("era_other", "eras_book", "7"), 1, ("Eras altered: ", "Its eras aren't: era 2 is another one than was filed. A policy was changed, added or taken away:")),
+    ("explain", ("era_more", "eras_book", "7"), 1, ("Eras altered: ", "is none that was filed.")),
+    ("report_page.py", ("era_other", "eras_book", "7"), 0, ("<b>Eras altered</b>", "<dt>Era 2</dt><dd>from tile 2 on: 32 to a tile")),
     ("explain", ("wide", BOOK, "7"), 1, ("Today's says granules of 61 s",)),
     ("explain", (WORKED, "text", "7"), 3, ("fault NotaryFault",)),
     ("explain", (WORKED, BOOK, "07"), 2, ("usage: explain",)),
@@ -252,7 +277,11 @@ SAYS = [
     ("verify.py", (WORKED, "\x1b[31m", "7"), 3, ("verify: \\u{1b}[31m: No such file",)),
     ("timeline_page.py", ("--notary", BOOK, WORKED, "7", "t", "5"), 0, ("<b>1 version</b>", "2 filings", "batch 1 filed")),
     ("timeline_page.py", ("hidden", "7", "t", "1"), 0, ("14 bytes: a crash leaves such bytes",)),
-    ("timeline_page.py", (WORKED, "7", "t", "99"), 0, ("There never was such a row.",)),
+    ("timeline_page.py", (WORKED, "7", "t", "99"), 0, (">The store shows no such row.</div>",)),
+    ("timeline_page.py", ("hidden", "7", "t", "99"), 0, ("The store shows no such row. More of it may stand hidden behind records: 14 bytes.",)),
+    ("diagram_svg.py", ("early_report",), 1, ("diagram_svg: the report ends too early: it says `altered`, and shows no bad tile",)),
+    ("diagram_svg.py", ("earlier_report",), 1, ("diagram_svg: the report ends too early: it says `altered`, and shows no bad tile",)),
+    ("diagram_svg.py", ("whole_report",), 0, ("this analysis: tile 0 is bad",)),
     ("timeline_page.py", (WORKED, "7", "u", "5"), 3, ("has no table u; its tables are: t",)),
     ("timeline_page.py", (WORKED, "7", "t", "'5'"), 3, ("its keys are of kind int",)),
     ("timeline_page.py", (WORKED, "8", "t", "5"), 3, ("has the id 7, and not 8",)),

@@ -51,4 +51,4 @@ def nothing_of(book):
 
 def said(mark):
     """What a validation found."""
-    return ("clean", f"altered, and tile {mark.bad} the first bad one", "another header")[mark.outcome] + ", of " + counted(mark.tiles, "tile")
+    return ("clean", f"altered, and tile {mark.bad} the first bad one", "another header, or other eras")[mark.outcome] + ", of " + counted(mark.tiles, "tile")

@@ -51,6 +51,11 @@ def read(text):
     return Report(text, head[1], int(head[2]), era, int(head[4]), head[5], found, first and tuple(map(int, first.groups())))
 
 
+def algorithm_of(report):
+    """By what it was analysed, with the era that was asked for."""
+    return report.algorithm + (f", era {report.era}" if report.era is not None else "")
+
+
 def filed_until(store, report, book):
     """The moment up to which tiles are filed, of whatever era."""
     return store.end_of(max(0, len(book.batches(report.id)) - 1))
@@ -104,9 +109,12 @@ def verdict(report, content, book):
         filed = f"Under {' and '.join(map(str, ids[:9]))} something is filed." if ids else f"Of the book: {nothing_of(book)}."
         compared = f"Nothing was filed under the id {report.id}, so nothing was compared."
         return "Nothing was filed", f"{compared} {filed} Of the file that was asked: {what_is(content)}."
+    if report.verdict == "clean" and report.era is not None and not report.tiles:
+        has_none = verify.has_no_tile(verify.eras_of(content), report.era)
+        why = f"Era {report.era} has no tile, since era {report.era + 1} begins at the same one." if has_none else f"No tile of era {report.era} is filed yet."
+        return f"Nothing of era {report.era} is filed", f"The header and the eras are those that were filed. {why} So no transaction was compared."
     if report.verdict == "clean" and report.era is not None:
-        of_it = "was compared with what was filed, and is the same" if report.tiles else "is filed yet, so none of its transactions was compared"
-        return "Clean", f"The header and the eras are those that were filed. What stands in {tiles if report.tiles else 'no tile of that era'} {of_it}."
+        return "Clean", f"The header and the eras are those that were filed. What stands in {tiles} was compared with what was filed, and is the same."
     if report.verdict == "clean" and not report.tiles:
         return "Clean so far", "The header is the one that was filed. No tile is filed yet, so no transaction was compared."
     if report.verdict == "clean":
@@ -115,7 +123,25 @@ def verdict(report, content, book):
         changed = f"Of what is filed ({tiles}) at least one transaction was changed, added or taken away."
         return "Altered", f"The store isn't what was filed. {changed}"
     doubt = f"So nothing that is filed ({tiles}) can be compared, and every granule of it is in doubt."
+    if eras := other_eras(report, content, book):
+        return "Eras altered", f"The header is the one that was filed. {eras} {doubt}"
     return "Header altered", f"{other_header(report, content)} {doubt}"
+
+
+def other_eras(report, content, book):
+    """Which eras aren't those that were filed, where the header is, in sentences; else None."""
+    batches = [it.seals for it in book.batches(report.id)]
+    if not verify.is_header_filed(content, batches, report.id):
+        return None
+    eras, filed = verify.eras_of(content), {}
+    for name, value in (seal for batch in batches for seal in batch):
+        filed.setdefault(name, value)
+    planned = dict(verify.sealed_eras(eras, len(batches) - 1))
+    behind = f"era {len(planned) + 1}"
+    wrong = [f"{name} is {'another one than was filed' if name in filed else 'none that was filed'}" for name, value in planned.items() if filed.get(name) != value]
+    wrong += [f"{behind} was filed, and no such era begins at a filed tile"] * (behind in filed)
+    said = ", and ".join(wrong[:3]) + (f", and {len(wrong) - 3} more" if wrong[3:] else "")
+    return f"Its eras aren't: {said}. A policy was changed, added or taken away: `examples/look.py` shows the eras of the store and of a copy."
 
 
 def other_header(report, content):
@@ -148,7 +174,7 @@ def cannot_say(report):
             if report.algorithm != kind:
                 yield "With a number of granules given it can miss granules of a tile in which another number is altered."
         else:
-            yield "By a3d the altered granules are named and no other, where the header is the one that was filed."
+            yield "By a3d the altered granules are named and no other, where header and eras are those that were filed."
         yield "What the granules had in them before isn't in the book, since it keeps digests alone. A copy has it."
         yield "Which event changed a granule, and who did it, isn't said. Some event in the span did."
     if report.era is not None and report.verdict != "header altered":
