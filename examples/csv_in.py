@@ -218,6 +218,8 @@ def in_transactions(lines, session, rows):
 def statements(file, options):
     heading, rows = read(file, options.delimiter)
     columns = columns_of(heading, rows, options)
+    if not rows and not options.add:
+        print("csv_in: there is no row, so each column without --kind NAME=KIND becomes text, the key too", file=sys.stderr)
     note_looks([column for column in columns if column[0] not in dict(options.kind)], rows)
     if not options.add:
         yield f"create {options.table} " + " ".join(f"{name} {KINDS[kind]}" for name, _, kind in columns)

@@ -46,7 +46,8 @@ def of_store(store):
         "policies": counts[Policy], "policies_without_effect": counts[Policy] - len(store.eras) + 1, "misfits": counts["misfits"], "granules_with_transactions": len(granules),
         "tables": {name: {"rows": len(tables.keys[name]), "columns": dict(columns)} for name, columns in sorted(tables.columns.items())},
         "bytes_left": max(0, LIMIT - 1 - store.gate()), "granules_left": max(0, GRANULES - 1 - last // store.width),
-        "full_second": store.epoch + GRANULES * store.width, "behind_the_end": store.behind(),
+        "full_second": store.epoch + GRANULES * store.width, "behind_the_end": store.behind_ends()[0],
+        "behind_segments": store.behind_ends()[1],
     }
 
 
@@ -92,9 +93,11 @@ def store_lines(it, date):
         yield f"era {number}", f"from tile {era['tile']} on, granule {era['granule']}: {in_a_tile} to a tile; {era['chains']}{'; no tile: the next era begins at the same one' if era['has_no_tile'] else ''}"
     if it["policies_without_effect"]:
         yield "no effect", f"policies that begin no era: {it['policies_without_effect']:,}; stored over an older book, or by another hand"
-    granules = counted(it["granules_left"], "granule")
-    yield "room left", f"{counted(it['bytes_left'], 'byte')}; {granules}, until {date(it['full_second'])}"
+    granules, is_past = counted(it["granules_left"], "granule"), "; this clock is past that" if it["full_second"] <= time.time() else ""
+    yield "room left", f"{counted(it['bytes_left'], 'byte')}; {granules} behind the last moment, until {date(it['full_second'])}{is_past}"
     yield "behind its end", hidden(it["behind_the_end"]) if it["behind_the_end"] else "nothing"
+    if it["behind_segments"]:
+        yield "in segments", f"behind the records of earlier ones {hidden(it['behind_segments'])}"
     for name, table in it["tables"].items():
         columns = ", ".join(f"{column} {kind}" for column, kind in table["columns"].items())
         yield "table", f"{name}, {counted(table['rows'], 'row')}: {columns}"
@@ -110,7 +113,9 @@ def book_lines(it, store, date):
         before = f"before {date(store['first_second'] + until)}, moment {until}" if until else "no moment yet"
         ends = "; the store ends BEFORE that, so it is NOT what was filed" if store["last_moment"] < until else ""
         yield "filed", f"{counted(it['tiles_filed'], 'tile')}, {before}{ends}"
-        yield "last filing", date(it["last_filing"])
+        ahead = it["last_filing"] - time.time()
+        odd = f"; that is ahead of this clock by {moments.length(int(ahead))}: it went back, or the book was altered" if ahead > 60 else ""
+        yield "last filing", f"{date(it['last_filing'])}{odd}"
         yield "header", "the one that was filed" if it["header_is_filed"] else "NOT the one that was filed"
         yield "compared", "the header alone; `validate` compares what was stored"
     yield "not yet filed", f"{counted(it['transactions_behind'], 'transaction')}, {counted(it['bytes_of_them'], 'byte')}"

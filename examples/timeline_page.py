@@ -179,8 +179,9 @@ class Page:
 
     def files(self):
         yield "Store", f"{page.safe(self.given.store)}, {counted(len(self.store.content), 'byte')}, id {self.store.id}"
-        if behind := self.store.behind():
-            yield "Behind its end", hidden(behind)
+        for name, behind in zip(("Behind its end", "Behind the records of earlier segments"), self.store.behind_ends()):
+            if behind:
+                yield name, hidden(behind)
         yield "Book", page.safe(self.given.notary) if self.given.notary else "none was named"
         yield "Time", f"from the store's first second, {self.store.epoch}, to the last moment or filing"
         yield "Trust", page.with_code("The store is shown as it stands. Whether it is what was filed `validate` says.")

@@ -32,6 +32,7 @@ CLEAN, ALTERED, HEADER_ALTERED = range(3)
 MOST_SEALS, MOST_MARKS, LONGEST_RECORD = 16_777_216, 65_536, 262_149
 # of each kind of name the lengths of its numbers, and how it is printed
 NAMES = [((), "header"), ((4,), "cum {}"), ((4, 1), "tile {} bit {}"), ((1, 4), "node {} {}"), ((4,), "era {}"), ((4, 1, 4), "node {} {} {}")]
+SPELLED = {"\0": "\\0", "\t": "\\t", "\n": "\\n", "\r": "\\r"}
 # a name, and a digest
 SEAL = rb"(\x00|[\x01\x04].{4}|\x02.{4}[\x00-\x09\xff]|\x03[\x00-\x14].{4}|\x05.{4}[\x00-\x14].{4})(.{32})"
 
@@ -183,8 +184,8 @@ def hidden(content, end):
 
 
 def plain(text):
-    """The text, with each letter spelled out that steers a terminal."""
-    return "".join(it if it.isprintable() else f"\\u{{{ord(it):x}}}" for it in str(text))
+    """The text, with each letter spelled out that steers a terminal, as the program spells it."""
+    return "".join(it if it.isprintable() else SPELLED.get(it, f"\\u{{{ord(it):x}}}") for it in str(text))
 
 
 def tell_hidden(name, content, kind):

@@ -179,6 +179,14 @@ def files(folder):
     worked = WORKED.read_bytes()
     shutil.copy(BOOK, folder / "book")
     with_eras(folder)
+    shutil.copy(BOOK, folder / "a,b")
+    (folder / "later_book").write_bytes(BOOK.read_bytes()[: 125 + 18] + struct.pack(">Q", 1 << 40) + BOOK.read_bytes()[125 + 26 :])
+    dragoon(f"store={folder / 'in_segment'}", "init", "7", "60", "3", "ta")
+    lines = "create t k int v text\n" + "".join(f"insert t {key} '{'x' * 600}'\n" for key in range(300))
+    dragoon(f"store={folder / 'in_segment'}", "run", "7", lines=lines)
+    content = (folder / "in_segment").read_bytes()
+    gates = [gate for *_, gate in made.verify.run(content, 65_536, 131_072, made.verify.Source.item, 32_768)]
+    (folder / "in_segment").write_bytes(content[: gates[9]] + b"\0" + content[gates[9] + 1 :])
     reported = dragoon(f"store={ALTERED}", f"notary={folder / 'book'}", "analyse", "7", "a3d")[1].splitlines(keepends=True)
     for name, lines in (("whole_report", reported), ("early_report", reported[:-1]), ("earlier_report", reported[:3])):
         (folder / name).write_text("".join(lines))
@@ -275,6 +283,14 @@ SAYS = [
     ("verify.py", (WORKED, "other_front", "7"), 3, ("it begins as one, and its front is cut or damaged",)),
     ("report_page.py", ("hidden", BOOK, "7"), 0, ("<b>Clean</b>", "Store nothing and file nothing")),
     ("verify.py", (WORKED, "\x1b[31m", "7"), 3, ("verify: \\u{1b}[31m: No such file",)),
+    ("verify.py", (WORKED, "a\nb", "7"), 3, ("verify: a\\nb: No such file",)),
+    ("look.py", ("a\nb",), 3, ("look: a\\nb can't be read",)),
+    ("look.py", (WORKED, "later_book", "7"), 0, ("; that is ahead of this clock by", ": it went back, or the book was altered")),
+    ("look.py", (WORKED,), 0, ("1,048,567 granules behind the last moment, until 1971-12-30 04:16:00 UTC; this clock is past that\n",)),
+    ("look.py", ("in_segment",), 0, ("behind its end  nothing\n", "in segments     behind the records of earlier ones ")),
+    ("dump.py", ("in_segment",), 1, ("dump: behind the records of earlier segments of ",)),
+    ("timeline_page.py", ("in_segment", "7", "t", "1"), 0, ("<dt>Behind the records of earlier segments</dt>",)),
+    ("explain", (WORKED, "a,b", "7"), 3, ("has a comma in its name, which stands between two books: copy it to a name without one",)),
     ("timeline_page.py", ("--notary", BOOK, WORKED, "7", "t", "5"), 0, ("<b>1 version</b>", "2 filings", "batch 1 filed")),
     ("timeline_page.py", ("hidden", "7", "t", "1"), 0, ("14 bytes: a crash leaves such bytes",)),
     ("timeline_page.py", (WORKED, "7", "t", "99"), 0, (">The store shows no such row.</div>",)),
@@ -291,7 +307,7 @@ SAYS = [
 def in_words(folder):
     """What each script says. `examples/explain` ends as the program does."""
     for name, words, status, says in SAYS:
-        there = [str(folder / it) if isinstance(it, str) and it.isidentifier() and (folder / it).exists() else str(it) for it in words]
+        there = [str(folder / it) if isinstance(it, str) and (it.isidentifier() or "," in it) and (folder / it).exists() else str(it) for it in words]
         ended, said, told = script(name, *there)
         wrong = [it for it in says if it not in " ".join((said + told).split()) and it not in said + told]
         if ended != status or wrong or "Traceback" in told or status > 1 and said:
@@ -397,6 +413,14 @@ def kept(folder):
         done = subprocess.run([EXAMPLES / name, *words], env={**os.environ, **({"TMPDIR": room} if room else {})}, stdin=subprocess.DEVNULL, capture_output=True, text=True)
         if (done.returncode, done.stdout, done.stderr) != (status, "", f"{name}: {says}\n"):
             raise Wrong(f"{name} in a folder that isn't there ends with {done.returncode}: {done.stdout + done.stderr}")
+    os.mkfifo(folder / "pipe")
+    for word, says in (
+        ("notary=/nowhere/a,b", "/nowhere/a is no plain file that can be read (a comma stands between two books, so the path of none can have one)"),
+        ("notary=/dev/null", "/dev/null is no plain file that can be read"), (f"notary={folder / 'pipe'}", f"{folder / 'pipe'} is no plain file that can be read"),
+    ):
+        done = subprocess.run([EXAMPLES / "on_copy", f"store={WORKED}", word, "link"], stdin=subprocess.DEVNULL, capture_output=True, text=True)
+        if (done.returncode, done.stdout, done.stderr) != (6, "", f"on_copy: {says}\n"):
+            raise Wrong(f"on_copy of {word} ends with {done.returncode}: {done.stdout + done.stderr}")
     left = {it.name for it in folder.iterdir() if it.is_dir()}
     if left != {"asked", "case", "clean"} or sums != [hashlib.sha256(it.read_bytes()).digest() for it in (ALTERED, BOOK, WORKED)]:
         raise Wrong(f"a half folder is left, or a file was changed: {left}")

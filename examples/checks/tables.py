@@ -123,6 +123,8 @@ def refusals(folder):
         raise Wrong("007 and +5 aren't taken for ints")
     if script("csv_in.py", "--kind", "b=bool", "t", "-", lines="a,b\n1,TRUE\n2,False\n")[1] != "create t a int b bool\ninsert t 1 true\ninsert t 2 false\n":
         raise Wrong("TRUE isn't taken for true")
+    if script("csv_in.py", "t", "-", lines="a,b\n")[1:] != ("create t a text b text\n", "csv_in: there is no row, so each column without --kind NAME=KIND becomes text, the key too\n"):
+        raise Wrong("a heading alone becomes text without a word")
     if script("csv_in.py", "--delimiter", "tab", "t", "-", lines="a\tb\n1\tx\n")[0]:
         raise Wrong("a tab isn't taken between fields")
     if script("csv_out.py", "a,b,a", lines="row 1 2 3\nrows 1\n") != (0, "a,b,a\r\n1,2,3\r\n", "csv_out: the heading has a twice\n"):

@@ -125,6 +125,15 @@ def content_of(path, most=None, durable=False):
         raise Wrong(f"{path}: {error.strerror}") from error
 
 
+def store_id(conf):
+    """The id of the store, or None where the file is none."""
+    try:
+        head, _ = content_of(conf.store, 65)
+    except Wrong:
+        return None
+    return struct.unpack_from(">Q", head, 9)[0] if len(head) == 65 and head[:9] in (b"\xa7DRAGOON1", b"\xa7DRAGOON2") else None
+
+
 def read_header(conf):
     """How much the store can still take, where the file is a store of this id."""
     head, length = content_of(conf.store, 65)
@@ -250,6 +259,8 @@ def begin(conf, book, kept):
     if kept:
         return
     if book.filed is None:
+        if (id := store_id(conf)) not in (None, conf.id):
+            raise Wrong(f"{conf.book} has no batch of the id {conf.id}, and {conf.store} has the id {id}: which of them does the conf mean?")
         raise Wrong(f"{conf.book} has no batch of the id {conf.id}: the first `notarize` is made by hand")
     keep(conf, book, book.tiles)
     tell_believed(conf, f"{conf.book}, so its {book.tiles} sealed tiles")
@@ -355,10 +366,13 @@ def call_of(conf, *words):
 
 
 def missing(conf):
-    """The status and the answer where one of the two files is missing, or None: the program would take it for an empty one."""
+    """The status and the answer where one of the two files is missing, or None: the program would take it for an empty one. One that is no plain
+    file is no better."""
     for path, status in ((conf.store, STORE_FAULT), (conf.book, NOTARY_FAULT)):
         if not os.path.exists(path):
             return status, f"no file {path}"
+        if not os.path.isfile(path):
+            return status, f"{path} is no plain file"
     return None
 
 

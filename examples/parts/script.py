@@ -63,7 +63,7 @@ def is_odd(letter):
 
 def plain(text):
     """The text, with each odd letter spelled out, so that it steers no terminal."""
-    return "".join(f"\\u{{{ord(it):x}}}" if is_odd(it) else it for it in str(text))
+    return "".join(verify.SPELLED.get(it, f"\\u{{{ord(it):x}}}") if is_odd(it) else it for it in str(text))
 
 
 def counted(count, thing):
@@ -79,6 +79,8 @@ def ask(store, book, *words):
     """What the program says of copies of the two files, and what these had in them."""
     for path in (store, book):
         content_of(path, 0)
+    if "," in str(book):
+        raise Refused(f"{plain(book)} has a comma in its name, which stands between two books: copy it to a name without one")
     with tempfile.TemporaryDirectory() as room:
         kept = pathlib.Path(room, "asked")
         call = [EXAMPLES / "on_copy", "--keep", kept, f"store={store}", f"notary={book}", *map(str, words)]

@@ -98,9 +98,12 @@ class Store:
         """The place of the gate that ends the store."""
         return verify.end_of(self.content, RECORDS)
 
+    def behind_ends(self):
+        """How many bytes stand behind that gate, and how many behind the records of earlier segments."""
+        return verify.behind_ends(self.content, RECORDS)
+
     def behind(self):
-        """How many bytes stand behind that gate, and behind the records of earlier segments."""
-        return sum(verify.behind_ends(self.content, RECORDS))
+        return sum(self.behind_ends())
 
     def last_moment(self):
         return max((item.moment for item in self.items() if not isinstance(item, Policy)), default=0)
@@ -114,8 +117,11 @@ class Store:
 
     def tell_hidden(self):
         """Says on standard error where such bytes stand."""
-        if behind := self.behind():
+        behind, within = self.behind_ends()
+        if behind:
             tell(f"behind the end of {plain(self.path)} stand {hidden(behind)}")
+        if within:
+            tell(f"behind the records of earlier segments of {plain(self.path)} stand {hidden(within)}")
 
     def end_of(self, tiles):
         """The moment at which so many tiles have ended."""
@@ -128,7 +134,7 @@ def chains(era):
 
 
 def hidden(count):
-    """What so many bytes behind the end of a file may be, in words."""
+    """What so many bytes behind the gate that ends records may be, in words."""
     return f"{counted(count, 'byte')}: a crash leaves such bytes, and so does whoever hides records (docs/NOTARY.md)"
 
 
