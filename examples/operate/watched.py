@@ -115,6 +115,9 @@ def wrong_line(line, said):
 
 def content_of(path, most=None, durable=False):
     """The bytes of a file, and its length. With `durable` they are on the disk, too."""
+    if os.path.exists(path) and not os.path.isfile(path) and not os.path.isdir(path):
+        # (to open a pipe may wait for ever)
+        raise Wrong(f"{path} is no plain file")
     try:
         with open(path, "rb") as file:
             content, length = file.read(most), os.fstat(file.fileno()).st_size
