@@ -3,7 +3,7 @@
 use crate::story::tell;
 use std::test::Fail;
 
-/// In the first story tile 0 has granules 0 to 3, tile 1 has 4 and 5, and tile 2 has 6 and 7. The policy is stored at 107,
+/// In the first story tile 0 has granules 0 to 3, tile 1 has 4 and 5, and tile 2 has 6 and 7. The policy is stored at 108,
 /// with its exponent at 122, and the last byte of the row at 165.
 const ERAS: &str = "\
 each era is validated with all others, and analysed by its own chains

@@ -1,4 +1,3 @@
-use Rattle.std.proofs.Common.{◌≡◌}
 use denote.Text.{Utf8}
 use denote.Shadow.{shadow}
 use Rattle.dragoon_cli.proofs.nearest.wrong_behind.Given as goal
