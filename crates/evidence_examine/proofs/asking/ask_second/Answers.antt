@@ -1,0 +1,5 @@
+use Rattle.notary_link.proofs.Frame.{goes_on_same}
+use Rattle.evidence_examine.proofs.asking.ask_second.Goals as goal
+
+pub returns-in-None-clause-frame : goal.returns-in-None-clause-frame
+returns-in-None-clause-frame g c = goes_on_same (g.N.Notary.state c.args.notary.now)
