@@ -97,7 +97,7 @@ def store_lines(it, date):
     yield "room left", f"{counted(it['bytes_left'], 'byte')}; {granules} behind the last moment, until {date(it['full_second'])}{is_past}"
     yield "behind its end", hidden(it["behind_the_end"]) if it["behind_the_end"] else "nothing"
     if it["behind_segments"]:
-        yield "in segments", f"behind the records of earlier ones {hidden(it['behind_segments'])}"
+        yield "in segments", f"behind the records of earlier ones {hidden(it['behind_segments'], verify.WHY_WITHIN)}"
     for name, table in it["tables"].items():
         columns = ", ".join(f"{column} {kind}" for column, kind in table["columns"].items())
         yield "table", f"{name}, {counted(table['rows'], 'row')}: {columns}"

@@ -188,15 +188,19 @@ def plain(text):
     return "".join(it if it.isprintable() else SPELLED.get(it, f"\\u{{{ord(it):x}}}") for it in str(text))
 
 
+# who leaves bytes behind the gate that ends a file, and behind those of earlier segments, which an append fills with zeros
+WHY_BEHIND = "a crash leaves such bytes, and so does whoever hides records"
+WHY_WITHIN = "no crash leaves such bytes there, and whoever hides records does"
+
+
 def tell_hidden(name, content, kind):
     """Says on standard error where bytes stand behind a gate that ends records."""
     behind, within = behind_ends(content, kind)
-    why = "a crash leaves such bytes, and so does whoever hides records"
     name = plain(name)
     if behind:
-        print(f"verify: {name} ends at byte {len(content) - behind}, and {behind} bytes stand behind it: {why}", file=sys.stderr)
+        print(f"verify: {name} ends at byte {len(content) - behind}, and {behind} bytes stand behind it: {WHY_BEHIND}", file=sys.stderr)
     if within:
-        print(f"verify: {within} bytes stand behind the records of segments of {name}: {why}", file=sys.stderr)
+        print(f"verify: {within} bytes stand behind the records of earlier segments of {name}: {WHY_WITHIN}", file=sys.stderr)
 
 
 def header_of(content):

@@ -258,6 +258,7 @@ SAYS = [
     ("explain", (WORKED, "hides_filings", "7"), 0, ("Nothing was filed: ", "File nothing and validate nothing with this book: 848 bytes")),
     ("explain", (WORKED, "other_kind", "7"), 0, ("Clean so far: ", "File nothing and validate nothing with this book: 787 bytes")),
     ("explain", ("hidden", BOOK, "7"), 0, ("Clean: ", "Store nothing and file nothing: bytes stand behind the store's end")),
+    ("explain", ("in_segment", "empty", "7"), 0, ("Nothing was filed: ", "Store nothing and file nothing: bytes stand behind the records of a segment")),
     ("explain", ("other_id", BOOK, "7"), 1, ("its id is 8, and not 7",)),
     ("look.py", ("eras",), 0, ("era 1           from tile 2 on, granule 4: 4 granules to a tile; tile chains and the tree; no tile: the next era begins at the same one\n", "era 2 from tile 2 on, granule 4: 8 granules to a tile; tile chains and the tree room left")),
     ("explain", ("--alg", "a3d era 0", "eras", "eras_book", "7"), 0, ("Clean: ", "by a3d, era 0.", "What stands in 2 tiles of era 0 was compared with what was filed, and is the same.")),

@@ -51,6 +51,15 @@ def put(name, place, new):
     file.write_bytes(old[:place] + new + old[place + len(new):])
 
 
+def hidden_within():
+    """Behind the records of the first segment stand some letters, and in the next one the last record once more."""
+    file = pathlib.Path("worked.store")
+    content, last = file.read_bytes(), 64
+    while (gate := last + 5 + int.from_bytes(content[last + 1 : last + 5], "big")) < len(content) - 1:
+        last = gate
+    file.write_bytes((content + b"hidden").ljust(65_536, b"\0") + content[last:])
+
+
 def new_store():
     call(["store=new.store", "init", "7", "60", "3", "ta"], "")
 
@@ -105,7 +114,7 @@ def two_batches_with_one_index():
     put("worked.book", 125 + 5 + 9, (7).to_bytes(4, "big"))
 
 
-TURNED = "had no sealed tile under the id 7: the era begins at tile 0, and no tile was compared. If tiles of the store worked.store are filed in another book, it isn't what was filed there any more: put back the copy from before; docs/OPERATING.md"
+TURNED = "had no sealed tile under the id 7: the policy stands at tile 0, and no tile was compared. If tiles of the store worked.store are filed in another book, validate with that one: where it isn't clean, put back the copy from before; docs/OPERATING.md"
 
 # what, what is done before, the words, the input, the status, the output, and what is told line by line; .. stands for anything
 ROWS = [
@@ -138,6 +147,8 @@ ROWS = [
      [f"dragoon: the notary's book worked.book ends at byte 126, and 787 bytes stand behind it: {BEHIND}; this call wrote over the first of them", "dragoon: only the header was compared: .."]),
     ("a gate of the store that was turned, and hidden records", lambda: put("worked.store", 94, b"\xa6"), [STORE, "link"], "", 0, None,
      [f"dragoon: the store worked.store ends at byte 95, and 350 bytes stand behind it: {BEHIND}"]),
+    ("records hidden in an earlier segment", hidden_within, [STORE, "link"], "", 0, None,
+     ["dragoon: the store worked.store ends a segment at byte 445, and 6 bytes stand behind it: no crash leaves such bytes there, and whoever hides records does; docs/NOTARY.md"]),
     ("an open gate before a broken record", lambda: put("worked.store", 99, b"\x09"), [STORE, "link"], "", 0, None,
      [f"dragoon: the store worked.store ends at byte 95, and 350 bytes stand behind it: {BEHIND}"]),
     ("what an append leaves that was cut off", lambda: put("worked.store", None, bytes.fromhex("0000002501000000")), [STORE, "link"], "", 0, None, []),
@@ -270,7 +281,7 @@ ROWS = [
     ("a clock that went back", lambda: put("worked.store", 17, (1 << 39).to_bytes(8, "big")), [STORE, "run", "7"], "insert t 9 9\n", 3, "refused ClockBack 480\n",
      [f"dragoon: {ONLY} 1, `insert t 9 9`: ClockBack 480, the clock is behind the store's last moment, second 480, 19391-01-25 12:26:08 UTC"]),
     ("a filing by a clock that went back", lambda: put("worked.store", 17, (1 << 39).to_bytes(8, "big")), [STORE, "notarize", "7"], "", 14, "fault ClockBack 480\n",
-     ["dragoon: the clock is behind the store worked.store, whose last moment is second 480, 19391-01-25 12:26:08 UTC: set it right and start again"]),
+     ["dragoon: the clock is behind the store worked.store, whose last moment is second 480, 19391-01-25 12:26:08 UTC: set it right and start again; where it is right, the store's last moment was altered: hold the store against its copies"]),
     ("a notary that is behind the others", three_books, [STORE, QUORUM, "validate", "7"], "", 0, "clean 1\n",
      [f"dragoon: notary 2 of 3 (b) {DIFFERS}"]),
     ("a notary whose book is missing", a_book_missing, [STORE, QUORUM, "validate", "7"], "", 0, "clean 1\n",

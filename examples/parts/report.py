@@ -191,7 +191,9 @@ def what_next(report, book, asked):
         yield f"File nothing, and hold the store against its copies: of its last moment, {odd}."
     is_hidden = re.search("^dragoon: the store .* bytes stand behind it:", told, re.MULTILINE)
     if is_hidden:
-        yield "Store nothing and file nothing: bytes stand behind the store's end, and the next record is written over them."
+        is_within = " ends a segment at byte " in is_hidden[0]
+        where = "behind the records of a segment, where no crash leaves any" if is_within else "behind the store's end, and the next record is written over them"
+        yield f"Store nothing and file nothing: bytes stand {where}."
         yield "Hold the store against its copies, and against what its writers were answered: `Bytes behind a store's end` in docs/OPERATING.md."
     if behind := book.hidden():
         yield f"File nothing and validate nothing with this book: {hidden(behind)}. They stand behind its end, and each call would write over them."

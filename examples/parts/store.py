@@ -121,7 +121,7 @@ class Store:
         if behind:
             tell(f"behind the end of {plain(self.path)} stand {hidden(behind)}")
         if within:
-            tell(f"behind the records of earlier segments of {plain(self.path)} stand {hidden(within)}")
+            tell(f"behind the records of earlier segments of {plain(self.path)} stand {hidden(within, verify.WHY_WITHIN)}")
 
     def end_of(self, tiles):
         """The moment at which so many tiles have ended."""
@@ -133,9 +133,9 @@ def chains(era):
     return ("the chain over all transactions alone", "tile chains", "the tree", "tile chains and the tree")[era.algorithms]
 
 
-def hidden(count):
-    """What so many bytes behind the gate that ends records may be, in words."""
-    return f"{counted(count, 'byte')}: a crash leaves such bytes, and so does whoever hides records (docs/NOTARY.md)"
+def hidden(count, why=verify.WHY_BEHIND):
+    """What so many bytes behind a gate that ends records may be, in words."""
+    return f"{counted(count, 'byte')}: {why} (docs/NOTARY.md)"
 
 
 def what_is(content):

@@ -16,7 +16,7 @@ use std::{fmt, io};
 /// One thing to say of a file, or of all books.
 #[derive(Clone, Copy)]
 enum Oddity<'a> {
-    /// Bytes stand behind the last closed gate.
+    /// Bytes stand behind a closed gate that ends records.
     Behind {
         device: &'a Named<'a>,
         behind: Behind,
@@ -331,13 +331,24 @@ fn tell_behind<W: fmt::Write>(
     is_left_behind: bool,
     f: &mut fmt::Formatter<W>,
 ) -> fmt::Result {
-    let Behind { end, bytes } = behind;
-    write!(
-        f,
-        "{device} ends at byte {end}, and {bytes} bytes stand behind it: a crash leaves such bytes, and so does whoever hides records; docs/NOTARY.md"
-    )?;
-    if device.was_written {
-        write!(f, "; this call wrote over the first of them")?;
+    let Behind {
+        end,
+        bytes,
+        is_within,
+    } = behind;
+    if is_within {
+        write!(
+            f,
+            "{device} ends a segment at byte {end}, and {bytes} bytes stand behind it: no crash leaves such bytes there, and whoever hides records does; docs/NOTARY.md"
+        )?;
+    } else {
+        write!(
+            f,
+            "{device} ends at byte {end}, and {bytes} bytes stand behind it: a crash leaves such bytes, and so does whoever hides records; docs/NOTARY.md"
+        )?;
+        if device.was_written {
+            write!(f, "; this call wrote over the first of them")?;
+        }
     }
     if is_left_behind {
         write!(f, "; they aren't in the target")?;

@@ -80,12 +80,14 @@ fn is_near(head: &[u8], letters: &[u8]) -> bool {
     same >= letters.len()
 }
 
-/// Bytes behind the last closed gate that an append which was cut off doesn't leave.
+/// Bytes behind a closed gate that ends records, which an append that was cut off doesn't leave.
 #[derive(Clone, Copy)]
 pub(crate) struct Behind {
     /// So many bytes has the file up to that gate, and with it.
     pub(crate) end: u64,
     pub(crate) bytes: u64,
+    /// Whether records of a later segment stand behind them.
+    pub(crate) is_within: bool,
 }
 
 /// A file that is only read.
@@ -242,7 +244,7 @@ fn walk_book(
 }
 
 /// Goes over all records of a store, in any of its segments: the algorithms that each policy has, and what stands behind the
-/// last closed gate.
+/// first closed gate that has bytes behind it.
 fn walk_store(
     alloc: Global,
     disk: &mut Peek,
@@ -251,16 +253,43 @@ fn walk_store(
 ) -> Result<(u8, Option<Behind>), DiskFail> {
     let mut records = SegmentRecords::at_first(alloc, disk, format)?;
     let mut algs = u8::MAX;
+    let mut within = None;
     for _ in 0..u64::MAX {
-        if !records.advance(disk)? {
+        let gate = records.place();
+        let found = records.advance(disk)?;
+        if within.is_none() && format == Format::Two {
+            within = behind_segments(alloc, disk, gate, records.place())?;
+        }
+        if !found {
             break;
         }
         algs &= algorithms_of(records.payload()).unwrap_or(u8::MAX);
     }
-    Ok((
-        algs,
-        behind_gate::<StoreShape>(alloc, disk, records.place(), length)?,
-    ))
+    let last = behind_gate::<StoreShape>(alloc, disk, records.place(), length)?;
+    Ok((algs, within.or(last)))
+}
+
+/// What stands behind the records of a segment, of those from that of a gate on that end before that of a place.
+fn behind_segments(
+    alloc: Global,
+    disk: &mut Peek,
+    gate: u64,
+    place: u64,
+) -> Result<Option<Behind>, DiskFail> {
+    let mut end = gate.saturating_add(1);
+    for segment in gate / SEGMENT..place / SEGMENT {
+        let next = segment.saturating_add(1).saturating_mul(SEGMENT);
+        let bytes = filled_at(alloc, disk, end, next.saturating_sub(end))?;
+        if bytes > 0 {
+            return Ok(Some(Behind {
+                end,
+                bytes,
+                is_within: true,
+            }));
+        }
+        end = next.saturating_add(1);
+    }
+    Ok(None)
 }
 
 /// The algorithms of a policy: behind `03`, a tile and a granule of four bytes each, and an exponent.
@@ -281,24 +310,36 @@ fn behind_gate<S: Shape>(
     let bytes = length.saturating_sub(end);
     if bytes == 0
         || is_cut_append::<S>(alloc, disk, gate, bytes)?
-        || is_filled(alloc, disk, end, bytes)?
+        || is_zeros(alloc, disk, end, bytes)?
     {
         return Ok(None);
     }
-    Ok(Some(Behind { end, bytes }))
+    Ok(Some(Behind {
+        end,
+        bytes,
+        is_within: false,
+    }))
 }
 
 /// As many bytes as a segment has.
 const SEGMENT: u64 = 65_536;
 
 /// Whether these bytes are the zeros with which a segment is left.
-fn is_filled(alloc: Global, disk: &mut Peek, place: u64, bytes: u64) -> Result<bool, DiskFail> {
-    if bytes > SEGMENT {
-        return Ok(false);
-    }
-    let mut read = vec![in alloc; 1; bytes as usize]?;
+fn is_zeros(alloc: Global, disk: &mut Peek, place: u64, bytes: u64) -> Result<bool, DiskFail> {
+    Ok(bytes <= SEGMENT && filled_at(alloc, disk, place, bytes)? == 0)
+}
+
+/// How many of these bytes of a segment stand up to the last one that is no zero.
+fn filled_at(alloc: Global, disk: &mut Peek, place: u64, bytes: u64) -> Result<u64, DiskFail> {
+    let mut read = vec![in alloc; 0; bytes.min(SEGMENT) as usize]?;
     disk.read_at(place, &mut read)?;
-    Ok(read.iter().all(|byte| *byte == 0))
+    let mut count: u64 = 0;
+    for (index, byte) in read.iter().enumerate() {
+        if *byte != 0 {
+            count = (index as u64).saturating_add(1);
+        }
+    }
+    Ok(count)
 }
 
 /// The second of a batch: behind `01`, an id of eight bytes and an index of four.

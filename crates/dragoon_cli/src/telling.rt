@@ -516,6 +516,9 @@ pub(crate) fn end_of(header: Header) -> Date {
     Date(header.epoch.saturating_add(granules))
 }
 
+const MENDS_CLOCK: &str =
+    "set it right and start again; where it is right, the store's last moment was altered: hold the store against its copies";
+
 // Of the clock of a store, whose last moment is so many seconds behind its first.
 fn tell_clock_back<W: fmt::Write>(
     store: &Named<'_>,
@@ -530,12 +533,12 @@ fn tell_clock_back<W: fmt::Write>(
             };
             write!(
                 f,
-                "the clock is behind {store}, whose last moment is {moment}: set it right and start again"
+                "the clock is behind {store}, whose last moment is {moment}: {MENDS_CLOCK}"
             )
         }
         _ => write!(
             f,
-            "the clock is behind {store}, whose last moment is second {last}: set it right and start again"
+            "the clock is behind {store}, whose last moment is second {last}: {MENDS_CLOCK}"
         ),
     }
 }

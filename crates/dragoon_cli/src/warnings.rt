@@ -404,7 +404,7 @@ impl fmt::Display for Warning<'_> {
                 tell_id(ending, f)?;
                 write!(
                     f,
-                    ": the era begins at tile 0, and no tile was compared. If tiles of {store} are filed in another book, it isn't what was filed there any more: put back the copy from before; docs/OPERATING.md"
+                    ": the policy stands at tile 0, and no tile was compared. If tiles of {store} are filed in another book, validate with that one: where it isn't clean, put back the copy from before; docs/OPERATING.md"
                 )
             }
             Warning::First { ending } => {
