@@ -1,0 +1,9 @@
+pub mod Fails
+pub mod Passing
+pub mod Units
+pub mod Choosing
+pub mod Runs
+pub mod Restored
+pub mod Restoring
+pub mod Steps
+pub mod Laws
