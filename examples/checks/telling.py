@@ -114,6 +114,19 @@ def two_batches_with_one_index():
     put("worked.book", 125 + 5 + 9, (7).to_bytes(4, "big"))
 
 
+def evidence(granule, *lists):
+    """A file that shows lists of these values for a granule, each a row of granule 5. As text, which is what an input is here."""
+    row = "01 00000007 000000000000012c 0001 02 0174 02 010000000000000005 01"
+    shown = [f"{len(values):08x}" + "".join(f"00000025 {row} {value:016x}" for value in values) for values in lists]
+    entry = f"{granule:08x} {shown[0]} " + ("01" + shown[1] if shown[1:] else "00") if shown else ""
+    head = "4452414745564431 0000000000000007 0000000000000000 0000003c 03 03 00000000"
+    return bytes.fromhex(f"{head} {1 if shown else 0:08x} {entry}").decode(errors="surrogateescape")
+
+
+ALTERED_ROW = evidence(5, [1], [0])
+EXAMINED = "granule 5 not as notarized shown 1 original 1 as notarized\nexamined 1 confirmed 1\n"
+NO_SUCH = "has no such header and eras filed under it: name the right file, id and book"
+
 TURNED = "had no sealed tile under the id 7: the policy stands at tile 0, and no tile was compared. If tiles of the store worked.store are filed in another book, validate with that one: where it isn't clean, put back the copy from before; docs/OPERATING.md"
 
 # what, what is done before, the words, the input, the status, the output, and what is told line by line; .. stands for anything
@@ -123,7 +136,7 @@ ROWS = [
     ("a command that is none", None, ["runn", "7"], "", 2, "fault Usage\n",
      ["dragoon: `runn` is no command: is `run` meant?", "  run ID            carries out..", ".."]),
     ("a command that is far from all", None, ["SELECT"], "", 2, "fault Usage\n",
-     ["dragoon: `SELECT` is no command: those are link, init, run, make, drill, notarize, policy, validate, analyse and migrate"]),
+     ["dragoon: `SELECT` is no command: those are link, init, run, make, drill, notarize, policy, validate, analyse, migrate and examine"]),
     ("algorithms in another order", None, ["init", "7", "60", "3", "at"], "", 2, "fault Usage\n",
      ["dragoon: `at` isn't what `init` takes there: ALGS, one of m, t, a and ta", "  init ID W K ALGS..", ".."]),
     ("a number out of its range", None, ["init", "7", "0", "3", "ta"], "", 2, "fault Usage\n",
@@ -397,6 +410,25 @@ ROWS = [
      ["dragoon: `analyse` lacks a word: E, the number of an era, 0 to 4294967295", "  analyse ID ALG ..", ".."]),
     ("a store of 256 eras", None, [STORE, BOOK, "run", "7", "scripted"], "policy 0 m\n" * 256, 3, None,
      [f"dragoon: 1 of 256 {REFUSED} 256, `policy 0 m`: TooManyEras, the store has 256 eras, which is the most: go on with another store, for other tiles"]),
+    ("evidence", None, [BOOK, "examine", "7"], ALTERED_ROW, 0, EXAMINED, []),
+    ("evidence beside a store", None, [STORE, BOOK, "examine", "7"], ALTERED_ROW, 0, EXAMINED, ["dragoon: the store worked.store isn't used by this command"]),
+    ("evidence of another id", None, [BOOK, "examine", "8"], ALTERED_ROW, 1, "other header\n",
+     [f"dragoon: nothing was examined: the evidence file isn't of the id 8, or the notary's book worked.book {NO_SUCH}"]),
+    ("evidence without a book", None, ["examine", "7"], ALTERED_ROW, 1, "other header\n",
+     [f"dragoon: nothing was examined: the evidence file isn't of the id 7, or the notary's book in memory (no file was named) {NO_SUCH}"]),
+    ("evidence over a book that is missing", None, ["notary=none", "examine", "7"], ALTERED_ROW, 1, "other header\n",
+     ["dragoon: the notary's book none was missing", f"dragoon: nothing was examined: the evidence file isn't of the id 7, or the notary's book none {NO_SUCH}"]),
+    ("evidence over a book that is none", None, ["notary=worked.store", "examine", "7"], ALTERED_ROW, 6, "fault NotaryFault\n",
+     ["dragoon: the notary's book worked.store holds a store with the id 7, .."]),
+    ("evidence of no granule", None, [BOOK, "examine", "7"], evidence(0), 0, "examined 0 confirmed 0\n",
+     ["dragoon: the evidence file shows no granule: whoever made it found none altered"]),
+    ("evidence of a granule that isn't sealed", None, [BOOK, "examine", "7"], evidence(8, []), 11, "fault SealMissing node 0 8\n",
+     ["dragoon: the notary's book worked.book lacks the digest of a granule that the evidence file shows: either that isn't sealed, or its era has no tree, or the book was cut"]),
+    ("evidence that was cut", None, [BOOK, "examine", "7"], ALTERED_ROW[:-1], 23, "fault NotEvidence\n",
+     ["dragoon: the input is no evidence file, or one that was cut or changed: ask whoever made it for the whole one"]),
+    ("no evidence", None, [BOOK, "examine", "7"], "", 23, "fault NotEvidence\n",
+     ["dragoon: the input is empty, and is to be an evidence file, as in dragoon notary=FILE examine ID <EVIDENCE"]),
+    ("an examination without an id", None, [BOOK, "examine"], "", 2, "fault Usage\n", ["dragoon: `examine` lacks a word: ID, ..", "  examine ID ..", ".."]),
     ("a command in capitals", None, ["VALIDATE", "7"], "", 2, "fault Usage\n", ["dragoon: `VALIDATE` is no command: is `validate` meant?", ".."]),
     ("an empty word", None, [""], "", 2, "fault Usage\n", ["dragoon: an empty word is no command: those are link, .."]),
     ("a migration of a store with bytes behind its end", lambda: put("old.store", None, b"\1" * 33000), [OLD, "target=new.store", "migrate", "7"], "", 0, "migrated 9\n",
@@ -469,7 +501,7 @@ def try_row(what, before, words, lines, status, output, told):
         found = call(words, lines)
         if found[0] != status or output not in (None, found[1]) or not fits(told, found[2]):
             raise Wrong(f"{what}: {found}, and wanted is {(status, output, told)}")
-        if status == 4 or words[-1:] == ["link"] or {"validate", "analyse"} & set(words):
+        if status == 4 or words[-1:] == ["link"] or {"validate", "analyse", "examine"} & set(words):
             if sorted(os.listdir()) != there:
                 raise Wrong(f"{what}: what only asks, or finds no store, has left {sorted(os.listdir())}")
         if empty := [name for name in os.listdir() if name not in there and not os.path.getsize(name)]:
@@ -509,6 +541,9 @@ def try_terminal():
         status, seen = at_terminal([STORE, "run", "7"], "get t 1\n")
         if status or "one statement a line; end with Ctrl-D" not in seen or "row 1 0" not in seen or "\x1b[" in seen:
             raise Wrong(f"at a terminal: {status}, {seen!r}")
+        status, seen = at_terminal(["examine", "7"], "")
+        if status != 23 or "the input is to be an evidence file" not in seen or "\x1b[" in seen:
+            raise Wrong(f"an examination at a terminal: {status}, {seen!r}")
         os.chdir("/")
 
 

@@ -15,8 +15,10 @@ pub mod Unaltered
 pub mod Analysing
 pub mod Defined
 pub mod Migrating
+pub mod TakingWhole
 pub mod Completing
 pub mod CompletingMoves
 pub mod Eras
 pub mod CompletingAudits
+pub mod CompletingExaminations
 pub mod Completed

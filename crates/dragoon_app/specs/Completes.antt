@@ -29,6 +29,10 @@ use Rattle.validator.specs.Turning.{turn_of}
 use Rattle.validator.specs.Steps.{counted}
 use Rattle.forensic_report.specs.declared.algorithm.Algorithm.{Algorithm}
 use Rattle.forensic_report.specs.Finding.{has_chains}
+use Rattle.evidence_file.specs.declared.evidence.Evidence.{Evidence}
+use Rattle.evidence_file.specs.Reading.{evidence_of}
+use Rattle.evidence_examine.specs.Places.{layout_of}
+use Rattle.evidence_examine.specs.Examining.{is_right, first_missing}
 use Rattle.dragoon_app.specs.declared.command.Command.{Command}
 use Rattle.dragoon_app.specs.declared.command.Command.TheVariants as commands
 use Rattle.line_runs.specs.declared.status.Status.{Status}
@@ -113,7 +117,7 @@ EndsReplied statuses.Refused = Unit {0}
 EndsReplied statuses.NoMemory = Unit {0}
 EndsReplied s = ⊥
 
--- what compares the store with what is filed
+-- what compares the store, or an evidence file, with what is filed
 abbrev pub EndsJudged : Status → Type 0
 EndsJudged statuses.Ok = Unit {0}
 EndsJudged statuses.Altered = Unit {0}
@@ -196,6 +200,15 @@ pub record MayMigrate (id : ℕ) (header : Header) (bytes there : List ℕ) (old
   pub free : length there ≤ 1
   pub room : IsSome (laid_out header (stored bytes).items)
 
+-- the notary tells its lists, the input is short and spells an evidence file, and where that has the filed header and eras no leaf of
+-- its granules is missing
+pub record MayExamine (id : ℕ) (lists : Lists) (e : Evidence) (old new : Devices) : Type 0 where
+  pub none_failed : NoneFailed old new
+  pub notary : old.desk.notary.lists ≡ Some lists
+  pub input : EndsInTime old.input
+  pub file : evidence_of input.bytes ≡ Some e
+  pub filed : is_right id (lists.batches id) e ≡ true → first_missing (lists.batches id) (layout_of e) e.entries ≡ None
+
 -- the input is short
 pub record MayDrill (old new : Devices) : Type 0 where
   pub none_failed : NoneFailed old new
@@ -213,4 +226,5 @@ Completes (Some (commands.Policy id k algs)) result old new = (n : ℕ) (h : His
 Completes (Some (commands.Analyse id algorithm era)) result old new = (n : ℕ) (h : History) (held : Content) → MayAnalyse algorithm era id n h held old.devices new.devices → EndsJudged result
 Completes (Some (commands.Make id seed count)) result old new = (header : Header) (held : Content) → MayMake id header held old.devices new.devices → EndsReplied result
 Completes (Some (commands.Migrate id)) result old new = (header : Header) (bytes there : List ℕ) → MayMigrate id header bytes there old new → EndsDone result
+Completes (Some (commands.Examine id)) result old new = (lists : Lists) (e : Evidence) → MayExamine id lists e old.devices new.devices → EndsJudged result
 Completes (Some commands.Drill) result old new = MayDrill old.devices new.devices → EndsReplied result

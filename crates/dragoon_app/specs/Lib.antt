@@ -12,6 +12,8 @@ pub mod Parts
 pub mod Analysed
 pub mod Drilled
 pub mod AllDevices
+pub mod WholeInput
+pub mod Examined
 pub mod Migrated
 pub mod Ends
 pub mod Completes

@@ -13,6 +13,7 @@ pub(crate) enum Ask {
     Validate,
     Analyse,
     Migrate,
+    Examine,
     Nothing,
 }
 
@@ -25,11 +26,11 @@ impl Ask {
     }
 
     pub(crate) fn uses_store(self) -> bool {
-        self != Ask::Drill && self != Ask::Nothing
+        self != Ask::Drill && self != Ask::Examine && self != Ask::Nothing
     }
 
     pub(crate) fn uses_notary(self) -> bool {
-        self.uses_store() && self != Ask::Link && self != Ask::Init && self != Ask::Migrate
+        self == Ask::Examine || self.adds() || self == Ask::Validate || self == Ask::Analyse
     }
 
     pub(crate) fn uses_target(self) -> bool {
@@ -38,7 +39,7 @@ impl Ask {
 
     /// Whether it writes nothing into an empty file.
     pub(crate) fn only_asks(self) -> bool {
-        self == Ask::Link || self == Ask::Validate || self == Ask::Analyse
+        self == Ask::Link || self == Ask::Validate || self == Ask::Analyse || self == Ask::Examine
     }
 
     /// Whether it changes nothing unless a line of its input does.
@@ -56,14 +57,14 @@ impl Ask {
         self == Ask::Notarize || self == Ask::Policy
     }
 
-    /// The id that its words give of a store that is there.
+    /// The id that its words give of a store that is there, or that an evidence file is to be of.
     pub(crate) fn id(self, call: &[String]) -> Option<u64> {
         self.named_id(call).filter(|_| self != Ask::Init)
     }
 
     /// The same, also of a store that is to be made.
     pub(crate) fn named_id(self, call: &[String]) -> Option<u64> {
-        if !self.uses_store() || self == Ask::Link {
+        if self == Ask::Link || !self.uses_store() && self != Ask::Examine {
             return None;
         }
         call.get(1)?.as_str().parse::<u64>().ok()
@@ -114,6 +115,8 @@ fn named(word: &str) -> Ask {
         Ask::Analyse
     } else if word == "migrate" {
         Ask::Migrate
+    } else if word == "examine" {
+        Ask::Examine
     } else {
         Ask::Nothing
     }

@@ -71,6 +71,8 @@ pub(crate) struct Heard<'a> {
     /// Whether an era was begun, and whether one at tile 0, so that no tile was held against what is filed.
     is_turned: bool,
     pub(crate) is_turned_uncompared: bool,
+    /// Whether an examination was of no granule.
+    pub(crate) is_none_shown: bool,
     /// Whether a report says that something happened between a moment and an earlier one.
     pub(crate) goes_back: bool,
 }
@@ -91,6 +93,7 @@ impl<'a> Heard<'a> {
             is_filed: false,
             is_turned: false,
             is_turned_uncompared: false,
+            is_none_shown: false,
             goes_back: false,
         }
     }
@@ -150,6 +153,7 @@ impl<'a> Heard<'a> {
             self.is_turned = true;
             self.is_turned_uncompared = self.is_turned_uncompared || text.ends_with(" tile 0");
         }
+        self.is_none_shown = self.is_none_shown || text.starts_with("examined 0 ");
         if let Some(refused) = refused_of_made(text) {
             self.refused_of_made = refused;
         }

@@ -265,7 +265,7 @@ fn disks_of<'a, R: Runtime + Files<File = File> + AllocGlobal + Drop>(
     Ok(disks)
 }
 
-/// A person at the terminal sees the lines, and is told how to give them.
+/// A person at the terminal is told how to give it, and sees the lines.
 fn input_of<'a, R: Runtime + AllocGlobal + Drop>(
     rt: &R,
     shared: &'a Shared,
@@ -274,13 +274,14 @@ fn input_of<'a, R: Runtime + AllocGlobal + Drop>(
 ) -> Result<WatchedSource<'a, StdSource<R>, R>, AllocError> {
     let Terminals { input, error, .. } = terminals;
     let progress = Progress::new(rt, shared, "input", error && !input)?;
-    let is_asked = input && error && ask.takes_lines();
+    let is_asked = input && error && (ask.takes_lines() || ask == Ask::Examine);
     let lines = Lines::new(rt.alloc());
     Ok(WatchedSource::new(
         StdSource::new(rt.clone()?),
         progress,
         shared,
         is_asked,
+        ask != Ask::Examine,
         lines,
     ))
 }
@@ -385,6 +386,7 @@ fn carry_out<'a, R: Runtime + Files<File = File> + AllocGlobal + Drop>(
         target: named_target,
         notaries: Notaries(named_books),
         input: input.below().error(),
+        is_input_empty: input.is_empty(),
         output: out.below().error(),
         heard: &out.heard,
         refused: input.lines.first.as_ref(),

@@ -30,7 +30,7 @@ struct Form {
     more: &'static [Slot],
 }
 
-const FORMS: [Form; 10] = [
+const FORMS: [Form; 11] = [
     Form {
         word: "link",
         needed: &[],
@@ -78,6 +78,11 @@ const FORMS: [Form; 10] = [
     },
     Form {
         word: "migrate",
+        needed: &[Slot::Id],
+        more: &[],
+    },
+    Form {
+        word: "examine",
         needed: &[Slot::Id],
         more: &[],
     },
@@ -327,7 +332,7 @@ const STATEMENTS: [&str; 13] = [
 ];
 
 const COMMANDS: &str =
-    "link, init, run, make, drill, notarize, policy, validate, analyse and migrate";
+    "link, init, run, make, drill, notarize, policy, validate, analyse, migrate and examine";
 
 /// The command that is nearest: in other letters, or where two changes of a letter lead to it. Without memory it is none.
 fn nearest(alloc: Global, word: &str) -> Option<&'static str> {

@@ -65,9 +65,14 @@ impl<'a, R: Runtime> Progress<'a, R> {
         }
     }
 
-    /// Says how a person gives the lines of an input that is a terminal.
-    pub(crate) fn ask(&self) {
-        let _ = eprintln!(self.rt; "dragoon: one statement a line; end with Ctrl-D");
+    /// Says how a person gives the input, where that is a terminal.
+    pub(crate) fn ask(&self, takes_lines: bool) {
+        let how = if takes_lines {
+            "one statement a line; end with Ctrl-D"
+        } else {
+            "the input is to be an evidence file, as in dragoon notary=FILE examine ID <EVIDENCE; Ctrl-D ends it"
+        };
+        let _ = eprintln!(self.rt; "dragoon: {how}");
     }
 
     /// The same where the output goes to the terminal, too.

@@ -84,6 +84,8 @@ pub(crate) struct Ending<'a, 'w> {
     pub(crate) target: Named<'w>,
     pub(crate) notaries: Notaries<'w>,
     pub(crate) input: Option<io::Error>,
+    /// Whether an evidence file was to be the input, and it had no byte.
+    pub(crate) is_input_empty: bool,
     pub(crate) output: Option<io::Error>,
     pub(crate) heard: &'a Heard<'a>,
     pub(crate) refused: Option<&'a Refused>,
@@ -573,10 +575,12 @@ impl fmt::Display for Ending<'_, '_> {
             Status::NotaryFault => tell_notaries_failed(notary, self.ask, f),
             Status::ReadFault => {
                 let error = reason(self.input);
-                write!(
-                    f,
-                    "the input: {error}; give the lines that have no answer again"
-                )
+                let next = if self.ask == Ask::Examine {
+                    "start again"
+                } else {
+                    "give the lines that have no answer again"
+                };
+                write!(f, "the input: {error}; {next}")
             }
             Status::WriteFault => {
                 let error = reason(self.output);
@@ -589,6 +593,10 @@ impl fmt::Display for Ending<'_, '_> {
             Status::Broken => write!(
                 f,
                 "{store} isn't what was filed with {notary}: keep both as they are, and `validate`; docs/OPERATING.md"
+            ),
+            Status::SealMissing { .. } if self.ask == Ask::Examine => write!(
+                f,
+                "{notary} lacks the digest of a granule that the evidence file shows: either that isn't sealed, or its era has no tree, or the book was cut"
             ),
             Status::SealMissing { .. } => write!(
                 f,
@@ -637,6 +645,18 @@ impl fmt::Display for Ending<'_, '_> {
                 "{notary} contradicts itself, as no store's digests do: keep it as it is, and tell whoever keeps it"
             ),
             Status::OldFormat => write!(f, "{store} {IS_OLD}"),
+            Status::NotEvidence if self.is_input_empty => write!(
+                f,
+                "the input is empty, and is to be an evidence file, as in dragoon notary=FILE examine ID <EVIDENCE"
+            ),
+            Status::NotEvidence => write!(
+                f,
+                "the input is no evidence file, or one that was cut or changed: ask whoever made it for the whole one"
+            ),
+            Status::InputLimit if self.ask == Ask::Examine => write!(
+                f,
+                "the input is no evidence file: those have fewer than 67,108,864 bytes"
+            ),
             Status::InputLimit => write!(
                 f,
                 "the input is too long: give the lines that have no answer in another run"

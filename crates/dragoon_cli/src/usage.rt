@@ -33,6 +33,8 @@ File and check
                     `unsealed`, `clean N`, `header altered N`, or `altered N from J`, J being a tile
   analyse ID ALG    reports which granules are altered, and since when, by the algorithm `mono`,
                     `tiled`, `tiled KAPPA` or `a3d`; behind the last three `era E` may stand
+  examine ID        reads an evidence file from standard input, and says which granules it shows
+                    are not as notarized, by the notary's book alone
   run ID            takes notarize, policy, validate and analyse as lines, without ID, and `audit`,
                     which validates in pieces
 
@@ -44,7 +46,7 @@ It ends with
   4  no store of this id          12  somebody else filed       20  the store is of the old format
   5  the store's file failed      13  the file is taken         21  the store has 256 eras
   6  the notary failed            14  the clock is behind       22  the store has no such era
-  7  the input failed             15  the clock is ahead
+  7  the input failed             15  the clock is ahead          23  the input is no evidence
 
 docs/COMMANDS.md  the statements, the replies and the statuses
 docs/DRILLS.md    how to write a drill

@@ -42,6 +42,12 @@ enum Warning<'a> {
     Altered {
         ending: &'a Ending<'a, 'a>,
     },
+    /// An evidence file has not what is filed under the id.
+    Unexamined {
+        ending: &'a Ending<'a, 'a>,
+    },
+    /// An evidence file shows no granule.
+    NoneShown,
     /// The notary has marked a verdict over no store.
     Marked {
         notaries: &'a Notaries<'a>,
@@ -82,6 +88,7 @@ pub(crate) fn tell_warnings<R: Eprint>(rt: &R, ending: &Ending<'_, '_>) -> io::R
         turned(ending),
         auditing(ending),
         altered(ending),
+        examined(ending),
         clock_of(ending),
         made(ending),
         refused(ending),
@@ -181,6 +188,18 @@ fn altered<'a>(ending: &'a Ending<'a, 'a>) -> Option<Warning<'a>> {
         None
     } else {
         Some(Warning::Marked { notaries })
+    }
+}
+
+/// What there is to say of an evidence file.
+fn examined<'a>(ending: &'a Ending<'a, 'a>) -> Option<Warning<'a>> {
+    if ending.ask != Ask::Examine {
+        return None;
+    }
+    match ending.status {
+        Status::Altered => Some(Warning::Unexamined { ending }),
+        Status::Ok if ending.heard.is_none_shown => Some(Warning::NoneShown),
+        _ => None,
     }
 }
 
@@ -419,6 +438,19 @@ impl fmt::Display for Warning<'_> {
                 "the audit has read {read} items and isn't at its end: nothing was compared, and the next run begins it anew"
             ),
             Warning::Altered { ending } => tell_altered(ending, f),
+            Warning::Unexamined { ending } => {
+                let notary = &ending.notaries;
+                write!(f, "nothing was examined: the evidence file isn't of ")?;
+                tell_id(ending, f)?;
+                write!(
+                    f,
+                    ", or {notary} has no such header and eras filed under it: name the right file, id and book"
+                )
+            }
+            Warning::NoneShown => write!(
+                f,
+                "the evidence file shows no granule: whoever made it found none altered"
+            ),
             Warning::Marked { notaries } => write!(
                 f,
                 "{notaries} keeps this verdict as a mark, which the diagrams of later reports show"

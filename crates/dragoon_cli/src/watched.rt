@@ -84,14 +84,16 @@ impl<'a, D: Disk + Drop, R: Runtime> Disk for WatchedDisk<'a, D, R> {
     }
 }
 
-/// An input that shows how many lines were read, and keeps the first line that was refused.
+/// An input that shows how many lines were read, and keeps the first line that was refused; or how many bytes were read.
 #[derive(Drop)]
 pub(crate) struct WatchedSource<'a, I: Drop, R: Runtime> {
     below: I,
     progress: Progress<'a, R>,
     shared: &'a Shared,
-    /// Whether it is said, before the first read, how lines are given.
+    /// Whether it is said, before the first read, how it is given.
     is_asked: bool,
+    takes_lines: bool,
+    /// How many lines were read, or bytes.
     count: u64,
     sessions: SessionLines,
     pub(crate) lines: Lines,
@@ -103,6 +105,7 @@ impl<'a, I: Source + Drop, R: Runtime> WatchedSource<'a, I, R> {
         progress: Progress<'a, R>,
         shared: &'a Shared,
         is_asked: bool,
+        takes_lines: bool,
         lines: Lines,
     ) -> Self {
         WatchedSource {
@@ -110,6 +113,7 @@ impl<'a, I: Source + Drop, R: Runtime> WatchedSource<'a, I, R> {
             progress,
             shared,
             is_asked,
+            takes_lines,
             count: 0,
             sessions: SessionLines::new(),
             lines,
@@ -122,6 +126,11 @@ impl<'a, I: Source + Drop, R: Runtime> WatchedSource<'a, I, R> {
         self.lines.look_back(self.shared.first_refused.get());
         &self.below
     }
+
+    /// Whether it had no byte.
+    pub(crate) fn is_empty(&self) -> bool {
+        !self.takes_lines && self.count == 0
+    }
 }
 
 impl<'a, I: Source + Drop, R: Runtime> Source for WatchedSource<'a, I, R> {
@@ -129,12 +138,16 @@ impl<'a, I: Source + Drop, R: Runtime> Source for WatchedSource<'a, I, R> {
 
     fn read(&mut self, into: &mut [u8]) -> Result<usize, StreamFail> {
         if self.is_asked {
-            self.progress.ask();
+            self.progress.ask(self.takes_lines);
             self.is_asked = false;
         }
-        self.progress.show(Step::Lines { lines: self.count });
+        self.progress.show(step_of(self.takes_lines, self.count));
         self.lines.look_back(self.shared.first_refused.get());
         let count = self.below.read(into)?;
+        if !self.takes_lines {
+            self.count = self.count.saturating_add(count as u64);
+            return Ok(count);
+        }
         self.count = self.count.saturating_add(ends_in(&into[..count]));
         self.lines.take(&into[..count]);
         if count == 0 {
@@ -143,6 +156,18 @@ impl<'a, I: Source + Drop, R: Runtime> Source for WatchedSource<'a, I, R> {
             self.sessions.take(&into[..count], &self.shared.sessions);
         }
         Ok(count)
+    }
+}
+
+/// So many lines were read, or bytes.
+fn step_of(takes_lines: bool, count: u64) -> Step {
+    if takes_lines {
+        Step::Lines { lines: count }
+    } else {
+        Step::Read {
+            bytes: count,
+            length: 0,
+        }
     }
 }
 

@@ -60,6 +60,7 @@ fn fault_text(status: Status) -> &'static str
         Status::OldFormat => "fault OldFormat\n",
         Status::TooManyEras => "fault TooManyEras\n",
         Status::NoEra => "fault NoEra\n",
+        Status::NotEvidence => "fault NotEvidence\n",
         Status::SealMissing { .. }
         | Status::OutOfTurn { .. }
         | Status::ClockBack { .. }

@@ -48,6 +48,8 @@ pub enum Status {
     TooManyEras,
     /// The store has no era of the number that an analysis asks for.
     NoEra,
+    /// The input was read to its end, and is no evidence file.
+    NotEvidence,
 }
 
 impl Status {
@@ -79,6 +81,7 @@ impl Status {
             Status::OldFormat => 20,
             Status::TooManyEras => 21,
             Status::NoEra => 22,
+            Status::NotEvidence => 23,
         }
     }
 }

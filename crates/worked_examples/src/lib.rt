@@ -18,6 +18,8 @@ mod drills;
 #[cfg(test)]
 mod eras;
 #[cfg(test)]
+mod evidence;
+#[cfg(test)]
 mod limits;
 #[cfg(test)]
 mod makes;

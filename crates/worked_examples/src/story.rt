@@ -8,6 +8,7 @@
 //! |---|---|
 //! | `$ WORDS @ SECONDS ! WRITE = STATUS TEXT` | a call of these words, what the clock gives, which write of the output fails, the status, and what is written |
 //! | `< LINES`, `> LINES` | behind it: its input, which comes three bytes at a time, and what is written besides |
+//! | `$ given HEX` | these bytes are the input of calls without lines |
 //! | `$ sealed GRANULES TILES WORDS` | the store has id 7, is made by these words, and has a row in each granule; so many tiles are sealed |
 //! | `$ week` | the store is the ledger of a week |
 //! | `$ bytes HEX`, `$ alter PLACE HEX`, `$ cut LENGTH` | the store has these bytes; has others from a place on; ends there |
@@ -38,6 +39,7 @@ struct Scene {
     store: MemDisk,
     target: MemDisk,
     filed: MemNotary,
+    given: Vec<u8>,
     filling: Filling,
     tail: String,
 }
@@ -151,7 +153,12 @@ fn called(rt: &impl Abort, alloc: Global, scene: &mut Scene, step: &str) -> Resu
     let words: Vec<&str> = words.split(' ').collect(alloc)?;
     let (seconds, failing) = (numbers(alloc, clock)?, numbers(alloc, write)?);
     let lines = behind(alloc, step, "< ", "")?;
-    let mut input = MemSource::new(lines.into_bytes(), 3, Vec::new(alloc));
+    let given = if lines.is_empty() {
+        scene.given.to_vec(alloc)?
+    } else {
+        lines.into_bytes()
+    };
+    let mut input = MemSource::new(given, 3, Vec::new(alloc));
     let (store, target, filed) = (&mut scene.store, &mut scene.target, &mut scene.filed);
     let told = beside(
         alloc, &words, store, target, filed, &seconds, &mut input, &failing,
@@ -302,6 +309,7 @@ fn take(rt: &impl Abort, alloc: Global, scene: &mut Scene, step: &str) -> Result
         "damaged" => damaged(rt, alloc, scene, step)?,
         "tail" => scene.tail = behind(alloc, step, "> ", "")?,
         "stranger" => stranger(&mut scene.filed)?,
+        "given" => scene.given = bytes_of(alloc, rest)?,
         _ => called(rt, alloc, scene, step)?,
     }
     Ok(())
@@ -315,6 +323,7 @@ pub fn tell(rt: &impl Abort, alloc: Global, first: &str, stories: &str) -> Resul
             store: MemDisk::new(alloc),
             target: MemDisk::new(alloc),
             filed: notary(alloc),
+            given: Vec::new(alloc),
             filling: Filling::new(alloc),
             tail: String::new(alloc),
         };
