@@ -16,8 +16,8 @@
 A kind that isn't given is found: int if each field is a number of 64 bits as it would be printed, bool if each is `true` or
 `false`, else text. (`007` and `+5` are text, and ints where --kind says so.) A text of the language holds no line end, tab or other
 byte below 0x20, nor 0x7F. A column of kind utf8 is of kind bytes in the table: the UTF-8 of the field, whatever it holds.
-A column of which text is made, though it looks like something else (`TRUE`, `007`, `12,50`, `1e5`, `2026-12-31`), or though most
-of it are numbers, is named on standard error.
+A column of which text is made, though it looks like something else (`TRUE`, `007`, `12,50`, `1e5`, `2026-12-31`), or though some
+of it are whole numbers, is named on standard error.
 
 What the language can't hold is refused with its row and column, and so is a row with too few or too many fields, a key that
 is empty or stands there twice, and a name that is none. Nothing is written then, and the status is 1. The heading is row 1.
@@ -124,8 +124,10 @@ def looks(name, fields):
         if all(re.fullmatch(pattern, field) for field in fields):
             return note.format(name)
     others = [field for field in fields if number_of(field) is None]
-    if 2 * len(others) < len(fields):
+    if len(others) < len(fields):
         return f"it stays text, since {len(others)} of {len(fields)} fields are no whole numbers, as `{others[0][:20]}`: an empty field is null"
+    if all(any(re.fullmatch(pattern, field) for pattern, _ in LOOKS) for field in fields):
+        return f"it stays text, since its fields are of several forms, as `{fields[0][:20]}`: written in one, they may get a kind"
     return None
 
 

@@ -93,7 +93,7 @@ NOTED = [
     ("01.02.2026,31.12.2026", "20261231"), ("31.12.2026,1/2/26", "20261231"), ("2026-12-31,2027-01-01", "20261231"), ("2026-12-31 10:00,2027-01-01T00:00:00Z", "dates"),
     ("10:30,23:59:59", "times of day"), ("007,12", "--kind b=int"), ("+5,7", "--kind b=int"), ("-0,1", "--kind b=int"), ("12345678901234567890,1", "wider than 64 bits"), ("9223372036854775808,007", "wider than 64 bits"), ("9223372036854775807,007", "--kind b=int"), ("1e5,2E-3", "an exponent"),
     ("1e5,2,1.5", "an exponent"), ("0x1F,0xff", "--kind b=bytes"), (" 5,6 ", "blanks"), ("5 %,6 %", "a unit"), ("$5,€ 6.50", "a unit"), ("5.00 EUR,6.50 EUR", "a unit"),
-    ("1,2,n/a", "1 of 3 fields are no whole numbers, as `n/a`"), ("1,x,y", None), ("a,b", None), ("007x,8x", None), ("192.168.0.1,10.0.0.1", None), ("1.2.3,1.2.4", None), ("-,-", None), ("030 123456,040 98765", None),
+    ("1,2,n/a", "1 of 3 fields are no whole numbers, as `n/a`"), ("1,x,y", "2 of 3 fields are no whole numbers, as `x`"), ("TRUE,12.5,1e5", "of several forms, as `TRUE`"), ("TRUE,x", None), ("a,b", None), ("007x,8x", None), ("192.168.0.1,10.0.0.1", None), ("1.2.3,1.2.4", None), ("-,-", None), ("030 123456,040 98765", None),
 ]
 NO_REPLIES = (
     "", "row 1\n", "row 1\nrows 2\n", "row 1 2\nrows 1\n", "rows 0\nrows 0\n", "version 1 - row 1\nrows 1\n", "none\n",
