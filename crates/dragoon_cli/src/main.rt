@@ -4,64 +4,24 @@
 //! What the words, the files and the output do is proved below; here stands what is only tested: that
 //! the right file is opened, and what standard error is told.
 //!
-//! | On standard error | Module |
+//! | Beside the call | Crate |
 //! |---|---|
-//! | a line of progress, and how lines are given at a terminal | `progress`, moved by `watched` |
-//! | what a file was before the call, by a look of its own | `peek` |
-//! | what a book says of an id without a store | `known` |
-//! | which reply was refused first, and to which line | `heard`, `lines` |
-//! | which sessions are left without a commit | `sessions` |
-//! | which notary of a quorum failed, or differed | `ballot`, told by `members` |
-//! | why a call ended with a fault | `telling` |
-//! | what is odd about the files, each oddity by itself | `oddities` |
-//! | what else output and status don't say | `warnings`, with `refusal`, and `wording` over `tokens` |
-//! | words that are no command | `nearest` |
+//! | which command the words ask for, and what is wrong with them | `asked_words` |
+//! | its files and its notaries, and what each file was before it | `call_devices` |
+//! | how far it is, and what went through its devices | `call_watch` |
+//! | what is told at its end | `call_telling` |
 //!
-//! None of this changes output or status. What is told is made from values that the call has left behind. The look comes
-//! before the call and is done with its file and its memory by then; where it fails nothing is told of the file. Behind a
-//! call that found no store, books are read once more. Where memory is wanting for a line or a guess it is left out, and
-//! what standard error doesn't take is lost.
+//! None of what is told changes output or status. It is made from values that the call has left behind. The look at a
+//! file comes before the call and is done with it and its memory by then; where it fails nothing is told of the file.
+//! Where memory is wanting for a line or a guess it is left out.
 #![tactic(auto)]
 
 ghost use Rattle.std.specs.Prelude.{◌≡◌, ◌≤◌, IfOk, length};
 
-mod ask;
-mod ballot;
-mod date;
-mod device;
-mod faults;
-mod heard;
-mod known;
-mod lines;
-mod members;
-mod nearest;
-mod oddities;
-mod peek;
-mod progress;
-mod refusal;
-mod sessions;
-mod shared;
-mod shown;
-mod telling;
-mod tokens;
-mod unmade;
-mod usage;
-mod wanted;
-mod warnings;
-mod watched;
-mod wording;
-
-use crate::ask::Ask;
-use crate::device::Device;
-use crate::heard::Heard;
-use crate::known::{Known, Missed};
-use crate::lines::Lines;
-use crate::members::quorum_of;
-use crate::peek::{Found, look};
-use crate::progress::Progress;
-use crate::shared::Shared;
-use crate::telling::{Called, Ending, Named, Notaries, tell};
-use crate::watched::{WatchedDisk, WatchedSink, WatchedSource};
+use asked_words::Ask;
+use call_devices::{Device, Found, look, quorum_of};
+use call_telling::{Called, Ending, Known, Missed, Named, Notaries, tell};
+use call_watch::{Heard, Lines, Progress, Shared, WatchedDisk, WatchedSink, WatchedSource};
 use dragoon_app::{Status, dragoon, leading};
 use outside_io::{Clock, StdSink, StdSource, SystemClock};
 use std::alloc::{AllocError, Global};

@@ -1,0 +1,40 @@
+//! The devices of a call of the program: each a file, a file that is still missing, or bytes in memory. Up to nine
+//! notaries keep a book each, and are one. A look at a file says before the call what it is.
+//!
+//! | Of | Module |
+//! |---|---|
+//! | a file or bytes in memory | `device` |
+//! | a file that is missing, which the first change makes | `unmade` |
+//! | the notaries of a call, each with its book | `members` |
+//! | which of them failed, or differed from most | `ballot` |
+//! | what a file is, by reading it alone | `peek` |
+//! | how failures are counted | `faults` |
+//!
+//! | The layer above may rely on | Clause |
+//! |---|---|
+//! | each device is a disk: a file tells nothing, and a fault is answered only where it was counted | those of `Disk` |
+//! | a device that is named has a file, and any other is empty and in memory | `file`, `empty` of `Device::named` |
+//! | a member of a quorum answers what the notary below it answers | those of `Notary` |
+//!
+//! Only tested: that the right file is opened, what a look finds, and which notary stands out. A look takes no lock and
+//! changes nothing. Where it fails nothing is known of the file.
+//!
+//! ```text
+//! let found = look(rt, alloc, Some(path));
+//! let device = Device::named(rt, Some(path))?;
+//! let notary = quorum_of(alloc, disks, &ballot)?;
+//! ```
+#![tactic(auto)]
+
+mod ballot;
+mod device;
+mod faults;
+mod members;
+mod peek;
+mod unmade;
+
+pub use ballot::{Ballot, Odd};
+pub use device::Device;
+pub use members::{Member, quorum_of};
+pub use peek::{Behind, Found, Letters, Peek, look};
+pub use unmade::Unmade;

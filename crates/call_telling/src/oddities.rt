@@ -1,0 +1,440 @@
+//! What is odd about the files of a call. Each oddity is told by itself, however the call ended and whatever the other files
+//! are: only what the line of a fault says of its own file isn't said again.
+
+use crate::known::Known;
+use crate::telling::{
+    Called, Ending, IS_OLD, Kind, Knows, Named, Notaries, OtherId, Was, is_done, tell_damaged,
+    tell_member_failed,
+};
+use asked_words::Ask;
+use call_devices::{Behind, Found, Odd};
+use history_model::Format;
+use line_runs::Status;
+use std::{fmt, io};
+
+/// One thing to say of a file, or of all books.
+#[derive(Clone, Copy)]
+enum Oddity<'a> {
+    /// Bytes stand behind a closed gate that ends records.
+    Behind {
+        device: &'a Named<'a>,
+        behind: Behind,
+        /// Whether all before them was written to another file.
+        is_left_behind: bool,
+    },
+    /// It was missing, or empty.
+    Nothing {
+        device: &'a Named<'a>,
+        /// Whether the call was carried out without it, and nothing was filed in it later and compared.
+        is_uncompared: bool,
+        /// Whether something was written into it.
+        is_written: bool,
+        /// Whether another notary's book holds something.
+        is_among: bool,
+    },
+    /// It holds something else.
+    Strange {
+        device: &'a Named<'a>,
+    },
+    OtherId(OtherId<'a>),
+    /// No store of an id was found, and a book has it.
+    Knows(Knows<'a>),
+    /// A book that wasn't asked is one that no notary takes.
+    Damaged {
+        book: &'a Named<'a>,
+    },
+    /// A book that wasn't asked has neither the id of the words nor that of the store.
+    Foreign {
+        book: &'a Named<'a>,
+        other: OtherId<'a>,
+    },
+    /// Nothing is added to a store of its format.
+    Old {
+        store: &'a Named<'a>,
+    },
+    /// A notary stood out among others.
+    Odd {
+        device: &'a Named<'a>,
+        ask: Ask,
+    },
+    /// What was made stands in the place of its bytes.
+    Overwritten {
+        device: &'a Named<'a>,
+    },
+    /// The command doesn't use it.
+    Unused {
+        device: &'a Named<'a>,
+    },
+    /// The command uses no book.
+    UnusedBooks {
+        notaries: &'a Notaries<'a>,
+    },
+    /// More than half of the books held nothing, and another holds something.
+    Lost,
+    /// No store was named.
+    Unnamed {
+        is_uncompared: bool,
+    },
+}
+
+/// Says each on a line of its own.
+pub(crate) fn tell_oddities<R: Eprint>(rt: &R, ending: &Ending<'_, '_>) -> io::Result<()> {
+    let store = &ending.store;
+    let target = &ending.target;
+    let books = ending.notaries.0.as_slice();
+    say(rt, behind_of(ending, store))?;
+    for book in books {
+        say(rt, behind_of(ending, book))?;
+    }
+    say(rt, nothing_in(ending, store))?;
+    say(rt, strange_in(ending, store))?;
+    say(rt, other_id(ending))?;
+    say(rt, old(ending))?;
+    say(rt, strange_in(ending, target))?;
+    for book in books {
+        say(rt, nothing_in(ending, book))?;
+        say(rt, strange_in(ending, book))?;
+        say(rt, odd_in(ending, book))?;
+        say(rt, unasked(ending, book))?;
+    }
+    let others = [
+        ending.knows().map(Oddity::Knows),
+        overwritten(ending),
+        unused(store, ending.ask.uses_store()),
+        unused(&ending.copy, false),
+        unused(target, ending.ask.uses_target()),
+        unused_books(ending),
+        lost(ending),
+        unnamed(ending),
+    ];
+    for oddity in others {
+        say(rt, oddity)?;
+    }
+    Ok(())
+}
+
+fn say<R: Eprint>(rt: &R, oddity: Option<Oddity<'_>>) -> io::Result<()> {
+    match oddity {
+        Some(oddity) => eprintln!(rt; "dragoon: {oddity}"),
+        None => Ok(()),
+    }
+}
+
+/// Whether the line of the fault says what this file is, or what happened to it.
+fn is_told(ending: &Ending<'_, '_>, device: &Named<'_>) -> bool {
+    let is_of_fault = match device.called {
+        Called::Store => matches!(&ending.status, Status::NotAStore | Status::OldFormat)
+            || ending.status == Status::AlreadyThere && ending.ask == Ask::Init,
+        Called::Target => ending.status == Status::AlreadyThere,
+        Called::Book => ending.status == Status::NotaryFault,
+        Called::Copy | Called::Member { .. } => false,
+    };
+    is_of_fault || device.error.is_some()
+}
+
+/// Whether it made the calls of a notary that the words speak of. A run that ended before its first line might have made some.
+fn uses_notary(ending: &Ending<'_, '_>) -> bool {
+    let heard = ending.heard;
+    let is_cut_short = heard.replies == 0 && !is_done(ending);
+    ending.ask.uses_notary() && (ending.ask != Ask::Run || heard.uses_notary() || is_cut_short)
+}
+
+/// Whether it was missing, or empty.
+pub(crate) fn holds_nothing(device: &Named<'_>) -> bool {
+    matches!(&device.found, Found::Missing | Found::Empty { .. })
+}
+
+fn behind_of<'a>(ending: &'a Ending<'a, 'a>, device: &'a Named<'a>) -> Option<Oddity<'a>> {
+    let behind = match device.found {
+        Found::Store { behind, .. } | Found::Book { behind, .. } => behind?,
+        _ => return None,
+    };
+    Some(Oddity::Behind {
+        device,
+        behind,
+        is_left_behind: ending.ask.uses_target() && ending.status == Status::Ok,
+    })
+}
+
+fn nothing_in<'a>(ending: &'a Ending<'a, 'a>, device: &'a Named<'a>) -> Option<Oddity<'a>> {
+    let is_asked = ending.ask.compares() && uses_notary(ending);
+    let is_odd = device.odd == Odd::Differs;
+    if !holds_nothing(device) || is_told(ending, device) || !(is_asked || is_odd) {
+        return None;
+    }
+    let is_member = matches!(device.called, Called::Member { .. });
+    let is_among = is_member && ending.notaries.0.iter().any(|book| is_book(book));
+    let is_only_book = matches!(device.called, Called::Book);
+    let is_store = matches!(device.called, Called::Store);
+    Some(Oddity::Nothing {
+        device,
+        is_uncompared: is_done(ending)
+            && (is_store || has_store(ending))
+            && !is_later_compared(ending)
+            && !is_among,
+        is_written: device.was_made || is_only_book && ending.heard.is_filed,
+        is_among,
+    })
+}
+
+fn is_book(device: &Named<'_>) -> bool {
+    matches!(&device.found, Found::Book { .. })
+}
+
+/// Whether something stood where the store is named. Else that is why nothing was compared.
+pub(crate) fn has_store(ending: &Ending<'_, '_>) -> bool {
+    ending.store.path.is_some() && !holds_nothing(&ending.store)
+}
+
+/// The same as of a call that files before it compares.
+fn is_later_compared(ending: &Ending<'_, '_>) -> bool {
+    let heard = ending.heard;
+    (ending.ask == Ask::Run || ending.ask == Ask::Make)
+        && heard.verdict.text() != ""
+        && !heard.is_unsealed()
+}
+
+/// A notary that failed tells so what its file is.
+fn strange_in<'a>(ending: &'a Ending<'a, 'a>, device: &'a Named<'a>) -> Option<Oddity<'a>> {
+    let is_strange = match device.found {
+        Found::Store { .. } => !matches!(device.called, Called::Store),
+        Found::Book { .. } => matches!(device.called, Called::Store | Called::Target),
+        Found::Other { .. } | Found::Unread => true,
+        Found::Unused | Found::Missing | Found::Empty { .. } => false,
+    };
+    let is_used = match device.called {
+        Called::Book | Called::Member { .. } => uses_notary(ending) && device.odd == Odd::No,
+        _ => true,
+    };
+    if is_strange && is_used && !is_told(ending, device) {
+        Some(Oddity::Strange { device })
+    } else {
+        None
+    }
+}
+
+fn other_id<'a>(ending: &'a Ending<'a, 'a>) -> Option<Oddity<'a>> {
+    match ending.other_id() {
+        Some(other) if ending.status != Status::NotAStore => Some(Oddity::OtherId(other)),
+        _ => None,
+    }
+}
+
+fn old<'a>(ending: &'a Ending<'a, 'a>) -> Option<Oddity<'a>> {
+    let store = &ending.store;
+    match store.found {
+        Found::Store {
+            format: Format::One,
+            ..
+        } if ending.ask.adds() && ending.status != Status::OldFormat => Some(Oddity::Old { store }),
+        _ => None,
+    }
+}
+
+/// A book of which that was told tells so why it differs, and why the only one that holds something does.
+fn odd_in<'a>(ending: &'a Ending<'a, 'a>, device: &'a Named<'a>) -> Option<Oddity<'a>> {
+    let is_quorum = matches!(device.called, Called::Member { .. });
+    let is_known = device.odd == Odd::Differs
+        && (nothing_in(ending, device).is_some() || is_left_alone(ending, device));
+    if !is_quorum || device.odd == Odd::No || is_known {
+        return None;
+    }
+    let ask = ending.ask;
+    Some(Oddity::Odd { device, ask })
+}
+
+/// What is odd about a book that the call didn't come to ask.
+fn unasked<'a>(ending: &'a Ending<'a, 'a>, book: &'a Named<'a>) -> Option<Oddity<'a>> {
+    match (book.known, ending.other_id()) {
+        (Known::Damaged, _) if !is_told(ending, book) => Some(Oddity::Damaged { book }),
+        (
+            Known::Batches {
+                of_id: 0,
+                of_store: 0,
+            },
+            Some(other),
+        ) => Some(Oddity::Foreign { book, other }),
+        _ => None,
+    }
+}
+
+/// Whether the call failed since all books but this one were missing or empty.
+fn is_left_alone(ending: &Ending<'_, '_>, device: &Named<'_>) -> bool {
+    let books = ending.notaries.0.as_slice();
+    let full = books.iter().filter(|book| !holds_nothing(book)).count();
+    ending.status == Status::NotaryFault && full == 1 && !holds_nothing(device)
+}
+
+/// A device that is made anew, and held something that counts as nothing.
+fn overwritten<'a>(ending: &'a Ending<'a, 'a>) -> Option<Oddity<'a>> {
+    let device = if ending.ask.uses_target() {
+        &ending.target
+    } else {
+        &ending.store
+    };
+    match device.found {
+        Found::Empty { bytes, .. }
+            if bytes > 0
+                && device.was_written
+                && (ending.ask == Ask::Init || ending.ask.uses_target()) => {
+            Some(Oddity::Overwritten { device })
+        }
+        _ => None,
+    }
+}
+
+fn unused<'a>(device: &'a Named<'a>, is_used: bool) -> Option<Oddity<'a>> {
+    if device.path.is_some() && !is_used {
+        Some(Oddity::Unused { device })
+    } else {
+        None
+    }
+}
+
+fn unused_books<'a>(ending: &'a Ending<'a, 'a>) -> Option<Oddity<'a>> {
+    let notaries = &ending.notaries;
+    if ending.ask.uses_notary() || notaries.are_in_memory() {
+        None
+    } else {
+        Some(Oddity::UnusedBooks { notaries })
+    }
+}
+
+/// What more than half of the books say is then what new books say.
+fn lost<'a>(ending: &'a Ending<'a, 'a>) -> Option<Oddity<'a>> {
+    let books = ending.notaries.0.as_slice();
+    let empty = books.iter().filter(|book| holds_nothing(book)).count();
+    let full = books.iter().filter(|book| is_book(book)).count();
+    if uses_notary(ending) && full > 0 && empty > books.len().saturating_sub(empty) {
+        Some(Oddity::Lost)
+    } else {
+        None
+    }
+}
+
+fn unnamed<'a>(ending: &'a Ending<'a, 'a>) -> Option<Oddity<'a>> {
+    if ending.store.path.is_none()
+        && ending.ask.gives_verdict()
+        && ending.status != Status::NotAStore
+    {
+        let is_uncompared = is_done(ending);
+        Some(Oddity::Unnamed { is_uncompared })
+    } else {
+        None
+    }
+}
+
+fn tell_behind<W: fmt::Write>(
+    device: &Named<'_>,
+    behind: Behind,
+    is_left_behind: bool,
+    f: &mut fmt::Formatter<W>,
+) -> fmt::Result {
+    let Behind {
+        end,
+        bytes,
+        is_within,
+    } = behind;
+    if is_within {
+        write!(
+            f,
+            "{device} ends a segment at byte {end}, and {bytes} bytes stand behind it: no crash leaves such bytes there, and whoever hides records does; docs/NOTARY.md"
+        )?;
+    } else {
+        write!(
+            f,
+            "{device} ends at byte {end}, and {bytes} bytes stand behind it: a crash leaves such bytes, and so does whoever hides records; docs/NOTARY.md"
+        )?;
+        if device.was_written {
+            write!(f, "; this call wrote over the first of them")?;
+        }
+    }
+    if is_left_behind {
+        write!(f, "; they aren't in the target")?;
+    }
+    Ok(())
+}
+
+const UNCOMPARED: &str = ": nothing was compared";
+
+fn tell_nothing<W: fmt::Write>(
+    device: &Named<'_>,
+    is_uncompared: bool,
+    is_written: bool,
+    is_among: bool,
+    f: &mut fmt::Formatter<W>,
+) -> fmt::Result {
+    let was = Was(device.found);
+    write!(f, "{device} {was}")?;
+    if is_uncompared {
+        write!(f, "{UNCOMPARED}")?;
+    }
+    if is_written {
+        write!(f, ", and it was made anew")?;
+    }
+    if is_among {
+        write!(f, "; docs/NOTARY.md says what to do")?;
+    }
+    Ok(())
+}
+
+fn tell_odd<W: fmt::Write>(device: &Named<'_>, ask: Ask, f: &mut fmt::Formatter<W>) -> fmt::Result {
+    match device.odd {
+        Odd::Failed => tell_member_failed(device, ask, f),
+        Odd::NoMemory => write!(f, "{device} found no memory"),
+        Odd::Differs | Odd::No => write!(
+            f,
+            "{device} differs from the others: keep it as it is; docs/NOTARY.md says why one does"
+        ),
+    }
+}
+
+impl fmt::Display for Oddity<'_> {
+    fn fmt<W: fmt::Write>(&self, f: &mut fmt::Formatter<W>) -> fmt::Result {
+        match *self {
+            Oddity::Behind {
+                device,
+                behind,
+                is_left_behind,
+            } => tell_behind(device, behind, is_left_behind, f),
+            Oddity::Nothing {
+                device,
+                is_uncompared,
+                is_written,
+                is_among,
+            } => tell_nothing(device, is_uncompared, is_written, is_among, f),
+            Oddity::Strange { device } => {
+                let kind = Kind(device.found);
+                write!(f, "{device} {kind}")
+            }
+            Oddity::OtherId(other) => write!(f, "{other}"),
+            Oddity::Knows(knows) => write!(f, "{knows}"),
+            Oddity::Damaged { book } => tell_damaged(book, f),
+            Oddity::Foreign { book, other } => {
+                let OtherId { id, asked, .. } = other;
+                write!(
+                    f,
+                    "{book} has nothing that was filed under the id {id} or {asked}"
+                )
+            }
+            Oddity::Old { store } => write!(f, "{store} {IS_OLD}"),
+            Oddity::Odd { device, ask } => tell_odd(device, ask, f),
+            Oddity::Overwritten { device } => {
+                let was = Was(device.found);
+                write!(f, "{device} {was}, and they are gone")
+            }
+            Oddity::Unused { device } => write!(f, "{device} isn't used by this command"),
+            Oddity::UnusedBooks { notaries } => {
+                write!(f, "{notaries} isn't used by this command")
+            }
+            Oddity::Lost => write!(
+                f,
+                "more than half of the books were missing or empty, and what they say is what new books say: stop, keep the others as they are, and look for copies; docs/NOTARY.md"
+            ),
+            Oddity::Unnamed { is_uncompared } => {
+                let uncompared = if is_uncompared { UNCOMPARED } else { "" };
+                write!(f, "no store=FILE was named{uncompared}")
+            }
+        }
+    }
+}

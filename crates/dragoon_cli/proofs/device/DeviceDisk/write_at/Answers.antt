@@ -1,4 +1,0 @@
-use Rattle.dragoon_cli.proofs.device.DeviceDisk.write_at.Goals as goal
-
-pub returns-in-Memory-clause-change : goal.returns-in-Memory-clause-change
-returns-in-Memory-clause-change g c = rw c.in-Memory.is c.write_at-in-Memory.ensures.change

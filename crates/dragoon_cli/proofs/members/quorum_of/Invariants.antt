@@ -1,8 +1,0 @@
-use Rattle.std.proofs.Common.{◌≡◌, ◌+◌, length}
-use Rattle.dragoon_cli.proofs.members.quorum_of.Given as goal
-
-abbrev pub invariant-disks : goal.invariant-disks
-invariant-disks g l = length l.members.items + length l.disks.items ≡ length l.fn.disks.items
-
-abbrev pub decreases-disks : goal.decreases-disks
-decreases-disks g l = length l.disks.items
