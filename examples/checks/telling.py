@@ -403,7 +403,7 @@ ROWS = [
     ("an analysis of an era that isn't there", None, [STORE, BOOK, "analyse", "7", "a3d", "era", "1"], "", 22, "fault NoEra\n",
      ["dragoon: the store worked.store has no era of that number: `examples/look.py` says which it has"]),
     ("an analysis of an era without a filed tile", lambda: call([STORE, BOOK, "policy", "7", "1", "a"], ""), [STORE, BOOK, "analyse", "7", "a3d", "era", "1"], "", 0, "report a3d id 7 era 1 tiles 0 clean\n",
-     ["dragoon: only the header and the eras were compared: no tile of this era is filed yet, .."]),
+     ["dragoon: only the header and the eras were compared: no tile of this era is filed, .."]),
     ("an analysis of an era by mono", None, [STORE, BOOK, "analyse", "7", "mono", "era", "0"], "", 2, "fault Usage\n",
      ["dragoon: `era` is one word too many for `analyse`", "  analyse ID ALG ..", ".."]),
     ("an analysis of an era without its number", None, [STORE, BOOK, "analyse", "7", "tiled", "era"], "", 2, "fault Usage\n",

@@ -46,7 +46,7 @@ It ends with
   4  no store of this id          12  somebody else filed       20  the store is of the old format
   5  the store's file failed      13  the file is taken         21  the store has 256 eras
   6  the notary failed            14  the clock is behind       22  the store has no such era
-  7  the input failed             15  the clock is ahead          23  the input is no evidence
+  7  the input failed             15  the clock is ahead        23  the input is no evidence
 
 docs/COMMANDS.md  the statements, the replies and the statuses
 docs/DRILLS.md    how to write a drill

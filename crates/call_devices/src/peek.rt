@@ -4,12 +4,14 @@
 ghost use Rattle.std.specs.Prelude.{◌≡◌, ◌≤◌, false, length, IfOk, IsErrOf};
 ghost use Rattle.outside_words.specs.Faults.{HasCause, HidesNoFault};
 ghost use Rattle.disk_words.specs.declared.DiskFail.TheVariants.{Failed, NoMemory};
+ghost use Rattle.tuple_bytes.specs.Spelling.{FitsHeader};
 ghost use Rattle.disk_model.specs.Untold.{untold_state};
 
 use crate::faults::counted;
 use disk_model::{Disk, DiskFail};
 use history_model::{Format, Front};
 use notary_book::BookShape;
+use policy_eras::Eras;
 use segment_file::{SegmentRecords, read_front};
 use std::alloc::Global;
 use std::fs::{self, File, OpenFile};
@@ -31,7 +33,7 @@ pub enum Found {
     },
     Store {
         header: Header,
-        /// The algorithms that the header and each policy have.
+        /// The algorithms that each of its eras has.
         in_all: u8,
         format: Format,
         behind: Option<Behind>,
@@ -44,7 +46,9 @@ pub enum Found {
     Other {
         letters: Letters,
     },
-    /// It is no plain file, or it couldn't be read.
+    /// It is no plain file: a folder, a pipe, a device of the system.
+    NoFile,
+    /// It couldn't be read.
     Unread,
 }
 
@@ -188,7 +192,8 @@ pub fn look<R: Files<File = File>>(rt: &R, alloc: Global, path: Option<&str>) ->
             Ok(mut file) => look_into(alloc, &mut file).unwrap_or(Found::Unread),
             Err(_) => Found::Unread,
         },
-        _ => Found::Unread,
+        Ok(_) => Found::NoFile,
+        Err(_) => Found::Unread,
     }
 }
 
@@ -202,11 +207,11 @@ fn look_into(alloc: Global, disk: &mut Peek) -> Result<Found, DiskFail> {
         return Ok(Found::Book { filed, behind });
     }
     if let Some(front) = read_front(disk)? {
+        let (eras, behind) = walk_store(alloc, disk, length, &front)?;
         let Front { format, header } = front;
-        let (of_policies, behind) = walk_store(alloc, disk, length, format)?;
         return Ok(Found::Store {
             header,
-            in_all: header.algs & of_policies,
+            in_all: algorithms_in_all(&eras),
             format,
             behind,
         });
@@ -243,30 +248,32 @@ fn walk_book(
     ))
 }
 
-/// Goes over all records of a store, in any of its segments: the algorithms that each policy has, and what stands behind the
-/// first closed gate that has bytes behind it.
+/// Goes over all records of a store, in any of its segments: its eras, and what stands behind the first closed gate that has
+/// bytes behind it.
 fn walk_store(
     alloc: Global,
     disk: &mut Peek,
     length: u64,
-    format: Format,
-) -> Result<(u8, Option<Behind>), DiskFail> {
-    let mut records = SegmentRecords::at_first(alloc, disk, format)?;
-    let mut algs = u8::MAX;
+    front: &Front,
+) -> Result<(Eras, Option<Behind>), DiskFail>
+    requires fits { FitsHeader front.now.header }
+{
+    let mut records = SegmentRecords::at_first(alloc, disk, front.format)?;
+    let mut eras = Eras::new(alloc, &front.header)?;
     let mut within = None;
     for _ in 0..u64::MAX {
         let gate = records.place();
         let found = records.advance(disk)?;
-        if within.is_none() && format == Format::Two {
+        if within.is_none() && front.format == Format::Two {
             within = behind_segments(alloc, disk, gate, records.place())?;
         }
         if !found {
             break;
         }
-        algs &= algorithms_of(records.payload()).unwrap_or(u8::MAX);
+        eras.offer_payload(records.payload());
     }
     let last = behind_gate::<StoreShape>(alloc, disk, records.place(), length)?;
-    Ok((algs, within.or(last)))
+    Ok((eras, within.or(last)))
 }
 
 /// What stands behind the records of a segment, of those from that of a gate on that end before that of a place.
@@ -292,12 +299,12 @@ fn behind_segments(
     Ok(None)
 }
 
-/// The algorithms of a policy: behind `03`, a tile and a granule of four bytes each, and an exponent.
-fn algorithms_of(payload: &[u8]) -> Option<u8> {
-    match payload.first() {
-        Some(3) => payload.get(10).copied(),
-        _ => None,
+fn algorithms_in_all(eras: &Eras) -> u8 {
+    let mut algs = u8::MAX;
+    for number in 0..eras.count() {
+        algs &= eras.at(number).map_or(u8::MAX, |era| era.algs);
     }
+    algs
 }
 
 fn behind_gate<S: Shape>(

@@ -199,7 +199,7 @@ fn strange_in<'a>(ending: &'a Ending<'a, 'a>, device: &'a Named<'a>) -> Option<O
     let is_strange = match device.found {
         Found::Store { .. } => !matches!(device.called, Called::Store),
         Found::Book { .. } => matches!(device.called, Called::Store | Called::Target),
-        Found::Other { .. } | Found::Unread => true,
+        Found::Other { .. } | Found::NoFile | Found::Unread => true,
         Found::Unused | Found::Missing | Found::Empty { .. } => false,
     };
     let is_used = match device.called {

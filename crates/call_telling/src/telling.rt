@@ -293,7 +293,8 @@ impl fmt::Display for Kind {
                 let (count, what) = (Bytes(bytes), What(letters));
                 write!(f, "holds {count}, {what}")
             }
-            Found::Unread => write!(f, "is no plain file, or can't be read"),
+            Found::NoFile => write!(f, "is no plain file"),
+            Found::Unread => write!(f, "can't be read"),
             Found::Other { letters } => {
                 let what = What(letters);
                 write!(f, "holds {what}")
@@ -360,6 +361,9 @@ fn tell_failed<W: fmt::Write>(
             f,
             "{device} {LOCKED}: start again when it is free"
         ),
+        Some(_) if matches!(device.found, Found::NoFile) => {
+            write!(f, "{device} is no plain file: name one")
+        }
         Some(error) => {
             let hint = hint(device, error, ask);
             write!(
@@ -381,6 +385,7 @@ pub(crate) fn tell_member_failed<W: fmt::Write>(
 ) -> fmt::Result {
     match device.error {
         Some(error) if error.kind() == ErrorKind::WouldBlock => write!(f, "{device} {LOCKED}"),
+        Some(_) if matches!(device.found, Found::NoFile) => write!(f, "{device} is no plain file"),
         Some(error) => {
             let hint = hint(device, error, ask);
             write!(f, "{device}: {error}{hint}")

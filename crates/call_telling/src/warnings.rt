@@ -406,7 +406,7 @@ impl fmt::Display for Warning<'_> {
             Warning::Unsealed { ending } => tell_unsealed(ending, f),
             Warning::HeaderAlone { of_era: true } => write!(
                 f,
-                "only the header and the eras were compared: no tile of this era is filed yet, and no row is compared before its tile is"
+                "only the header and the eras were compared: no tile of this era is filed, and no row is compared before its tile is"
             ),
             Warning::HeaderAlone { of_era: false } => write!(
                 f,
