@@ -1,20 +1,26 @@
-//! A store in memory, and a notary that holds its digests.
+//! Stores in memory, and notaries that hold their digests.
 
 ghost use Rattle.std.specs.Prelude.{◌≡◌, None};
 ghost use Rattle.tuple_bytes.specs.Spelling.{FitsHeader};
 ghost use Rattle.forensic_report.specs.declared.algorithm.Algorithm.TheVariants.{Mono};
+ghost use Rattle.notary_link.specs.declared.name.Name.TheVariants.{Cum};
 
 use disk_model::MemDisk;
 use forensic_report::{Algorithm, AnalyseFail, analyse};
 use history_model::encode_head;
-use notary_link::{Mark, MemNotary, Notary, NotaryLimits, Outcome};
+use notary_link::{Mark, MemNotary, Name, Notary, NotaryLimits, Outcome, Seal};
 use std::alloc::{AllocError, Global};
 use std::test::Fail;
 use store_engine::Store;
 use tuple_bytes::{Header, MAX_ALGORITHMS, MAX_EXPONENT};
 use validator::notarize;
 
-const ID: u64 = 7;
+pub(crate) const ID: u64 = 7;
+
+/// A table that is made, as its item is spelled.
+const CREATE: [u8; 25] = [
+    1, 0, 0, 0, 1, 0, 0, 0, 0, 0, 0, 0, 0, 0, 1, 1, 1, b't', 2, 1, b'k', 1, 1, b'v', 1,
+];
 
 /// A row that is inserted, as its item is spelled, but for its number, its moment and its key.
 const INSERT: [u8; 37] = [
@@ -33,7 +39,7 @@ fn insert(number: u8, moment: u16, key: u8) -> [u8; 37] {
 }
 
 /// The header of a store of granules of a minute.
-fn header_of(k: u8, algs: u8) -> Header
+pub(crate) fn header_of(k: u8, algs: u8) -> Header
     ensures fits { FitsHeader result }
 {
     Header {
@@ -45,32 +51,50 @@ fn header_of(k: u8, algs: u8) -> Header
     }
 }
 
-/// The tiles from tile 1 on, which begins at granule 4, have two granules each, and the tree.
-const TURN: [u8; 11] = [3, 0, 0, 0, 1, 0, 0, 0, 4, 1, 2];
-
-/// What a store holds: whether its tiles turn, and a row in each of these granules, by its key.
+/// An item of a store.
 #[derive(Clone, Copy)]
-pub(crate) struct Held {
-    pub turns: bool,
-    pub rows: &'static [(u8, u8)],
+pub(crate) enum Kept {
+    /// The table is made, at moment 0.
+    Table,
+    /// A row, by its number, its moment and its key.
+    Row(u8, u16, u8),
+    /// From this tile on, which begins at this granule, tiles have two granules each, and the tree.
+    Turn(u8, u8),
+    /// What comes later has this moment at least.
+    Until(u16),
+}
+
+/// What a store holds, in file order.
+pub(crate) type Held = &'static [Kept];
+
+fn record(bytes: &mut Vec<u8>, size: u8, item: &[u8]) -> Result<(), AllocError> {
+    bytes.extend_from_slice(&[0xA7, 0, 0, 0, size])?;
+    bytes.extend_from_slice(item)
+}
+
+fn add(bytes: &mut Vec<u8>, kept: Kept) -> Result<(), AllocError> {
+    match kept {
+        Kept::Table => record(bytes, 25, &CREATE),
+        Kept::Row(number, moment, key) => record(bytes, 37, &insert(number, moment, key)),
+        Kept::Turn(tile, granule) => {
+            record(bytes, 11, &[3, 0, 0, 0, tile, 0, 0, 0, granule, 1, 2])
+        }
+        Kept::Until(moment) => {
+            let [high, low] = moment.to_be_bytes();
+            record(bytes, 9, &[2, 0, 0, 0, 0, 0, 0, high, low])
+        }
+    }
 }
 
 /// A store that holds so much.
-fn store_of(alloc: Global, header: &Header, held: Held) -> Result<MemDisk, AllocError>
+pub(crate) fn store_of(alloc: Global, header: &Header, held: Held) -> Result<MemDisk, AllocError>
     requires fits { FitsHeader header.now }
 {
     let head = encode_head(header);
     let mut bytes = Vec::new(alloc);
     bytes.extend_from_slice(&head)?;
-    if held.turns {
-        bytes.extend_from_slice(&[0xA7, 0, 0, 0, 11])?;
-        bytes.extend_from_slice(&TURN)?;
-    }
-    let mut number = 0u8;
-    for (granule, key) in held.rows {
-        number = number.wrapping_add(1);
-        bytes.extend_from_slice(&[0xA7, 0, 0, 0, 37])?;
-        bytes.extend_from_slice(&insert(number, u16::from(*granule) * 60, *key))?;
+    for kept in held {
+        add(&mut bytes, *kept)?;
     }
     bytes.push(0)?;
     Ok(MemDisk::holding(alloc, bytes))
@@ -87,8 +111,18 @@ pub(crate) fn empty(alloc: Global) -> MemNotary {
     )
 }
 
+/// The seal of the chain over the first tile, of some digest.
+pub(crate) fn seal() -> Seal
+    ensures { result.name ≡ Cum 0 }
+{
+    Seal {
+        name: Name::Cum { tile: 0 },
+        digest: [0; 32],
+    }
+}
+
 /// Files the digests of a store at these clock seconds.
-fn file(
+pub(crate) fn file(
     alloc: Global,
     notary: &mut MemNotary,
     header: &Header,
@@ -133,10 +167,10 @@ pub(crate) fn report(
 pub(crate) struct Stood {
     pub algorithm: Algorithm,
     pub k: u8,
-    pub filed: &'static [(u8, u8)],
+    pub filed: Held,
     pub at: u64,
     pub marks: &'static [(u64, u32, Outcome)],
-    pub stored: &'static [(u8, u8)],
+    pub stored: Held,
     pub now: u64,
 }
 
@@ -144,7 +178,7 @@ pub(crate) struct Stood {
 pub(crate) fn report_of(alloc: Global, stood: &Stood) -> Result<(bool, Vec<u8>), Fail> {
     let header = header_of(stood.k, 3);
     let mut notary = empty(alloc);
-    file(alloc, &mut notary, &header, rows(stood.filed), stood.at)?;
+    file(alloc, &mut notary, &header, stood.filed, stood.at)?;
     for (moment, tiles, outcome) in stood.marks {
         let mark = Mark {
             moment: *moment,
@@ -153,7 +187,7 @@ pub(crate) fn report_of(alloc: Global, stood: &Stood) -> Result<(bool, Vec<u8>),
         };
         notary.mark(ID, mark)?;
     }
-    let mut disk = store_of(alloc, &header, rows(stood.stored))?;
+    let mut disk = store_of(alloc, &header, stood.stored)?;
     Ok(report(
         alloc,
         &mut disk,
@@ -164,31 +198,22 @@ pub(crate) fn report_of(alloc: Global, stood: &Stood) -> Result<(bool, Vec<u8>),
     )?)
 }
 
-/// These rows, in tiles that don't turn.
-fn rows(rows: &'static [(u8, u8)]) -> Held {
-    Held { turns: false, rows }
-}
+const TURNED: Held = &[Kept::Turn(1, 4), Kept::Row(1, 300, 1)];
+
+const CHANGED: Held = &[Kept::Turn(1, 4), Kept::Row(1, 300, 2)];
 
 /// A store of two eras, of which three tiles are sealed, and whose row in granule 5 was changed; and the
 /// notary.
 pub(crate) fn turned(alloc: Global) -> Result<(MemDisk, MemNotary), Fail> {
     let header = header_of(2, 1);
     let mut notary = empty(alloc);
-    file(alloc, &mut notary, &header, rows(&[]), 240)?;
-    let filed = Held {
-        turns: true,
-        rows: &[(5, 1)],
-    };
-    file(alloc, &mut notary, &header, filed, 480)?;
+    file(alloc, &mut notary, &header, &[], 240)?;
+    file(alloc, &mut notary, &header, TURNED, 480)?;
     let mark = Mark {
         moment: 480,
         tiles: 3,
         outcome: Outcome::Clean,
     };
     notary.mark(ID, mark)?;
-    let stored = Held {
-        turns: true,
-        rows: &[(5, 2)],
-    };
-    Ok((store_of(alloc, &header, stored)?, notary))
+    Ok((store_of(alloc, &header, CHANGED)?, notary))
 }

@@ -1,6 +1,6 @@
 //! Whole reports: which granules are found, how many nodes are asked for them, and when the tiles were changed.
 
-use crate::desk::{Stood, empty, report, report_of, turned};
+use crate::desk::{Kept, Stood, empty, report, report_of, turned};
 use disk_model::MemDisk;
 use forensic_report::{Algorithm, AnalyseFail};
 use notary_link::Outcome;
@@ -11,10 +11,10 @@ const REPORTS: [(Stood, &str); 4] = [
         Stood {
             algorithm: Algorithm::Tiled,
             k: 2,
-            filed: &[(1, 1), (9, 1)],
+            filed: &[Kept::Row(1, 60, 1), Kept::Row(2, 540, 1)],
             at: 720,
             marks: &[],
-            stored: &[(1, 2), (9, 2)],
+            stored: &[Kept::Row(1, 60, 2), Kept::Row(2, 540, 2)],
             now: 800,
         },
         "report tiled id 7 tiles 3 altered\n\
@@ -28,10 +28,10 @@ const REPORTS: [(Stood, &str); 4] = [
         Stood {
             algorithm: Algorithm::A3d,
             k: 2,
-            filed: &[(1, 1)],
+            filed: &[Kept::Row(1, 60, 1)],
             at: 240,
             marks: &[],
-            stored: &[(2, 1)],
+            stored: &[Kept::Row(1, 120, 1)],
             now: 250,
         },
         "report a3d id 7 tiles 1 altered\n\
@@ -45,10 +45,10 @@ const REPORTS: [(Stood, &str); 4] = [
         Stood {
             algorithm: Algorithm::A3d,
             k: 0,
-            filed: &[(64, 1)],
+            filed: &[Kept::Row(1, 3840, 1)],
             at: 3900,
             marks: &[],
-            stored: &[(64, 2)],
+            stored: &[Kept::Row(1, 3840, 2)],
             now: 3910,
         },
         "report a3d id 7 tiles 65 altered\n\
@@ -61,10 +61,10 @@ const REPORTS: [(Stood, &str); 4] = [
         Stood {
             algorithm: Algorithm::Tiled,
             k: 0,
-            filed: &[(1, 1)],
+            filed: &[Kept::Row(1, 60, 1)],
             at: 120,
             marks: &[(130, 2, Outcome::Clean), (125, 2, Outcome::HeaderAltered)],
-            stored: &[(1, 2)],
+            stored: &[Kept::Row(1, 60, 2)],
             now: 140,
         },
         "report tiled id 7 tiles 2 altered\n\

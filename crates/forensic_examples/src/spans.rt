@@ -1,23 +1,10 @@
 //! When a tile was changed, and how many events are drawn.
 
-ghost use Rattle.std.specs.Prelude.{◌≡◌};
-ghost use Rattle.notary_link.specs.declared.name.Name.TheVariants.{Cum};
-
+use crate::desk::{ID, seal};
 use corruption_diagram::{Span, first_when, grid, when};
-use notary_link::{AskFail, Mark, MemNotary, Name, Notary, NotaryLimits, Outcome, Seal};
+use notary_link::{AskFail, Mark, MemNotary, Notary, NotaryLimits, Outcome};
 use std::alloc::Global;
 use std::test::Fail;
-
-const ID: u64 = 7;
-
-fn seal() -> Seal
-    ensures { result.name ≡ Cum 0 }
-{
-    Seal {
-        name: Name::Cum { tile: 0 },
-        digest: [0; 32],
-    }
-}
 
 /// Marks by their moment, how many tiles they are over, and what was found.
 type Marks = &'static [(u64, u32, Outcome)];
