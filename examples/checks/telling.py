@@ -19,7 +19,7 @@ from program import DRAGOON, EXAMPLES, Wrong, count_of
 
 PROGRAM = str(pathlib.Path(DRAGOON).resolve()) if "/" in DRAGOON else DRAGOON
 STORE, BOOK = "store=worked.store", "notary=worked.book"
-WHOLE = "usage: dragoon [store=FILE] [notary=FILE,..] [target=FILE] COMMAND"
+WHOLE = "usage: dragoon [store=FILE] [copy=FILE] [notary=FILE,..] [target=FILE] COMMAND"
 BEHIND = "a crash leaves such bytes, and so does whoever hides records; docs/NOTARY.md"
 KEEP = "isn't what was filed: keep it and the notary's book worked.book as they are, and copy them"
 ONLY = "the only reply is a refusal, that to line"
@@ -33,6 +33,8 @@ LOST = "more than half of the books were missing or empty, and what they say is 
 UNSTORED = "nothing of it is stored"
 OTHER_ID = "dragoon: the store worked.store has the id 7, and not 8"
 OLD = "store=old.store"
+ALTERED = "store=altered.store"
+ONE_LOST = "restored 7 lost 1\nlost granules 5 to 5\n"
 OLD_ID = "the store old.store has the id 7, and not 8, and begins at 1970-01-01 00:00:00 UTC: name the right file and id"
 FRONT = "the front of a store, cut or damaged: a making that was cut off leaves such bytes, and so does whoever damages a store. Keep it as it is, and look for copies; docs/OPERATING.md"
 OTHER_RUN = f"{OTHER_ID}, and begins at 1970-01-01 00:00:00 UTC: name the right file and id"
@@ -66,6 +68,13 @@ def new_store():
 
 def store_8():
     call(["store=new.store", "init", "8", "60", "3", "ta"], "")
+
+
+def no_tree():
+    """A new store of a tile that is sealed, and has tile chains alone."""
+    new, book = "store=new.store", "notary=new.book"
+    call([new, "init", "7", "60", "0", "t"], "")
+    call([new, book, "run", "7", "scripted"], "create t k int\nnow 60\nnotarize\n")
 
 
 def many_items():
@@ -125,6 +134,8 @@ def evidence(granule, *lists):
 
 ALTERED_ROW = evidence(5, [1], [0])
 EXAMINED = "granule 5 not as notarized shown 1 original 1 as notarized\nexamined 1 confirmed 1\n"
+ALTERED, COPY, EVIDENCE = "store=altered.store", "copy=worked.store", "target=new.evidence"
+ALONE = "the evidence file shows what the store holds alone, and nothing of what was filed there"
 NO_SUCH = "has no such header and eras filed under it: name the right file, id and book"
 
 TURNED = "had no sealed tile under the id 7: the policy stands at tile 0, and no tile was compared. If tiles of the store worked.store are filed in another book, validate with that one: where it isn't clean, put back the copy from before; docs/OPERATING.md"
@@ -136,7 +147,7 @@ ROWS = [
     ("a command that is none", None, ["runn", "7"], "", 2, "fault Usage\n",
      ["dragoon: `runn` is no command: is `run` meant?", "  run ID            carries out..", ".."]),
     ("a command that is far from all", None, ["SELECT"], "", 2, "fault Usage\n",
-     ["dragoon: `SELECT` is no command: those are link, init, run, make, drill, notarize, policy, validate, analyse, migrate and examine"]),
+     ["dragoon: `SELECT` is no command: those are link, init, run, make, drill, notarize, policy, validate, analyse, migrate, evidence, examine and restore"]),
     ("algorithms in another order", None, ["init", "7", "60", "3", "at"], "", 2, "fault Usage\n",
      ["dragoon: `at` isn't what `init` takes there: ALGS, one of m, t, a and ta", "  init ID W K ALGS..", ".."]),
     ("a number out of its range", None, ["init", "7", "0", "3", "ta"], "", 2, "fault Usage\n",
@@ -146,7 +157,7 @@ ROWS = [
     ("a word too many", None, [STORE, "analyse", "7", "mono", "3"], "", 2, "fault Usage\n",
      ["dragoon: `3` is one word too many for `analyse`", "  analyse ID ALG ..", ".."]),
     ("a device behind the command", None, ["link", STORE], "", 2, "fault Usage\n",
-     ["dragoon: `store=worked.store` names a device, which is done once, and before the command: [store=FILE] [notary=FILE,..] [target=FILE] COMMAND"]),
+     ["dragoon: `store=worked.store` names a device, which is done once, and before the command: [store=FILE] [copy=FILE] [notary=FILE,..] [target=FILE] COMMAND"]),
     ("nothing odd", None, [STORE, BOOK, "validate", "7"], "", 0, "clean 1\n", []),
     ("an altered store", None, ["store=altered.store", BOOK, "validate", "7"], "", 1, "altered 1 from 0\n",
      [f"dragoon: the store altered.store {KEEP}; `analyse` says which granules, and since when; docs/OPERATING.md"]),
@@ -282,9 +293,9 @@ ROWS = [
      ["dragoon: the notary's book new.book was missing, and it was made anew", "dragoon: lines of the generated script were refused, as where a table `made` is there already"]),
     ("files and no command", None, [STORE, BOOK], "", 2, "fault Usage\n", ["dragoon: no command stands behind the words that name files: those are link, .."]),
     ("a device without `=`", None, ["store", "worked.store", "link"], "", 2, "fault Usage\n",
-     ["dragoon: `store` is no command, and names no device: store=FILE does, and notary=FILE, and target=FILE, in lower case"]),
+     ["dragoon: `store` is no command, and names no device: store=FILE does, and copy=FILE, notary=FILE and target=FILE, in lower case"]),
     ("a device in capitals", None, ["STORE=worked.store", "link"], "", 2, "fault Usage\n",
-     ["dragoon: `STORE=worked.store` is no command, and names no device: store=FILE does, and notary=FILE, and target=FILE, in lower case"]),
+     ["dragoon: `STORE=worked.store` is no command, and names no device: store=FILE does, and copy=FILE, notary=FILE and target=FILE, in lower case"]),
     ("an empty path", None, ["store=", "link"], "", 4, "fault NotAStore\n",
      ["dragoon: the store of an empty path is missing: make one by `init`, or name the right file"]),
     ("a damaged book", two_batches_with_one_index, [STORE, BOOK, "validate", "7"], "", 6, "fault NotaryFault\n",
@@ -429,6 +440,42 @@ ROWS = [
     ("no evidence", None, [BOOK, "examine", "7"], "", 23, "fault NotEvidence\n",
      ["dragoon: the input is empty, and is to be an evidence file, as in dragoon notary=FILE examine ID <EVIDENCE"]),
     ("an examination without an id", None, [BOOK, "examine"], "", 2, "fault Usage\n", ["dragoon: `examine` lacks a word: ID, ..", "  examine ID ..", ".."]),
+    ("an evidence file that is made", None, [ALTERED, COPY, BOOK, EVIDENCE, "evidence", "7"], "", 0, "evidence 1\n", []),
+    ("one without a copy", None, [ALTERED, BOOK, EVIDENCE, "evidence", "7"], "", 0, "evidence 1\n", [f"dragoon: no copy=FILE was named: {ALONE}"]),
+    ("one beside a copy that is missing", None, [ALTERED, "copy=none", BOOK, EVIDENCE, "evidence", "7"], "", 0, "evidence 1\n",
+     [f"dragoon: the copy none is missing: {ALONE}"]),
+    ("one beside a copy that is a text", lambda: pathlib.Path("text").write_bytes(b"hello"), [ALTERED, "copy=text", BOOK, EVIDENCE, "evidence", "7"], "", 0, "evidence 1\n",
+     [f"dragoon: the copy text holds 5 bytes, neither a store nor a notary's book: {ALONE}"]),
+    ("one beside another store", store_8, [ALTERED, "copy=new.store", BOOK, EVIDENCE, "evidence", "7"], "", 0, "evidence 1\n",
+     [f"dragoon: the copy new.store holds a store with the id 8, which begins at 20..: {ALONE}"]),
+    ("one of a store that is not altered", None, [STORE, BOOK, EVIDENCE, "evidence", "7"], "", 0, "evidence 0\n",
+     ["dragoon: no sealed granule of the store worked.store is altered: the evidence file shows none"]),
+    ("one into memory", None, [ALTERED, COPY, BOOK, "evidence", "7"], "", 0, "evidence 1\n", [f"dragoon: no target=FILE was named: what was written {GONE}"]),
+    ("one over a file that is there", None, [ALTERED, COPY, BOOK, "target=old.store", "evidence", "7"], "", 13, "fault AlreadyThere\n",
+     ["dragoon: the target old.store holds a store of the first format with the id 7, which begins at 1970-01-01 00:00:00 UTC, and stays as it is: name another file"]),
+    ("evidence where nothing is filed", None, [STORE, COPY, BOOK, EVIDENCE, "evidence", "8"], "", 0, "unsealed\n",
+     [OTHER_ID, "dragoon: nothing was compared: the notary's book worked.book had nothing that was filed under the id 8"]),
+    ("evidence of another header", lambda: put("worked.store", 23, b"\1"), [STORE, BOOK, EVIDENCE, "evidence", "7"], "", 1, "header altered 1\n",
+     ["dragoon: the store worked.store doesn't begin as the store that was filed, or has other eras: keep it and the notary's book worked.book as they are, .."]),
+    ("evidence of no store", None, [BOOK, EVIDENCE, "evidence", "7"], "", 1, "header altered 1\n", ["dragoon: no store=FILE was named: nothing was compared"]),
+    ("evidence without a tree", no_tree, ["store=new.store", "notary=new.book", EVIDENCE, "evidence", "7"], "", 18, "fault NotSealedSo\n",
+     ["dragoon: a sealed tile of the store new.store lacks the tree, by which altered granules are found for an evidence file: `analyse` it by `mono` or `tiled`"]),
+    ("evidence without an id", None, [STORE, "evidence"], "", 2, "fault Usage\n", ["dragoon: `evidence` lacks a word: ID, ..", "  evidence ID ..", ".."]),
+    ("a restoring", None, [ALTERED, "copy=worked.store", "target=new.store", BOOK, "restore", "7"], "", 0, "restored 8 lost 0\n", []),
+    ("a restoring of what both have altered", lambda: shutil.copy("altered.store", "other.store"), [ALTERED, "copy=other.store", "target=new.store", BOOK, "restore", "7"], "", 0, ONE_LOST,
+     ["dragoon: 1 granule is lost: neither the store altered.store nor the copy other.store has there what was filed; the target new.store has no row of that time, .."]),
+    ("a restoring without a copy", None, [ALTERED, "target=new.store", BOOK, "restore", "7"], "", 0, ONE_LOST,
+     ["dragoon: 1 granule is lost: neither the store altered.store nor the copy in memory (no file was named) has there what was filed; .."]),
+    ("a restoring into memory", None, [STORE, BOOK, "restore", "7"], "", 0, "restored 8 lost 0\n", [f"dragoon: no target=FILE was named: what was written {GONE}"]),
+    ("a restoring into a store", None, [ALTERED, "target=worked.store", BOOK, "restore", "7"], "", 13, "fault AlreadyThere\n",
+     ["dragoon: the target worked.store holds a store with the id 7, which begins at 1970-01-01 00:00:00 UTC, and stays as it is: name another file"]),
+    ("a restoring of another id", None, [STORE, "target=new.store", BOOK, "restore", "8"], "", 0, "unsealed\n",
+     [OTHER_ID, "dragoon: nothing was restored: the notary's book worked.book had nothing that was filed under the id 8"]),
+    ("a restoring without a book", None, [STORE, "target=new.store", "restore", "7"], "", 0, "unsealed\n",
+     ["dragoon: nothing was restored: the notary's book in memory (no file was named) had nothing that was filed under the id 7"]),
+    ("a restoring of nothing", None, ["store=none", "copy=nothing", "target=new.store", BOOK, "restore", "7"], "", 24, "fault HeaderLost\n",
+     ["dragoon: neither the store none nor the copy nothing has the header and the eras that were filed with the notary's book worked.book: ..",
+      "dragoon: the store none was missing", "dragoon: the copy nothing was missing"]),
     ("a command in capitals", None, ["VALIDATE", "7"], "", 2, "fault Usage\n", ["dragoon: `VALIDATE` is no command: is `validate` meant?", ".."]),
     ("an empty word", None, [""], "", 2, "fault Usage\n", ["dragoon: an empty word is no command: those are link, .."]),
     ("a migration of a store with bytes behind its end", lambda: put("old.store", None, b"\1" * 33000), [OLD, "target=new.store", "migrate", "7"], "", 0, "migrated 9\n",

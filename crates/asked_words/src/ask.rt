@@ -13,7 +13,9 @@ pub enum Ask {
     Validate,
     Analyse,
     Migrate,
+    Evidence,
     Examine,
+    Restore,
     Nothing,
 }
 
@@ -30,11 +32,15 @@ impl Ask {
     }
 
     pub fn uses_notary(self) -> bool {
-        self == Ask::Examine || self.adds() || self == Ask::Validate || self == Ask::Analyse
+        self.adds() || self == Ask::Examine || self == Ask::Restore || self.gives_verdict()
+    }
+
+    pub fn uses_copy(self) -> bool {
+        self == Ask::Evidence || self == Ask::Restore
     }
 
     pub fn uses_target(self) -> bool {
-        self == Ask::Migrate
+        self == Ask::Migrate || self.uses_copy()
     }
 
     /// Whether it writes nothing into an empty file.
@@ -81,12 +87,15 @@ impl Ask {
 
     /// Whether it holds one thing against another, or says what is there.
     pub fn compares(self) -> bool {
-        self.only_asks() || self.adds()
+        self.only_asks() || self.adds() || self.uses_copy()
     }
 
     /// Whether what it replies may be a verdict over a file.
     pub fn gives_verdict(self) -> bool {
-        self == Ask::Validate || self == Ask::Analyse || self == Ask::Run || self == Ask::Make
+        match self {
+            Ask::Validate | Ask::Analyse | Ask::Evidence | Ask::Run | Ask::Make => true,
+            _ => false,
+        }
     }
 
     pub fn takes_lines(self) -> bool {
@@ -115,8 +124,12 @@ fn named(word: &str) -> Ask {
         Ask::Analyse
     } else if word == "migrate" {
         Ask::Migrate
+    } else if word == "evidence" {
+        Ask::Evidence
     } else if word == "examine" {
         Ask::Examine
+    } else if word == "restore" {
+        Ask::Restore
     } else {
         Ask::Nothing
     }

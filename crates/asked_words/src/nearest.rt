@@ -30,7 +30,7 @@ struct Form {
     more: &'static [Slot],
 }
 
-const FORMS: [Form; 11] = [
+const FORMS: [Form; 13] = [
     Form {
         word: "link",
         needed: &[],
@@ -82,7 +82,17 @@ const FORMS: [Form; 11] = [
         more: &[],
     },
     Form {
+        word: "evidence",
+        needed: &[Slot::Id],
+        more: &[],
+    },
+    Form {
         word: "examine",
+        needed: &[Slot::Id],
+        more: &[],
+    },
+    Form {
+        word: "restore",
         needed: &[Slot::Id],
         more: &[],
     },
@@ -332,7 +342,7 @@ const STATEMENTS: [&str; 13] = [
 ];
 
 const COMMANDS: &str =
-    "link, init, run, make, drill, notarize, policy, validate, analyse, migrate and examine";
+    "link, init, run, make, drill, notarize, policy, validate, analyse, migrate, evidence, examine and restore";
 
 /// The command that is nearest: in other letters, or where two changes of a letter lead to it. Without memory it is none.
 fn nearest(alloc: Global, word: &str) -> Option<&'static str> {
@@ -382,14 +392,14 @@ impl fmt::Display for Wrong<'_> {
                 let word = Shown(word);
                 write!(
                     f,
-                    "`{word}` is no command, and names no device: store=FILE does, and notary=FILE, and target=FILE, in lower case"
+                    "`{word}` is no command, and names no device: store=FILE does, and copy=FILE, notary=FILE and target=FILE, in lower case"
                 )
             }
             Wrong::Device { word } => {
                 let word = Shown(word);
                 write!(
                     f,
-                    "`{word}` names a device, which is done once, and before the command: [store=FILE] [notary=FILE,..] [target=FILE] COMMAND"
+                    "`{word}` names a device, which is done once, and before the command: [store=FILE] [copy=FILE] [notary=FILE,..] [target=FILE] COMMAND"
                 )
             }
             Wrong::Books { word } => {

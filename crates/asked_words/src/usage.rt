@@ -1,14 +1,15 @@
 //! The usage page, which goes to standard error.
 
 pub const USAGE: &str = "\
-usage: dragoon [store=FILE] [notary=FILE,..] [target=FILE] COMMAND
+usage: dragoon [store=FILE] [copy=FILE] [notary=FILE,..] [target=FILE] COMMAND
 
   store=FILE        the store; one process at a time uses it
   notary=FILE       the notary's book: keep it where whoever writes the store can't write
                     (a missing file counts as empty, and without these words both stand in memory)
   notary=FILE,FILE,..
                     the books of up to nine notaries: what more than half of them answer counts
-  target=FILE       a new file, which `migrate` makes
+  copy=FILE         a copy of the store, which `evidence` and `restore` read
+  target=FILE       a new file, which `migrate`, `evidence` and `restore` make
 
 Make and fill
   init ID W K ALGS  makes a store that begins now, and prints `ready ID`
@@ -33,8 +34,12 @@ File and check
                     `unsealed`, `clean N`, `header altered N`, or `altered N from J`, J being a tile
   analyse ID ALG    reports which granules are altered, and since when, by the algorithm `mono`,
                     `tiled`, `tiled KAPPA` or `a3d`; behind the last three `era E` may stand
+  evidence ID       writes to the target what the store holds in each altered granule, and what the copy
+                    holds there, if that was filed; prints `evidence N`, or as `validate`
   examine ID        reads an evidence file from standard input, and says which granules it shows
                     are not as notarized, by the notary's book alone
+  restore ID        makes a new store at the target, of what the notary confirms of the store and of
+                    its copy, and prints `restored K lost M` and which granules are lost
   run ID            takes notarize, policy, validate and analyse as lines, without ID, and `audit`,
                     which validates in pieces
 
@@ -47,6 +52,7 @@ It ends with
   5  the store's file failed      13  the file is taken         21  the store has 256 eras
   6  the notary failed            14  the clock is behind       22  the store has no such era
   7  the input failed             15  the clock is ahead        23  the input is no evidence
+                                                              24  no header is as filed
 
 docs/COMMANDS.md  the statements, the replies and the statuses
 docs/DRILLS.md    how to write a drill

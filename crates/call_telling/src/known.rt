@@ -28,11 +28,12 @@ pub struct Missed {
 }
 
 impl Missed {
-    /// Of a call that found no store to work on, or made one.
+    /// Of a call that found no store to work on, or made one. A restoring may do without.
     pub fn of(ask: Ask, call: &[String], status: Status, store: Found) -> Option<Missed> {
         let id = ask.named_id(call)?;
         let is_made = ask == Ask::Init && status == Status::Ok;
-        if !is_made && !(ask.uses_notary() && is_missed(status, store)) {
+        let needs_one = ask.uses_notary() && ask != Ask::Restore;
+        if !is_made && !(needs_one && is_missed(status, store)) {
             return None;
         }
         match store {

@@ -80,9 +80,11 @@ enum Oddity<'a> {
 /// Says each on a line of its own.
 pub(crate) fn tell_oddities<R: Eprint>(rt: &R, ending: &Ending<'_, '_>) -> io::Result<()> {
     let store = &ending.store;
+    let copy = &ending.copy;
     let target = &ending.target;
     let books = ending.notaries.0.as_slice();
     say(rt, behind_of(ending, store))?;
+    say(rt, behind_of(ending, copy))?;
     for book in books {
         say(rt, behind_of(ending, book))?;
     }
@@ -90,6 +92,8 @@ pub(crate) fn tell_oddities<R: Eprint>(rt: &R, ending: &Ending<'_, '_>) -> io::R
     say(rt, strange_in(ending, store))?;
     say(rt, other_id(ending))?;
     say(rt, old(ending))?;
+    say(rt, nothing_in(ending, copy))?;
+    say(rt, strange_in(ending, copy))?;
     say(rt, strange_in(ending, target))?;
     for book in books {
         say(rt, nothing_in(ending, book))?;
@@ -101,7 +105,7 @@ pub(crate) fn tell_oddities<R: Eprint>(rt: &R, ending: &Ending<'_, '_>) -> io::R
         ending.knows().map(Oddity::Knows),
         overwritten(ending),
         unused(store, ending.ask.uses_store()),
-        unused(&ending.copy, false),
+        unused(copy, ending.ask.uses_copy()),
         unused(target, ending.ask.uses_target()),
         unused_books(ending),
         lost(ending),
@@ -152,7 +156,9 @@ fn behind_of<'a>(ending: &'a Ending<'a, 'a>, device: &'a Named<'a>) -> Option<Od
     Some(Oddity::Behind {
         device,
         behind,
-        is_left_behind: ending.ask.uses_target() && ending.status == Status::Ok,
+        is_left_behind: (ending.ask == Ask::Migrate || ending.ask == Ask::Restore)
+            && ending.status == Status::Ok
+            && matches!(device.called, Called::Store | Called::Copy),
     })
 }
 
@@ -169,6 +175,7 @@ fn nothing_in<'a>(ending: &'a Ending<'a, 'a>, device: &'a Named<'a>) -> Option<O
     Some(Oddity::Nothing {
         device,
         is_uncompared: is_done(ending)
+            && ending.ask != Ask::Restore
             && (is_store || has_store(ending))
             && !is_later_compared(ending)
             && !is_among,
@@ -197,8 +204,10 @@ fn is_later_compared(ending: &Ending<'_, '_>) -> bool {
 /// A notary that failed tells so what its file is.
 fn strange_in<'a>(ending: &'a Ending<'a, 'a>, device: &'a Named<'a>) -> Option<Oddity<'a>> {
     let is_strange = match device.found {
-        Found::Store { .. } => !matches!(device.called, Called::Store),
-        Found::Book { .. } => matches!(device.called, Called::Store | Called::Target),
+        Found::Store { .. } => !matches!(device.called, Called::Store | Called::Copy),
+        Found::Book { .. } => {
+            matches!(device.called, Called::Store | Called::Copy | Called::Target)
+        }
         Found::Other { .. } | Found::NoFile | Found::Unread => true,
         Found::Unused | Found::Missing | Found::Empty { .. } => false,
     };

@@ -415,8 +415,12 @@ fn hint(device: &Named<'_>, error: io::Error, ask: Ask) -> &'static str {
         ""
     } else if ask.may_only_ask() {
         ". Asking opens a file for writing, too: examples/on_copy asks over a copy"
-    } else if ask.uses_target() && matches!(device.called, Called::Store) {
+    } else if ask == Ask::Evidence && !matches!(device.called, Called::Target) {
+        ". `evidence` opens it for writing, too: take a copy of it"
+    } else if ask == Ask::Migrate && matches!(device.called, Called::Store) {
         ". `migrate` opens it for writing, too: take a copy of it"
+    } else if ask == Ask::Restore && !matches!(device.called, Called::Target) {
+        ". `restore` opens it for writing, too: take a copy of it"
     } else {
         ""
     }
@@ -564,14 +568,30 @@ fn tell_taken<W: fmt::Write>(store: &Named<'_>, f: &mut fmt::Formatter<W>) -> fm
     write!(f, "{store} {kind}, and stays as it is: name another file")
 }
 
+// Of a store and a copy of which nothing is restored.
+fn tell_lost_header<W: fmt::Write>(
+    ending: &Ending<'_, '_>,
+    f: &mut fmt::Formatter<W>,
+) -> fmt::Result {
+    let store = &ending.store;
+    let copy = &ending.copy;
+    let notary = &ending.notaries;
+    write!(
+        f,
+        "neither {store} nor {copy} has the header and the eras that were filed with {notary}: keep them as they are, and name another copy, or the right id and book; docs/OPERATING.md"
+    )
+}
+
 impl fmt::Display for Ending<'_, '_> {
     fn fmt<W: fmt::Write>(&self, f: &mut fmt::Formatter<W>) -> fmt::Result {
         let store = &self.store;
         let notary = &self.notaries;
+        let copy = &self.copy;
         let target = &self.target;
         let moves = self.ask.uses_target();
         match self.status {
             Status::DiskFault if target.error.is_some() => tell_failed(target, self.ask, f),
+            Status::DiskFault if copy.error.is_some() => tell_failed(copy, self.ask, f),
             Status::DiskFault => tell_failed(store, self.ask, f),
             Status::NotaryFault => tell_notaries_failed(notary, self.ask, f),
             Status::ReadFault => {
@@ -599,6 +619,10 @@ impl fmt::Display for Ending<'_, '_> {
                 f,
                 "{notary} lacks the digest of a granule that the evidence file shows: either that isn't sealed, or its era has no tree, or the book was cut"
             ),
+            Status::SealMissing { .. } if self.ask == Ask::Restore => write!(
+                f,
+                "{notary} lacks a digest of what is sealed in {store} and {copy}: it is another store's, or was cut; keep all of them as they are"
+            ),
             Status::SealMissing { .. } => write!(
                 f,
                 "{notary} lacks a digest of {store}: it is another store's, or was cut; keep both as they are"
@@ -611,6 +635,14 @@ impl fmt::Display for Ending<'_, '_> {
             Status::AlreadyThere => tell_taken(store, f),
             Status::ClockBack { last } => tell_clock_back(store, last, f),
             Status::TooLate => tell_too_late(store, f),
+            Status::Full if self.ask == Ask::Restore => write!(
+                f,
+                "{target} has no room for all that was to be restored: keep {store} and {copy} as they are"
+            ),
+            Status::Full if self.ask == Ask::Evidence => write!(
+                f,
+                "the evidence file would have 67,108,864 bytes or more: too much of {store} is altered for one, so show the store itself"
+            ),
             Status::Full if moves => write!(
                 f,
                 "{target} has no room for all that {store} holds: keep that one, which is read as before"
@@ -634,6 +666,13 @@ impl fmt::Display for Ending<'_, '_> {
                 f,
                 "{store} has no era of that number: `examples/look.py` says which it has"
             ),
+            Status::NotSealedSo if self.ask == Ask::Evidence => {
+                let others = Analyses(store.found);
+                write!(
+                    f,
+                    "a sealed tile of {store} lacks the tree, by which altered granules are found for an evidence file: `analyse` it by {others}"
+                )
+            }
             Status::NotSealedSo => {
                 let others = Analyses(store.found);
                 write!(
@@ -646,6 +685,7 @@ impl fmt::Display for Ending<'_, '_> {
                 "{notary} contradicts itself, as no store's digests do: keep it as it is, and tell whoever keeps it"
             ),
             Status::OldFormat => write!(f, "{store} {IS_OLD}"),
+            Status::HeaderLost => tell_lost_header(self, f),
             Status::NotEvidence if self.is_input_empty => write!(
                 f,
                 "the input is empty, and is to be an evidence file, as in dragoon notary=FILE examine ID <EVIDENCE"

@@ -2,7 +2,7 @@
 
 use crate::date::{Date, Moment};
 use crate::oddities::{has_store, holds_nothing};
-use crate::telling::{Analyses, Ending, Named, Notaries, end_of, is_done};
+use crate::telling::{Analyses, Ending, Kind, Named, Notaries, end_of, is_done};
 use asked_words::{Ask, ShownBytes, first_wrong, is_join, meaning, meaning_in_join};
 use call_devices::Found;
 use call_watch::{LONGEST, Refused, Sessions, is_too_long};
@@ -44,6 +44,22 @@ enum Warning<'a> {
     },
     /// An evidence file shows no granule.
     NoneShown,
+    /// So does one that was made.
+    NoneAltered {
+        store: &'a Named<'a>,
+    },
+    /// The copy isn't a store of the id, so an evidence file shows nothing of it.
+    ShownAlone {
+        copy: &'a Named<'a>,
+    },
+    /// Nothing is filed under the id of a store that was to be restored.
+    Unrestored {
+        ending: &'a Ending<'a, 'a>,
+    },
+    /// Granules are lost.
+    Lost {
+        ending: &'a Ending<'a, 'a>,
+    },
     /// The notary has marked a verdict over no store.
     Marked {
         notaries: &'a Notaries<'a>,
@@ -85,6 +101,8 @@ pub(crate) fn tell_warnings<R: Eprint>(rt: &R, ending: &Ending<'_, '_>) -> io::R
         auditing(ending),
         altered(ending),
         examined(ending),
+        gathered(ending),
+        restored(ending),
         clock_of(ending),
         made(ending),
         refused(ending),
@@ -107,7 +125,7 @@ fn gone<'a>(ending: &'a Ending<'a, 'a>) -> Option<Warning<'a>> {
             what: "the store",
         });
     }
-    if is_ok && ending.ask.uses_target() && ending.target.path.is_none() {
+    if is_ok && ending.target.was_written && ending.target.path.is_none() {
         return Some(Warning::Gone {
             word: "target=FILE",
             what: "what was written",
@@ -180,7 +198,7 @@ fn altered<'a>(ending: &'a Ending<'a, 'a>) -> Option<Warning<'a>> {
         None
     } else if has_store(ending) {
         Some(Warning::Altered { ending })
-    } else if said.starts_with("report ") {
+    } else if said.starts_with("report ") || ending.ask == Ask::Evidence {
         None
     } else {
         Some(Warning::Marked { notaries })
@@ -196,6 +214,41 @@ fn examined<'a>(ending: &'a Ending<'a, 'a>) -> Option<Warning<'a>> {
         Status::Altered => Some(Warning::Unexamined { ending }),
         Status::Ok if ending.heard.is_none_shown => Some(Warning::NoneShown),
         _ => None,
+    }
+}
+
+/// What an evidence file that was made doesn't show.
+fn gathered<'a>(ending: &'a Ending<'a, 'a>) -> Option<Warning<'a>> {
+    let (store, copy) = (&ending.store, &ending.copy);
+    if ending.ask != Ask::Evidence || ending.status != Status::Ok || !ending.target.was_written {
+        None
+    } else if ending.heard.is_none_shown {
+        Some(Warning::NoneAltered { store })
+    } else if is_of(copy, ending.id()) {
+        None
+    } else {
+        Some(Warning::ShownAlone { copy })
+    }
+}
+
+/// Whether a store of this id was found there.
+fn is_of(device: &Named<'_>, id: Option<u64>) -> bool {
+    match device.found {
+        Found::Store { header, .. } => id == Some(header.id),
+        _ => false,
+    }
+}
+
+/// What there is to say of a store that was restored.
+fn restored<'a>(ending: &'a Ending<'a, 'a>) -> Option<Warning<'a>> {
+    if ending.ask != Ask::Restore || ending.status != Status::Ok {
+        None
+    } else if ending.heard.is_unsealed() {
+        Some(Warning::Unrestored { ending })
+    } else if ending.heard.lost > 0 {
+        Some(Warning::Lost { ending })
+    } else {
+        None
     }
 }
 
@@ -309,6 +362,20 @@ fn tell_altered<W: fmt::Write>(ending: &Ending<'_, '_>, f: &mut fmt::Formatter<W
     write!(
         f,
         "{store} isn't what was filed: keep it and {notary} as they are, and copy them; docs/ANALYSIS.md says how to read the report"
+    )
+}
+
+fn tell_lost<W: fmt::Write>(ending: &Ending<'_, '_>, f: &mut fmt::Formatter<W>) -> fmt::Result {
+    let store = &ending.store;
+    let copy = &ending.copy;
+    let target = &ending.target;
+    match ending.heard.lost {
+        1 => write!(f, "1 granule is lost")?,
+        lost => write!(f, "{lost} granules are lost")?,
+    }
+    write!(
+        f,
+        ": neither {store} nor {copy} has there what was filed; {target} has no row of that time, and `validate` calls it altered. Look for another copy before anybody goes on with it; docs/OPERATING.md"
     )
 }
 
@@ -447,6 +514,26 @@ impl fmt::Display for Warning<'_> {
                 f,
                 "the evidence file shows no granule: whoever made it found none altered"
             ),
+            Warning::NoneAltered { store } => write!(
+                f,
+                "no sealed granule of {store} is altered: the evidence file shows none"
+            ),
+            Warning::ShownAlone { copy } if copy.path.is_none() => write!(
+                f,
+                "no copy=FILE was named: the evidence file shows what the store holds alone, and nothing of what was filed there"
+            ),
+            Warning::ShownAlone { copy } => {
+                let kind = Kind(copy.found);
+                write!(
+                    f,
+                    "{copy} {kind}: the evidence file shows what the store holds alone, and nothing of what was filed there"
+                )
+            }
+            Warning::Unrestored { ending } => {
+                write!(f, "nothing was restored: ")?;
+                tell_unknown(ending, f)
+            }
+            Warning::Lost { ending } => tell_lost(ending, f),
             Warning::Marked { notaries } => write!(
                 f,
                 "{notaries} keeps this verdict as a mark, which the diagrams of later reports show"

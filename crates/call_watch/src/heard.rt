@@ -71,8 +71,10 @@ pub struct Heard<'a> {
     /// Whether an era was begun, and whether one at tile 0, so that no tile was held against what is filed.
     is_turned: bool,
     pub is_turned_uncompared: bool,
-    /// Whether an examination was of no granule.
+    /// Whether an evidence file shows no granule.
     pub is_none_shown: bool,
+    /// How many granules a restoring has lost.
+    pub lost: u64,
     /// Whether a report says that something happened between a moment and an earlier one.
     pub goes_back: bool,
 }
@@ -94,6 +96,7 @@ impl<'a> Heard<'a> {
             is_turned: false,
             is_turned_uncompared: false,
             is_none_shown: false,
+            lost: 0,
             goes_back: false,
         }
     }
@@ -153,7 +156,12 @@ impl<'a> Heard<'a> {
             self.is_turned = true;
             self.is_turned_uncompared = self.is_turned_uncompared || text.ends_with(" tile 0");
         }
-        self.is_none_shown = self.is_none_shown || text.starts_with("examined 0 ");
+        self.is_none_shown = self.is_none_shown
+            || text.starts_with("examined 0 ")
+            || text == "evidence 0";
+        if let Some(lost) = lost_of_restored(text) {
+            self.lost = lost;
+        }
         if let Some(refused) = refused_of_made(text) {
             self.refused_of_made = refused;
         }
@@ -212,6 +220,12 @@ fn is_alarm(refusal: &str) -> bool {
 /// Of `made N refused R txns T` the number R.
 fn refused_of_made(reply: &str) -> Option<u64> {
     let mut words = reply.strip_prefix("made ")?.split(' ');
+    words.nth(2)?.parse::<u64>().ok()
+}
+
+/// Of `restored K lost M` the number M.
+fn lost_of_restored(reply: &str) -> Option<u64> {
+    let mut words = reply.strip_prefix("restored ")?.split(' ');
     words.nth(2)?.parse::<u64>().ok()
 }
 

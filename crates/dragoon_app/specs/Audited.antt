@@ -105,6 +105,7 @@ IsUnaltered statuses.Broken = ⊥
 IsUnaltered (statuses.SealMissing name) = ⊥
 IsUnaltered (statuses.OutOfTurn count) = ⊥
 IsUnaltered (statuses.NotaryInconsistent era level index) = ⊥
+IsUnaltered statuses.HeaderLost = ⊥
 IsUnaltered s = Unit {0}
 
 -- Of a store that is sound under the id it isn't said that it is altered.

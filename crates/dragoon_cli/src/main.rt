@@ -88,7 +88,8 @@ fn asked_by<'a, R: Runtime + Files<File = File> + AllocGlobal>(
     let ask = Ask::of(call);
     let store = path_behind("store=", names);
     let store = named_by(rt, Called::Store, store, ask.uses_store());
-    let copy = named_by(rt, Called::Copy, path_behind("copy=", names), false);
+    let copy = path_behind("copy=", names);
+    let copy = named_by(rt, Called::Copy, copy, ask.uses_copy());
     let target = path_behind("target=", names);
     let target = named_by(rt, Called::Target, target, ask.uses_target());
     let books = books_of(rt, ask, path_behind("notary=", names))?;
@@ -292,7 +293,7 @@ fn carry_out<'a, R: Runtime + Files<File = File> + AllocGlobal + Drop>(
         ask,
         call,
         store: mut named_store,
-        copy: named_copy,
+        copy: mut named_copy,
         target: mut named_target,
         books: mut named_books,
     } = asked;
@@ -319,6 +320,7 @@ fn carry_out<'a, R: Runtime + Files<File = File> + AllocGlobal + Drop>(
     );
     named_store.error = store.below().error();
     named_store.was_written = store.is_written();
+    named_copy.error = copy.below().error();
     named_target.error = target.below().error();
     named_target.was_written = target.is_written();
     let missed = Missed::of(ask, call, status, named_store.found);

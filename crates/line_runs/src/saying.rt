@@ -61,6 +61,7 @@ fn fault_text(status: Status) -> &'static str
         Status::TooManyEras => "fault TooManyEras\n",
         Status::NoEra => "fault NoEra\n",
         Status::NotEvidence => "fault NotEvidence\n",
+        Status::HeaderLost => "fault HeaderLost\n",
         Status::SealMissing { .. }
         | Status::OutOfTurn { .. }
         | Status::ClockBack { .. }

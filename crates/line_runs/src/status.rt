@@ -50,6 +50,8 @@ pub enum Status {
     NoEra,
     /// The input was read to its end, and is no evidence file.
     NotEvidence,
+    /// Neither a store nor its copy has the header and the eras that were filed.
+    HeaderLost,
 }
 
 impl Status {
@@ -82,6 +84,7 @@ impl Status {
             Status::TooManyEras => 21,
             Status::NoEra => 22,
             Status::NotEvidence => 23,
+            Status::HeaderLost => 24,
         }
     }
 }

@@ -27,15 +27,18 @@ pub fn ended<D: Disk, N: Notary>(
     input: &mut MemSource,
     failing: &[u64],
 ) -> Result<(u8, Vec<u8>), AllocError> {
-    let target = &mut MemDisk::new(alloc);
-    beside(alloc, words, store, target, notary, seconds, input, failing)
+    let (copy, target) = (&mut MemDisk::new(alloc), &mut MemDisk::new(alloc));
+    beside(
+        alloc, words, store, copy, target, notary, seconds, input, failing,
+    )
 }
 
-/// The same with a target.
-pub fn beside<D: Disk, T: Disk, N: Notary>(
+/// The same with a copy and a target.
+pub fn beside<D: Disk, P: Disk, T: Disk, N: Notary>(
     alloc: Global,
     words: &[&str],
     store: &mut D,
+    copy: &mut P,
     target: &mut T,
     notary: &mut N,
     seconds: &[u64],
@@ -43,11 +46,10 @@ pub fn beside<D: Disk, T: Disk, N: Notary>(
     failing: &[u64],
 ) -> Result<(u8, Vec<u8>), AllocError> {
     let words = owned(alloc, words)?;
-    let mut copy = MemDisk::new(alloc);
     let mut clock = MemClock::new(seconds.to_vec(alloc)?);
     let mut out = MemSink::new(alloc, failing.to_vec(alloc)?);
     let status = dragoon(
-        alloc, &words, store, &mut copy, target, notary, &mut clock, input, &mut out,
+        alloc, &words, store, copy, target, notary, &mut clock, input, &mut out,
     );
     Ok((status.code(), out.bytes().to_vec(alloc)?))
 }

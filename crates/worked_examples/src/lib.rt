@@ -30,6 +30,8 @@ mod notarized;
 #[cfg(test)]
 mod quorums;
 #[cfg(test)]
+mod restored;
+#[cfg(test)]
 mod scripts;
 #[cfg(test)]
 mod sessions;

@@ -19,6 +19,8 @@
 //! | `$ notary SEALS MARKS` | the notary is an empty one with so much room |
 //! | `$ stranger` | a seal of another tile is filed under id 7, as batch 1 |
 //! | `$ breaks READ CHANGE`, `$ hinders READ CHANGE`, `$ fails QUESTION CHANGE` | these calls of the disk, of the target, or of the notary, fail from now on |
+//! | `$ copied` | the copy has the bytes that the store has now, and none at first |
+//! | `$ written HEX`, `$ handed` | the target has these bytes; what it has is the input of calls without lines |
 //! | `$ target HEX`, `$ moved` | the target has these bytes, and none at first; it is the store from now on, and another one is empty |
 //! | `$ crash CHOICE` | the disk crashes, and leaves the image of this choice |
 
@@ -37,6 +39,7 @@ pub const NEW: &str = "init 7 60 3 m @ 0 = 0 ready 7";
 #[derive(Drop)]
 struct Scene {
     store: MemDisk,
+    copy: MemDisk,
     target: MemDisk,
     filed: MemNotary,
     given: Vec<u8>,
@@ -159,9 +162,10 @@ fn called(rt: &impl Abort, alloc: Global, scene: &mut Scene, step: &str) -> Resu
         lines.into_bytes()
     };
     let mut input = MemSource::new(given, 3, Vec::new(alloc));
-    let (store, target, filed) = (&mut scene.store, &mut scene.target, &mut scene.filed);
+    let (store, copy, target) = (&mut scene.store, &mut scene.copy, &mut scene.target);
+    let filed = &mut scene.filed;
     let told = beside(
-        alloc, &words, store, target, filed, &seconds, &mut input, &failing,
+        alloc, &words, store, copy, target, filed, &seconds, &mut input, &failing,
     )?;
     let mut wanted = lines_of(alloc, text, "")?;
     wanted.push_str(&behind(alloc, step, "> ", &scene.tail)?)?;
@@ -264,7 +268,7 @@ fn counted(
     Ok(())
 }
 
-/// The store after a step that makes it.
+/// The store after a step that makes it, and the disks beside it.
 fn put(alloc: Global, scene: &mut Scene, verb: &str, rest: &str) -> Result<(), Fail> {
     match verb {
         "sealed" => {
@@ -276,6 +280,10 @@ fn put(alloc: Global, scene: &mut Scene, verb: &str, rest: &str) -> Result<(), F
         "week" => fill(alloc, scene, week(alloc)?),
         "target" => {
             scene.target = MemDisk::holding(alloc, bytes_of(alloc, rest)?);
+            Ok(())
+        }
+        "copied" => {
+            scene.copy = MemDisk::holding(alloc, scene.store.bytes().to_vec(alloc)?);
             Ok(())
         }
         "moved" => {
@@ -299,17 +307,24 @@ fn take(rt: &impl Abort, alloc: Global, scene: &mut Scene, step: &str) -> Result
             let numbers = (first.parse::<u32>()?, second.parse::<u32>()?);
             counted(rt, alloc, scene, verb, numbers)?;
         }
-        "sealed" | "week" | "bytes" | "target" | "moved" => put(alloc, scene, verb, rest)?,
+        "sealed" | "week" | "bytes" | "target" | "copied" | "moved" => put(
+            alloc, scene, verb, rest,
+        )?,
         "alter" | "cut" => scene.store = changed(alloc, &scene.store, head)?,
         "crash" => scene.store.crash(rest.parse::<u64>()?)?,
         "stored" => {
             let wanted = bytes_of(alloc, rest)?;
             assert_eq!(rt; scene.store.bytes(), wanted.as_slice());
         }
+        "written" => {
+            let wanted = bytes_of(alloc, rest)?;
+            assert_eq!(rt; scene.target.bytes(), wanted.as_slice());
+        }
         "damaged" => damaged(rt, alloc, scene, step)?,
         "tail" => scene.tail = behind(alloc, step, "> ", "")?,
         "stranger" => stranger(&mut scene.filed)?,
         "given" => scene.given = bytes_of(alloc, rest)?,
+        "handed" => scene.given = scene.target.bytes().to_vec(alloc)?,
         _ => called(rt, alloc, scene, step)?,
     }
     Ok(())
@@ -321,6 +336,7 @@ pub fn tell(rt: &impl Abort, alloc: Global, first: &str, stories: &str) -> Resul
         let (_, steps) = story.split_once("\n$ ").ok_or("no step")?;
         let mut scene = Scene {
             store: MemDisk::new(alloc),
+            copy: MemDisk::new(alloc),
             target: MemDisk::new(alloc),
             filed: notary(alloc),
             given: Vec::new(alloc),
