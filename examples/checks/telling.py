@@ -29,7 +29,8 @@ WENT_BACK = "dragoon: the clock went back: it says 20.., and the last batch was 
 GONE = "stood in memory, and is gone"
 QUORUM = "notary=a,b,c"
 DIFFERS = "differs from the others: keep it as it is; docs/NOTARY.md says why one does"
-LOST = "more than half of the books were missing or empty, and what they say is what new books say: stop, keep the others as they are, and look for copies; docs/NOTARY.md"
+LOST = "more than half of the books were missing, empty or without a batch, and what they say is what new books say: {}; docs/NOTARY.md"
+LOOK = "stop, keep the others as they are, and look for copies"
 UNSTORED = "nothing of it is stored"
 OTHER_ID = "dragoon: the store worked.store has the id 7, and not 8"
 OLD = "store=old.store"
@@ -136,7 +137,7 @@ ALTERED_ROW = evidence(5, [1], [0])
 EXAMINED = "granule 5 not as notarized shown 1 original 1 as notarized\nexamined 1 confirmed 1\n"
 ALTERED, COPY, EVIDENCE = "store=altered.store", "copy=worked.store", "target=new.evidence"
 ALONE = "the evidence file shows what the store holds alone, and nothing of what was filed there"
-NO_SUCH = "has no such header and eras filed under it: name the right file, id and book"
+NO_SUCH = "has no such header and eras filed under it: name the right file, id and book. Evidence of a store whose header or eras were altered is told so, too"
 
 TURNED = "had no sealed tile under the id 7: the policy stands at tile 0, and no tile was compared. If tiles of the store worked.store are filed in another book, validate with that one: where it isn't clean, put back the copy from before; docs/OPERATING.md"
 
@@ -235,7 +236,7 @@ ROWS = [
     ("a run over a store that is missing, and its book has it", None, ["store=none", BOOK, "run", "7"], "", 4, "fault NotAStore\n",
      ["dragoon: the store none is missing: name the right file", HAS_TILE]),
     ("a filing of one, and of three books one has it", lambda: shutil.copy("worked.book", "c"), ["store=none", QUORUM, "notarize", "7"], "", 4, "fault NotAStore\n",
-     ["dragoon: the store none is missing: name the right file", "dragoon: notary 1 of 3 (a) was missing; ..", "dragoon: notary 2 of 3 (b) was missing; ..", f"dragoon: notary 3 of 3 (c) has 1 tile {KNOWN}", f"dragoon: {LOST}"]),
+     ["dragoon: the store none is missing: name the right file", "dragoon: notary 1 of 3 (a) was missing; ..", "dragoon: notary 2 of 3 (b) was missing; ..", f"dragoon: notary 3 of 3 (c) has 1 tile {KNOWN}", f"dragoon: {LOST.format(LOOK)}"]),
     ("a store made anew, and its book has its header", lambda: (new_store(), call(["store=new.store", "notary=new.book", "notarize", "7"], "")), ["store=none", "notary=new.book", "init", "7", "60", "3", "ta"], "", 0, "ready 7\n",
      [f"dragoon: the notary's book new.book has the header {KNOWN}", "dragoon: the notary's book new.book isn't used by this command"]),
     ("a store made beside a book that hasn't it", None, ["store=none", BOOK, "init", "8", "60", "3", "ta"], "", 0, "ready 8\n",
@@ -264,7 +265,7 @@ ROWS = [
     ("a store with a turned letter", lambda: put("worked.store", 5, b"o"), [STORE, "run", "7"], "", 4, "fault NotAStore\n",
      [f"dragoon: the store worked.store holds {FRONT}"]),
     ("a store with a turned letter, validated", lambda: put("worked.store", 1, b"\x04"), [STORE, BOOK, "validate", "7"], "", 1, "header altered 1\n",
-     ["dragoon: the store worked.store holds the front of a store, cut or damaged", "dragoon: the store worked.store doesn't begin as .."]),
+     ["dragoon: the store worked.store holds the front of a store, cut or damaged", "dragoon: the store worked.store doesn't begin as ..", MARKED]),
     ("a book with a turned letter", lambda: put("worked.book", 7, b"k"), [STORE, BOOK, "validate", "7"], "", 6, "fault NotaryFault\n",
      [f"dragoon: the notary's book worked.book holds the front of a notary's book, cut or damaged; {COPIES_FIRST}"]),
     ("a validation without a store", None, [BOOK, "validate", "7"], "", 1, "header altered 1\n",
@@ -330,7 +331,7 @@ ROWS = [
     ("notaries of which one fails and two differ", three_ways, [STORE, QUORUM, "validate", "7"], "", 6, "fault NotaryFault\n",
      ["dragoon: the quorum of 3 notaries has no answer that ..", f"dragoon: notary 1 of 3 (a) {DIFFERS}", "dragoon: notary 2 of 3 (b) holds a store ..", f"dragoon: notary 3 of 3 (c) {DIFFERS}"]),
     ("notaries of whom two lost their books", lambda: shutil.copy("worked.book", "a"), [STORE, QUORUM, "validate", "7"], "", 0, "unsealed\n",
-     ["dragoon: notary 1 of 3 (a) differs ..", "dragoon: notary 2 of 3 (b) was missing; ..", "dragoon: notary 3 of 3 (c) was missing; ..", f"dragoon: {LOST}",
+     ["dragoon: notary 1 of 3 (a) differs ..", "dragoon: notary 2 of 3 (b) was missing; ..", "dragoon: notary 3 of 3 (c) was missing; ..", f"dragoon: {LOST.format(LOOK)}",
       "dragoon: nothing was compared: the quorum of 3 notaries had nothing that was filed under the id 7"]),
     ("notaries of whom none has a book", None, [STORE, QUORUM, "validate", "7"], "", 0, "unsealed\n",
      [f"dragoon: notary {number} of 3 ({name}) was missing: nothing was compared" for number, name in ((1, "a"), (2, "b"), (3, "c"))]),
@@ -373,13 +374,13 @@ ROWS = [
     ("a first filing into the book of another store", store_8, ["store=new.store", BOOK, "notarize", "8"], "", 0, "sealed 0\n",
      ["dragoon: the notary's book worked.book had nothing that was filed under the id 8: nothing was compared, and if this store was filed before, this is another book; docs/NOTARY.md"]),
     ("another id under which something was filed", store_8, ["store=new.store", BOOK, "validate", "7"], "", 1, "header altered 1\n",
-     ["dragoon: the store new.store has the id 8, and not 7", "dragoon: the store new.store doesn't begin as the store that was filed, or has other eras: .."]),
+     ["dragoon: the store new.store has the id 8, and not 7", "dragoon: the store new.store doesn't begin as the store that was filed, or has other eras: ..", MARKED]),
     ("store and book in each other's place", None, ["store=worked.book", "notary=worked.store", "validate", "7"], "", 6, "fault NotaryFault\n",
      ["dragoon: the notary's book worked.store holds a store with the id 7, ..", "dragoon: the store worked.book holds a notary's book"]),
     ("the same, filed", None, ["store=worked.book", "notary=worked.store", "notarize", "7"], "", 4, "fault NotAStore\n",
      ["dragoon: the store worked.book holds a notary's book: name the right file", "dragoon: the notary's book worked.store holds a store with the id 7, which begins at 1970-01-01 00:00:00 UTC"]),
     ("a book in the place of the store, validated", lambda: shutil.copy("worked.book", "b"), ["store=b", BOOK, "validate", "7"], "", 1, "header altered 1\n",
-     ["dragoon: the store b holds a notary's book", "dragoon: the store b doesn't begin as the store that was filed, or has other eras: .."]),
+     ["dragoon: the store b holds a notary's book", "dragoon: the store b doesn't begin as the store that was filed, or has other eras: ..", MARKED]),
     ("nothing named", None, ["validate", "7"], "", 0, "unsealed\n",
      ["dragoon: no store=FILE was named: nothing was compared", "dragoon: the notary's book in memory (no file was named) had nothing that was filed under the id 7"]),
     ("a run without a store", None, ["run", "7"], "", 4, "fault NotAStore\n", ["dragoon: no store=FILE was named: name one, which `init` makes if it is new"]),
@@ -395,12 +396,12 @@ ROWS = [
     ("a fault behind a line that is refused", three_books, [STORE, "notary=a,b", "run", "7"], "get u 1\nvalidate\n", 6, None,
      ["dragoon: the quorum of 2 notaries has no answer ..", f"dragoon: notary 1 of 2 (a) {DIFFERS}", f"dragoon: notary 2 of 2 (b) {DIFFERS}", f"dragoon: {ONLY} 1, `get u 1`: NoTable, .."]),
     ("a filing by a clock that is too far ahead, and was further", later_book, [STORE, BOOK, "notarize", "7"], "", 15, "fault TooLate\n",
-     ["dragoon: the clock is beyond what the store worked.store can tell, which ends at 1971-12-30 04:16:00 UTC: set it right, or make another store by `init`", WENT_BACK]),
+     ["dragoon: the clock is beyond what the store worked.store can tell, which ends at 1971-12-30 04:16:00 UTC: set it right; where it is, file the tiles that have ended by a scripted run, and go on with another store; docs/OPERATING.md", WENT_BACK]),
     ("a drill's clock that goes back", None, ["drill"], "# so\nnow 100\ninit 7 60 3 ta\n\nnow 500\ncreate t k int\nnow 200\ninsert t 1\n", 3, None,
      [f"dragoon: 1 of 6 {REFUSED} 8, `insert t 1`: ClockBack 400, the clock is behind the store's last moment, second 400 from its first one on"]),
     ("an analysis without its chains", lambda: (call(["store=new.store", "init", "7", "60", "3", "t"], ""), call(["store=new.store", "notary=new.book", "notarize", "7"], "")),
      ["store=new.store", "notary=new.book", "analyse", "7", "a3d"], "", 18, "fault NotSealedSo\n",
-     ["dragoon: a tile of the store new.store that this analysis looks at lacks the chains that it needs: take `mono` or `tiled`"]),
+     ["dragoon: a tile of the store new.store that this analysis looks at lacks the chains that it needs: take `mono` or `tiled`, or an era that has them, by `era E`"]),
     ("a policy behind what is filed", None, [STORE, BOOK, "policy", "7", "1", "a"], "", 0, "era 1 from tile 1\n", []),
     ("a policy without the book", None, [STORE, "policy", "7", "1", "a"], "", 0, "era 1 from tile 0\n",
      [f"dragoon: the notary's book in memory (no file was named) {TURNED}"]),

@@ -28,7 +28,7 @@ impl<'a> Rest<'a> {
     fn behind(self, count: usize) -> Rest<'a> {
         Rest {
             bytes: self.bytes.get(count..).unwrap_or(&[]),
-            column: self.column.saturating_add(count),
+            column: self.column.saturating_add(letters_in(self.bytes, count)),
         }
     }
 
@@ -97,6 +97,12 @@ impl<'a> Rest<'a> {
         let (token, _) = self.token();
         token.has_to(token.bytes.is_empty(), Wanted::End)
     }
+
+    /// The same behind as many columns or values as there may be.
+    pub(crate) fn end_of_32(self) -> Result<(), Wrong> {
+        let (token, _) = self.token();
+        token.has_to(token.bytes.is_empty(), Wanted::NoMore)
+    }
 }
 
 impl Token<'_> {
@@ -119,7 +125,7 @@ impl Token<'_> {
         let wanted = if quotes % 2 == 1 {
             Wanted::QuoteEnd
         } else if let Some(place) = control {
-            column = column.saturating_add(place);
+            column = column.saturating_add(letters_in(self.bytes, place));
             if quotes > 0 {
                 Wanted::NoControl
             } else {
@@ -138,6 +144,15 @@ impl Token<'_> {
         };
         Wrong { column, wanted }
     }
+}
+
+/// How many letters begin in the first bytes, so many: in UTF-8 those that go on with a letter begin with the bits 10.
+fn letters_in(bytes: &[u8], count: usize) -> usize {
+    bytes
+        .iter()
+        .take(count)
+        .filter(|byte| **byte & 0xC0 != 0x80)
+        .count()
 }
 
 /// A token ends at a space, but a text at the quote that ends it.

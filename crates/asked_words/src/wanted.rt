@@ -33,6 +33,8 @@ pub enum Wanted {
     /// One of these words, or what is so called.
     Has(&'static str),
     End,
+    NoMore,
+    NoEra,
 }
 
 /// What stands in a run and in a drill.
@@ -78,6 +80,8 @@ impl fmt::Display for Wanted {
                 "=, !=, <, <=, > or >= has to stand there, with a space on each side",
             Wanted::Has(what) => return write!(f, "{what} has to stand there"),
             Wanted::End => "the line has to end there",
+            Wanted::NoMore => "the line has to end there: a table has at most 32 columns",
+            Wanted::NoEra => "`mono` goes over all eras, and takes none",
         };
         write!(f, "{text}")
     }

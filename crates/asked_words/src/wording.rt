@@ -185,7 +185,7 @@ fn columns_fit(first: Rest<'_>) -> Result<(), Wrong> {
         name.has_to(!has_column(first, count, name.bytes), Wanted::OtherName)?;
         rest = behind.kind()?;
     }
-    rest.end()
+    rest.end_of_32()
 }
 
 /// Whether one of so many columns has this name.
@@ -211,7 +211,7 @@ fn values_fit(rest: Rest<'_>) -> Result<(), Wrong> {
         }
         rest = rest.value()?;
     }
-    rest.end()
+    rest.end_of_32()
 }
 
 fn scan_fits(rest: Rest<'_>) -> Result<(), Wrong> {
@@ -268,6 +268,8 @@ fn is_exponent(token: &[u8]) -> bool {
 fn analyse_fits(rest: Rest<'_>) -> Result<(), Wrong> {
     let (name, rest) = rest.token();
     if name.bytes == b"mono".as_slice() {
+        let (next, _) = rest.token();
+        next.has_to(next.bytes != b"era".as_slice(), Wanted::NoEra)?;
         return rest.end();
     }
     if name.bytes == b"a3d".as_slice() {

@@ -70,7 +70,10 @@ enum Oddity<'a> {
         notaries: &'a Notaries<'a>,
     },
     /// More than half of the books held nothing, and another holds something.
-    Lost,
+    Lost {
+        /// Whether the call filed something, or marked.
+        is_filed: bool,
+    },
     /// No store was named.
     Unnamed {
         is_uncompared: bool,
@@ -131,7 +134,8 @@ fn is_told(ending: &Ending<'_, '_>, device: &Named<'_>) -> bool {
             || ending.status == Status::AlreadyThere && ending.ask == Ask::Init,
         Called::Target => ending.status == Status::AlreadyThere,
         Called::Book => ending.status == Status::NotaryFault,
-        Called::Copy | Called::Member { .. } => false,
+        Called::Copy => ending.ask == Ask::Evidence && ending.target.was_written,
+        Called::Member { .. } => false,
     };
     is_of_fault || device.error.is_some()
 }
@@ -309,13 +313,19 @@ fn unused_books<'a>(ending: &'a Ending<'a, 'a>) -> Option<Oddity<'a>> {
     }
 }
 
+/// Whether it is as a new book is, but for marks.
+fn has_no_batch(device: &Named<'_>) -> bool {
+    holds_nothing(device) || matches!(&device.found, Found::Book { filed: None, .. })
+}
+
 /// What more than half of the books say is then what new books say.
 fn lost<'a>(ending: &'a Ending<'a, 'a>) -> Option<Oddity<'a>> {
     let books = ending.notaries.0.as_slice();
-    let empty = books.iter().filter(|book| holds_nothing(book)).count();
+    let new = books.iter().filter(|book| has_no_batch(book)).count();
     let full = books.iter().filter(|book| is_book(book)).count();
-    if uses_notary(ending) && full > 0 && empty > books.len().saturating_sub(empty) {
-        Some(Oddity::Lost)
+    if uses_notary(ending) && full > 0 && new > books.len().saturating_sub(new) {
+        let is_filed = ending.heard.is_filed;
+        Some(Oddity::Lost { is_filed })
     } else {
         None
     }
@@ -436,10 +446,17 @@ impl fmt::Display for Oddity<'_> {
             Oddity::UnusedBooks { notaries } => {
                 write!(f, "{notaries} isn't used by this command")
             }
-            Oddity::Lost => write!(
-                f,
-                "more than half of the books were missing or empty, and what they say is what new books say: stop, keep the others as they are, and look for copies; docs/NOTARY.md"
-            ),
+            Oddity::Lost { is_filed } => {
+                let next = if is_filed {
+                    "what this call filed or marked stands in the others, too, which don't tell any more what was filed before: stop, and put back copies of all of them"
+                } else {
+                    "stop, keep the others as they are, and look for copies"
+                };
+                write!(
+                    f,
+                    "more than half of the books were missing, empty or without a batch, and what they say is what new books say: {next}; docs/NOTARY.md"
+                )
+            }
             Oddity::Unnamed { is_uncompared } => {
                 let uncompared = if is_uncompared { UNCOMPARED } else { "" };
                 write!(f, "no store=FILE was named{uncompared}")

@@ -364,6 +364,12 @@ fn tell_failed<W: fmt::Write>(
         Some(_) if matches!(device.found, Found::NoFile) => {
             write!(f, "{device} is no plain file: name one")
         }
+        Some(_) if device.path.is_some_and(|path| path.is_empty()) => {
+            write!(
+                f,
+                "{device} can't be opened: the path of a file stands behind `=`"
+            )
+        }
         Some(error) => {
             let hint = hint(device, error, ask);
             write!(
@@ -556,7 +562,7 @@ fn tell_too_late<W: fmt::Write>(store: &Named<'_>, f: &mut fmt::Formatter<W>) ->
             let end = end_of(header);
             write!(
                 f,
-                "the clock is beyond what {store} can tell, which ends at {end}: set it right, or make another store by `init`"
+                "the clock is beyond what {store} can tell, which ends at {end}: set it right; where it is, file the tiles that have ended by a scripted run, and go on with another store; docs/OPERATING.md"
             )
         }
         _ => write!(f, "the clock is beyond what a store can tell: set it right"),
@@ -677,7 +683,7 @@ impl fmt::Display for Ending<'_, '_> {
                 let others = Analyses(store.found);
                 write!(
                     f,
-                    "a tile of {store} that this analysis looks at lacks the chains that it needs: take {others}"
+                    "a tile of {store} that this analysis looks at lacks the chains that it needs: take {others}, or an era that has them, by `era E`"
                 )
             }
             Status::NotaryInconsistent { .. } => write!(

@@ -60,7 +60,7 @@ enum Warning<'a> {
     Lost {
         ending: &'a Ending<'a, 'a>,
     },
-    /// The notary has marked a verdict over no store.
+    /// The notary has marked a verdict over no store of the id.
     Marked {
         notaries: &'a Notaries<'a>,
     },
@@ -100,6 +100,7 @@ pub(crate) fn tell_warnings<R: Eprint>(rt: &R, ending: &Ending<'_, '_>) -> io::R
         turned(ending),
         auditing(ending),
         altered(ending),
+        marked(ending),
         examined(ending),
         gathered(ending),
         restored(ending),
@@ -193,12 +194,25 @@ fn auditing<'a>(ending: &'a Ending<'a, 'a>) -> Option<Warning<'a>> {
 
 fn altered<'a>(ending: &'a Ending<'a, 'a>) -> Option<Warning<'a>> {
     let said = ending.heard.altered.text();
-    let notaries = &ending.notaries;
     if said == "" || !ending.ask.gives_verdict() {
         None
     } else if has_store(ending) {
         Some(Warning::Altered { ending })
-    } else if said.starts_with("report ") || ending.ask == Ask::Evidence {
+    } else {
+        None
+    }
+}
+
+/// A verdict over what is no store of the id. A report and an evidence file leave no mark.
+fn marked<'a>(ending: &'a Ending<'a, 'a>) -> Option<Warning<'a>> {
+    let said = ending.heard.altered.text();
+    let notaries = &ending.notaries;
+    if said == ""
+        || said.starts_with("report ")
+        || !ending.ask.gives_verdict()
+        || ending.ask == Ask::Evidence
+        || is_of(&ending.store, ending.id())
+    {
         None
     } else {
         Some(Warning::Marked { notaries })
@@ -507,7 +521,7 @@ impl fmt::Display for Warning<'_> {
                 tell_id(ending, f)?;
                 write!(
                     f,
-                    ", or {notary} has no such header and eras filed under it: name the right file, id and book"
+                    ", or {notary} has no such header and eras filed under it: name the right file, id and book. Evidence of a store whose header or eras were altered is told so, too"
                 )
             }
             Warning::NoneShown => write!(
