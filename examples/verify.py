@@ -2,6 +2,9 @@
 """Holds a store against a notary's book. For whoever trusts nobody: written from docs/FORMATS.md and from nothing else.
 
     python3 examples/verify.py STORE BOOK ID [--era E]
+    python3 examples/verify.py examine BOOK ID FILE
+    python3 examples/verify.py evidence BOOK ID STORE COPY TARGET
+    python3 examples/verify.py restore BOOK ID STORE COPY TARGET
 
 It computes every digest that is planned for the sealed tiles, and compares each with the one that was filed under ID. The
 first line is the verdict, as `validate` words it: `unsealed`, `clean N`, `altered N from P` or `header altered N`. N is the
@@ -12,9 +15,16 @@ and named there, too. With `--era E` it compares the tiles of that era alone, by
 all tiles before, too. N is the number of the era's sealed tiles then. It writes no file, and ends with 0 if nothing differs, 1 if something
 does, and 2 on other words. It ends with 3 if a file can't be read or is no book, the store has no era E, or that era's tiles have neither
 chains nor a tree.
+
+`examine` prints what the program's `examine` prints of an evidence file, by docs/COMMANDS.md, and ends with the same status. `evidence`
+writes such a file to TARGET, and `restore` a new store, of what STORE and COPY hold. COPY is /dev/null where there is none, and a TARGET of
+more than one byte is left as it is. They print `evidence N`, or `restored K lost M` and the granules that are lost; or `unsealed`, or
+`header altered N` with status 1. Where a call has no answer, the line is `fault NAME`, and the status is that of NAME in docs/COMMANDS.md.
+Of `restore` HeaderLost is 24: neither store passes. An empty book is one without batches.
 """
 import functools
 import hashlib
+import pathlib
 import re
 import sys
 from collections import Counter, namedtuple
@@ -207,9 +217,14 @@ def header_of(content):
     """The header fields, and of them the id, the width, the tile exponent and the algorithms; or None."""
     if len(content) <= FIRST_GATE or content[0] != OPEN or content[1:9] not in LETTERS or any(content[31:FIRST_GATE]):
         return None
-    id, epoch, width, k, algorithms = map(Source(content[9:31]).number, (8, 8, 4, 1, 1))
+    return header_in(content[9:31])
+
+
+def header_in(fields):
+    """The same of the 22 bytes of the fields."""
+    id, epoch, width, k, algorithms = map(Source(fields).number, (8, 8, 4, 1, 1))
     in_range = epoch <= 1_099_511_627_775 and 1 <= width <= 86_400 and k <= 10 and algorithms <= 3
-    return (content[9:31], id, width, k, algorithms) if in_range else None
+    return (fields, id, width, k, algorithms) if in_range else None
 
 
 def number(value, length):
@@ -234,13 +249,17 @@ def first_of(eras, tile):
     return era.granule + (tile - era.tile << era.k)
 
 
+def is_next(eras, policy):
+    """Whether a policy begins the next era behind these."""
+    return len(eras) < ERAS and eras[-1].tile <= policy.tile and policy.granule == first_of(eras, policy.tile)
+
+
 def eras_of(content):
     """The eras of a store, in order."""
     *_, k, algorithms = header_of(content)
     eras = [Era(0, 0, k, algorithms)]
     for item, _ in records(content, *STORE):
-        is_later = isinstance(item, Era) and len(eras) < ERAS and eras[-1].tile <= item.tile
-        if is_later and item.granule == first_of(eras, item.tile):
+        if isinstance(item, Era) and is_next(eras, item):
             eras.append(item)
     return eras
 
@@ -291,6 +310,10 @@ def ended_nodes(era, index, leaf, waiting):
     waiting.append(value)
 
 
+def granule_digest(granule, items):
+    return digest(b"\x02", number(granule, 4), *(number(len(it), 4) + it for it in items))
+
+
 def parts(tile, k, leaves):
     """The digests of a tile's parts."""
     yield f"tile {tile} whole", digest(b"\x03", number(tile, 4), b"\xff", *leaves)
@@ -315,7 +338,7 @@ def plan(content, tiles):
         for granule, items in enumerate(granules[first : first + (1 << era.k)], first):
             for item in items:
                 cum = digest(b"\x01", cum, item)
-            leaves.append(digest(b"\x02", number(granule, 4), *(number(len(it), 4) + it for it in items)))
+            leaves.append(granule_digest(granule, items))
             nodes.update(ended_nodes(number_of_era, granule - era.granule, leaves[-1], waiting.setdefault(number_of_era, [])))
         names = (f"era {at}" for at, it in enumerate(eras) if at and it.tile == tile)
         chains = dict(parts(tile, era.k, leaves))
@@ -331,6 +354,11 @@ def begins_as(content, letters):
 def is_book(content):
     """Whether the head is a book's."""
     return len(content) > FIRST_GATE and content[:FIRST_GATE] == b"\xa7DRAGBOK1" + bytes(55)
+
+
+def is_empty(content):
+    """Whether these bytes are those of a book that is still to be made."""
+    return len(content) <= 1 or len(content) <= FIRST_GATE + 1 and content[0] != OPEN
 
 
 def in_turn(filings):
@@ -468,28 +496,61 @@ def is_number(word):
     return re.fullmatch(r"0|[1-9][0-9]{0,19}", word) is not None and int(word) < 1 << 64
 
 
+# the calls that a word in front names, and how many words stand behind it
+CALLS = {"examine": 3, "evidence": 5, "restore": 5}
+
+
+def call(name, book, id, *files):
+    """Carries out such a call. The answer is its lines and its status."""
+    sys.dont_write_bytecode = True
+    from parts import evidence, notary, restored
+
+    target = pathlib.Path(files[-1]) if name != "examine" else None
+    read = [pathlib.Path(file).read_bytes() for file in (book, *(files[:-1] if target else files))]
+    try:
+        if target and target.exists() and target.stat().st_size > 1:
+            raise notary.Fault("AlreadyThere")
+        carry_out = {"examine": evidence.examine, "evidence": evidence.gather, "restore": restored.restore}[name]
+        lines, status, *made = carry_out(*read[1:], read[0], int(id))
+    except notary.Fault as fault:
+        return [str(fault)], fault.status
+    for content in made:
+        if content is not None:
+            target.write_bytes(content)
+    if is_book(read[0]):
+        tell_hidden(book, read[0], BOOK)
+    for file, content in zip(files[:-1], read[1:]):
+        tell_hidden(file, content, STORE)
+    return lines, status
+
+
+def comparison(store_name, book_name, id, era):
+    """Compares a store with a book. The answer is the lines and the status."""
+    store, book = (open(name, "rb").read() for name in (store_name, book_name))
+    lines, both = compare(store, batches_of(book, int(id)), int(id), era)
+    tell_hidden(store_name, store, STORE)
+    tell_hidden(book_name, book, BOOK)
+    tell_little(lines[0], store_name, store, id, era)
+    tell_of_book(lines, both)
+    return lines, 1 if "altered" in lines[0] else 0
+
+
 def main(words):
-    options = words[3:]
-    is_call = len(words) == 3 or len(options) == 2 and options[0] == "--era"
-    bad = [word for word in words[2:3] + options[1:] if not is_number(word)]
+    options, name = words[3:], words[0] if words and CALLS.get(words[0]) == len(words) - 1 else None
+    is_call = name or len(words) == 3 or len(options) == 2 and options[0] == "--era"
+    bad = [word for word in words[2:3] + ([] if name else options[1:]) if not is_number(word)]
     if not is_call or bad:
         print(__doc__, file=sys.stdout if words == ["--help"] else sys.stderr)
         if is_call:
             print(f"verify: {plain(bad[0])} is no number from 0 to {(1 << 64) - 1} without a zero in front", file=sys.stderr)
         return 0 if words == ["--help"] else 2
-    era = int(options[1]) if options else None
     try:
-        store, book = (open(name, "rb").read() for name in words[:2])
-        lines, both = compare(store, batches_of(book, int(words[2])), int(words[2]), era)
-        tell_hidden(words[0], store, STORE)
-        tell_hidden(words[1], book, BOOK)
-        tell_little(lines[0], words[0], store, words[2], era)
-        tell_of_book(lines, both)
+        lines, status = call(*words) if name else comparison(*words[:3], int(options[1]) if options else None)
     except (OSError, ValueError) as fault:
         print(f"verify: {plain(fault.filename)}: {fault.strerror}" if isinstance(fault, OSError) else f"verify: {fault}", file=sys.stderr)
         return 3
     say("\n".join(lines))
-    return 1 if "altered" in lines[0] else 0
+    return status
 
 
 if __name__ == "__main__":

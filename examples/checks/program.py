@@ -16,6 +16,13 @@ def dragoon(*words, lines=""):
     return done.returncode, done.stdout.decode()
 
 
+def dragoon_of(file, *words):
+    """The same, with a file as its input."""
+    with open(file, "rb") as given:
+        done = subprocess.run([DRAGOON, *words], stdin=given, stdout=subprocess.PIPE, stderr=subprocess.DEVNULL)
+    return done.returncode, done.stdout.decode()
+
+
 def script(name, *words, lines=""):
     """The same of a script of examples/, with what it says on standard error as a third."""
     call = [sys.executable, EXAMPLES / name, *words]

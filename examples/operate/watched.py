@@ -153,7 +153,7 @@ def read_header(conf):
 
 def read_book(conf, content):
     """What these bytes of a book hold under the id."""
-    if len(content) < 2 or len(content) <= 65 and content[0] != OPEN:
+    if verify.is_empty(content):
         raise Wrong(f"{conf.book} is empty: the first `notarize` is made by hand")
     if not verify.is_book(content):
         raise Wrong(f"{conf.book} is no book")

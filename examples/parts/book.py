@@ -1,6 +1,6 @@
 """What stands in a notary's book: batches and marks, with their moments. How they are read stands in verify.py."""
 import verify
-from verify import ALTERED, BOOK, CLEAN, HEADER_ALTERED, Batch, Mark
+from verify import ALTERED, BOOK, CLEAN, HEADER_ALTERED, Batch, Mark, is_empty
 from .script import Refused, content_of, counted, plain
 from .store import what_is
 
@@ -37,11 +37,6 @@ class Book:
 def with_seals(filing):
     """A batch with the list of its seals, each a name and a digest; or a mark as it is."""
     return filing._replace(seals=verify.seals_of(filing)) if isinstance(filing, Batch) else filing
-
-
-def is_empty(content):
-    """Whether these bytes are those of a book that is still to be made."""
-    return len(content) <= 1 or len(content) <= 65 and content[0] != verify.OPEN
 
 
 def nothing_of(book):

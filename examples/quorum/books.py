@@ -46,7 +46,7 @@ def read(path):
         raise Missing(f"{path} is in use: wait, and ask again") from error
     except OSError as error:
         return Book(path, [], 0, error.strerror)
-    if len(content) < 2 or len(content) <= 65 and content[0] != verify.OPEN:
+    if verify.is_empty(content):
         return Book(path, [], 0, None, len(content))
     if len(content) < 65 or content[:64] != HEAD:
         return Book(path, [], 0, "its head is no book's")

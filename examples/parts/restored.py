@@ -1,0 +1,67 @@
+"""A new store that is made of a store and its copy, of what a book confirms. Written from docs/FORMATS.md."""
+import itertools
+
+import verify
+from verify import number
+from .laid import laid_out
+from .notary import Fault, Notary, digests, leaf, rows
+
+
+def restore(store, copy, book, id):
+    """What was restored, in lines; the status, and the new store or None."""
+    notary = Notary(book, id)
+    if not notary.batches:
+        return ["unsealed"], 0, None
+    sources = [Source(it, notary) for it in (store, copy) if notary.passes(it)]
+    if not sources:
+        raise Fault("HeaderLost")
+    first, kept, lost = sources[0], [], []
+    for name, granules in units(first.eras, notary.tiles_within(first.eras)):
+        source = next((it for it in sources if notary.is_same(name, it.digests[name])), None)
+        kept += () if source is None else (spelled for granule in granules for spelled in source.rows[granule])
+        lost += granules if source is None else ()
+    end = verify.first_of(first.eras, notary.tiles)
+    frontier = b"\x02" + number(max(first.last, end * first.header[2]), 8)
+    payloads = [*first.policies, *kept, *first.behind, frontier]
+    pieces = list(laid_out(first.header[0], payloads))
+    if len(pieces) < len(payloads) + 2:
+        raise Fault("Full")
+    lines = [f"restored {end - len(lost)} lost {len(lost)}"]
+    return lines + [f"lost granules {begin} to {last}" for begin, last in runs(lost)], 0, b"".join(pieces)
+
+
+class Source:
+    """A store that passes: the digests of its sealed tiles, what it holds in each sealed granule, and what stands behind these."""
+
+    def __init__(self, content, notary):
+        self.header, self.eras = verify.header_of(content), verify.eras_of(content)
+        tiles, width = notary.tiles_within(self.eras), self.header[2]
+        self.digests, end = digests(content, tiles), verify.first_of(self.eras, tiles)
+        self.rows, self.policies, self.last, behind = rows(content, range(end)), [], 0, []
+        for item, spelled in verify.records(content, *verify.STORE):
+            if isinstance(item, verify.Era):
+                self.policies.append(spelled)
+                continue
+            self.last = max(self.last, int.from_bytes(spelled[1:9], "big") if item is None else item)
+            if item is not None and item // width >= end:
+                behind.append((item // width, spelled))
+        # by granules, and in file order within one
+        self.behind = [spelled for _, spelled in sorted(behind, key=lambda it: it[0])]
+
+
+def units(eras, tiles):
+    """What one digest confirms: its name, and the granules that are taken or lost together."""
+    for tile in range(tiles):
+        era, first = eras[verify.era_at(eras, tile)], verify.first_of(eras, tile)
+        granules = range(first, first + (1 << era.k))
+        if era.algorithms & 2:
+            yield from ((leaf(eras, granule), [granule]) for granule in granules)
+        else:
+            yield f"tile {tile} whole" if era.algorithms & 1 else f"cum {tile}", granules
+
+
+def runs(numbers):
+    """The longest runs of ascending numbers, each by its first and its last one."""
+    for _, run in itertools.groupby(enumerate(numbers), key=lambda it: it[1] - it[0]):
+        run = [it for _, it in run]
+        yield run[0], run[-1]
