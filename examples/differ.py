@@ -134,9 +134,10 @@ def copy_line(copy, content, path):
     lines, both = verify.compare(copy.store.content, batches[: tiles + 1], copy.store.id)
     if "altered" not in lines[0]:
         return False, f"the copy is what was filed, as far as it goes: {lines[0]}"
-    if lines[1:] and verify.is_sound(both):
+    said = verify.who_was_altered(both) if lines[1:] else None
+    if said == verify.BOOK_ALONE:
         return False, f"the copy is what was filed, as far as it goes; of the book some digests are altered: {lines[0]}"
-    return True, f"the copy ISN'T what was filed: {lines[0]}"
+    return True, f"the copy ISN'T what was filed, or the book isn't: {lines[0]}; {said}" if said else f"the copy ISN'T what was filed: {lines[0]}"
 
 
 def compare(side, other, granule, zone):

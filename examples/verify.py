@@ -10,8 +10,8 @@ It computes every digest that is planned for the sealed tiles, and compares each
 first line is the verdict, as `validate` words it: `unsealed`, `clean N`, `altered N from P` or `header altered N`. N is the
 number of sealed tiles, and P the first one with a digest that differs. Behind `altered` stands a line for each name: `NAME`
 where the digest differs, else `NAME is not filed`, or `NAME is not planned` of a tile behind the last granule. Where only the book was
-altered, standard error says so; `validate` compares fewer digests, and may say `clean` then. What else is filed is compared with nothing,
-and named there, too. With `--era E` it compares the tiles of that era alone, by their parts and nodes: the chain at a tile's end goes by
+altered, or the two agree from a later tile on, standard error says so; `validate` compares fewer digests, and may say `clean` then. What
+else is filed is compared with nothing, and named there, too. With `--era E` it compares the tiles of that era alone, by their parts and nodes: the chain at a tile's end goes by
 all tiles before, too. N is the number of the era's sealed tiles then. It writes no file, and ends with 0 if nothing differs, 1 if something
 does, and 2 on other words. It ends with 3 if a file can't be read or is no book, the store has no era E, or that era's tiles have neither
 chains nor a tree.
@@ -442,25 +442,42 @@ def report(store, batches, id, era=None):
     return compare(store, batches, id, era)[0]
 
 
-def is_sound(both):
-    """Whether digests that don't differ show that all tiles have what was filed: the chain at the end of the last one, or of an earlier one
-    and the parts or leaves of each behind it.
+def agreed_tile(both):
+    """The last tile whose chain over all transactions is the one that was filed, where each behind it has the parts or leaves that were
+    filed; -1 where all tiles have these; None where there is no such tile.
     """
     for tile in reversed(range(len(both) - 1)):
         planned, filed = both[tile + 1]
         same = {name for name, value in planned.items() if filed.get(name) == value}
         if f"cum {tile}" in same:
-            return True
+            return tile
         leaves = {name for name in planned if re.fullmatch("node (?:[0-9]+ )?0 [0-9]+", name)}
         if f"tile {tile} whole" not in same and not (leaves and leaves <= same):
-            return False
-    return True
+            return None
+    return -1
+
+
+BOOK_ALONE = "other digests of the same filings don't differ: what was altered is the book, and not the store"
+
+
+def who_was_altered(both):
+    """What digests that don't differ say of those that do, or None. A filing puts all digests of a tile into the book at once. So those of
+    the same filing show that the book was altered. Those of a later one show no more than how the store was then.
+    """
+    tile, bad = agreed_tile(both), [at for at in range(len(both) - 1) if any(differences(*both[at + 1]))]
+    if tile is None or not bad:
+        return None
+    if all(agreed_tile(both[: at + 2]) is not None for at in bad):
+        return BOOK_ALONE
+    return (f"the chain over all transactions up to tile {tile} doesn't differ. Either earlier digests of the book were altered, or the store was "
+            f"altered before tile {tile} was filed, by a filing that didn't compare. Hold the book against its copies")
 
 
 def tell_of_book(lines, both):
-    """Says on standard error where the book alone was altered, and what it has that nothing plans."""
-    if lines[1:] and is_sound(both):
-        print("verify: other digests over the same transactions don't differ: what was altered is the book, and not the store", file=sys.stderr)
+    """Says on standard error where the book may be what was altered, and what it has that nothing plans."""
+    said = who_was_altered(both) if lines[1:] else None
+    if said:
+        print(f"verify: {said}", file=sys.stderr)
     more = [name for planned, filed in both if planned for name in filed if name not in planned]
     if more:
         named = ", ".join(more[:9]) + (f" and {len(more) - 9} more" if more[9:] else "")

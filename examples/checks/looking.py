@@ -174,6 +174,18 @@ def with_eras(folder):
     (folder / "era_more").write_bytes(content[:place] + policy + content[place:])
 
 
+def begun_anew(folder):
+    """A sealed row is altered, two books of three are lost, and all three are filed with once more."""
+    store, books = folder / "anew", [folder / "kept_on", folder / "anew_2", folder / "anew_3"]
+    devices = f"store={store}", "notary=" + ",".join(map(str, books))
+    dragoon(devices[0], "init", "7", "60", "1", "ta")
+    dragoon(*devices, "run", "7", "scripted", lines="create t k int\ninsert t 1\nnow 120\nnotarize\n")
+    store.write_bytes(store.read_bytes().replace(put("t", b"\1" + bytes(7) + b"\1"), put("t", b"\1" + bytes(7) + b"\5")))
+    for book in books[1:]:
+        book.unlink()
+    dragoon(*devices, "run", "7", "scripted", lines="now 360\nnotarize\n")
+
+
 def files(folder):
     """The worked files, and others that aren't what they should be."""
     worked = WORKED.read_bytes()
@@ -181,6 +193,7 @@ def files(folder):
     with_eras(folder)
     shutil.copy(BOOK, folder / "a,b")
     (folder / "later_book").write_bytes(BOOK.read_bytes()[: 125 + 18] + struct.pack(">Q", 1 << 40) + BOOK.read_bytes()[125 + 26 :])
+    begun_anew(folder)
     dragoon(f"store={folder / 'in_segment'}", "init", "7", "60", "3", "ta")
     lines = "create t k int v text\n" + "".join(f"insert t {key} '{'x' * 600}'\n" for key in range(300))
     dragoon(f"store={folder / 'in_segment'}", "run", "7", lines=lines)
@@ -281,6 +294,8 @@ SAYS = [
     ("report_page.py", (WORKED, BOOK, "7", "--alg", "a3"), 2, ("usage: report_page.py",)),
     ("report_page.py", (WORKED, "hides_filings", "7"), 0, ("<b>Nothing was filed</b>", "File nothing and validate nothing with this book: 848 bytes")),
     ("verify.py", (WORKED, "other_digest", "7"), 1, ("altered 1 from 0\ncum 0\n", "what was altered is the book, and not the store")),
+    ("verify.py", ("anew", "kept_on", "7"), 1, ("altered 3 from 0\n", "up to tile 2 doesn't differ. Either earlier digests of the book were altered, or the store was altered before tile 2 was filed,")),
+    ("differ.py", ("--book", "kept_on", "anew", "anew"), 1, ("the copy ISN'T what was filed, or the book isn't: altered 3 from 0; the chain",)),
     ("verify.py", (WORKED, "other_front", "7"), 3, ("it begins as one, and its front is cut or damaged",)),
     ("report_page.py", ("hidden", BOOK, "7"), 0, ("<b>Clean</b>", "Store nothing and file nothing")),
     ("verify.py", (WORKED, "\x1b[31m", "7"), 3, ("verify: \\u{1b}[31m: No such file",)),
