@@ -22,8 +22,10 @@ more than one byte is left as it is. They print `evidence N`, or `restored K los
 `header altered N` with status 1. Where a call has no answer, the line is `fault NAME`, and the status is that of NAME in docs/COMMANDS.md.
 Of `restore` HeaderLost is 24: neither store passes. An empty book is one without batches.
 """
+import errno
 import functools
 import hashlib
+import os
 import pathlib
 import re
 import sys
@@ -345,6 +347,18 @@ def plan(content, tiles):
         yield {**{name: begun[name] for name in names}, f"cum {tile}": cum, **(chains if era.algorithms & 1 else {}), **(nodes if era.algorithms & 2 else {})}
 
 
+def opened(path):
+    """A file to be read. An OSError says that a pipe or a device is none: to open one may wait for ever."""
+    if os.path.exists(path) and not os.path.isfile(path) and not os.path.isdir(path):
+        raise OSError(errno.EINVAL, "it is no plain file", path)
+    return open(path, "rb")
+
+
+def content_of(path):
+    with opened(path) as file:
+        return file.read()
+
+
 def begins_as(content, letters):
     """Whether these letters stand behind the first byte. One of them may be damaged."""
     there = content[1 : 1 + len(letters)]
@@ -359,6 +373,28 @@ def is_book(content):
 def is_empty(content):
     """Whether these bytes are those of a book that is still to be made."""
     return len(content) <= 1 or len(content) <= FIRST_GATE + 1 and content[0] != OPEN
+
+
+def what_is(content):
+    """What a file is by its front, in words."""
+    if not content:
+        return "it is empty"
+    header = header_of(content)
+    if header:
+        return f"it is a store with the id {header[1]}"
+    if content[1:9] in LETTERS and content[0] != OPEN:
+        return "it is a store whose header's gate is closed"
+    if content[1:9] in LETTERS:
+        return "it begins as a store, and " + ("ends within the header" if len(content) <= FIRST_GATE else "its header has a field that no store has")
+    if begins_as(content, b"DRAGOON"):
+        return "it begins as a store, and one of its letters is damaged"
+    if begins_as(content, b"DRAGBOK"):
+        return "it is a notary's book" if is_book(content) else "it begins as a notary's book, whose front is cut or damaged"
+    if len(content) == 1:
+        return "it has 1 byte"
+    if not any(content):
+        return f"its {len(content)} bytes are zeros"
+    return f"its {len(content)} bytes don't begin as those of a store or a book"
 
 
 def in_turn(filings):
@@ -490,8 +526,9 @@ def tell_little(verdict, name, store, id, era=None):
     if verdict == "unsealed":
         other = f"; {plain(name)} has the id {header[1]}" if header else ""
         print(f"verify: nothing was compared: the book has nothing that was filed under the id {id}{other}", file=sys.stderr)
-    elif verdict.startswith("header altered") and not store:
-        print(f"verify: nothing was compared: {plain(name)} is empty", file=sys.stderr)
+    elif verdict.startswith("header altered") and (not header or str(header[1]) != id):
+        said = f"has the id {header[1]}, and not {id}" if header else f"is no store: {what_is(store)}"
+        print(f"verify: nothing was compared: {plain(name)} {said}", file=sys.stderr)
     elif verdict == "clean 0" and era is not None:
         why = f"has no tile: era {era + 1} begins at the same one" if has_no_tile(eras_of(store), era) else "has no filed tile yet"
         print(f"verify: only the header and the eras were compared: era {era} {why}", file=sys.stderr)
@@ -523,7 +560,7 @@ def call(name, book, id, *files):
     from parts import evidence, notary, restored
 
     target = pathlib.Path(files[-1]) if name != "examine" else None
-    read = [pathlib.Path(file).read_bytes() for file in (book, *(files[:-1] if target else files))]
+    read = [b"" if file == os.devnull else content_of(file) for file in (book, *(files[:-1] if target else files))]
     try:
         if target and target.exists() and target.stat().st_size > 1:
             raise notary.Fault("AlreadyThere")
@@ -543,9 +580,10 @@ def call(name, book, id, *files):
 
 def comparison(store_name, book_name, id, era):
     """Compares a store with a book. The answer is the lines and the status."""
-    store, book = (open(name, "rb").read() for name in (store_name, book_name))
+    store, book = map(content_of, (store_name, book_name))
     lines, both = compare(store, batches_of(book, int(id)), int(id), era)
-    tell_hidden(store_name, store, STORE)
+    if begins_as(store, b"DRAGOON"):
+        tell_hidden(store_name, store, STORE)
     tell_hidden(book_name, book, BOOK)
     tell_little(lines[0], store_name, store, id, era)
     tell_of_book(lines, both)

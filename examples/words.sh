@@ -18,11 +18,14 @@ plain() { printf '%s\n' "${1//[^[:print:]]/?}"; }
 # refuse: prints the words that the script takes, and ends with 2
 refuse() { sed -n '/^#     /{s/^# */usage: /; s/   .*//; p; q}' "$0" >&2; exit 2; }
 
-# is_there -d|-r PATH: else says that no such folder, or no file that can be read, stands there, and ends with 2
+# is_there -d|-r|-f PATH: else says that no such folder, no file that can be read, or no plain one, stands there, and ends with 2
 is_there() {
-    [ ! "$1" "$2" ] || { [ "$1" = -r ] && [ -d "$2" ]; } || return 0
     local what='file that can be read'
-    [ "$1" = -r ] || what=folder
+    case $1 in
+    -d) what=folder; [ ! -d "$2" ] || return 0 ;;
+    -f) what="plain $what"; [ ! -f "$2" ] || [ ! -r "$2" ] || return 0 ;;
+    -r) [ ! -r "$2" ] || [ -d "$2" ] || return 0 ;;
+    esac
     plain "${0##*/}: there is no $what $2" >&2
     exit 2
 }

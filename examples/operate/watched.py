@@ -62,7 +62,7 @@ def date(seconds):
 def read_conf(path):
     """What a conf says. A Wrong names the line that can't be taken."""
     try:
-        text = pathlib.Path(path).read_bytes().decode()
+        text = verify.content_of(path).decode()
     except OSError as error:
         raise Wrong(f"{path}: {error.strerror}") from error
     except UnicodeDecodeError as error:
@@ -80,6 +80,9 @@ def read_conf(path):
         raise Wrong(f"{path}: ID={said['ID']} is no id")
     if not re.fullmatch("mono|tiled( [1-9][0-9]{0,3})?|a3d", said.setdefault("ALG", "mono")):
         raise Wrong(f"{path}: ALG={said['ALG']} is none of mono, tiled and a3d")
+    for key in ("STORE", "BOOK", "STATE"):
+        if not said[key].startswith("/"):
+            raise Wrong(f"{path}: {key}={said[key]} doesn't begin with /: it means another file for each folder in which it is read")
     if "," in said["BOOK"] and not os.path.exists(said["BOOK"]):
         raise Wrong(f"{path}: BOOK={said['BOOK']} names several books, and a conf has one")
     if not os.path.isdir(said["STATE"]):
@@ -115,11 +118,8 @@ def wrong_line(line, said):
 
 def content_of(path, most=None, durable=False):
     """The bytes of a file, and its length. With `durable` they are on the disk, too."""
-    if os.path.exists(path) and not os.path.isfile(path) and not os.path.isdir(path):
-        # (to open a pipe may wait for ever)
-        raise Wrong(f"{path} is no plain file")
     try:
-        with open(path, "rb") as file:
+        with verify.opened(path) as file:
             content, length = file.read(most), os.fstat(file.fileno()).st_size
             if durable:
                 os.fsync(file.fileno())
@@ -228,7 +228,7 @@ def kept_in(file, kind):
 def left_in(file):
     """What was left in a file of STATE. A FileNotFoundError says that nothing was, and a ValueError that this is no text."""
     try:
-        return file.read_text()
+        return verify.content_of(file).decode()
     except FileNotFoundError:
         raise
     except OSError as error:

@@ -48,7 +48,7 @@ def algorithm(word):
 def content_of(path, most=-1):
     """What stands in a file, or so many bytes of it."""
     try:
-        with open(path, "rb") as file:
+        with verify.opened(path) as file:
             return file.read(most)
     except OSError as fault:
         raise Refused(f"{plain(path)} can't be read: {fault.strerror}") from None

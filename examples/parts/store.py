@@ -6,7 +6,7 @@ import re
 from collections import namedtuple
 
 import verify
-from verify import Era as Policy
+from verify import Era as Policy, what_is
 from . import moments
 from .script import Refused, content_of, counted, plain, tell
 
@@ -136,28 +136,6 @@ def chains(era):
 def hidden(count, why=verify.WHY_BEHIND):
     """What so many bytes behind a gate that ends records may be, in words."""
     return f"{counted(count, 'byte')}: {why} (docs/NOTARY.md)"
-
-
-def what_is(content):
-    """What a file is by its front, in words."""
-    if not content:
-        return "it is empty"
-    header = verify.header_of(content)
-    if header:
-        return f"it is a store with the id {header[1]}"
-    if content[1:9] in verify.LETTERS and content[0] != verify.OPEN:
-        return "it is a store whose header's gate is closed"
-    if content[1:9] in verify.LETTERS:
-        return "it begins as a store, and " + ("ends within the header" if len(content) < 65 else "its header has a field that no store has")
-    if verify.begins_as(content, b"DRAGOON"):
-        return "it begins as a store, and one of its letters is damaged"
-    if verify.begins_as(content, b"DRAGBOK"):
-        return "it is a notary's book" if verify.is_book(content) else "it begins as a notary's book, whose front is cut or damaged"
-    if len(content) == 1:
-        return "it has 1 byte"
-    if not any(content):
-        return f"its {len(content)} bytes are zeros"
-    return f"its {len(content)} bytes don't begin as those of a store or a book"
 
 
 # ---- tables

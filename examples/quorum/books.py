@@ -39,7 +39,7 @@ def read_all(paths):
 def read(path):
     """A book as it stands now. While somebody files or marks, it isn't read."""
     try:
-        with open(path, "rb") as file:
+        with verify.opened(path) as file:
             fcntl.flock(file, fcntl.LOCK_SH | fcntl.LOCK_NB)
             content = file.read()
     except BlockingIOError as error:
