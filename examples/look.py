@@ -4,7 +4,7 @@
     python3 examples/look.py [--json] [--zone ZONE] STORE [BOOK ID]
 
 Of the store: its id, granules, chains and eras, its first second and its last moment, its tables with their columns and rows, and what
-room is left. Of the book: up to which moment the store is filed, what stands behind that, and its last mark. Of both: the bytes that
+room is left. Where operations fit no table, moments fall, or the numbers of transactions don't follow one another, it says so. Of the book: up to which moment the store is filed, what stands behind that, and its last mark. Of both: the bytes that
 stand behind the gate that ends them. Dates are those of ZONE, as Europe/Zurich, or else of UTC. With --json it is one object, in
 which all times are numbers.
 
@@ -26,13 +26,16 @@ from parts.store import GRANULES, LIMIT, Frontier, Policy, Store, Tables, Transa
 
 def of_store(store):
     """What the store says, in numbers and names."""
-    tables, last, counts, granules = Tables(), 0, collections.Counter(), set()
+    tables, last, number, counts, granules = Tables(), 0, 0, collections.Counter(), set()
     for item in store.items():
         counts[type(item)] += 1
         if isinstance(item, Policy):
             continue
+        counts["falls"] += item.moment < last
         last = max(last, item.moment)
         if not isinstance(item, Frontier):
+            counts["gaps"] += item.number != number + 1
+            number = item.number
             granules.add(store.granule(item))
             for operation in item.operations:
                 counts["misfits"] += tables.apply(operation) is not None
@@ -43,7 +46,8 @@ def of_store(store):
         "later_eras": [{"tile": it.tile, "granule": it.granule, "granules_in_a_tile": 1 << it.k, "chains": chains(it), "has_no_tile": verify.has_no_tile(store.eras, at)}
                        for at, it in enumerate(store.eras) if at],
         "transactions": counts[Transaction], "frontiers": counts[Frontier],
-        "policies": counts[Policy], "policies_without_effect": counts[Policy] - len(store.eras) + 1, "misfits": counts["misfits"], "granules_with_transactions": len(granules),
+        "policies": counts[Policy], "policies_without_effect": counts[Policy] - len(store.eras) + 1, "misfits": counts["misfits"],
+        "falling_moments": counts["falls"], "gaps_in_numbers": counts["gaps"], "granules_with_transactions": len(granules),
         "tables": {name: {"rows": len(tables.keys[name]), "columns": dict(columns)} for name, columns in sorted(tables.columns.items())},
         "bytes_left": max(0, LIMIT - 1 - store.gate()), "granules_left": max(0, GRANULES - 1 - last // store.width),
         "full_second": store.epoch + GRANULES * store.width, "behind_the_end": store.behind_ends()[0],
@@ -88,6 +92,10 @@ def store_lines(it, date):
     yield "transactions", f"{it['transactions']:,}, in {counted(it['granules_with_transactions'], 'granule')}"
     if it["misfits"]:
         yield "misfits", f"{counted(it['misfits'], 'operation')} that fit no table: no honest writer stores such"
+    if it["falling_moments"]:
+        yield "moments fall", f"{counted(it['falling_moments'], 'item')} of a moment before that of an earlier one: no honest writer stores such"
+    if it["gaps_in_numbers"]:
+        yield "numbers", f"{counted(it['gaps_in_numbers'], 'transaction')} whose number doesn't follow that of the one before: records were altered, or are missing"
     for number, era in enumerate(it["later_eras"], 1):
         in_a_tile = counted(era["granules_in_a_tile"], "granule")
         yield f"era {number}", f"from tile {era['tile']} on, granule {era['granule']}: {in_a_tile} to a tile; {era['chains']}{'; no tile: the next era begins at the same one' if era['has_no_tile'] else ''}"

@@ -138,6 +138,9 @@ def odd(folder):
     for records, why, lines in odd_stores():
         (folder / "odd").write_bytes(by_hand(*records))
         status, said, _ = inside(dump, folder / "odd")
+        looked = inside(look, folder / "odd")[1]
+        if ("before 60" in why) != ("moments fall    1 item of a moment before" in looked) or ("number isn't" in why) != ("numbers         1 transaction whose" in looked):
+            raise Wrong(f"look.py, where dump.py has to say `{why}`: {looked}")
         storing = [line for line in said.splitlines() if not line.startswith("#")]
         if status != 1 or why not in said or len(storing) != lines:
             raise Wrong(f"dump.py ends with {status} where it has to say `{why}`: {said}")
@@ -190,6 +193,7 @@ def files(folder):
     """The worked files, and others that aren't what they should be."""
     worked = WORKED.read_bytes()
     shutil.copy(BOOK, folder / "book")
+    os.mkfifo(folder / "pipe")
     with_eras(folder)
     shutil.copy(BOOK, folder / "a,b")
     (folder / "later_book").write_bytes(BOOK.read_bytes()[: 125 + 18] + struct.pack(">Q", 1 << 40) + BOOK.read_bytes()[125 + 26 :])
@@ -229,6 +233,11 @@ SAYS = [
     ("look.py", (WORKED, WORKED, "7"), 3, ("is no notary's book: it is a store with the id 7",)),
     ("look.py", ("nowhere",), 3, ("nowhere can't be read: No such file",)),
     ("look.py", (WORKED, BOOK), 2, ("usage: look.py",)),
+    *((name, words, 3, (": it is no plain file",)) for name, *words in (
+        ("look.py", "pipe"), ("look.py", WORKED, "pipe", "7"), ("dump.py", "pipe"), ("verify.py", "pipe", BOOK, "7"), ("verify.py", WORKED, "pipe", "7"),
+        ("differ.py", WORKED, "pipe"), ("differ.py", "--book", "pipe", WORKED, WORKED), ("explain", "pipe", BOOK, "7"), ("report_page.py", WORKED, "pipe", "7"))),
+    *(("verify.py", (name, BOOK, "7"), 1, (f"header altered 1\nverify: nothing was compared: ", f"{name} {says}\n")) for name, says in (
+        ("text", "is no store: its 261 bytes don't begin as those of a store or a book"), ("book", "is no store: it is a notary's book"), ("other_id", "has the id 8, and not 7"))),
     ("look.py", ("--zone", "Nowhere/Land", WORKED), 2, ("is no time zone",)),
     ("dump.py", ("--granule", "5", WORKED), 0, ("now 300\ninsert t 5 0\n",)),
     ("dump.py", ("--granule", "5", "--to", "7", WORKED), 2, ("usage: dump.py",)),
@@ -429,7 +438,6 @@ def kept(folder):
         done = subprocess.run([EXAMPLES / name, *words], env={**os.environ, **({"TMPDIR": room} if room else {})}, stdin=subprocess.DEVNULL, capture_output=True, text=True)
         if (done.returncode, done.stdout, done.stderr) != (status, "", f"{name}: {says}\n"):
             raise Wrong(f"{name} in a folder that isn't there ends with {done.returncode}: {done.stdout + done.stderr}")
-    os.mkfifo(folder / "pipe")
     for word, says in (
         ("notary=/nowhere/a,b", "/nowhere/a is no plain file that can be read (a comma stands between two books, so the path of none can have one)"),
         ("notary=/dev/null", "/dev/null is no plain file that can be read"), (f"notary={folder / 'pipe'}", f"{folder / 'pipe'} is no plain file that can be read"),
