@@ -236,6 +236,7 @@ SAYS = [
     *((name, words, 3, (": it is no plain file",)) for name, *words in (
         ("look.py", "pipe"), ("look.py", WORKED, "pipe", "7"), ("dump.py", "pipe"), ("verify.py", "pipe", BOOK, "7"), ("verify.py", WORKED, "pipe", "7"),
         ("differ.py", WORKED, "pipe"), ("differ.py", "--book", "pipe", WORKED, WORKED), ("explain", "pipe", BOOK, "7"), ("report_page.py", WORKED, "pipe", "7"))),
+    ("quorum/compare", ("pipe", BOOK, "book"), 1, ("no book: it is no plain file",)),
     *(("verify.py", (name, BOOK, "7"), 1, (f"header altered 1\nverify: nothing was compared: ", f"{name} {says}\n")) for name, says in (
         ("text", "is no store: its 261 bytes don't begin as those of a store or a book"), ("book", "is no store: it is a notary's book"), ("other_id", "has the id 8, and not 7"))),
     ("look.py", ("--zone", "Nowhere/Land", WORKED), 2, ("is no time zone",)),

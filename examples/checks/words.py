@@ -5,12 +5,13 @@
 
 Each is run in an empty folder, with an input that never ends and without a program: with `--help` (status 0), with `--wrong words`
 and with nine words that are none (status 2). None may take ten seconds, leave a file, or print a traceback. So it is of a word too
-many behind those that ./dragoon takes alone. Scripts on duty are given files that aren't there, under a name that would clear the
+many behind those that ./dragoon takes alone. That one names what its checkout lacks, and the shell that it takes. Scripts on duty are given files that aren't there, under a name that would clear the
 terminal: none may print that. Where bench/ is missing, as in an installed copy, examples/ is tried alone.
 """
 import concurrent.futures
 import os
 import pathlib
+import shutil
 import signal
 import subprocess
 import sys
@@ -87,6 +88,21 @@ def shown_raw(call):
     return f"{name} prints a name's odd letters, or not the name: {said!r}" if "\x1b" in said or "[2Jodd" not in said else None
 
 
+def of_half_a_checkout():
+    """What is wrong where ./dragoon stands without crates.txt, or is run by a shell that isn't bash."""
+    if not any(wrapper()):
+        return
+    with tempfile.TemporaryDirectory() as name:
+        copy = pathlib.Path(name, "dragoon")
+        shutil.copy(EXAMPLES.parent / "dragoon", copy)
+        pathlib.Path(name, "crates/dragoon_cli/src").mkdir(parents=True)
+        for shell, says in (("bash", "crates.txt is missing"), ("dash", "is a script for bash")):
+            if shutil.which(shell):
+                done = subprocess.run([shell, copy, "--version"], capture_output=True, text=True)
+                if done.returncode != 70 or done.stdout or says not in done.stderr or len(done.stderr.splitlines()) != 1:
+                    yield f"dragoon by {shell} in half a checkout ends with {done.returncode}, and says: {done.stdout + done.stderr}"
+
+
 def main(words):
     count_of(words, None, __doc__)
     tries = [(script, kind) for script in scripts() for kind in (HELP, WRONG, NINE)]
@@ -94,7 +110,7 @@ def main(words):
     tries += [(call, ["words"]) for call in wrapper()]
     with concurrent.futures.ThreadPoolExecutor(os.cpu_count()) as pool:
         named = [call for call in scripts() if call[0] in NAMED]
-        wrong = [it for it in (*pool.map(answer, *zip(*tries)), *pool.map(shown_raw, named)) if it]
+        wrong = [it for it in (*pool.map(answer, *zip(*tries)), *pool.map(shown_raw, named), *of_half_a_checkout()) if it]
     if wrong:
         raise Wrong(f"{len(wrong)} of {len(tries)}:\n" + "\n".join(wrong))
     print(f"words: {count} scripts answer --help, and refuse wrong words; {len(named)} show a name's odd letters as text")
