@@ -6,6 +6,7 @@
 The worked store and its altered copy come first. Then come made stores with policies of their own, one for 50 of COUNT. Of each some
 transactions are changed, and some of its copy, or a byte of either, or seals of the book. What is gathered of both has the granules that
 `analyse a3d` names, and is refused as that is. What is restored of both is what was filed, but for what is lost, and `validate` says so.
+The program's `evidence` and `restore` have to say the same, end with the same status, write the same target, and leave all else as it is.
 COUNT evidence files (20,000 if none is given) are cut, turned, or spelled otherwise by hand. `examine` has to say of each, by its own book or
 a harmed one, exactly what verify.py says, with the same status.
 """
@@ -15,6 +16,7 @@ import random
 import re
 import sys
 import tempfile
+import time
 from collections import Counter
 
 from program import EXAMPLES, Wrong, count_of, dragoon, dragoon_of, script
@@ -34,6 +36,9 @@ from parts.notary import Fault, rows
 
 WORKED, ALTERED, BOOK = (EXAMPLES / name for name in ("worked.store", "altered.store", "worked.book"))
 OF_EACH = 50
+CALLS = {"evidence": evidence.gather, "restore": restored.restore}
+# how often the program was held against each of the two, by what they said
+TRIED = Counter()
 
 
 def answer(carry_out, *given):
@@ -189,6 +194,36 @@ def at_limits(folder):
     print(f"evidence: agrees with examine on {len(files)} files at the limits of what is one, and by {len(books)} books")
 
 
+def full_targets(folder):
+    """The longest evidence file and one transaction's byte more; and a store that 1,024 segments just hold, and one that they don't."""
+    fields = number(7, 8) + number(int(time.time()) - 600, 8) + number(60, 4) + b"\3\3"
+    most = (evidence.LIMIT - 142) // 2 - 4 * 1_119 - 1_118 * 30_000
+    for length, first in ((most - 1, "evidence 8"), (most, "fault Full")):
+        lengths = [30_000] * 1_118 + [length]
+        items = sorted((of_length(60 * (at % 8), it) for at, it in enumerate(lengths)), key=lambda it: it[5:13])
+        store, other = (laid(fields, [*(it[:-1] + last for it in items), b"\2" + number(480, 8)]) for last in (b"\0", b"\1"))
+        said_first(folder, "evidence", other, store, filed(folder, store), first)
+    items = [of_length(60 * at, 60) for at in range(8)]
+    book = filed(folder, laid(fields, [*items, b"\2" + number(480, 8)]))
+    for more, first in ((1_024, "restored 8 lost 0"), (1_025, "fault Full")):
+        said_first(folder, "restore", laid(fields, [*items, *(of_length(480, 32_768) for _ in range(more))], 1), b"", book, first)
+    print("evidence: agrees with evidence and restore on the longest targets, and on those that are too long")
+
+
+def filed(folder, store):
+    (folder / "store").write_bytes(store)
+    (folder / "book").unlink(missing_ok=True)
+    if dragoon(f"store={folder / 'store'}", f"notary={folder / 'book'}", "notarize", "7") != (0, "sealed 1\n"):
+        raise Wrong("a store of one tile isn't filed")
+    return (folder / "book").read_bytes()
+
+
+def said_first(folder, name, store, copy, book, first):
+    text, *_ = carried_out(folder, name, store, copy, book, 7, f"a store of {len(store)} bytes")
+    if text.splitlines()[0] != first:
+        raise Wrong(f"of a store of {len(store)} bytes {name} says {text!r}, and not {first!r}")
+
+
 # ---- made stores
 
 
@@ -296,9 +331,8 @@ def with_seals(payload, seals):
 
 def gathered(folder, store, copy, book, id, what):
     """What verify.py gathers, held against `analyse a3d`. The answer is the file or None."""
-    (folder / "store").write_bytes(store)
+    text, status, content = carried_out(folder, "evidence", store, copy, book, id, what)
     (folder / "book").write_bytes(book)
-    text, status, content = answer(evidence.gather, store, copy, book, id)
     found = dragoon(f"store={folder / 'store'}", f"notary={folder / 'book'}", "analyse", str(id), "a3d")
     if not is_as_analysed(text, status, content, *found):
         raise Wrong(f"{what}: verify.py gathers {text!r}, and analyse says {found}")
@@ -324,13 +358,39 @@ def is_as_analysed(text, status, content, ended, report):
     return first.endswith(" altered" if named else " clean") or first == "fault NotSealedSo" and not named
 
 
+def carried_out(folder, name, store, copy, book, id, what, there=b""):
+    """What verify.py answers to `evidence` or `restore`. The program has to answer the same, and leave the same files."""
+    files = {"store": store, "copy": copy, "notary": book, "target": there}
+    for device, content in files.items():
+        (folder / device).write_bytes(content)
+    if not there:
+        (folder / "target").unlink()
+    text, status, content = ("fault AlreadyThere\n", 13, None) if len(there) > 1 else answer(CALLS[name], store, copy, book, id)
+    found = dragoon(*(f"{device}={folder / device}" for device in files), name, str(id))
+    left = {device: (folder / device).read_bytes() if (folder / device).exists() else b"" for device in files}
+    if found != (status, text):
+        raise Wrong(f"{what}: {name} {id} of the program says {found}, and verify.py {(status, text)}{kept(files)}")
+    if other := [device for device in files if left[device] != (files | ({} if content is None else {"target": content}))[device]]:
+        raise Wrong(f"{what}: {name} {id}, {text!r}: the program leaves another {' and '.join(other)} than verify.py does{kept(files)}")
+    TRIED[name, " ".join(text.split()[: 2 if text.startswith("fault") else 1])] += 1
+    return text, status, content
+
+
+def kept(files):
+    """Where the files of a difference were put."""
+    folder = pathlib.Path(tempfile.mkdtemp(prefix="evidence-"))
+    for device, content in files.items():
+        (folder / device).write_bytes(content)
+    return f"; the files stand in {folder}"
+
+
 def tiles_of(book, id):
     return len(verify.batches_of(book, id)) - 1
 
 
 def restored_of(folder, whole, store, copy, book, id, what):
     """What verify.py restores, held against what was filed, what stands behind that, and `validate`. The answer is what is lost."""
-    text, _, content = answer(restored.restore, store, copy, book, id)
+    text, _, content = carried_out(folder, "restore", store, copy, book, id, what)
     passing = [it for it in (store, copy) if not validated(folder, it, book, id).startswith("header altered")]
     if content is None:
         if text == "unsealed\n" or text == "fault HeaderLost\n" and not passing:
@@ -515,6 +575,10 @@ def cases(rng, folder, seed):
     harmed = [with_harmed_seals(rng, book) for _ in range(3)] if book else []
     for at, other in enumerate(harmed):
         gathered(folder, store, copy, other, id, f"{what} with harmed seals {at}")
+        carried_out(folder, "restore", store, copy, other, id, f"{what} with harmed seals {at}")
+    for name in CALLS:
+        carried_out(folder, name, copy, store, book, id, f"{what}, store and copy exchanged")
+        carried_out(folder, name, store, copy, book, id ^ rng.choice([0, 1]), f"{what}, a target that is there", rng.choice([b"\0", b"\xa7", b"\0\0", store]))
     entries = 0 if content is None else len(evidence.Reader(content).evidence().entries)
     if content is None:
         content = by_hand(rng, whole, store if verify.header_of(store) else whole)
@@ -531,6 +595,7 @@ def main(words):
         folder = pathlib.Path(name)
         as_a_user(folder)
         at_limits(folder)
+        full_targets(folder)
         stores = max(1, count // OF_EACH)
         for seed in range(stores):
             rng = random.Random(seed)
@@ -543,6 +608,7 @@ def main(words):
                 asked = rng.choice([id] * 19 + [id ^ 1]) if at else id
                 said[examined(folder, harmed, book, asked, f"made store {seed}, input {at}")] += 1
     print(f"evidence: of {stores} made stores {found} granules are gathered as analyse names them; restored: {in_words(lost)}")
+    print(f"evidence: agrees with evidence and restore on {sum(TRIED.values())} calls: {in_words({' '.join(it): count for it, count in TRIED.items()})}")
     print(f"evidence: agrees with examine on {sum(said.values())} inputs: {in_words(said)}")
 
 
