@@ -13,7 +13,7 @@ import itertools
 import pathlib
 import re
 import sys
-from collections import namedtuple
+from collections import Counter, namedtuple
 
 sys.dont_write_bytecode = True
 sys.path.insert(0, str(pathlib.Path(__file__).resolve().parent.parent))
@@ -169,12 +169,9 @@ class Page:
 def differing(ours, theirs):
     """The transactions that stand in one list alone, by their numbers: each with that of the same number in the other, or None."""
     apart = [{}, {}]
-    for side, items, others in ((0, ours, list(theirs)), (1, theirs, list(ours))):
-        for item in items:
-            if item in others:
-                others.remove(item)
-            else:
-                apart[side].setdefault(int.from_bytes(item[1:5], "big"), []).append(item)
+    for of_side, more in zip(apart, (Counter(ours) - Counter(theirs), Counter(theirs) - Counter(ours))):
+        for item in more.elements():
+            of_side.setdefault(int.from_bytes(item[1:5], "big"), []).append(item)
     for number in sorted({*apart[0], *apart[1]}):
         yield from itertools.zip_longest(*(it.get(number, ()) for it in apart))
 
