@@ -9,7 +9,8 @@ use Rattle.std.proofs.lemmas.Nat.Bits.{shr_and_one}
 use Rattle.std.proofs.lemmas.List.Elements.{All-contains}
 use Rattle.std.proofs.lemmas.List.Sums.{AllPass-from_list_all, list_all-from_AllPass}
 use Rattle.history_model.specs.History.{History}
-use Rattle.digest_model.specs.Layout.{Layout, layout, first_era, layout_by, turns, is_none, has_tile_chains, has_tree, era_of}
+use Rattle.digest_model.specs.Layout.{Layout, layout, first_era, layout_by, turns, is_none, era_of}
+use Rattle.digest_model.proofs.Layouts.{chains_bit, tree_bit}
 use Rattle.digest_model.proofs.Eras.{chains_on, tree_on}
 use Rattle.digest_model.proofs.Lists.{in_range, from_range}
 use Rattle.audit_model.specs.Ranges.{range_of, range_has}
@@ -24,16 +25,14 @@ use Rattle.a3d_forensics.proofs.Ranges.{inside_era, era_range, in_range_of, of_o
 -- ---- by the bits of the algorithms
 
 pub by_chains : (l : Layout) (tile algs : ℕ) → l.algorithms tile ≡ algs → nat_eq (bit_and algs 1) 1 ≡ has_of Tiles l tile
-unfolding has_tile_chains
 by_chains l tile algs is =
     let digit : algs ≡ algs / 2 ^ 0 = omega arith in
-    ap (λ (n : ℕ). nat_eq (bit_and n 1) 1) digit ∙ ap (λ (n : ℕ). nat_eq n 1) (shr_and_one algs 0) ∙ ap (λ (a : ℕ). nat_eq (bit_at a 0) 1) (sym is)
+    ap (λ (n : ℕ). nat_eq (bit_and n 1) 1) digit ∙ ap (λ (n : ℕ). nat_eq n 1) (shr_and_one algs 0) ∙ ap (λ (a : ℕ). nat_eq (bit_at a 0) 1) (sym is) ∙ sym (chains_bit l tile)
 
 pub by_tree : (l : Layout) (tile algs : ℕ) → l.algorithms tile ≡ algs → nat_eq (bit_and (algs / 2) 1) 1 ≡ has_of Tree l tile
-unfolding has_tree
 by_tree l tile algs is =
     let digit : algs / 2 ≡ algs / 2 ^ 1 = omega arith in
-    ap (λ (n : ℕ). nat_eq (bit_and n 1) 1) digit ∙ ap (λ (n : ℕ). nat_eq n 1) (shr_and_one algs 1) ∙ ap (λ (a : ℕ). nat_eq (bit_at a 1) 1) (sym is)
+    ap (λ (n : ℕ). nat_eq (bit_and n 1) 1) digit ∙ ap (λ (n : ℕ). nat_eq n 1) (shr_and_one algs 1) ∙ ap (λ (a : ℕ). nat_eq (bit_at a 1) 1) (sym is) ∙ sym (tree_bit l tile)
 
 -- ---- within an era
 

@@ -12,8 +12,8 @@ use Rattle.notary_link.specs.declared.notary.NotaryLimits.{NotaryLimits}
 use Rattle.notary_link.specs.Notary.{Lists, Entry}
 use Rattle.audit_model.specs.Altered.{history_with}
 use Rattle.digest_model.specs.Layout.{Layout, sealed_eras}
+use Rattle.digest_model.proofs.EraLaws.{same_layout}
 use Rattle.chain_state.specs.Chained.{Chained, IsChainOf, history_of, are_chained}
-use Rattle.chain_state.proofs.Histories.{same_layout}
 use Rattle.validator.specs.declared.verdict.Verdict.{Verdict}
 use Rattle.validator.specs.declared.fail.AuditFail.{AuditFail}
 use Rattle.validator.specs.Verdicts.{Validates, sealed_of, sealed_in, sealed_on, questions}

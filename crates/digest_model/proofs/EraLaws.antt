@@ -7,7 +7,7 @@ use Rattle.std.proofs.lemmas.List.Sums.{fold-append}
 use Rattle.tuple_bytes.specs.declared.header.Header.{Header}
 use Rattle.tuple_bytes.specs.declared.item.Item.{Item}
 use Rattle.tuple_bytes.specs.declared.item.Item.TheVariants as items
-use Rattle.history_model.specs.History.{history}
+use Rattle.history_model.specs.History.{History, history}
 use Rattle.digest_model.specs.Layout.{Layout, Era, Policy, SameTiles, exponent, first_granule, era_in, begins_at, layout_by, is_next, offered, with_item, first_era, policy_of, layout}
 use Rattle.digest_model.specs.Eras.{IsBehindTiles}
 use Rattle.digest_model.proofs.Layouts as layouts
@@ -35,8 +35,16 @@ later_era p e n behind tile below =
       begun = sym (begun_alike p.later e tile (omega (arith, behind, below)));
     }
 
+-- the same eras have the same tiles
+pub same_layout : (h s : History) → policy_of h ≡ policy_of s → layout h ≡ layout s
+unfolding layout
+same_layout h s eras = ap layout_by eras
+
 pub itself : (n : ℕ) (l : Layout) → SameTiles n l l
 itself n l tile below = record { exponent = refl; algorithms = refl; begun = refl }
+
+pub same_tiles : (h s : History) (n : ℕ) → policy_of h ≡ policy_of s → SameTiles n (layout h) (layout s)
+same_tiles h s n eras = subst (λ (l : Layout). SameTiles n (layout h) l) (same_layout h s eras) (itself n (layout h))
 
 pub then_alike : (n : ℕ) (l m o : Layout) → SameTiles n l m → SameTiles n m o → SameTiles n l o
 then_alike n l m o first next tile below =

@@ -298,9 +298,13 @@ eras_are_few h = kept IsFew (λ (i : Item). Unit {0})
     (λ p tile granule k algs is fits next. (let few = (next_is p (record { tile = tile; k = k; algs = algs }) granule next).0 in let long = length-append p.later (record { tile = tile; k = k; algs = algs } ∷ []) in omega (arith, few, long)))
     (first_era h.header) h.items (omega arith) (anything h.items)
 
-pub turns_are_few : (h : History) (tile : ℕ) → length (turns (layout h) tile) ≤ 255
+-- the eras that begin at a tile are those of the history that do
+pub turns_are : (h : History) (tile : ℕ) → turns (layout h) tile ≡ filter (begins_at tile) (policy_of h).later
 unfolding turns layout
-turns_are_few h tile = (let some = at_most (begins_at tile) (policy_of h).later in let few = eras_are_few h in omega (arith, some, few))
+turns_are h tile = refl
+
+pub turns_are_few : (h : History) (tile : ℕ) → length (turns (layout h) tile) ≤ 255
+turns_are_few h tile = (let some = at_most (begins_at tile) (policy_of h).later in let few = eras_are_few h in rw (turns_are h tile) (omega (arith, some, few)))
 
 -- ---- the era of a tile
 

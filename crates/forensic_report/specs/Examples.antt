@@ -11,7 +11,7 @@ use Rattle.forensic_report.specs.Texts.{Kept, report_text}
 
 -- so many tiles of 2 to this power granules
 abbrev pub tiles_of : ℕ → ℕ → Extent
-tiles_of k n = record { layout = record { exponents = λ tile. k; algorithms = λ tile. 3; begun = λ tile. [] }; tiles = n; era = None }
+tiles_of k n = record { layout = layout_by (record { first = record { tile = 0; k = k; algs = 3 }; later = [] }); tiles = n; era = None }
 
 -- of three tiles those of era 1: behind a first tile of four granules, tiles have two each, and the tree
 abbrev pub second_era : Extent

@@ -12,7 +12,7 @@ use Rattle.notary_link.specs.declared.name.Name.{Name}
 use Rattle.notary_link.specs.declared.name.Name.TheVariants as names
 use Rattle.notary_link.specs.Batches.{Batch}
 use Rattle.history_model.specs.History.{History}
-use Rattle.digest_model.specs.Layout.{Layout, layout, first_granule, max_granules}
+use Rattle.digest_model.specs.Layout.{Layout, layout, layout_by, first_granule, max_granules}
 use Rattle.digest_model.proofs.Layouts.{begins, ascends, ends_within, tile_begins, tile_ends}
 use Rattle.policy_eras.specs.Policy.{first_past}
 use Rattle.segment_file.specs.LaidOut.{laid_out}
@@ -273,7 +273,7 @@ choosing_free fails.NoMemory of is = absurd cc
 -- ---- no question
 
 no_layout : Layout
-no_layout = record { exponents = λ tile. 0; algorithms = λ tile. 0; begun = λ tile. [] }
+no_layout = layout_by (record { first = record { tile = 0; k = 0; algs = 0 }; later = [] })
 
 pub asks_none : (headers old new : ℕ) → new ≤ old + headers * header_questions → AsksFew headers old new
 asks_none headers old new few = record {

@@ -15,8 +15,9 @@ use Rattle.notary_link.specs.declared.seal.Seal.{Seal}
 use Rattle.history_model.specs.History.{History, history, rows, after_last, last_moment}
 use Rattle.history_model.specs.Stored.{IsStorable, stored}
 use Rattle.history_model.specs.StoredHistory.{IsHistory}
-use Rattle.digest_model.specs.Layout.{Layout, Policy, layout, layout_by, policy_of, with_item, first_era, first_granule, SameTiles, max_granules}
+use Rattle.digest_model.specs.Layout.{Layout, Policy, layout, policy_of, with_item, first_era, first_granule, SameTiles, max_granules}
 use Rattle.digest_model.proofs.Layouts as layouts
+use Rattle.digest_model.proofs.EraLaws.{same_layout}
 use Rattle.digest_model.proofs.Lists.{in_range, in_filter}
 use Rattle.digest_model.proofs.Restored.{txns_begin_none, eras_of_more}
 use Rattle.audit_model.specs.Altered.{history_in}
@@ -63,9 +64,8 @@ module _ (batches : List Batch) (ss : Sources) (n : ℕ) where
       ∙ txns_begin_none (policy_of (history ss.first.header (policies ss.first))) all_txns
       ∙ kept_policy
 
-  pub same_layout : layout (restored batches ss n) ≡ layout ss.first
-  unfolding layout
-  same_layout = ap layout_by same_policy
+  pub one_layout : layout (restored batches ss n) ≡ layout ss.first
+  one_layout = same_layout (restored batches ss n) ss.first same_policy
 
   -- ---- the last moment
 
@@ -131,19 +131,19 @@ module _ (batches : List Batch) (id : ℕ) (h : History) (n : ℕ) (store copy :
   ]
 
   places : SameTiles n (layout h) (layout (restored batches ss n))
-  places = subst (λ (l : Layout). SameTiles n (layout h) l) (sym (same_layout batches ss n)) first.places
+  places = subst (λ (l : Layout). SameTiles n (layout h) l) (sym (one_layout batches ss n)) first.places
 
   filed_again : ((g : ℕ) → g < end → rows h g ≡ rows (restored batches ss n) g) → NotaryOf batches id (restored batches ss n) n
   filed_again same = record {
     seals = r.filed.seals ∙ same_batches h (restored batches ss n) 0 n first.header (let none : 0 + n ≡ n = omega arith in rw none places) (λ g below. same g (let none : 0 + n ≡ n = omega arith in subst (λ (m : ℕ). g < first_granule (layout h) m) none below));
     header = first_own batches id h n store copy ss r;
-    within = (let a = same_end in let b = ap (λ (l : Layout). first_granule l n) (same_layout batches ss n) in let c = r.filed.within in omega (arith, a, b, c));
+    within = (let a = same_end in let b = ap (λ (l : Layout). first_granule l n) (one_layout batches ss n) in let c = r.filed.within in omega (arith, a, b, c));
   }
 
   notarized_again : ((g : ℕ) → g < end → rows h g ≡ rows (restored batches ss n) g) → IsNotarized batches id n (restored batches ss n)
   notarized_again same = record {
     filed = filed_again same;
-    reached = (let b = ap (λ (l : Layout). first_granule l n * ss.first.header.width) (same_layout batches ss n) in let on = has_reached batches ss n in omega (arith, b, on));
+    reached = (let b = ap (λ (l : Layout). first_granule l n * ss.first.header.width) (one_layout batches ss n) in let on = has_reached batches ss n in omega (arith, b, on));
   }
 
   few : sealed_end ss n ≤ max_granules

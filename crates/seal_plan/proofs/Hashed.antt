@@ -1,8 +1,9 @@
 -- Where some tile takes the digests of its granules, some era has a chain.
-use Rattle.std.proofs.Common.{◌≡◌, ℕ, ◌||◌, nat_le, Bool, true, false, cond, List, [], ◌∷◌, refl, subst, inl, inr}
+use Rattle.std.proofs.Common.{◌≡◌, ℕ, ◌||◌, nat_le, Bool, true, false, cond, List, [], ◌∷◌, refl, sym, subst, ◌∙◌, inl, inr}
 use Rattle.std.specs.List.{list_any}
 use Rattle.std.proofs.lemmas.Bool.{cases_Bool}
-use Rattle.digest_model.specs.Layout.{Era, Policy, layout_by, era_in, has_tile_chains, has_tree}
+use Rattle.digest_model.specs.Layout.{Era, Policy, layout_by, era_in}
+use Rattle.digest_model.proofs.Layouts.{chains_bit, tree_bit}
 use Rattle.policy_eras.specs.Policy.{is_hashed, has_leaves}
 use Rattle.tile_seals.specs.Places.{takes_leaves}
 
@@ -31,5 +32,6 @@ some_hashed e (next ∷ later) tile is = elim (cases_Bool (nat_le next.tile tile
 ]
 
 pub takes_hashed : (p : Policy) (tile : ℕ) → takes_leaves (layout_by p) tile ≡ true → has_leaves p ≡ true
-unfolding has_tile_chains has_tree
-takes_hashed p tile is = some_hashed p.first p.later tile is
+takes_hashed p tile is =
+    let hashed : takes_leaves (layout_by p) tile ≡ is_hashed (era_in p.first p.later tile) = rw (chains_bit (layout_by p) tile, tree_bit (layout_by p) tile) refl in
+    some_hashed p.first p.later tile (sym hashed ∙ is)

@@ -4,7 +4,7 @@ use Rattle.std.specs.Prelude.{◌&&◌}
 use Rattle.std.specs.List.{list_all, range_with_len}
 use Rattle.tuple_bytes.specs.declared.header.Header.{Header}
 use Rattle.history_model.specs.History.{History}
-use Rattle.digest_model.specs.Layout.{Era, layout, layout_by, policy_of, sealed_eras, SameTiles}
+use Rattle.digest_model.specs.Layout.{Era, layout, sealed_eras, SameTiles}
 use Rattle.digest_model.specs.Digests.{header_digest}
 use Rattle.digest_model.proofs.Eras.{same_era_digest}
 use Rattle.digest_model.proofs.Layouts.{same_eras}
@@ -12,10 +12,6 @@ use Rattle.notary_link.specs.declared.name.Name.TheVariants as names
 use Rattle.notary_link.specs.Batches.{Batch, answer}
 use Rattle.audit_model.specs.Names.{digest}
 use Rattle.audit_model.specs.Notary.{answers, is_same, is_era_same, is_no_era, era_check, with_eras, header_answer}
-
-pub same_layout : (h s : History) → policy_of h ≡ policy_of s → layout h ≡ layout s
-unfolding layout
-same_layout h s eras = ap layout_by eras
 
 module _ (batches : List Batch) (h s : History) (n : ℕ) (places : SameTiles n (layout h) (layout s)) where
   same_test : (e : ℕ) → e < length (sealed_eras (layout h) n) → is_era_same batches h (suc e) ≡ is_era_same batches s (suc e)

@@ -26,7 +26,7 @@ use Rattle.history_model.proofs.Stores.{stored_history}
 use Rattle.digest_model.specs.Layout.{Layout, layout, policy_of, first_era, with_item, first_granule, max_granules, SameTiles}
 use Rattle.digest_model.specs.Digests.{cum}
 use Rattle.digest_model.proofs.Follows.{follow}
-use Rattle.digest_model.proofs.EraLaws.{itself}
+use Rattle.digest_model.proofs.EraLaws.{same_layout, same_tiles}
 use Rattle.notary_link.specs.declared.answer.Answer.{Answer}
 use Rattle.notary_link.specs.declared.name.Name.TheVariants as names
 use Rattle.notary_link.specs.declared.seal.Seal.{Seal}
@@ -69,7 +69,7 @@ use Rattle.timeline_model.proofs.Acts.{Acts}
 use Rattle.timeline_model.proofs.Bytes.{all_calls, one_last}
 use Rattle.timeline_model.proofs.Doings.{ActsOn, ActsEither, without_notary, spelled_of, StoreIs, store_is}
 use Rattle.digest_model.proofs.Layouts.{ascends}
-use Rattle.timeline_model.proofs.EraAnswers.{same_layout, same_header_answer}
+use Rattle.timeline_model.proofs.EraAnswers.{same_header_answer}
 
 -- ---- calls of the notary, one after the other
 
@@ -163,20 +163,16 @@ same_chain : (batches : List Batch) (h s : History) (tile : ℕ) → cum h tile 
 unfolding digest
 same_chain batches h s tile same = ap (answer batches (names.Cum tile)) same
 
--- with the same eras all tiles are alike
-tiles_alike : (h s : History) → policy_of h ≡ policy_of s → (n : ℕ) → SameTiles n (layout h) (layout s)
-tiles_alike h s eras n = subst (SameTiles n (layout h)) (same_layout h s eras) (itself n (layout h))
-
 -- what speaks against a history goes by its header, its eras and its transactions
 fault_alike : (batches : List Batch) (h s : History) → h.header ≡ s.header → policy_of h ≡ policy_of s → ((g : ℕ) → rows h g ≡ rows s g) → filed_fault batches h ≡ filed_fault batches s
 fault_alike [] h s one eras same = refl
-fault_alike (first ∷ []) h s one eras same = ap (fault_by names.Header) (same_header_answer (first ∷ []) h s 0 (tiles_alike h s eras 0) one)
+fault_alike (first ∷ []) h s one eras same = ap (fault_by names.Header) (same_header_answer (first ∷ []) h s 0 (same_tiles h s 0 eras) one)
 fault_alike (first ∷ second ∷ rest) h s one eras same =
     let last : ℕ = length rest in
     let batches : List Batch = first ∷ second ∷ rest in
     let l : layout h ≡ layout s = same_layout h s eras in
-    let chain : cum h last ≡ cum s last = follow.cums h s last (tiles_alike h s eras (last + 1)) (record { header = one; rows = λ g below. same g }) in
-    ap (λ (a : Answer). else_cause (fault_by names.Header a) (chain_fault batches h last)) (same_header_answer batches h s (suc last) (tiles_alike h s eras (suc last)) one)
+    let chain : cum h last ≡ cum s last = follow.cums h s last (same_tiles h s (last + 1) eras) (record { header = one; rows = λ g below. same g }) in
+    ap (λ (a : Answer). else_cause (fault_by names.Header a) (chain_fault batches h last)) (same_header_answer batches h s (suc last) (same_tiles h s (suc last) eras) one)
     ∙ ap (λ (a : Answer). else_cause (fault_by names.Header (header_answer batches s (suc last))) (chain_by last a (first_granule (layout h) (suc last)) (first_past (layout h)))) (same_chain batches h s last chain)
     ∙ ap (λ (m : Layout). else_cause (fault_by names.Header (header_answer batches s (suc last))) (chain_by last (answers batches s (names.Cum last)) (first_granule m (suc last)) (first_past m))) l
 
