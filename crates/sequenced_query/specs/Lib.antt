@@ -5,7 +5,10 @@ pub mod Refusals
 pub mod Tables
 pub mod Merging
 pub mod Cells
+pub mod Spots
+pub mod Blocks
 pub mod Listing
+pub mod Wanted
 pub mod Plainly
 pub mod Spans
 pub mod Laws

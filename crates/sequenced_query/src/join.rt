@@ -1,28 +1,28 @@
 //! The rows of two tables joined over a span.
 
-ghost use Rattle.std.specs.Prelude.{◌≡◌, ◌++◌, ◌≤◌, length, IfOk, OnOk, map, slice_get, Some};
-ghost use Rattle.sequenced_query.specs.Cells.{cell, part_of, join_in, join_cells, join_key, join_all};
-ghost use Rattle.std.specs.List.{AllByRecursion, flat_map};
+ghost use Rattle.std.specs.Prelude.{◌≡◌, ◌≤◌, length, IfOk, OnOk, map, slice_get};
+ghost use Rattle.sequenced_query.specs.Cells.{cell, part_of, join_key, join_all};
+ghost use Rattle.std.specs.List.{flat_map};
 ghost use Rattle.std.specs.List.Sorted.{IsStrictlySortedBy};
-ghost use Rattle.std.specs.Ordering.{nat_cmp};
-ghost use Rattle.sequenced_query.specs.Listing.{IsListing, cells_at};
+ghost use Rattle.sequenced_query.specs.Listing.{IsListing};
+ghost use Rattle.sequenced_query.specs.Wanted.{cells_of, join_cell, meeting_cmp};
 ghost use Rattle.sequenced_query.specs.Merging.{AddsTo, merged};
 ghost use Rattle.sequenced_query.specs.Plain.{are_joining, column_named, joined_row};
 ghost use Rattle.sequenced_query.specs.Columns.{columns_in};
 ghost use Rattle.sequenced_query.specs.Spans.{IsJoin, join_over, Answers};
 ghost use Rattle.sequenced_query.specs.Refusals.{joining_places};
 ghost use Rattle.tuple_bytes.specs.Limits.{max_columns};
-ghost use Rattle.tt_table.specs.Tables.{state_at, AreVersions};
+ghost use Rattle.tt_table.specs.Tables.{state_at};
 
 use crate::columns::{column_named, is_same_kind};
 use crate::error::OverFail;
 use crate::lending::{LentPieces, LentRow};
 use crate::listing::Listing;
+use crate::meeting::{Meeting, wanted_by};
 use crate::merging::Merging;
-use crate::reaching::reaching;
 use crate::span::Span;
+use crate::spots::version_at;
 use crate::table::shown_table;
-use crate::wanted::wanted_by;
 use std::alloc::{AllocError, Global};
 use std::collections::BTreeSet;
 use tt_table::{Keys, Tables, Version, Versions};
@@ -67,108 +67,61 @@ fn add_right_version<'a>(
     }
 }
 
-// Adds a left row with each of these right versions.
-fn add_reaching<'a>(
-    merging: &mut Merging<'a>,
-    span: Span,
-    places: Places,
-    left: &'a Row,
-    rights: &'a [Version],
-) -> Result<(), AllocError>
-    ensures value { OnOk result (AddsTo merging.old (join_in places.left places.right left.now rights.now (Some span)) merging.new) }
-{
-    for right in rights {
-        add_right_version(merging, span, places, left, right)?;
-    }
-    Ok(())
-}
-
-// Adds a left row with each right version. Those that do not reach into the span have nothing to add.
-fn add_rights<'a>(
-    merging: &mut Merging<'a>,
-    span: Span,
-    places: Places,
-    left: &'a Row,
-    rights: &'a [Version],
-) -> Result<(), AllocError>
-    requires { AreVersions rights.now }
-    ensures value { OnOk result (AddsTo merging.old (join_in places.left places.right left.now rights.now (Some span)) merging.new) }
-{
-    add_reaching(merging, span, places, left, reaching(rights, span))
-}
-
-// Adds a left version, during its part of a span, with each right version.
-fn add_left_version<'a>(
+// Adds a left version with a right version, during their part of a span, if they join.
+fn add_versions<'a>(
     merging: &mut Merging<'a>,
     span: Span,
     places: Places,
     left: &'a Version,
-    rights: &'a [Version],
+    right: &'a Version,
 ) -> Result<(), AllocError>
-    requires { AreVersions rights.now }
-    ensures value { OnOk result (AddsTo merging.old (join_in places.left places.right left.now.row rights.now (part_of span left.now)) merging.new) }
+    ensures value { OnOk result (AddsTo merging.old (join_cell places.left places.right left.now.row right.now (part_of span left.now)) merging.new) }
 {
     match span.part_of(left) {
-        Some(part) => add_rights(merging, part, places, &left.row, rights),
+        Some(part) => add_right_version(merging, part, places, &left.row, right),
         None => Ok(()),
     }
 }
 
-// Adds a left key with a right key.
-fn add_pair<'a>(
-    merging: &mut Merging<'a>,
-    span: Span,
-    places: Places,
-    lefts: &'a [Version],
-    rights: &'a [Version],
-) -> Result<(), AllocError>
-    requires { AreVersions rights.now }
-    ensures value { OnOk result (AddsTo merging.old (join_cells span places.left places.right lefts.now rights.now) merging.new) }
-{
-    for left in lefts {
-        add_left_version(merging, span, places, left, rights)?;
-    }
-    Ok(())
-}
-
-// Adds a left key with the right key at a place.
-fn add_place<'a>(
+// Adds the two versions that meet.
+fn add_meeting<'a>(
     merging: &mut Merging<'a>,
     span: Span,
     places: Places,
     lefts: &'a [Version],
     rights: &[&'a Versions],
-    place: usize,
+    meeting: Meeting,
 ) -> Result<(), AllocError>
-    requires { AllByRecursion (λ r. AreVersions r.now) rights.now }
-    ensures value { OnOk result (AddsTo merging.old (cells_at span places.left places.right lefts.now (map (λ r. r.now) rights.now) place) merging.new) }
+    ensures value { OnOk result (AddsTo merging.old (cells_of span places.left places.right lefts.now (map (λ r. r.now) rights.now) meeting) merging.new) }
 {
-    match rights.get(place) {
-        Some(right) => add_pair(merging, span, places, lefts, right.as_slice()),
+    let Some(left) = lefts.get(meeting.left) else {
+        return Ok(());
+    };
+    match version_at(rights, meeting.key, meeting.right) {
+        Some(right) => add_versions(merging, span, places, left, right),
         None => Ok(()),
     }
 }
 
-// Adds a left key with the right keys at these places.
+// Adds a left key with each right version that it meets, in the order of right keys, and then of time.
 fn add_wanted<'a>(
     merging: &mut Merging<'a>,
     span: Span,
     places: Places,
     lefts: &'a [Version],
     rights: &[&'a Versions],
-    wanted: &BTreeSet<usize>,
+    wanted: &BTreeSet<Meeting>,
 ) -> Result<(), AllocError>
-    requires { AllByRecursion (λ r. AreVersions r.now) rights.now }
-    ensures value { OnOk result (AddsTo merging.old (flat_map (cells_at span places.left places.right lefts.now (map (λ r. r.now) rights.now)) wanted.now.keys) merging.new) }
-    ensures rising { IsStrictlySortedBy nat_cmp wanted.now.keys }
+    ensures value { OnOk result (AddsTo merging.old (flat_map (cells_of span places.left places.right lefts.now (map (λ r. r.now) rights.now)) wanted.now.keys) merging.new) }
+    ensures rising { IsStrictlySortedBy meeting_cmp wanted.now.keys }
 {
-    for place in wanted.iter() {
-        add_place(merging, span, places, lefts, rights, *place)?;
+    for meeting in wanted.iter() {
+        add_meeting(merging, span, places, lefts, rights, *meeting)?;
     }
     Ok(())
 }
 
-// Adds a left key with each right key. Those with which it shares no value have nothing to add.
+// Adds a left key with each right key. Versions that share no value, or no moment, have nothing to add.
 fn add_left_key<'a>(
     alloc: Global,
     merging: &mut Merging<'a>,
@@ -178,11 +131,10 @@ fn add_left_key<'a>(
     rights: &[&'a Versions],
     listing: &Listing,
 ) -> Result<(), AllocError>
-    requires versions { AllByRecursion (λ r. AreVersions r.now) rights.now }
-    requires listed { IsListing places.right (map (λ r. r.now) rights.now) listing.now }
+    requires listed { IsListing places.right span (map (λ r. r.now) rights.now) listing.now }
     ensures value { OnOk result (AddsTo merging.old (join_key span places.left places.right (map (λ r. r.now) rights.now) lefts.now) merging.new) }
 {
-    let wanted = wanted_by(alloc, listing, places.left, lefts)?;
+    let wanted = wanted_by(alloc, listing, places.left, span, lefts)?;
     add_wanted(merging, span, places, lefts, rights, &wanted)
 }
 
@@ -205,11 +157,10 @@ fn join_keys<'a>(
     left_keys: Keys<'a>,
     right_keys: Keys<'a>,
 ) -> Result<LentPieces<'a>, AllocError>
-    requires { AllByRecursion (λ k. AreVersions k.1) right_keys }
     ensures value { IfOk result (λ pieces. pieces ≡ merged (join_all span places.left places.right (map (λ k. k.1) left_keys.entry) (map (λ k. k.1) right_keys.entry))) }
 {
     let rights = versions_of_keys(alloc, right_keys)?;
-    let listing = Listing::of_keys(alloc, places.right, &rights)?;
+    let listing = Listing::of_keys(alloc, places.right, span, &rights)?;
     let mut merging = Merging::new(alloc);
     for (_key, lefts) in left_keys {
         add_left_key(

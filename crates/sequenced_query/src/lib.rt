@@ -39,15 +39,14 @@
 //!
 //! A select takes one step for each version of its table, and looks at no moment between them.
 //!
-//! A join goes once over the versions of the right table, and lists its keys in an ordered map under each value
-//! by which they ever join. A left key then goes with the right keys that are listed under its own values, and
-//! with no others. For such a pair of keys each left version takes the logarithm of the right key's versions,
-//! and one step for each of these that it overlaps. So a join does not take the square of the tables unless
-//! most keys share a value; where they share it at one moment its answer is as long.
+//! A join lists each version of the right table that counts within the span: under the value by which it joins, in the
+//! order in which versions begin. Each left version then finds the right ones that have its value while it counts, and
+//! looks at no others. So a join takes at most the square of a logarithm for each version, and for each pair of versions
+//! that its answer has. It does not compare each row with each, however many rows share a value.
 //!
-//! Two keys that have one value at different moments are such a pair too, and answer nothing. Memory holds the
-//! listing, the places of one left key's pairs, and the answer. A lent piece takes 48 bytes, whatever its row: its
-//! two moments, and where one row or two lie. A copy takes 40 bytes a piece, and its rows.
+//! Memory holds the listing, the pairs of one left key, and the answer. A right version is listed in 48 bytes. A lent
+//! piece takes 48 bytes, whatever its row: its two moments, and where one row or two lie. A copy takes 40 bytes a piece,
+//! and its rows.
 //!
 //! Not proved: these costs. Tests hold both calls against a program that goes moment by moment.
 //!
@@ -58,19 +57,20 @@
 //! ```
 #![tactic(auto)]
 
+mod blocks;
 mod columns;
 mod error;
 mod join;
 mod laws;
 mod lending;
 mod listing;
+mod meeting;
 mod merging;
 mod piece;
-mod reaching;
 mod select;
 mod span;
+mod spots;
 mod table;
-mod wanted;
 
 pub use error::OverFail;
 pub use join::over_join;

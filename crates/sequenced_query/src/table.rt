@@ -1,9 +1,8 @@
 //! A table, as a query over a span reads it.
 
 ghost use Rattle.std.specs.Prelude.{◌≡◌, ◌≤◌, None, MatchOption, length};
-ghost use Rattle.std.specs.List.{AllByRecursion};
 ghost use Rattle.tuple_bytes.specs.Limits.{max_columns};
-ghost use Rattle.tt_table.specs.Tables.{AreVersions, table_in};
+ghost use Rattle.tt_table.specs.Tables.{table_in};
 ghost use Rattle.tt_table.specs.Versions.{AreTables};
 ghost use Rattle.sequenced_query.specs.Tables.{ShowsTable};
 
@@ -22,7 +21,6 @@ pub(crate) struct ShownTable<'a> {
 pub(crate) fn shown_table<'a>(tables: &'a Tables, name: &Word) -> Option<ShownTable<'a>>
     ensures value { MatchOption result (table_in tables.now name.now ≡ None) (λ t. ShowsTable t.columns.now t.created t.keys (table_in tables.now name.now)) }
     ensures few { MatchOption result (Unit {0}) (λ t. length t.columns.now ≤ max_columns) }
-    ensures versions { MatchOption result (Unit {0}) (λ t. AllByRecursion (λ k. AreVersions k.1) t.keys) }
     ensures in_order { AreTables tables.now }
 {
     match (
