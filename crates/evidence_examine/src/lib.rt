@@ -45,7 +45,7 @@
 //! | [`notarized_lists_are_same`] | the notarized list of a sealed granule whose tile has the tree is called as notarized, or these inputs clash |
 //! | [`other_granules_are_missing`] | of other granules there is no line: the seal is missing, or these inputs clash |
 //!
-//! Not proved, and not yet tested: that want of memory isn't answered where there is some.
+//! Not proved: that calls succeed where there is memory. `forensic_examples` tries it.
 //!
 //! ```text
 //! match examine(alloc, &bytes, &mut notary, id)? {

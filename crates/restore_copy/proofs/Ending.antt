@@ -1,5 +1,5 @@
 -- What a restoring answers and writes, by what its parts answer.
-use Rattle.std.proofs.Common.{◌≡◌, ◌⊎◌, ℕ, ◌+◌, ◌*◌, ◌<◌, ◌≤◌, nat_le, Bool, true, false, cond, List, [], ◌∷◌, length, Option, Some, None, Result, Ok, Err, inl, inr, refl, sym, ap, subst, ◌∙◌, arith}
+use Rattle.std.proofs.Common.{◌≡◌, ℕ, ◌+◌, ◌*◌, ◌<◌, ◌≤◌, nat_le, Bool, true, false, cond, List, [], length, Option, Some, None, Result, Ok, Err, inl, inr, refl, sym, ap, subst, ◌∙◌, arith}
 use Rattle.std.specs.Prelude.{IfSome, IfOk, IfErr, IsErrOf, is_some, unwrap_or}
 use Rattle.std.specs.Option.{option_map}
 use Rattle.std.proofs.lemmas.Bool.Decides.{nat_tests}
@@ -23,7 +23,7 @@ use Rattle.restore_copy.specs.declared.fail.RestoreFail.TheVariants as fails
 use Rattle.restore_copy.specs.declared.restored.Restored.{Restored}
 use Rattle.restore_copy.specs.declared.source.Source.{Source}
 use Rattle.restore_copy.specs.declared.sources.Both.{Both}
-use Rattle.restore_copy.specs.Fails.{as_written, IsGivingUp, IsOfAsking, IsOfChoosing, IsOfWriting, IsOfRestoring}
+use Rattle.restore_copy.specs.Fails.{as_written, IsGivingUp, IsOfChoosing, IsOfWriting, IsOfRestoring}
 use Rattle.restore_copy.specs.Passing.{Sources, sources_of}
 use Rattle.restore_copy.specs.Units.{first_missing}
 use Rattle.restore_copy.specs.Choosing.{sealed_end}

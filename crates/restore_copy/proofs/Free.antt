@@ -1,5 +1,5 @@
 -- A target that is free or not, and calls that refuse.
-use Rattle.std.proofs.Common.{◌≡◌, ◌⊎◌, ℕ, ◌+◌, ◌-◌, ◌*◌, ◌^◌, ◌≤◌, ◌<◌, min, nat_le, nat_lt, Bool, true, false, cond, List, length, Option, Some, None, Result, Ok, Err, inl, inr, refl, sym, ap, subst, ◌∙◌, arith}
+use Rattle.std.proofs.Common.{◌≡◌, ◌⊎◌, ℕ, ◌≤◌, ◌<◌, nat_le, nat_lt, Bool, true, false, cond, List, length, Option, Some, None, Result, Ok, Err, inl, inr, refl, sym, ap, subst, arith}
 use Rattle.std.specs.Prelude.{IfSome, IsErrOf}
 use Rattle.std.proofs.lemmas.Bool.Decides.{nat_tests}
 use Rattle.outside_words.specs.Faults.{Rose}
@@ -17,7 +17,7 @@ use Rattle.segment_file.proofs.Runs.{unchanged_same}
 use Rattle.restore_copy.specs.declared.fail.RestoreFail.{RestoreFail}
 use Rattle.restore_copy.specs.declared.fail.RestoreFail.TheVariants as fails
 use Rattle.restore_copy.specs.Fails.{of_disk, of_notary, as_written, target_in_doubt, IsGivingUp, IsOfRestoring}
-use Rattle.restore_copy.specs.Restoring.{Ending, restored_to, OrGivesUp, IsUnwritten, LaysOrLeaves, Writes, Leaves, RefusesThere, IsUncalled}
+use Rattle.restore_copy.specs.Restoring.{Ending, restored_to, IsUnwritten, LaysOrLeaves, Writes, Leaves, RefusesThere, IsUncalled}
 use Rattle.restore_copy.proofs.Over.{laid_over}
 
 -- ---- giving up

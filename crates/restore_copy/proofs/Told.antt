@@ -1,14 +1,14 @@
 -- What is told of bytes that are read.
-use Rattle.std.proofs.Common.{◌≡◌, ℕ, ◌+◌, ◌*◌, ◌≤◌, ◌<◌, List, [], ◌∷◌, length, Option, Some, None, Result, Ok, Err, refl, sym, ap, subst, ◌∙◌, arith}
+use Rattle.std.proofs.Common.{◌≡◌, ℕ, ◌+◌, ◌≤◌, List, [], ◌∷◌, length, Option, Some, None, Result, Ok, Err, refl, ap, subst, ◌∙◌, arith}
 use Rattle.std.specs.Prelude.{IfSome, IsErrOf}
 use Rattle.notary_link.specs.Batches.{Batch}
 use Rattle.history_model.specs.declared.stored.Stored.{Stored}
 use Rattle.history_model.specs.History.{History}
 use Rattle.history_model.specs.Stored.{stored}
 use Rattle.audit_model.specs.Altered.{history_with}
-use Rattle.restore_copy.specs.Passing.{sealed, if_same, passing, sources_of}
+use Rattle.restore_copy.specs.Passing.{sealed, if_same, sources_of}
 use Rattle.restore_copy.specs.declared.fail.RestoreFail.{RestoreFail}
-use Rattle.restore_copy.specs.Restoring.{Ending, OrGivesUp, restored_of, restored_with, written_of, written_with, AsksFew, header_questions}
+use Rattle.restore_copy.specs.Restoring.{OrGivesUp, restored_of, restored_with, written_of, written_with, AsksFew, header_questions}
 
 module _ {X : Type 0} where
   pub if_all : (o : Option X) (P : X → Type 0) → ((x : X) → P x) → IfSome o P

@@ -1,6 +1,5 @@
 -- What a restoring shows of a notarized history.
-use Rattle.std.specs.Prelude.{◌≡◌, ◌⊎◌, ◌<◌, ◌≤◌, ℕ, Bool, true, false, List, [], Option, Some, None, IfSome}
-use Rattle.tuple_bytes.specs.declared.item.Txn.{Txn}
+use Rattle.std.specs.Prelude.{◌≡◌, ◌⊎◌, ◌<◌, ◌≤◌, ℕ, Bool, true, false, List, [], Option, Some, IfSome}
 use Rattle.notary_link.specs.declared.answer.Answer.TheVariants.{Same}
 use Rattle.notary_link.specs.Batches.{Batch}
 use Rattle.history_model.specs.History.{History, rows}

@@ -9,7 +9,6 @@ use Rattle.history_model.specs.declared.stored.Stored.{Stored}
 use Rattle.history_model.specs.History.{History}
 use Rattle.digest_model.specs.Layout.{Layout, layout, first_granule, max_granules, max_later}
 use Rattle.policy_eras.specs.Policy.{first_past}
-use Rattle.segment_file.specs.declared.fail.SegmentFail.{SegmentFail}
 use Rattle.segment_file.specs.LaidOut.{laid_out}
 use Rattle.segment_file.specs.Writing.{LaysOut}
 use Rattle.restore_copy.specs.declared.fail.RestoreFail.{RestoreFail}

@@ -1,6 +1,6 @@
 -- What the program's own values stand for.
 use Rattle.std.specs.Prelude.{◌≡◌, ◌<◌, ◌+◌, ◌-◌, ◌*◌, ◌==◌, ◌++◌, max, ℕ, suc, nat_lt, Bool, true, false, if◌then◌else◌, List, [], ◌∷◌, map, filter, length, Option, Some, None, Result, Ok, Err, IfSome, OnOk, IfErr, ◌≤◌, ◌⊎◌}
-use Rattle.std.specs.List.{Contains, flat_map, range_with_len, slice_index_or}
+use Rattle.std.specs.List.{flat_map, range_with_len, slice_index_or}
 use Rattle.std.specs.Option.{option_map}
 use Rattle.disk_words.specs.Disk as disks
 use Rattle.segment_file.specs.Writing.{LaysOut}
@@ -14,7 +14,6 @@ use Rattle.history_model.specs.History.{History, history, granule_of, last_momen
 use Rattle.history_model.specs.Stored.{IsStorable}
 use Rattle.history_model.specs.StoredHistory.{IsHistory}
 use Rattle.digest_model.specs.Layout.{Layout, layout, policy_of, first_granule, max_granules}
-use Rattle.audit_model.specs.Names.{planned}
 use Rattle.audit_model.specs.Altered.{HasPlacesOf}
 use Rattle.seal_plan.specs.Plan.{Planned, planned_of}
 use Rattle.restore_copy.specs.declared.asking.Plans.{Plans}
@@ -29,6 +28,7 @@ use Rattle.restore_copy.specs.declared.sources.Both.{Both}
 use Rattle.restore_copy.specs.Fails.{as_written}
 use Rattle.restore_copy.specs.Passing.{Sources}
 use Rattle.restore_copy.specs.Units.{confirms, is_unfiled, is_missing, unit_name}
+use Rattle.restore_copy.specs.UnitPlans.{IsUnitOf}
 use Rattle.restore_copy.specs.Choosing.{chosen_for, chosen, is_nowhere, rows_by}
 use Rattle.restore_copy.specs.Restored.{policies, txns_from}
 use Rattle.restore_copy.specs.Runs.{runs_of}
@@ -82,10 +82,10 @@ pub record ArePlansAlike (p : Plans) : Type 0 where
   pub count : IfSome p.second (λ (q : Planned). q.tiles ≡ p.first.tiles)
   pub alike : AreAlike p.first.tiles (sources_in p)
 
--- the name is planned by both
+-- the name is that of a unit of both
 pub record IsUnit (p : Plans) (name : Name) : Type 0 where
-  pub first : Contains (planned (layout_in p) p.first.tiles) name
-  pub second : IfSome p.second (λ (q : Planned). Contains (planned (layout q.history) q.tiles) name)
+  pub first : IsUnitOf p.first name
+  pub second : IfSome p.second (λ (q : Planned). IsUnitOf q name)
 
 abbrev pub txn_count : Option History → ℕ
 txn_count None = 0

@@ -75,6 +75,7 @@ mod runs;
 mod source;
 mod sources;
 mod targets;
+mod unit_plan;
 mod units;
 
 pub use fail::RestoreFail;

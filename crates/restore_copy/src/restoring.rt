@@ -154,7 +154,7 @@ fn restore_passing<F: Disk, N: Notary>(
     ensures notary_counted { IsCounted notary_in_doubt (N.state notary.old) (N.state notary.new) result }
 {
     match sources_of(alloc, ours, theirs, tiles)? {
-        Some(sources) => restore_from(alloc, &sources, target, notary, tiles),
+        Some(sources) => restore_from(alloc, sources, target, notary, tiles),
         None => Err(RestoreFail::HeaderLost),
     }
 }
@@ -162,17 +162,17 @@ fn restore_passing<F: Disk, N: Notary>(
 /// The same of sources that pass. Tiles behind the last granule were never filed.
 fn restore_from<F: Disk, N: Notary>(
     alloc: Global,
-    sources: &Both,
+    sources: Both,
     target: &mut F,
     notary: &mut N,
     tiles: u32,
 ) -> Result<Option<Restored>, RestoreFail>
-    requires ready { AreReady tiles sources.now }
+    requires ready { AreReady tiles sources }
     ensures told { IfSome (F.state target.old).reads (λ there. length there ≤ 1 →
         WhereTold (N.state notary.old).lists (N.state notary.new).lists (λ before after.
-        OrGivesUp (restored_under (before.batches sources.now.first.header.id) tiles (both_of sources.now)) result)) }
+        OrGivesUp (restored_under (before.batches sources.first.header.id) tiles (both_of sources)) result)) }
     ensures written { WhereTold (N.state notary.old).lists (N.state notary.new).lists (λ before after.
-        Writes (written_under (before.batches sources.now.first.header.id) tiles (both_of sources.now)) result (F.state target.old) (F.state target.new)) }
+        Writes (written_under (before.batches sources.first.header.id) tiles (both_of sources)) result (F.state target.old) (F.state target.new)) }
     ensures free { IfSome (F.state target.old).reads (λ there. length there ≤ 1 → IsErrOf result AlreadyThere → ⊥) }
     ensures leaves { Leaves result (F.state target.old) (F.state target.new) }
     ensures only { IfErr result IsOfRestoring }
@@ -196,18 +196,18 @@ fn restore_from<F: Disk, N: Notary>(
 /// The same of tiles that end at most behind the last granule.
 fn restore_units<F: Disk, N: Notary>(
     alloc: Global,
-    sources: &Both,
+    sources: Both,
     target: &mut F,
     notary: &mut N,
     tiles: u32,
 ) -> Result<Option<Restored>, RestoreFail>
-    requires ready { AreReady tiles sources.now }
-    requires within { sealed_end (both_of sources.now) tiles ≤ max_granules }
+    requires ready { AreReady tiles sources }
+    requires within { sealed_end (both_of sources) tiles ≤ max_granules }
     ensures told { IfSome (F.state target.old).reads (λ there. length there ≤ 1 →
         WhereTold (N.state notary.old).lists (N.state notary.new).lists (λ before after.
-        OrGivesUp (units_restored (before.batches sources.now.first.header.id) tiles (both_of sources.now)) result)) }
+        OrGivesUp (units_restored (before.batches sources.first.header.id) tiles (both_of sources)) result)) }
     ensures written { WhereTold (N.state notary.old).lists (N.state notary.new).lists (λ before after.
-        Writes (units_written (before.batches sources.now.first.header.id) tiles (both_of sources.now)) result (F.state target.old) (F.state target.new)) }
+        Writes (units_written (before.batches sources.first.header.id) tiles (both_of sources)) result (F.state target.old) (F.state target.new)) }
     ensures free { IfSome (F.state target.old).reads (λ there. length there ≤ 1 → IsErrOf result AlreadyThere → ⊥) }
     ensures leaves { Leaves result (F.state target.old) (F.state target.new) }
     ensures only { IfErr result IsOfRestoring }
@@ -215,12 +215,12 @@ fn restore_units<F: Disk, N: Notary>(
     ensures target_cause { HasCause DiskFault (F.state target.old).faults (F.state target.new).faults result }
     ensures target_counted { ShowsFaults target_in_doubt (F.state target.old).faults (F.state target.new).faults result }
     ensures same { Unchanged (N.state notary.old) (N.state notary.new) }
-    ensures asked { (N.state notary.new).asked ≤ (N.state notary.old).asked + 2 * unit_count (layout (history_of sources.now.first)) tiles }
+    ensures asked { (N.state notary.new).asked ≤ (N.state notary.old).asked + 2 * unit_count (layout (history_of sources.first)) tiles }
     ensures notary_frame { GoesOn (N.state notary.old) (N.state notary.new) }
     ensures notary_cause { HasCause NotaryFault (N.state notary.old).faults (N.state notary.new).faults result }
     ensures notary_counted { IsCounted notary_in_doubt (N.state notary.old) (N.state notary.new) result }
 {
-    let chosen = choose::<N, Brand>(alloc, sources, notary, tiles, Blank::new(1))?;
+    let chosen = choose::<N, Brand>(alloc, &sources, notary, tiles, Blank::new(1))?;
     let restored = write_chosen(alloc, sources, &chosen, target)?;
     Ok(Some(restored))
 }

@@ -1,21 +1,19 @@
-use Rattle.std.proofs.Common.{rules, ◌≡◌, ℕ, ◌≤◌, ◌<◌, ◌+◌, ◌-◌, ◌*◌, true, false, nat_le, List, length, Option, None, Ok, Err, inl, inr, refl, sym, ap, subst, ◌∙◌, arith}
-use Rattle.std.specs.Prelude.{IfSome}
+use Rattle.std.proofs.Common.{rules, ◌≡◌, ◌+◌, ◌-◌, true, false, List, length, Option, None, Ok, Err, inr, sym, subst, ◌∙◌, arith}
 use Rattle.validator.proofs.Telling.{told_all, told_of}
 use Rattle.disk_words.proofs.Frame as disks
 use Rattle.notary_link.specs.Batches.{Batch}
 use Rattle.notary_link.specs.Notary.{Lists}
 use Rattle.notary_link.proofs.Frame.{goes_on_same}
 use Rattle.notary_link.proofs.Reading.{told_behind}
-use Rattle.segment_file.proofs.Runs.{unchanged_same}
 use Rattle.history_model.specs.History.{History}
 use Rattle.history_model.specs.Stored.{stored}
 use Rattle.audit_model.specs.Altered.{history_with}
 use Rattle.restore_copy.specs.declared.fail.RestoreFail.TheVariants as fails
 use Rattle.restore_copy.specs.Fails.{of_disk, of_notary}
 use Rattle.restore_copy.specs.Passing.{sources_of, if_same}
-use Rattle.restore_copy.specs.Restoring.{Ending, Writes, restored_of, restored_with, restored_to, written_of, written_with, OrGivesUp}
+use Rattle.restore_copy.specs.Restoring.{Writes, restored_of, restored_with, restored_to, written_of, written_with, OrGivesUp}
 use Rattle.restore_copy.proofs.Ending.{gave_up, so_told, left_alone, asks_none}
-use Rattle.restore_copy.proofs.Free.{giving_unwritten, giving_free, giving_restores, disk_gives, disk_refuses, disk_leaves, disk_failed, disk_doubted, notary_gives, notary_refuses, notary_leaves, not_free, is_short, refused_to, free_to, refuses_free, uncalled_all, if_over, writes_over, leaves_over, cause_over}
+use Rattle.restore_copy.proofs.Free.{giving_unwritten, giving_restores, disk_gives, disk_refuses, disk_leaves, disk_failed, disk_doubted, notary_gives, notary_refuses, notary_leaves, not_free, is_short, refused_to, free_to, refuses_free, uncalled_all, if_over, writes_over, leaves_over, cause_over}
 use Rattle.restore_copy.proofs.Told.{if_all, if_map, if_two, none_told, none_written, of_count, written_count, asks_after}
 use Rattle.restore_copy.proofs.restoring.restore.Goals as goal
 

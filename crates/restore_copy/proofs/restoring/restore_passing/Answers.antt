@@ -1,15 +1,14 @@
-use Rattle.std.proofs.Common.{rules, ◌≡◌, ℕ, ◌≤◌, Option, Some, None, Err, refl, sym, ap, subst, ◌∙◌, arith}
+use Rattle.std.proofs.Common.{rules, ◌≡◌, ℕ, Option, Some, Err, ap, subst, arith}
 use Rattle.std.specs.Option.{option_map}
 use Rattle.outside_words.proofs.Told.{told_map}
 use Rattle.validator.proofs.Telling.{told_all}
 use Rattle.disk_words.proofs.Frame as disks
 use Rattle.notary_link.proofs.Frame.{goes_on_same}
-use Rattle.notary_link.specs.Batches.{Batch}
 use Rattle.notary_link.specs.Notary.{Lists}
 use Rattle.segment_file.proofs.Runs.{unchanged_same}
 use Rattle.restore_copy.specs.declared.fail.RestoreFail.TheVariants as fails
 use Rattle.restore_copy.specs.Passing.{Sources, sources_of}
-use Rattle.restore_copy.specs.Restoring.{Ending, Writes, restored_of, written_of, restored_under, written_under, OrGivesUp}
+use Rattle.restore_copy.specs.Restoring.{Writes, restored_of, written_of, restored_under, written_under, OrGivesUp}
 use Rattle.restore_copy.specs.Steps.{history_of, both_of}
 use Rattle.restore_copy.proofs.Ending.{left_alone, asks_none, id_of}
 use Rattle.restore_copy.proofs.Told.{if_all, if_map}

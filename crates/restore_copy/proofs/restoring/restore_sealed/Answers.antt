@@ -1,4 +1,4 @@
-use Rattle.std.proofs.Common.{rules, ◌≡◌, ℕ, ◌≤◌, ◌+◌, ◌*◌, List, Option, Ok, Err, inl, inr, refl, sym, ap, subst, arith}
+use Rattle.std.proofs.Common.{rules, ◌≡◌, List, Option, Ok, Err, inl, inr, subst, arith}
 use Rattle.std.specs.Option.{option_map}
 use Rattle.validator.proofs.Telling.{told_all}
 use Rattle.disk_words.proofs.Frame as disks
@@ -10,7 +10,7 @@ use Rattle.history_model.specs.Stored.{stored}
 use Rattle.audit_model.specs.Altered.{history_with}
 use Rattle.restore_copy.specs.declared.fail.RestoreFail.TheVariants as fails
 use Rattle.restore_copy.specs.Passing.{Sources, sources_of, if_same}
-use Rattle.restore_copy.specs.Restoring.{Ending, Writes, restored_of, written_of, OrGivesUp}
+use Rattle.restore_copy.specs.Restoring.{Writes, restored_of, written_of, OrGivesUp}
 use Rattle.restore_copy.specs.Steps.{history_of}
 use Rattle.restore_copy.proofs.Ending.{gave_up, left_alone, leaves_same, asks_none}
 use Rattle.restore_copy.proofs.Free.{giving_unwritten, giving_free, giving_restores}

@@ -1,4 +1,4 @@
-use Rattle.std.proofs.Common.{rules, ◌≡◌, ◌∙◌, true, false, Ok, Err, inl, inr, refl, sym, ap, subst}
+use Rattle.std.proofs.Common.{rules, ◌≡◌, ◌∙◌, true, false, Ok, Err, inl, refl, sym}
 use Rattle.validator.proofs.Telling.{told_all}
 use Rattle.disk_words.proofs.Frame.{goes_on_same}
 use Rattle.segment_file.proofs.Runs.{unchanged_same}
@@ -34,7 +34,7 @@ returns-in_err-write_store-clause-lays g c =
     let fail = c.in_err-write_store.field-0.0 in
     let S = g.F.Disk.state in
     let same : c.from_residual-in_err-write_store.result ≡ Err (of_file c.in_err-write_store.field-0.0) = search rules in
-    rw same (lays_of c.args.chosen.now (both_of c.args.sources.now) (S c.args.target.now) (S c.write_store.new.disk) c.in_ok-items.items c.in_ok-items.ensures.value _ _ (Err fail) (Err (of_file fail))
+    rw same (lays_of c.args.chosen.now (both_of c.args.sources) (S c.args.target.now) (S c.write_store.new.disk) c.in_ok-items.items c.in_ok-items.ensures.value _ _ (Err fail) (Err (of_file fail))
     (written_back fail c.in_err-write_store.ensures.none_other) c.in_err-write_store.ensures.told)
 
 pub returns-in_err-write_store-clause-only : goal.returns-in_err-write_store-clause-only
@@ -56,5 +56,5 @@ returns-in_err-write_store-clause-counted g c =
 pub returns-clause-lays : goal.returns-clause-lays
 returns-clause-lays g c =
     let S = g.F.Disk.state in
-    lays_of c.args.chosen.now (both_of c.args.sources.now) (S c.args.target.now) (S c.write_store.new.disk) c.in_ok-items.items c.in_ok-items.ensures.value _ _ (Ok tt) (Ok c.in_ok-restored.restored)
+    lays_of c.args.chosen.now (both_of c.args.sources) (S c.args.target.now) (S c.write_store.new.disk) c.in_ok-items.items c.in_ok-items.ensures.value _ _ (Ok tt) (Ok c.in_ok-restored.restored)
     refl c.in_ok-write_store.ensures.told
