@@ -141,6 +141,8 @@ NO_SUCH = "has no such header and eras filed under it: name the right file, id a
 
 TURNED = "had no sealed tile under the id 7: the policy stands at tile 0, and no tile was compared. If tiles of the store worked.store are filed in another book, validate with that one: where it isn't clean, put back the copy from before; docs/OPERATING.md"
 
+UNFED = "dragoon: the input had no statement, so nothing was carried out: if it came through a pipe, look at what should have written it"
+
 # what, what is done before, the words, the input, the status, the output, and what is told line by line; .. stands for anything
 ROWS = [
     ("no words", None, [], "", 2, "fault Usage\n", [WHOLE, ".."]),
@@ -213,6 +215,8 @@ ROWS = [
     ("a run that asks no book, and none is there", None, [STORE, "notary=none", "run", "7"], "get t 1\n", 0, "row 1 0\n", []),
     ("a run that asks without a book", None, [STORE, "run", "7"], "validate\nanalyse mono\n", 0, None,
      ["dragoon: nothing was compared: the notary's book in memory (no file was named) had nothing that was filed under the id 7"]),
+    ("a run without a statement", None, [STORE, "run", "7"], "# none\n\n", 0, "", [UNFED]),
+    ("a drill without an input", None, ["drill"], "", 0, "", [UNFED]),
     ("a run that finds nothing odd", None, [STORE, BOOK, "run", "7"], "validate\nanalyse mono\n", 0, "clean 1\nreport mono id 7 tiles 1 clean\n", []),
     ("a run that asks of a header alone", new_store, ["store=new.store", "notary=new.book", "run", "7"], "validate\nnotarize\nvalidate\n", 0, "unsealed\nsealed 0\nclean 0\n",
      ["dragoon: the notary's book new.book was missing, and it was made anew", "dragoon: only the header was compared: .."]),

@@ -71,6 +71,8 @@ enum Warning<'a> {
     },
     /// A report's span ends before it begins.
     SpanBack,
+    /// The input had no statement.
+    Unfed,
     /// Lines of the generated script were refused.
     Made,
     /// Its filing or its validation was.
@@ -105,6 +107,7 @@ pub(crate) fn tell_warnings<R: Eprint>(rt: &R, ending: &Ending<'_, '_>) -> io::R
         gathered(ending),
         restored(ending),
         clock_of(ending),
+        unfed(ending),
         made(ending),
         refused(ending),
         alarm(ending),
@@ -300,6 +303,16 @@ fn open<'a>(ending: &'a Ending<'a, 'a>) -> Option<Warning<'a>> {
     let sessions = ending.heard.sessions();
     if ending.ask == Ask::Run && is_at_end && sessions.is_any_open() {
         Some(Warning::Open { sessions })
+    } else {
+        None
+    }
+}
+
+/// Whatever fails in front of a pipe leaves no input.
+fn unfed<'a>(ending: &'a Ending<'a, 'a>) -> Option<Warning<'a>> {
+    let is_read = ending.ask == Ask::Run || ending.ask == Ask::Drill;
+    if is_read && ending.status == Status::Ok && ending.heard.replies == 0 {
+        Some(Warning::Unfed)
     } else {
         None
     }
@@ -563,6 +576,10 @@ impl fmt::Display for Warning<'_> {
             Warning::SpanBack => write!(
                 f,
                 "the clock went back: a span of the report ends before it begins"
+            ),
+            Warning::Unfed => write!(
+                f,
+                "the input had no statement, so nothing was carried out: if it came through a pipe, look at what should have written it"
             ),
             Warning::Made => write!(
                 f,
