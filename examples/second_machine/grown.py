@@ -1,0 +1,65 @@
+#!/usr/bin/env python3
+"""Says whether a store is an earlier one that grew: whether it holds all that the earlier one held, in front.
+
+    python3 examples/second_machine/grown.py EARLIER STORE
+
+A store in the other format grew where its items did: `migrate` writes all of them, in their order. It ends with 0 if so, with 1 if not,
+and says what isn't there. It ends with 3 if a file can't be read, or EARLIER is no store. It is written from docs/FORMATS.md, as verify.py is.
+"""
+import pathlib
+import sys
+
+sys.dont_write_bytecode = True
+sys.path.insert(0, str(pathlib.Path(__file__).resolve().parent.parent))
+import verify
+from parts.script import Refused, content_of, end, plain, words_of
+
+READ, LONGEST, LIMIT = verify.STORE
+
+
+def gate_of(content):
+    """The place of the gate that ends a store. It goes by the last range alone."""
+    begin, limit = verify.ranges(content, LIMIT)[-1]
+    return max([begin, *(gate for *_, gate in verify.run(content, begin, limit, READ, LONGEST))])
+
+
+def named(payload):
+    return {1: f"its transaction {int.from_bytes(payload[1:5], 'big')}", 2: "a Frontier of it", 3: "a policy of it"}[payload[0]]
+
+
+def missing(earlier, store):
+    """What of the earlier one isn't there, in words; or None."""
+    gate = gate_of(earlier)
+    if len(store) > gate and store.startswith(earlier[:gate]):
+        return None
+    header = verify.header_of(store)
+    if header is None or header[0] != verify.header_of(earlier)[0]:
+        return "the header is another one"
+    there = verify.records(store, *verify.STORE)
+    for _, payload in verify.records(earlier, *verify.STORE):
+        _, other = next(there, (None, None))
+        if other is None:
+            return f"{named(payload)} isn't there, nor what stood behind that"
+        if other != payload:
+            return f"something else stands in place of {named(payload)}"
+    return None
+
+
+def words():
+    parser = words_of(__doc__)
+    parser.add_argument("earlier")
+    parser.add_argument("store")
+    return parser.parse_args()
+
+
+def main(given):
+    earlier, store = content_of(given.earlier), content_of(given.store)
+    if verify.header_of(earlier) is None:
+        raise Refused(f"{plain(given.earlier)} is no store: {verify.what_is(earlier)}")
+    why = missing(earlier, store)
+    return (f"{why}\n", 1) if why else ("", 0)
+
+
+if __name__ == "__main__":
+    given = words()
+    end(lambda: main(given))
