@@ -4,11 +4,11 @@
     python3 examples/csv_in.py [OPTION ..] TABLE FILE >statements
     ./dragoon store=STORE run ID <statements >replies
 
-    --names A,B,..      the columns' names, in place of those in the heading
+    --names A,B,..      the columns' names, in place of those in the heading, which row 1 is even so
     --key NAME          the key column, the first one if none is named; in the table it stands first
     --kind NAME=KIND    the kind of a column: int, text, bool (TRUE or True is true), bytes (the field is hexadecimal) or utf8 (see below)
     --empty-text        an empty field of a text, bytes or utf8 column has no bytes; otherwise every empty field is null
-    --add               the table is there already: no `create`
+    --add               the table is there already: no `create`. Fields go by place, with the key in front: so stand the table's columns
     --session N         transactions of many rows, by session N (0 to 15)
     --rows N            so many rows in a transaction at most, 256 if not given
     --delimiter C       between fields, a comma if not given; `tab` is a tab
@@ -20,7 +20,8 @@ A column of which text is made, though it looks like something else (`TRUE`, `00
 of it are whole numbers, is named on standard error.
 
 What the language can't hold is refused with its row and column, and so is a row with too few or too many fields, a key that
-is empty or stands there twice, and a name that is none. Nothing is written then, and the status is 1. The heading is row 1.
+is empty or stands there twice, and a name that is none. Nothing is written then, and the status is 1. Row 1 is the heading, and goes into no
+table: a file without one wants one. Where it looks like a row, or --names stands for it, standard error says so.
 
 FILE is in UTF-8; `-` is standard input. After a crash give the statements again: what is there is refused (RowExists), and
 the rest goes in.
@@ -48,7 +49,7 @@ LOOKS = (
         "dates stay text, and sort by their day first: 2026-12-31 would sort by time, and as 20261231 it would be an int"),
     (r"[0-9]{4}[./-][0-9]{1,2}[./-][0-9]{1,2}([ T].*)?", "dates stay text, and sort by time: written as 20261231 they would be ints"),
     (r"[0-9]{1,2}:[0-9]{2}(:[0-9]{2}([.,][0-9]+)?)?", "times of day stay text; as seconds they would be ints"),
-    (r"[+-]?[0-9]{1,3}([.,' _][0-9]{3})+", "numbers with signs between their digits stay text"),
+    (r"[+-]?[0-9]{1,3}([.,' _][0-9]{3})*", "numbers with signs between their digits, as thousands have them, stay text: without these they would be ints"),
     (FRACTION, "numbers with a fraction stay text: no kind has one, so whole cents would have to stand there"),
     (FRACTION + "([eE][+-]?[0-9]+)?", "numbers with an exponent stay text: an int stands in digits alone"),
     ("0[xX][0-9a-fA-F]+", "hexadecimal numbers stay text: without `0x` --kind {0}=bytes makes bytes of them"),
@@ -131,6 +132,23 @@ def looks(name, fields):
     return None
 
 
+def is_a_row(heading, columns):
+    """Whether a heading looks like a row: one of its cells is what its column holds, or has digits and no letter."""
+    return any(kind == kind_of([heading[at]]) != "text" or re.fullmatch("[^a-zA-Z]*[0-9][^a-zA-Z]*", heading[at]) for _, at, kind in columns)
+
+
+def note_heading(heading, columns, options):
+    """Says what becomes of row 1 where it may be a row, and of the fields where they go by place."""
+    row = "".join(letter if letter.isprintable() else "?" for letter in ",".join(heading)[:60])
+    shown = f"row 1, `{row}`, is taken as the heading, and goes into no table"
+    if is_a_row(heading, columns):
+        print(f"csv_in: {shown}. It looks like a row: a file without a heading wants one in front", file=sys.stderr)
+    elif options.names:
+        print(f"csv_in: {shown}", file=sys.stderr)
+    if options.add:
+        print(f"csv_in: the fields go by place, as {', '.join(name for name, *_ in columns)}: so the columns of {options.table} have to stand", file=sys.stderr)
+
+
 def note_looks(columns, rows):
     """Says of which columns text is made, though they look like something else."""
     for name, at, kind in columns:
@@ -144,10 +162,15 @@ def read(file, delimiter):
     text = file.read()
     if text[:2] in ("\udcff\udcfe", "\udcfe\udcff") or "\0" in text[:2]:
         raise Refused("this is UTF-16: `iconv -f UTF-16 -t UTF-8` makes UTF-8 of it")
-    rows = csv.reader(io.StringIO(text, newline=""), delimiter=delimiter, strict=True)
+    rows, table, number, begin = csv.reader(io.StringIO(text, newline=""), delimiter=delimiter, strict=True), [], 0, 0
     try:
-        table = [(number, row) for number, row in enumerate(rows, 1) if row]
+        for number, row in enumerate(rows, 1):
+            begin = rows.line_num
+            if row:
+                table.append((number, row))
     except csv.Error as fault:
+        if "unexpected end" in str(fault):
+            raise Refused(f"row {number + 1}, which begins in line {begin + 1}: a quote in it is never closed") from None
         raise Refused(f"line {rows.line_num}: {fault}") from None
     if not table:
         raise Refused("there is no heading")
@@ -165,7 +188,8 @@ def columns_of(heading, rows, options):
         raise Refused(f"there are {len(names)} names for {len(heading)} columns")
     for name in names:
         if not NAME.fullmatch(name) or names.count(name) > 1:
-            raise Refused(f"row 1, column {name}: no name, or one that stands there twice (--names {legal(heading)} would do)")
+            would = f"where row 1 is a heading, --names {legal(heading)} would do; where it is a row, put a heading in front"
+            raise Refused(f"row 1, column {name}: no name, or one that stands there twice ({would})")
     if len(names) > 32:
         raise Refused(f"there are {len(names)} columns, and a table has at most 32")
     key = options.key or names[0]
@@ -222,6 +246,7 @@ def statements(file, options):
     columns = columns_of(heading, rows, options)
     if not rows and not options.add:
         print("csv_in: there is no row, so each column without --kind NAME=KIND becomes text, the key too", file=sys.stderr)
+    note_heading(heading, columns, options)
     note_looks([column for column in columns if column[0] not in dict(options.kind)], rows)
     if not options.add:
         yield f"create {options.table} " + " ".join(f"{name} {KINDS[kind]}" for name, _, kind in columns)

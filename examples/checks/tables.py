@@ -80,20 +80,30 @@ REFUSED = [  # options, heading, rows, and what is said
     ([], "a,a", ["1,x"], "row 1, column a: no name, or one that"),
     (["--names", "a"], "a,b", ["1,x"], "there are 1 names for 2 columns"),
     (["--key", "c"], "a,b", ["1,x"], "there is no column c"),
-    ([], "a,b", ['1,"x'], "line 2: unexpected end"),
+    ([], "a,b", ['1,"x'], "row 2, which begins in line 2: a quote in it is never closed"),
+    ([], "a,b", ['1,"x', 'y"', "", '2,"x', "3,y"], "row 4, which begins in line 5: a quote in it is never closed"),
+    ([], "a,b", ['1,"x"y'], "line 2: "),
+    ([], "1,Ada", ["2,Bob"], "row 1, column 1: no name, or one that stands there twice (where row 1 is a heading, --names c_1,ada would do; where it is a row, put"),
     ([], "a;b", ["1;x"], "row 1: this is one column with ';' in its name: --delimiter ';' cuts there"),
     ([], "a\tb", ["1\tx"], "row 1: this is one column with tab in its name: --delimiter tab cuts there"),
     (["--delimiter", ";"], "a,b", ["1,x"], "row 1: this is one column with ',' in its name"),
-    ([], "Größe,2nd,,a b,a-b", ["1,2,3,4,5"], "row 1, column Größe: no name, or one that stands there twice (--names groe,c_2nd,column_3,a_b,a_b_5 would"),
+    ([], "Größe,2nd,,a b,a-b", ["1,2,3,4,5"], "row 1, column Größe: no name, or one that stands there twice (where row 1 is a heading, --names groe,c_2nd,column_3,a_b,a_b_5 would"),
 ]
 # columns that become text, and what is said of them
 NOTED = [
     ("TRUE,FALSE,", "--kind b=bool"), ("true,True", "--kind b=bool"), ("true,false", None), ("x,TRUE", None), ("yes,no", "words for true"), ('"12,50",7', "a fraction"),
-    ('"12,50","-1.234,00"', "a fraction"), ("12.50,0.1", "a fraction"), ("5,1.5,.5", "a fraction"), ("1'000,2'000", "between their digits"), ("1_000,2_000", "between their digits"),
+    ('"12,50","-1.234,00"', "a fraction"), ("12.50,0.1", "a fraction"), ("5,1.5,.5", "a fraction"), ("1'000,2'000", "between their digits"), ('"1,000",250', "as thousands have them"), ("1_000,2_000", "between their digits"),
     ("01.02.2026,31.12.2026", "20261231"), ("31.12.2026,1/2/26", "20261231"), ("2026-12-31,2027-01-01", "20261231"), ("2026-12-31 10:00,2027-01-01T00:00:00Z", "dates"),
     ("10:30,23:59:59", "times of day"), ("007,12", "--kind b=int"), ("+5,7", "--kind b=int"), ("-0,1", "--kind b=int"), ("12345678901234567890,1", "wider than 64 bits"), ("9223372036854775808,007", "wider than 64 bits"), ("9223372036854775807,007", "--kind b=int"), ("1e5,2E-3", "an exponent"),
     ("1e5,2,1.5", "an exponent"), ("0x1F,0xff", "--kind b=bytes"), (" 5,6 ", "blanks"), ("5 %,6 %", "a unit"), ("$5,€ 6.50", "a unit"), ("5.00 EUR,6.50 EUR", "a unit"),
     ("1,2,n/a", "1 of 3 fields are no whole numbers, as `n/a`"), ("1,x,y", "2 of 3 fields are no whole numbers, as `x`"), ("TRUE,12.5,1e5", "of several forms, as `TRUE`"), ("TRUE,x", None), ("a,b", None), ("007x,8x", None), ("192.168.0.1,10.0.0.1", None), ("1.2.3,1.2.4", None), ("-,-", None), ("030 123456,040 98765", None),
+]
+# what is said of a heading that may be a row, and of fields that go by place
+ROW, LIKE = "csv_in: row 1, `{}`, is taken as the heading, and goes into no table", ". It looks like a row: a file without a heading wants one in front"
+HEADINGS = [  # options, the file, and what is said
+    ([], "id,n\n1,x\n", ""), ([], "a,true\n1,false\n", ROW.format("a,true") + LIKE), (["--names", "a,b"], "1,Ada\n2,Bob\n", ROW.format("1,Ada") + LIKE),
+    (["--names", "a,b"], "2026-12-31,x\n?,y\n", ROW.format("2026-12-31,x") + LIKE), (["--names", "a,b"], "#,N\x1b\n1,x\n", ROW.format("#,N?")),
+    (["--add", "--key", "n"], "id,n\n1,x\n", "csv_in: the fields go by place, as n, id: so the columns of t have to stand"),
 ]
 NO_REPLIES = (
     "", "row 1\n", "row 1\nrows 2\n", "row 1 2\nrows 1\n", "rows 0\nrows 0\n", "version 1 - row 1\nrows 1\n", "none\n",
@@ -119,6 +129,10 @@ def refusals(folder):
         status, out, told = script("csv_in.py", "t", folder / "in.csv")
         if status or not out.startswith("create t a int b ") or (wanted or "") not in told or bool(told) != bool(wanted):
             raise Wrong(f"of {fields} is said {told}, and not {wanted}")
+    for options, text, wanted in HEADINGS:
+        status, _, told = script("csv_in.py", *options, "t", "-", lines=text)
+        if status or told.partition("\n")[0] != wanted:
+            raise Wrong(f"of {text!r} is said {told}, and not {wanted}")
     if script("csv_in.py", "--kind", "b=int", "t", "-", lines="a,b\n1,007\n2,+5\n3,-0\n")[1] != "create t a int b int\ninsert t 1 7\ninsert t 2 5\ninsert t 3 0\n":
         raise Wrong("007 and +5 aren't taken for ints")
     if script("csv_in.py", "--kind", "b=bool", "t", "-", lines="a,b\n1,TRUE\n2,False\n")[1] != "create t a int b bool\ninsert t 1 true\ninsert t 2 false\n":
