@@ -90,7 +90,7 @@ class Page:
     def facts(self):
         yield "Asked", page.safe(f"{self.at}, by {self.by}, on {self.machine}")
         yield "Store", self.file(self.files["store"])
-        yield "Its copy", self.file(self.files["copy"])
+        yield "Its copy", self.file(self.files["copy"]) + self.originals()
         book = self.files["book"]
         yield "Notary", f"{self.file(book)}<br>These bytes are the front of a book that only grows. Whoever keeps it compares: <code>head -c {book.length} BOOK | sha256sum</code>"
         yield "Evidence", self.file(self.evidence)
@@ -99,6 +99,11 @@ class Page:
         yield "Granules", f"{moments.length(self.width)} each"
         for at, era in enumerate(self.shown.eras):
             yield f"Era {at}", f"from tile {era.tile} on: {1 << era.k} granules to a tile; {chains(era)}"
+
+    def originals(self):
+        """Of how many altered granules the copy gave what was filed."""
+        altered = [it for it in self.said or [] if not it.first]
+        return f"<br>It gave the originals of {sum(it.second is True for it in altered)} of {counted(len(altered), 'granule')}." if altered else ""
 
     def file(self, file):
         return f'{page.safe(file.path)}, {counted(file.length, "byte")}<br><span class="sum">SHA-256 {file.sum}</span>'
@@ -185,7 +190,7 @@ CANNOT_SAY = (
 )
 HOW_TO_CHECK = (
     "Compare the SHA-256 of `SHA256SUMS` with the one that was signed or handed over.",
-    "`sha256sum -c SHA256SUMS` in the bundle's folder says whether each file is the one that was sealed.",
+    "`sha256sum -c SHA256SUMS` in the bundle's folder says whether each file is as that list says.",
     "`bash check` there does the same. It makes the evidence file anew of store, copy and book, and examines it by the book. It takes Python alone.",
     "Whoever trusts none of these scripts writes others: `docs/FORMATS.md` has each byte.",
 )

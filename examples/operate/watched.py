@@ -23,8 +23,8 @@ COMMANDS = ("notarize", "validate", "run", "analyse")
 
 Conf = collections.namedtuple("Conf", "name store book id alg state")
 Header = collections.namedtuple("Header", "bytes_left granules_left full_at tile_seconds")
-# `end` is the place of the gate that ends the records: all bytes in front of it stay as they are
-Book = collections.namedtuple("Book", "content end tiles filed mark")
+# `end` is the place of the gate that ends the records: all bytes in front of it stay as they are. `others` are the other ids that it has
+Book = collections.namedtuple("Book", "content end tiles filed mark others")
 Ended = collections.namedtuple("Ended", "status moment answer")
 Kept = collections.namedtuple("Kept", "id tiles end digest moment")
 Sealed = collections.namedtuple("Sealed", "id tiles moment")
@@ -157,7 +157,7 @@ def read_book(conf, content):
         raise Wrong(f"{conf.book} is empty: the first `notarize` is made by hand")
     if not verify.is_book(content):
         raise Wrong(f"{conf.book} is no book")
-    end, batches, filed, mark = verify.FIRST_GATE, 0, None, None
+    end, batches, filed, mark, others = verify.FIRST_GATE, 0, None, None, set()
 
     def read():
         nonlocal end
@@ -171,9 +171,24 @@ def read_book(conf, content):
                 mark = filing
             elif filing.id == conf.id:
                 batches, filed = batches + 1, filing.moment
+            else:
+                others.add(filing.id)
     except ValueError as why:
         raise Wrong(f"{conf.book} is no book: {why}") from why
-    return Book(content, end, max(0, batches - 1), filed, mark)
+    return Book(content, end, max(0, batches - 1), filed, mark, sorted(others))
+
+
+def filed_elsewhere(book):
+    """Words on a book that has batches of other ids alone: it may be another store's."""
+    return f", and is filed under the id {', '.join(map(str, book.others[:9]))}" if book.filed is None and book.others else ""
+
+
+def elsewhere(conf, content):
+    """The same of what may be no book."""
+    try:
+        return filed_elsewhere(read_book(conf, content))
+    except Wrong:
+        return ""
 
 
 def verdict(mark):
@@ -240,9 +255,9 @@ def hold(conf, durable=False):
     is open has a whole record behind it in any case."""
     kept, (content, _) = read_kept(conf), content_of(conf.book, durable=durable)
     if kept and len(content) <= kept.end:
-        raise Rewritten(f"{conf.book} was cut: it has {len(content)} bytes, and had more than {kept.end} on {date(kept.moment)}")
+        raise Rewritten(f"{conf.book} was cut: it has {len(content)} bytes, and had more than {kept.end} on {date(kept.moment)}{elsewhere(conf, content)}")
     if kept and digest(content, kept.end) != kept.digest:
-        raise Rewritten(f"{conf.book} was rewritten: its first {kept.end} bytes aren't those of {date(kept.moment)}")
+        raise Rewritten(f"{conf.book} was rewritten: its first {kept.end} bytes aren't those of {date(kept.moment)}{elsewhere(conf, content)}")
     book, least = read_book(conf, content), sealed(conf, kept)
     ends, hidden = f"{conf.book} ends at byte {book.end + 1}", verify.hidden(content, book.end)
     if content[book.end] == OPEN:
@@ -264,7 +279,7 @@ def begin(conf, book, kept):
     if book.filed is None:
         if (id := store_id(conf)) not in (None, conf.id):
             raise Wrong(f"{conf.book} has no batch of the id {conf.id}, and {conf.store} has the id {id}: which of them does the conf mean?")
-        raise Wrong(f"{conf.book} has no batch of the id {conf.id}: the first `notarize` is made by hand")
+        raise Wrong(f"{conf.book} has no batch of the id {conf.id}{filed_elsewhere(book)}: the first `notarize` is made by hand")
     keep(conf, book, book.tiles)
     tell_believed(conf, f"{conf.book}, so its {book.tiles} sealed tiles")
 
@@ -388,8 +403,8 @@ def hear(conf, command, told):
     """Hands on what the program told on standard error, and keeps what it said of bytes behind the end of the store."""
     print(told, end="", file=sys.stderr, flush=True)
     behind = re.search("^dragoon: (the store .* bytes stand behind it):", told, re.MULTILINE)
-    file = pathlib.Path(conf.state) / f"{conf.name}.behind"
-    if behind and not os.path.exists(file):
+    file = behind_file(conf)
+    if behind and not (os.path.exists(file) and os.path.getsize(file)):
         is_kept(conf, command, lambda: write_whole(file, f"{date(int(time.time()))}: {behind[1]}\n"))
 
 
@@ -490,11 +505,15 @@ def alarm_of(status):
     return next((alarm for alarm, statuses in alarms.items() if status in statuses), "fault")
 
 
+def behind_file(conf):
+    return pathlib.Path(conf.state) / f"{conf.name}.behind"
+
+
 def behind_store(conf):
     """What the program said of bytes that stand behind the end of the store, or None. It stays until somebody removes the file."""
-    file = pathlib.Path(conf.state) / f"{conf.name}.behind"
+    file = behind_file(conf)
     try:
-        return left_in(file).rstrip("\n")
+        return left_in(file).strip() or f"bytes stand behind the end of {conf.store}: {file} is there, and has lost what was said of them"
     except FileNotFoundError:
         return None
     except ValueError as error:
