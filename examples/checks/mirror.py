@@ -5,7 +5,7 @@
 
 It is 100 times if no number is given. A shop changes two tables all the time, and drains take the changes into a store. At some
 moment kill -9 ends one of these, chosen by lot: the shop, the drain, the program under it, or drain and program; or the drain as
-it would read the `ok N` of a commit. At the end one more drain takes what is left, and the store is held against the database:
+it would read the `ok N` of a commit. Triggers are dropped, and tables. At the end one more drain takes what is left, and the store is held against the database:
 each table, and of each key the rows that it ever had, in order.
 """
 import os
@@ -155,6 +155,31 @@ def files_by_hand_first(folder):
         raise Wrong(f"a drain that files ends with {status}: {said}{told}")
 
 
+# what is done to a database, and the triggers that are gone then
+LOST = [
+    ("drop trigger mirror_t_rename", "mirror_t_rename"),
+    ("drop table t; create table t (id integer primary key, v int)", "mirror_t_insert, mirror_t_update, mirror_t_rename, mirror_t_delete"),
+    ("drop trigger mirror_limits", "mirror_limits"),
+    ("drop table t", None), ("alter table t rename to u", None),
+]
+
+
+def sees_triggers(folder):
+    """A table without its triggers is no news but to its history. One that is gone, or has another name, has all of them."""
+    for at, (done, lost) in enumerate(LOST):
+        shop, store = folder / f"{at}.db", folder / f"{at}.store"
+        db = sqlite3.connect(shop)
+        db.execute("create table t (id integer primary key, v int)")
+        db.commit()
+        script("mirror/attach.py", shop, "t")
+        dragoon(f"store={store}", "init", "7", "60", "3", "m")
+        db.executescript(f"insert into t values (1, 2); {done}")
+        db.close()
+        status, said, told = script("mirror/drain.py", shop, store, "7")
+        if (status, said) != (int(bool(lost)), "drained 2\n") or (f"triggers are gone: {lost}. What" in told) != bool(lost):
+            raise Wrong(f"a drain after `{done}` ends with {status}: {said}{told}")
+
+
 def main(words):
     count, rng = count_of(words, 100, __doc__), random.Random()
     with tempfile.TemporaryDirectory() as name:
@@ -171,13 +196,14 @@ def main(words):
         if status or dragoon(f"store={folder / 'store'}", "init", "7", "60", "3", "m")[0]:
             raise Wrong(f"the mirror can't be made: {told}")
         status, _, told = script("mirror/drain.py", folder / "shop.db", folder / "store", "8")
-        if status != 1 or "no store with the id 8" not in told:
+        if status != 1 or "no store with the id 8\n" not in told or "has the id 7, and not 8" not in told:
             raise Wrong(f"a drain with a wrong id ends with {status}: {told}")
         for wanted in ("drained 3\n", "drained 0\n"):
             status, said, told = script("mirror/drain.py", folder / "shop.db", folder / "store", "7")
             if (status, said, told) != (0, wanted, ""):
                 raise Wrong(f"a drain where nothing is wrong ends with {status}: {said}{told}")
         files_by_hand_first(folder)
+        sees_triggers(folder)
         killed = [one_time(folder, rng) for _ in range(count)]
         for _ in range(50):
             status, _, told = script("mirror/drain.py", folder / "shop.db", folder / "store", "7")

@@ -14,7 +14,9 @@ was stored. So after a crash of either side, also between `ok N` and its reading
 drain asks for that row first. Before changes are sent, their number is made durable in the database, together with all that
 stands before it. A row that is none of the two numbers says that one side was put back from a copy, and nothing is sent.
 
-It ends with 0 if all was taken, 1 if it had to stop, 6 where records stand hidden in the book or it has nothing of the store (the first
+It looks that the triggers of attach.py are there: a table that was dropped and made anew has none, and its changes reach no outbox.
+
+It ends with 0 if all was taken, 1 if it had to stop or triggers are gone, 6 where records stand hidden in the book or it has nothing of the store (the first
 `notarize` is made by hand), and 2 on other words. DRAGOON names another program than ./dragoon.
 """
 import argparse
@@ -30,6 +32,8 @@ from urllib.parse import quote
 DRAGOON = os.environ.get("DRAGOON") or str(pathlib.Path(__file__).resolve().parents[2] / "dragoon")
 HOLD = pathlib.Path(__file__).resolve().parents[1] / "operate" / "hold"
 CHANGES, WEIGHT = 255, 32_000
+# what attach.py has a trigger for in each table
+CHANGED = "insert", "update", "rename", "delete"
 # at the end the program names the first line that it refused: these are refused where nothing is wrong, and their replies are read
 EXPECTED = rb"dragoon: .* (is a refusal, that|are refusals, the first one) to line [0-9]+, `(get mirrored 0`: NoTable|s0 insert .*: RowExists)"
 
@@ -42,7 +46,7 @@ class Program:
     """A run of the program over the store."""
 
     def __init__(self, devices, id):
-        self.id = id
+        self.id, self.store = id, devices[0].partition("=")[2]
         proved = {**os.environ, "DRAGOON_PROVED": "1"}
         self.run = subprocess.Popen([DRAGOON, *devices, "run", id], stdin=subprocess.PIPE, stdout=subprocess.PIPE,
             stderr=subprocess.PIPE, env=proved)
@@ -60,7 +64,8 @@ class Program:
             pass
         reply = self.run.stdout.readline().decode()
         if reply == "fault NotAStore\n":
-            raise Stopped(f"there is no store with the id {self.id} (`init` makes one)")
+            is_there = os.path.exists(self.store) and os.path.getsize(self.store) > 1
+            raise Stopped(f"{self.store} is no store with the id {self.id}" + ("" if is_there else " (`init` makes one)"))
         if not reply.endswith("\n") or reply.startswith("fault "):
             raise Stopped(f"the program ended ({reply.strip() or 'without a word'})")
         return reply[:-1]
@@ -141,6 +146,14 @@ def drain(db, program, most):
     return taken
 
 
+def lost_triggers(db):
+    """The triggers of attach.py that are gone: that of the outbox, and those of each table that it attached and that is there."""
+    there = {name.lower(): kind for name, kind in db.execute("select name, type from sqlite_master where type in ('table', 'trigger')")}
+    attached = {statement.split(" ")[1] for (statement,) in db.execute("select statement from mirror_outbox where statement glob 'create *'")}
+    wanted = [f"mirror_{table}_{change}" for table in sorted(attached) if there.get(table) == "table" for change in CHANGED]
+    return [name for name in (*wanted, "mirror_limits") if there.get(name) != "trigger"]
+
+
 def not_to_be_filed(books, id):
     """Why nothing may be filed with these books, or None. A filing would write over records that stand hidden behind the end of one, and
     a book that is lost must not come back empty: more than half of several have to know the id."""
@@ -193,6 +206,8 @@ def main():
                 print(program.have("notarize", "sealed"))
         finally:
             program.end()
+        if lost := lost_triggers(db):
+            raise Stopped(f"triggers are gone: {', '.join(lost)}. What was changed without them is in no outbox: begin with a new store")
     except (OSError, sqlite3.Error, Stopped) as fault:
         print(f"drain: {fault}", file=sys.stderr)
         return 1
