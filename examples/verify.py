@@ -413,15 +413,14 @@ def in_turn(filings):
         yield filing
 
 
-def batches_of(content, id):
+def batches_of(content, id, name="the second file"):
     """The batches that are filed under the id, each as a list of seals."""
     if not is_book(content):
-        front = ": it begins as one, and its front is cut or damaged" if begins_as(content, b"DRAGBOK") else ""
-        raise ValueError(f"the second file is no notary's book{front}")
+        raise ValueError(f"{name} is no notary's book: {what_is(content)}")
     try:
         filings = list(in_turn(filing for filing, _ in records(content, *BOOK)))
     except ValueError as why:
-        raise ValueError(f"the second file is no notary's book: {why}") from why
+        raise ValueError(f"{name} is no notary's book: {why}") from why
     return [seals_of(it) for it in filings if isinstance(it, Batch) and it.id == id]
 
 
@@ -581,7 +580,8 @@ def call(name, book, id, *files):
 def comparison(store_name, book_name, id, era):
     """Compares a store with a book. The answer is the lines and the status."""
     store, book = map(content_of, (store_name, book_name))
-    lines, both = compare(store, batches_of(book, int(id)), int(id), era)
+    swapped = " (STORE stands before BOOK)" if is_book(store) and header_of(book) else ""
+    lines, both = compare(store, batches_of(book, int(id), f"{plain(book_name)}{swapped}"), int(id), era)
     if begins_as(store, b"DRAGOON"):
         tell_hidden(store_name, store, STORE)
     tell_hidden(book_name, book, BOOK)
