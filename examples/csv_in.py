@@ -134,7 +134,7 @@ def looks(name, fields):
 
 def is_a_row(heading, columns):
     """Whether a heading looks like a row: one of its cells is what its column holds, or has digits and no letter."""
-    return any(kind == kind_of([heading[at]]) != "text" or re.fullmatch("[^a-zA-Z]*[0-9][^a-zA-Z]*", heading[at]) for _, at, kind in columns)
+    return any(kind == kind_of([heading[at]]) != "text" or re.fullmatch(r"[\W\d_]*[0-9][\W\d_]*", heading[at]) for _, at, kind in columns)
 
 
 def note_heading(heading, columns, options):
@@ -146,7 +146,7 @@ def note_heading(heading, columns, options):
     elif options.names:
         print(f"csv_in: {shown}", file=sys.stderr)
     if options.add:
-        print(f"csv_in: the fields go by place, as {', '.join(name for name, *_ in columns)}: so the columns of {options.table} have to stand", file=sys.stderr)
+        print(f"csv_in: the fields go by place, so the columns of {options.table} have to be {', '.join(name for name, *_ in columns)}, in this order", file=sys.stderr)
 
 
 def note_looks(columns, rows):

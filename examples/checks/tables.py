@@ -103,7 +103,8 @@ ROW, LIKE = "csv_in: row 1, `{}`, is taken as the heading, and goes into no tabl
 HEADINGS = [  # options, the file, and what is said
     ([], "id,n\n1,x\n", ""), ([], "a,true\n1,false\n", ROW.format("a,true") + LIKE), (["--names", "a,b"], "1,Ada\n2,Bob\n", ROW.format("1,Ada") + LIKE),
     (["--names", "a,b"], "2026-12-31,x\n?,y\n", ROW.format("2026-12-31,x") + LIKE), (["--names", "a,b"], "#,N\x1b\n1,x\n", ROW.format("#,N?")),
-    (["--add", "--key", "n"], "id,n\n1,x\n", "csv_in: the fields go by place, as n, id: so the columns of t have to stand"),
+    (["--add", "--key", "n"], "id,n\n1,x\n", "csv_in: the fields go by place, so the columns of t have to be n, id, in this order"),
+    (["--names", "a,b"], "金額1,b\n1,x\n", ROW.format("金額1,b")),
 ]
 NO_REPLIES = (
     "", "row 1\n", "row 1\nrows 2\n", "row 1 2\nrows 1\n", "rows 0\nrows 0\n", "version 1 - row 1\nrows 1\n", "none\n",

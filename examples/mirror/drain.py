@@ -16,8 +16,8 @@ stands before it. A row that is none of the two numbers says that one side was p
 
 It looks that the triggers of attach.py are there: a table that was dropped and made anew has none, and its changes reach no outbox.
 
-It ends with 0 if all was taken, 1 if it had to stop or triggers are gone, 6 where records stand hidden in the book or it has nothing of the store (the first
-`notarize` is made by hand), and 2 on other words. DRAGOON names another program than ./dragoon.
+It ends with 0 if all was taken, 1 if it had to stop or triggers are gone, 6 where records stand hidden in the book or it has nothing of the
+store (the first `notarize` is made by hand), and 2 on other words. DRAGOON names another program than ./dragoon.
 """
 import argparse
 import os
