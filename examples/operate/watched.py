@@ -22,7 +22,8 @@ KEYS = ("STORE", "BOOK", "ID", "ALG", "STATE")
 COMMANDS = ("notarize", "validate", "run", "analyse")
 
 Conf = collections.namedtuple("Conf", "name store book id alg state")
-Header = collections.namedtuple("Header", "bytes_left granules_left full_at tile_seconds")
+# `last` is the clock's second of the last moment
+Header = collections.namedtuple("Header", "bytes_left granules_left full_at tile_seconds last")
 # `end` is the place of the gate that ends the records: all bytes in front of it stay as they are. `others` are the other ids that it has
 Book = collections.namedtuple("Book", "content end tiles filed mark others")
 Ended = collections.namedtuple("Ended", "status moment answer")
@@ -148,7 +149,25 @@ def read_header(conf):
     if not width:
         raise Wrong(f"{conf.store} is no store")
     granule = max(0, int(time.time()) - epoch) // width
-    return Header(max(0, STORE_LIMIT - length), max(0, GRANULES - granule), epoch + GRANULES * width, width << min(exponent, 10))
+    last = epoch + (last_moment(conf, length) if head[8:9] == b"2" else 0)
+    return Header(max(0, STORE_LIMIT - length), max(0, GRANULES - granule), epoch + GRANULES * width, width << min(exponent, 10), last)
+
+
+def last_moment(conf, length):
+    """The last moment of a store of format 2, as its last segment with one says; or 0."""
+    try:
+        with verify.opened(conf.store) as file:
+            for begin in range((length - 1) // verify.SEGMENT * verify.SEGMENT, -1, -verify.SEGMENT):
+                file.seek(begin)
+                content = file.read(verify.SEGMENT)
+                first = 0 if begin else verify.FIRST_GATE
+                found = verify.run(content, first, len(content), *verify.STORE[:2]) if len(content) > first else ()
+                places = [(payload, {1: 5, 2: 1}[payload[0]]) for _, payload, _ in found if payload[0] != 3]
+                if places:
+                    return max(int.from_bytes(payload[at : at + 8], "big") for payload, at in places)
+    except OSError as error:
+        raise Wrong(f"{conf.store}: {error.strerror}") from error
+    return 0
 
 
 def read_book(conf, content):
