@@ -34,6 +34,10 @@ Length = collections.namedtuple("Length", "id bytes moment")
 CLEAN, ALTERED = verify.CLEAN, verify.ALTERED
 # the statuses of a command that say something of the store's file, of the notary, or of the history; all others are faults
 STORE_STATUSES, NOTARY_STATUSES, ALTERED_STATUSES = {4, 5}, {6, 11, 12, 19}, {1, 10}
+# what is added of bytes behind the end of the store once a command had them there that writes
+WRITTEN_OVER = ", and what was stored since may be written over them"
+# these stand, whatever else a command ends with, until one ends well
+STANDING = ALTERED_STATUSES | NOTARY_STATUSES
 USAGE, STORE_FAULT, NOTARY_FAULT, CANNOT = 2, 5, 6, 70
 
 
@@ -372,6 +376,36 @@ def hold_store(conf, durable=False):
     return length, kept
 
 
+def hold_end(conf, again=True):
+    """Sees that a filing writes over nothing behind the end of the store but what looks as a crash leaves it: a gate 00, and no record that
+    another one follows."""
+    _, length = content_of(conf.store, 0)
+    begin = (length - 1) // verify.SEGMENT * verify.SEGMENT
+    try:
+        with verify.opened(conf.store) as file:
+            letters = file.read(9)[1:]
+            file.seek(begin)
+            content = file.read(verify.SEGMENT)
+    except OSError as error:
+        raise Wrong(f"{conf.store}: {error.strerror}") from error
+    first = 0 if begin else verify.FIRST_GATE
+    if verify.LETTERS.get(letters) != 2 or len(content) <= first:
+        return None
+    end = max([first, *(gate for *_, gate in verify.run(content, first, len(content), *verify.STORE[:2]))])
+    behind = content[end + 1 :]
+    # as if the gate were open
+    opened = bytes([OPEN]) + behind
+    gates = [opened[gate] for *_, gate in verify.run(opened, 0, len(opened), *verify.STORE[:2])]
+    if any(behind) and (content[end] != 0 or gates[:1] == [OPEN]):
+        if again:
+            # a run may have written while this was read
+            time.sleep(0.2)
+            return hold_end(conf, False)
+        ends = f"{conf.store} ends at byte {begin + end + 1}, and {len(behind)} bytes stand behind it"
+        raise Wrong(f"{ends}, which no crash leaves so: nothing is filed over them. Hold the store against its copies (docs/OPERATING.md)")
+    return None
+
+
 def keep_length(conf):
     """Keeps how long the store is now, where it grew. Where nothing was kept of it, its length is believed, which is told."""
     length, kept = hold_store(conf, durable=True)
@@ -419,18 +453,26 @@ def status_of(process):
 
 
 def hear(conf, command, told):
-    """Hands on what the program told on standard error, and keeps what it said of bytes behind the end of the store."""
+    """Hands on what the program told on standard error, and keeps what it said of bytes behind the end of the store, and whether they still
+    stand there."""
     print(told, end="", file=sys.stderr, flush=True)
     behind = re.search("^dragoon: (the store .* bytes stand behind it):", told, re.MULTILINE)
-    file = behind_file(conf)
-    if behind and not (os.path.exists(file) and os.path.getsize(file)):
-        is_kept(conf, command, lambda: write_whole(file, f"{date(int(time.time()))}: {behind[1]}\n"))
+    if not behind:
+        return
+    file, kept = behind_file(conf), ""
+    with contextlib.suppress(FileNotFoundError, ValueError, Unknown):
+        kept = left_in(file).strip()
+    said = kept or f"{date(int(time.time()))}: {behind[1]}"
+    if command in ("notarize", "run") and WRITTEN_OVER not in said:
+        said += WRITTEN_OVER
+    if said != kept:
+        is_kept(conf, command, lambda: write_whole(file, said + "\n"))
 
 
 def between_looks(conf, ask, files):
     """What is asked, as a status and an answer, between two looks at both files. The second one keeps what they are then. Where something
-    may be filed the store is held before: a verdict may say more of one that is shorter."""
-    wrong = look_at(conf, lambda: begin(conf, *hold(conf, durable=True)), lambda: files and hold_store(conf))
+    may be filed the store is held before: a verdict may say more of one that is shorter, and changes nothing behind its end."""
+    wrong = look_at(conf, lambda: begin(conf, *hold(conf, durable=True)), lambda: files and (hold_store(conf), hold_end(conf)))
     if wrong:
         return wrong
     status, answer = ask()
@@ -471,29 +513,42 @@ def is_end_kept(conf, command, status, last):
     """The same of how a command ended. Where it couldn't, the end is written over the older one, which takes no room; or none stands there."""
     if is_kept(conf, command, lambda: keep_end(conf, command, status, last)):
         return True
-    file = end_file(conf, command)
+    file, text = end_file(conf, command), spelled_ends(standing_behind(conf, command, status, last))
     try:
         with open(file, "r+") as older:
-            older.write(spelled_end(status, last))
+            older.write(text)
             older.truncate()
     except OSError:
         is_kept(conf, command, lambda: file.unlink(missing_ok=True))
     return False
 
 
-def spelled_end(status, last):
-    return f"{status} {int(time.time())} {last}\n"
+def spelled_ends(ends):
+    return "".join(f"{ended.status} {ended.moment} {ended.answer}\n" for ended in ends)
+
+
+def standing_behind(conf, command, status, last):
+    """This end of a command, and behind it the alarms that stand since earlier ones: another fault has mended none of them."""
+    ends = [Ended(status, int(time.time()), last.replace("\n", " "))]
+    with contextlib.suppress(Unknown):
+        for ended in ends_of(conf, command) if status else ():
+            if ended.status in STANDING and alarm_of(ended.status) not in {alarm_of(it.status) for it in ends}:
+                ends.append(ended)
+    return ends
 
 
 def keep_end(conf, command, status, last):
     """Keeps how a command ended. What it shows to be mended isn't kept any longer."""
-    write_whole(end_file(conf, command), spelled_end(status, last))
+    write_whole(end_file(conf, command), spelled_ends(standing_behind(conf, command, status, last)))
     if command in ("notarize", "validate") and not status and not ended_well(conf, "run"):
         # store and book open again, after a run that failed
         end_file(conf, "run").unlink(missing_ok=True)
     if command == "validate" and not status:
-        # what an earlier analysis found
+        # what an earlier analysis found, and what an earlier filing did before it ended with another fault
         end_file(conf, "analyse").unlink(missing_ok=True)
+        with contextlib.suppress(Unknown):
+            if len(filed := ends_of(conf, "notarize")) > 1:
+                write_whole(end_file(conf, "notarize"), spelled_ends(filed[:1]))
 
 
 def end_file(conf, command):
@@ -508,12 +563,18 @@ def tell_alarm(name, command, status, last):
 
 def last_end(conf, command):
     """How this command ended the last time, or None where it never did."""
+    return next(iter(ends_of(conf, command)), None)
+
+
+def ends_of(conf, command):
+    """The same, and behind it the alarms that stand since earlier ends, if there are any."""
     file = end_file(conf, command)
     try:
-        status, moment, answer = left_in(file).rstrip("\n").split(" ", 2)
-        return Ended(int(status), int(moment), answer)
+        lines = left_in(file).removesuffix("\n").split("\n")
+        ends = [line.split(" ", 2) for line in lines]
+        return [Ended(int(status), int(moment), answer) for status, moment, answer in ends]
     except FileNotFoundError:
-        return None
+        return []
     except ValueError as error:
         raise Unknown(f"{file} is garbled, so nobody knows how the last {command} ended: the next one writes it anew") from error
 
@@ -549,12 +610,12 @@ def ended_well(conf, command):
 
 
 def failed(conf, alarm):
-    """What the last notarize, validate or run said, where it ended with this alarm; of `altered` also the last analysis."""
+    """What a notarize, validate or run said that ended with this alarm, where nothing has ended well since; of `altered` also the last analysis."""
     for command in COMMANDS[:4 if alarm == "altered" else 3]:
         with contextlib.suppress(Unknown):
-            ended = last_end(conf, command)
-            if ended and ended.status and alarm_of(ended.status) == alarm:
-                return f"{command} ended with {ended.status}, {ended.answer}"
+            for ended in ends_of(conf, command):
+                if ended.status and alarm_of(ended.status) == alarm:
+                    return f"{command} ended with {ended.status}, {ended.answer}"
     return None
 
 
