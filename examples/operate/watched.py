@@ -380,7 +380,7 @@ def hold_end(conf, again=True):
     """Sees that a filing writes over nothing behind the end of the store but what looks as a crash leaves it: a gate 00, and no record that
     another one follows."""
     _, length = content_of(conf.store, 0)
-    begin = (length - 1) // verify.SEGMENT * verify.SEGMENT
+    begin = max(0, length - 1) // verify.SEGMENT * verify.SEGMENT
     try:
         with verify.opened(conf.store) as file:
             letters = file.read(9)[1:]
@@ -401,9 +401,23 @@ def hold_end(conf, again=True):
             # a run may have written while this was read
             time.sleep(0.2)
             return hold_end(conf, False)
+        if is_broken(conf):
+            # that is another alarm, and nothing is filed
+            return None
         ends = f"{conf.store} ends at byte {begin + end + 1}, and {len(behind)} bytes stand behind it"
         raise Wrong(f"{ends}, which no crash leaves so: nothing is filed over them. Hold the store against its copies (docs/OPERATING.md)")
     return None
+
+
+def is_broken(conf):
+    """Whether a filing finds that the store isn't what was filed."""
+    (store, _), (book, _) = content_of(conf.store), content_of(conf.book)
+    try:
+        batches = verify.batches_of(book, conf.id)
+        lines = verify.report(store, batches, conf.id)
+    except ValueError:
+        return False
+    return lines[0].startswith("header altered") or f"cum {len(batches) - 2}" in lines
 
 
 def keep_length(conf):
