@@ -5,7 +5,8 @@
 
 It is 100 times if no number is given. A shop changes two tables all the time, and drains take the changes into a store. At some
 moment kill -9 ends one of these, chosen by lot: the shop, the drain, the program under it, or drain and program; or the drain as
-it would read the `ok N` of a commit. Triggers are dropped, and tables. At the end one more drain takes what is left, and the store is held against the database:
+it would read the `ok N` of a commit. Triggers are dropped, and tables. A drain is given a store that is
+another database's, and a text that isn't UTF-8. At the end one more drain takes what is left, and the store is held against the database:
 each table, and of each key the rows that it ever had, in order.
 """
 import os
@@ -161,7 +162,14 @@ LOST = [
     ("drop table t; create table t (id integer primary key, v int)", "mirror_t_insert, mirror_t_update, mirror_t_rename, mirror_t_delete"),
     ("drop trigger mirror_limits", "mirror_limits"),
     ("drop table t", None), ("alter table t rename to u", None),
+    ("delete from mirror_outbox where number < 2; drop trigger mirror_t_update", "mirror_t_update"),
+    ("alter table t rename to u; drop trigger mirror_t_delete", "mirror_t_delete"),
+    ("alter table t rename to u; " + "; ".join(f"drop trigger mirror_t_{it}" for it in ("insert", "update", "rename", "delete")),
+        "mirror_t_insert, mirror_t_update, mirror_t_rename, mirror_t_delete"),
+    ("alter table t rename to u; create table t (id integer primary key)", "mirror_t_insert, mirror_t_update, mirror_t_rename, mirror_t_delete"),
 ]
+# an earlier attach.py made none of these
+OF_NOW = "drop table mirror_name; drop table mirror_attached; drop index mirror_t_is"
 
 
 def sees_triggers(folder):
@@ -173,11 +181,81 @@ def sees_triggers(folder):
         db.commit()
         script("mirror/attach.py", shop, "t")
         dragoon(f"store={store}", "init", "7", "60", "3", "m")
-        db.executescript(f"insert into t values (1, 2); {done}")
+        db.execute("insert into t values (1, 2)")
+        db.commit()
+        script("mirror/drain.py", shop, store, "7")
+        db.executescript(f"insert into t values (2, 2); {done}")
         db.close()
         status, said, told = script("mirror/drain.py", shop, store, "7")
-        if (status, said) != (int(bool(lost)), "drained 2\n") or (f"triggers are gone: {lost}. What" in told) != bool(lost):
+        if (status, said) != (int(bool(lost)), "drained 1\n") or (f"triggers are gone: {lost}. What" in told) != bool(lost):
             raise Wrong(f"a drain after `{done}` ends with {status}: {said}{told}")
+
+
+def attached(folder, name, *rows, then=""):
+    """A database of this name with a table of these rows, attached, and a store for it."""
+    db = sqlite3.connect(folder / f"{name}.db")
+    db.execute("create table t (id integer primary key, v text)")
+    db.commit()
+    script("mirror/attach.py", folder / f"{name}.db", "t")
+    for row in rows:
+        db.execute("insert into t values (?, cast(? as text))", row)
+    db.commit()
+    db.executescript(then)
+    db.close()
+    dragoon(f"store={folder / name}.store", "init", "7", "60", "3", "m")
+    return folder / f"{name}.db", folder / f"{name}.store"
+
+
+def stops(shop, store, text):
+    """A drain stops with these words, and changes nothing of the store."""
+    was = store.read_bytes()
+    status, said, told = script("mirror/drain.py", shop, store, "7")
+    if status != 1 or said or text not in told or "Traceback" in told or store.read_bytes() != was:
+        raise Wrong(f"a drain that has to stop ({text}) ends with {status}: {said}{told}")
+
+
+def drains(shop, store, count):
+    status, said, told = script("mirror/drain.py", shop, store, "7")
+    if (status, said, told) != (0, f"drained {count}\n", ""):
+        raise Wrong(f"a drain of {count} ends with {status}: {said}{told}")
+
+
+def refuses_strangers(folder):
+    """A store that isn't this database's stays as it is, also where both were drained as far."""
+    ours, theirs, old, older = (attached(folder, name, (1, name), then=then)
+        for name, then in (("ours", ""), ("theirs", ""), ("old", OF_NOW), ("older", OF_NOW)))
+    for pair in (ours, theirs, old):
+        drains(*pair, 2)
+        drains(*pair, 0)
+    for shop, store in ((ours[0], theirs[1]), (theirs[0], ours[1]), (ours[0], old[1]), (old[0], ours[1]), (older[0], ours[1])):
+        stops(shop, store, "is the store of another database")
+    other = folder / "other.store"
+    dragoon(f"store={other}", "init", "7", "60", "3", "m")
+    dragoon(f"store={other}", "run", "7", lines="create t id int v text\n")
+    stops(older[0], other, "holds something else than a mirror")
+    dragoon(f"store={other}", "run", "7", lines="create mirrored a text b text\n")
+    stops(older[0], other, "is the store of something else")
+    drains(*older, 2)
+    stops(*attached(folder, "lost", (1, "a"), then="delete from mirror_state"), "mirror_state has lost its row")
+
+
+def stops_at_text(folder):
+    """What stands in front of a text that isn't UTF-8 is taken, and the drain says what to do. A table with such a row isn't attached."""
+    shop, store = attached(folder, "text", (1, b"a"), (2, b"Gr\xfc"), (3, b"b"))
+    status, said, told = script("mirror/drain.py", shop, store, "7")
+    wanted = "change 3, `insert t 2`, has a text that isn't UTF-8", "Stored before that: the name of this mirror, 2 changes\n"
+    if status != 1 or wanted[0] not in told or not told.endswith(wanted[1]):
+        raise Wrong(f"a drain of a text that isn't UTF-8 ends with {status}: {said}{told}")
+    db = sqlite3.connect(shop)
+    db.execute("create table u (id integer primary key, v text)")
+    db.execute("insert into u values (1, cast(x'fc' as text))")
+    db.execute("update mirror_outbox set statement = 'insert t 2 ''Gru''' where number = 3")
+    db.commit()
+    db.close()
+    status, _, told = script("mirror/attach.py", shop, "u")
+    if status != 1 or "text that isn't UTF-8" not in told:
+        raise Wrong(f"a table with a text that isn't UTF-8 is attached: {status} {told}")
+    drains(shop, store, 2)
 
 
 def main(words):
@@ -204,6 +282,8 @@ def main(words):
                 raise Wrong(f"a drain where nothing is wrong ends with {status}: {said}{told}")
         files_by_hand_first(folder)
         sees_triggers(folder)
+        refuses_strangers(folder)
+        stops_at_text(folder)
         killed = [one_time(folder, rng) for _ in range(count)]
         for _ in range(50):
             status, _, told = script("mirror/drain.py", folder / "shop.db", folder / "store", "7")

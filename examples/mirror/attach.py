@@ -10,7 +10,8 @@ how the database is used.
 A table needs a primary key of one column. Columns are of kind int where SQLite's types give integers, bytes where they give
 blobs, and otherwise text, with numbers as SQLite prints them. A column after --utf8 is of kind bytes: the UTF-8 of its texts.
 
-A change that no store can hold is refused when the shop makes it, so that nothing is missing later: a value of another type than
+A change that no store can hold is refused when the shop makes it, so that nothing is missing later (but a text that isn't UTF-8, at which
+drain.py stops): a value of another type than
 its column's, a key that is null, a text with a line end, a tab or another byte below 0x20 (--utf8 takes it), a row of more than
 32,000 bytes. Columns that a table gets afterwards aren't mirrored. Where another column than the key is unique, `replace` takes
 rows away without telling: the shop then sets `pragma recursive_triggers = on`.
@@ -28,12 +29,19 @@ OUTBOX = (
     """create table if not exists mirror_state (
         only integer primary key check (only = 1), sent integer not null, acknowledged integer not null)""",
     "insert or ignore into mirror_state values (1, 0, 0)",
+    # the name of this mirror, and whether its store has that; and what was attached, under the names of then
+    """create table if not exists mirror_name (
+        only integer primary key check (only = 1), name integer not null, is_stored integer not null)""",
+    "insert or ignore into mirror_name values (1, abs(random() % 9223372036854775807), 0)",
+    "create table if not exists mirror_attached (name text primary key)",
     """create trigger if not exists mirror_limits after insert on mirror_outbox begin
         select raise(abort, 'mirror: the row has more than 32,000 bytes') where length(cast(new.statement as blob)) > 32000;
         select raise(abort, 'mirror: a text has a line end, a tab, or another byte below 0x20')
         where new.statement glob '*[' || char(1) || '-' || char(31) || char(127) || ']*';
     end""",
 )
+# an index that holds nothing: it goes wherever its table goes, and is gone with it
+MARK = 'create index if not exists mirror_{table}_is on "{table}" ({key}) where 0'
 NULL, ADD = "'null'", "insert into mirror_outbox (statement)"
 TRIGGERS = (
     'create trigger mirror_{table}_insert after insert on "{table}" begin {add} values (\'insert {table} \' || {row}); end',
@@ -93,11 +101,19 @@ def attach(db, table, utf8):
     key = f'"{columns[0][0]}"'
     for trigger in TRIGGERS:
         db.execute(trigger.format(add=ADD, table=table, key=key, row=row("new", columns), old_key=row("old", columns[:1])))
+    db.execute(MARK.format(table=table, key=key))
+    db.execute("insert or ignore into mirror_attached values (?)", (table,))
     db.execute(f"{ADD} values (?)", (f"create {table} " + " ".join(f"{name} {kind}" for name, kind, _ in columns),))
     try:
         db.execute(f"""{ADD} select 'insert {table} ' || {row("it", columns, "null")} from "{table}" as it order by {key}""")
     except sqlite3.IntegrityError as fault:
         raise Refused(f"{table} has a row that no store can hold ({fault})") from None
+    for (statement,) in db.execute("select cast(statement as blob) from mirror_outbox"):
+        try:
+            statement.decode()
+        except UnicodeDecodeError:
+            shown = statement.decode(errors="backslashreplace")[:60]
+            raise Refused(f"{table} has a row with a text that isn't UTF-8, `{shown}`: mend it first, or name its column after --utf8") from None
 
 
 def main(words):

@@ -12,9 +12,11 @@ and 32,000 bytes of statements at most. So a transaction of the database is seen
 The same transaction of the store says in its table `mirrored` up to which number of the outbox it goes. Nothing else tells what
 was stored. So after a crash of either side, also between `ok N` and its reading, each change is in the store once: the next
 drain asks for that row first. Before changes are sent, their number is made durable in the database, together with all that
-stands before it. A row that is none of the two numbers says that one side was put back from a copy, and nothing is sent.
+stands before it. A row that is none of the two numbers says that one side was put back from a copy, and nothing is sent. The database
+and `mirrored` have the name of the mirror, too, a random number: with the store of another database nothing is stored.
 
-It looks that the triggers of attach.py are there: a table that was dropped and made anew has none, and its changes reach no outbox.
+It looks that the triggers of attach.py are there: a table that was dropped and made anew has none, and its changes reach no outbox. One
+that was renamed goes on under its first name.
 
 It ends with 0 if all was taken, 1 if it had to stop or triggers are gone, 6 where records stand hidden in the book or it has nothing of the
 store (the first `notarize` is made by hand), and 2 on other words. DRAGOON names another program than ./dragoon.
@@ -23,11 +25,16 @@ import argparse
 import os
 import pathlib
 import re
+import secrets
 import sqlite3
 import subprocess
 import sys
 import threading
 from urllib.parse import quote
+
+sys.dont_write_bytecode = True
+sys.path.insert(0, str(pathlib.Path(__file__).resolve().parents[1]))
+import verify
 
 DRAGOON = os.environ.get("DRAGOON") or str(pathlib.Path(__file__).resolve().parents[2] / "dragoon")
 HOLD = pathlib.Path(__file__).resolve().parents[1] / "operate" / "hold"
@@ -50,7 +57,7 @@ class Program:
         proved = {**os.environ, "DRAGOON_PROVED": "1"}
         self.run = subprocess.Popen([DRAGOON, *devices, "run", id], stdin=subprocess.PIPE, stdout=subprocess.PIPE,
             stderr=subprocess.PIPE, env=proved)
-        self.told = []
+        self.told, self.took = [], {}
         # read meanwhile, so that the program never waits for it
         self.reader = threading.Thread(target=lambda: self.told.extend(self.run.stderr))
         self.reader.start()
@@ -89,16 +96,71 @@ class Program:
                 sys.stderr.write(line.decode(errors="replace"))
 
 
-def stored_up_to(program):
-    """The number of the last change that the store holds. The table that says it is made where it is missing."""
-    reply = program.ask("get mirrored 0")
+def value_in(program, key):
+    """What the store's table `mirrored` has at this key, or None. A LookupError says that there is no such table."""
+    reply = program.ask(f"get mirrored {key}")
     if reply == "refused NoTable":
+        raise LookupError
+    found = re.fullmatch(f"row {key} ([0-9]+)|none", reply)
+    if not found:
+        raise Stopped(f"{program.store} is the store of something else (`get mirrored {key}` is answered {reply}): nothing was stored")
+    return found[1] and int(found[1])
+
+
+def mirrored_in(program):
+    """Whether the store has the table, the last change that it holds, and the name of its mirror."""
+    try:
+        return True, value_in(program, 0), value_in(program, 1)
+    except LookupError:
+        with open(program.store, "rb") as file:
+            if any(isinstance(moment, int) for moment, _ in verify.records(file.read(), *verify.STORE)):
+                raise Stopped(f"{program.store} holds something else than a mirror, and is to be for this database alone: nothing was stored") from None
+        return False, None, None
+
+
+def name_of(db):
+    """The name of this mirror, and whether its store has that. A database that was attached by an earlier attach.py has none."""
+    if not db.execute("select 1 from sqlite_master where name = 'mirror_name'").fetchone():
+        return None, 0
+    return db.execute("select name, is_stored from mirror_name").fetchone() or (None, 0)
+
+
+def stored_up_to(db, program):
+    """The number of the last change that the store holds, where the two belong together. What says so is stored where it is missing."""
+    has_table, number, theirs = mirrored_in(program)
+    # asked after the store, which nobody else has open from then on
+    (name, is_stored), state = name_of(db), db.execute("select sent, acknowledged from mirror_state").fetchone()
+    if state is None:
+        raise Stopped("the table mirror_state has lost its row, so nobody knows what was sent: put the database back from a copy, or begin "
+            "with a new one and a new store. Nothing was stored")
+    if theirs not in (None, name) or theirs is None and is_stored and number is not None:
+        raise Stopped(f"{program.store} is the store of another database: its mirror is {theirs or 'without a name'}, and this one {name or 'has none'}. "
+            "Nothing was stored")
+    if (number or 0) not in state:
+        raise Stopped(f"the store goes up to change {number or 0}, and {state[0]} were sent: one side was put back from a copy. Nothing was stored")
+    if name is None:
+        name = secrets.randbits(63)
+        db.execute("create table if not exists mirror_name (only integer primary key check (only = 1), name integer not null, is_stored integer not null)")
+        db.execute("insert into mirror_name values (1, ?, 0)", (name,))
+    if not has_table:
         program.have("create mirrored only int number int", "ok ")
-        reply = "none"
-    if reply == "none":
-        program.have("insert mirrored 0 0", "ok ")
-        reply = "row 0 0"
-    return int(reply.removeprefix("row 0 "))
+    if theirs is None:
+        program.have("s0 begin", "ok")
+        if number is None:
+            program.have("s0 insert mirrored 0 0", "ok")
+        program.have(f"s0 insert mirrored 1 {name}", "ok")
+        program.have("s0 commit", "ok ")
+        program.took["name"] = "the name of this mirror"
+    if not is_stored:
+        db.execute("update mirror_name set is_stored = 1")
+    return number or 0
+
+
+def is_utf8(statement):
+    try:
+        return bool(statement.encode())
+    except UnicodeEncodeError:
+        return False
 
 
 def weight(statement):
@@ -111,6 +173,12 @@ def next_changes(db, number, most):
     found, total = [], 0
     ask = "select number, statement from mirror_outbox where number > ? order by number limit ?"
     for change in db.execute(ask, (number, most)):
+        if not is_utf8(change[1]):
+            if found:
+                break
+            front = " ".join(change[1].split(" ")[:3]).encode(errors="surrogateescape").decode(errors="backslashreplace")
+            raise Stopped(f"change {change[0]}, `{front[:100]}`, has a text that isn't UTF-8, and no store takes it. Mend the row in the database, and put the "
+                f"mended text here: update mirror_outbox set statement = '..' where number = {change[0]}")
         total += weight(change[1])
         if found and total > WEIGHT:
             break
@@ -131,11 +199,7 @@ def store(program, changes):
 
 def drain(db, program, most):
     """How many changes were taken."""
-    number, taken = stored_up_to(program), 0
-    # asked after the store, which nobody else has open from then on
-    sent, acknowledged = db.execute("select sent, acknowledged from mirror_state").fetchone()
-    if number not in (sent, acknowledged):
-        raise Stopped(f"the store goes up to change {number}, and {sent} were sent: one side was put back from a copy")
+    number, taken = stored_up_to(db, program), 0
     db.execute("update mirror_state set acknowledged = ?1 where acknowledged < ?1", (number,))
     while changes := next_changes(db, number, most):
         number = changes[-1][0]
@@ -143,15 +207,28 @@ def drain(db, program, most):
         store(program, changes)
         db.execute("update mirror_state set acknowledged = max(acknowledged, ?)", (number,))
         taken += len(changes)
+        program.took["changes"] = f"{taken} changes"
     return taken
 
 
+def attached_in(db):
+    """The tables that attach.py attached, under the names of then. An earlier one tells them in the outbox alone."""
+    if db.execute("select 1 from sqlite_master where name = 'mirror_attached'").fetchone():
+        yield from (name for (name,) in db.execute("select name from mirror_attached"))
+    yield from (statement.split(" ")[1] for (statement,) in db.execute("select statement from mirror_outbox where statement glob 'create *'"))
+
+
 def lost_triggers(db):
-    """The triggers of attach.py that are gone: that of the outbox, and those of each table that it attached and that is there."""
-    there = {name.lower(): kind for name, kind in db.execute("select name, type from sqlite_master where type in ('table', 'trigger')")}
-    attached = {statement.split(" ")[1] for (statement,) in db.execute("select statement from mirror_outbox where statement glob 'create *'")}
-    wanted = [f"mirror_{table}_{change}" for table in sorted(attached) if there.get(table) == "table" for change in CHANGED]
-    return [name for name in (*wanted, "mirror_limits") if there.get(name) != "trigger"]
+    """The triggers of attach.py that are gone: that of the outbox, and those of each table that is there, under its name or another one."""
+    there = {name.lower(): (kind, on.lower()) for name, kind, on in db.execute("select name, type, tbl_name from sqlite_master")}
+    lost = []
+    for table in sorted(set(attached_in(db))):
+        names = [f"mirror_{table}_{change}" for change in CHANGED]
+        # it is where its index is, or one of its triggers; but one of its own name is taken for it
+        found = [there[name][1] for name in (f"mirror_{table}_is", *names) if name in there]
+        now = table if there.get(table, ("",))[0] == "table" else next(iter(found), None)
+        lost += [name for name in names if now and there.get(name) != ("trigger", now)]
+    return lost + ["mirror_limits"] * ("mirror_limits" not in there)
 
 
 def not_to_be_filed(books, id):
@@ -199,11 +276,14 @@ def main():
     try:
         db = sqlite3.connect(f"file:{quote(options.database)}?mode=rw", uri=True, isolation_level=None, timeout=60)
         db.execute("pragma synchronous = full")
+        db.text_factory = lambda content: content.decode(errors="surrogateescape")
         program = Program(devices, options.id)
         try:
             print(f"drained {drain(db, program, options.changes)}")
             if options.notary:
                 print(program.have("notarize", "sealed"))
+        except Stopped as why:
+            raise Stopped(f"{why}. Stored before that: {', '.join(program.took.values())}" if program.took else why) from None
         finally:
             program.end()
         if lost := lost_triggers(db):
