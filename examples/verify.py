@@ -566,7 +566,9 @@ def call(name, book, id, *files):
         carry_out = {"examine": evidence.examine, "evidence": evidence.gather, "restore": restored.restore}[name]
         lines, status, *made = carry_out(*read[1:], read[0], int(id))
     except notary.Fault as fault:
+        tell_why(str(fault), book, id, files, read)
         return [str(fault)], fault.status
+    tell_why(lines[0], book, id, files, read)
     for content in made:
         if content is not None:
             target.write_bytes(content)
@@ -575,6 +577,35 @@ def call(name, book, id, *files):
     for file, content in zip(files[:-1], read[1:]):
         tell_hidden(file, content, STORE)
     return lines, status
+
+
+def tell_why(line, book, id, files, read):
+    """Says on standard error why such a call has this answer, where it made or confirmed nothing."""
+    book, first, target = plain(book), plain(files[0]), plain(files[-1])
+    said = {
+        "fault AlreadyThere": f"{target} is there, and stays as it is: name another file",
+        "fault NotaryFault": f"{book} is no notary's book: {what_is(read[0])}",
+        "fault HeaderLost": "nothing was made: " + "; ".join(f"{plain(file)} {what_fails(content, id)}" for file, content in zip(files, read[1:])),
+        "fault NotEvidence": f"{first} is no evidence file: {'it begins as one, and is cut or changed' if read[1][:8] == b'DRAGEVD1' else what_is(read[1])}",
+        "fault InputLimit": f"{first} is longer than an evidence file can be",
+        "fault Full": "nothing was made: what is restored is longer than a store can be",
+        "fault NotSealedSo": f"nothing was made: a tile that is filed in {book} has no tree",
+        "fault SealMissing": f"{book} lacks a digest that was filed with the others: compare it with its copies",
+        "fault NotaryInconsistent": f"{book} contradicts itself: compare it with its copies",
+        "unsealed": f"nothing was made: {book} " + ("is empty" if is_empty(read[0]) else f"has nothing that was filed under the id {id}"),
+        "other header": f"{first} is evidence of another id than {id}, or of another header or other eras than {book} has under it",
+        "header altered": f"nothing was made: {first} {what_fails(read[1], id)}",
+    }.get(" ".join(line.split(" ")[:2]))
+    if said:
+        print(f"verify: {said}", file=sys.stderr)
+
+
+def what_fails(content, id):
+    """Why a store doesn't pass, in words."""
+    header = header_of(content)
+    if header is None:
+        return f"is no store: {what_is(content)}"
+    return f"has the id {header[1]}, and not {id}" if str(header[1]) != id else "has another header or other eras than were filed"
 
 
 def comparison(store_name, book_name, id, era):
@@ -598,6 +629,9 @@ def main(words):
         print(__doc__, file=sys.stdout if words == ["--help"] else sys.stderr)
         if is_call:
             print(f"verify: {plain(bad[0])} is no number from 0 to {(1 << 64) - 1} without a zero in front", file=sys.stderr)
+        elif words != ["--help"]:
+            wanted = f"`{words[0]}` takes {CALLS[words[0]]}" if words and words[0] in CALLS else "a comparison takes STORE, BOOK and ID, and --era E behind them: 3 or 5"
+            print(f"verify: {wanted} words, and here are {len(words) - (words[:1] != [] and words[0] in CALLS)}", file=sys.stderr)
         return 0 if words == ["--help"] else 2
     try:
         lines, status = call(*words) if name else comparison(*words[:3], int(options[1]) if options else None)

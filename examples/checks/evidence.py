@@ -72,12 +72,15 @@ def as_a_user(folder):
     ):
         target = folder / "target"
         target.unlink(missing_ok=True)
-        found = script("verify.py", call, *words, target)[:2], target.stat().st_size if target.exists() else None
-        if found != ((status, text), length):
-            raise Wrong(f"verify.py {call} {' '.join(map(str, words))} says {found}")
+        *said, told = script("verify.py", call, *words, target)
+        found = tuple(said), target.stat().st_size if target.exists() else None
+        # where nothing is made, a sentence says why
+        if found != ((status, text), length) or told.startswith("verify: ") != (length is None):
+            raise Wrong(f"verify.py {call} {' '.join(map(str, words))} says {found}: {told}")
         if call == "restore" and length and dragoon(f"store={target}", f"notary={folder / 'book'}", "validate", "7")[0] != int("lost granules" in text):
             raise Wrong(f"what verify.py {call} {' '.join(map(str, words))} makes is another store")
-        if length and (found := script("verify.py", call, *words, target)[:2]) != (13, "fault AlreadyThere\n"):
+        taken = 13, "fault AlreadyThere\n", f"verify: {target} is there, and stays as it is: name another file\n"
+        if length and (found := script("verify.py", call, *words, target)) != taken:
             raise Wrong(f"verify.py {call} over a file that is there says {found}")
     examined_by_users(folder)
     print("evidence: verify.py makes the evidence and the restored stores of the worked files, and says what the program says of them")
@@ -97,8 +100,9 @@ def examined_by_users(folder):
         (bytes(67_108_864), "7", 17, "fault InputLimit\n"),
     ):
         (folder / "file").write_bytes(content)
-        found = script("verify.py", "examine", BOOK, id, folder / "file")[:2], dragoon_of(folder / "file", f"notary={folder / 'book'}", "examine", id)
-        if found != ((status, text),) * 2:
+        *said, told = script("verify.py", "examine", BOOK, id, folder / "file")
+        found = tuple(said), dragoon_of(folder / "file", f"notary={folder / 'book'}", "examine", id)
+        if found != ((status, text),) * 2 or bool(told) != bool(status):
             raise Wrong(f"of {len(content)} bytes under the id {id} verify.py and the program say {found}")
 
 
