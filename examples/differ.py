@@ -11,7 +11,7 @@ in it.
 
 Headers, policies and Frontiers are compared as well. Of the Frontiers of STORE those count that stand in front of the last item of COPY.
 The last line counts. What stands behind the last transaction of COPY is counted and not shown: that was stored since. Standard error
-says where bytes stand behind the end of one of the two. It ends with 0 if nothing differs up to there, or nothing was compared, with 1
+says where bytes stand behind the end of one of the two, or of BOOK. It ends with 0 if nothing differs up to there, or nothing was compared, with 1
 if something does, or COPY isn't what was filed, and with 3 if a file can't be read or is no store.
 """
 import itertools
@@ -21,8 +21,8 @@ from collections import Counter
 sys.dont_write_bytecode = True
 import verify
 from parts import moments
-from parts.script import ALTERED, content_of, counted, end, number, plain, words_of
-from parts.store import Create, Frontier, Policy, Put, Store, Tables, Transaction, item_of, literal, shown
+from parts.script import ALTERED, content_of, counted, end, number, plain, tell, words_of
+from parts.store import Create, Frontier, Policy, Put, Store, Tables, Transaction, hidden, item_of, literal, shown
 
 HEADER = ("id", "epoch", "width", "k", "algorithms")
 SAID = {"id": "id", "epoch": "first second", "width": "width of granules", "k": "exponent of tiles", "algorithms": "chains"}
@@ -169,7 +169,10 @@ def main(given):
     if side.store.content == other.store.content:
         front = ["the copy is the same as the store, byte by byte"]
     if given.book:
-        is_altered, said = copy_line(other, content_of(given.book), given.book)
+        book = content_of(given.book)
+        if behind := verify.is_book(book) and verify.behind_ends(book, verify.BOOK)[0]:
+            tell(f"behind the end of {plain(given.book)} stand {hidden(behind)}. What is filed there isn't compared")
+        is_altered, said = copy_line(other, book, given.book)
         front.append(said)
     return "".join(line + "\n" for line in [*front, *lines, summary]), ALTERED if lines or is_altered else 0
 

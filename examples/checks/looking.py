@@ -257,6 +257,7 @@ SAYS = [
     ("differ.py", ("--granule", "99", ALTERED, WORKED), 0, ("no transaction was compared;",)),
     ("differ.py", (ALTERED, "hides_all"), 0, ("differ: behind the end of", "no transaction was compared; behind the last one of the copy the store has 9")),
     ("differ.py", ("--book", BOOK, ALTERED, ALTERED), 1, ("the copy is the same as the store, byte by byte\nthe copy ISN'T what was filed: altered 1 from 0\n0 of 9 transactions differ;",)),
+    ("differ.py", ("--book", "hides_filings", ALTERED, WORKED), 1, ("differ: behind the end of", "hides_filings stand 848 bytes")),
     ("differ.py", ("--book", BOOK, ALTERED, WORKED), 1, ("the copy is what was filed, as far as it goes: clean 1\n", "1 of 9 transactions differs")),
     ("differ.py", ("--book", BOOK, WORKED, "shorter"), 0, ("the copy is what was filed, as far as it goes: clean 0\n0 of 9 transactions differ;",)),
     ("differ.py", ("--book", "other_digest", WORKED, WORKED), 0, ("as far as it goes; of the book some digests are altered: altered 1 from 0",)),
@@ -425,6 +426,7 @@ def kept(folder):
         ((WORKED, folder / "hides_filings", "7"), 3, "no verdict: the notary's book evidence/book ends at byte 65, and 848 bytes stand behind it", "848 bytes stand behind it"),
         ((ALTERED, folder / "other_kind", "7"), 3, "no verdict: the notary's book evidence/book ends at byte 126, and 787 bytes stand behind it", "787 bytes stand behind it"),
         ((ALTERED, BOOK, "7", WORKED, ALTERED), 1, "altered 1 from 0", "case: copy_2: the copy is the same as the store, byte by byte\ncase: copy_2: the copy ISN'T what was filed: altered 1 from 0\n"),
+        ((ALTERED, BOOK, "7", WORKED, BOOK), 1, "altered 1 from 0", "case: evidence/copy_2 is no store: it is a notary's book, and shows nothing\n"),
         ((folder / "hidden", BOOK, "7"), 3, "no verdict: the store evidence/store ends at byte 431, and 14 bytes stand behind it", "14 bytes stand behind it"),
     ):
         done = subprocess.run([EXAMPLES / "case", folder / "odd case", *words], stdin=subprocess.DEVNULL, capture_output=True, text=True)
