@@ -240,22 +240,33 @@ def refuses_strangers(folder):
 
 
 def stops_at_text(folder):
-    """What stands in front of a text that isn't UTF-8 is taken, and the drain says what to do. A table with such a row isn't attached."""
-    shop, store = attached(folder, "text", (1, b"a"), (2, b"Gr\xfc"), (3, b"b"))
+    """Nearly each text that isn't UTF-8 is refused. What stands in front of another one is taken, and the drain says what to do. A table
+    with such a row isn't attached."""
+    true = ((key, "\x80«°»\xbf Grüße ß漢\ufffd\ufffe\uffff😀"[key:]) for key in range(4, 12))
+    shop, store = attached(folder, "text", (1, b"a"), (2, b"Gr\xe9\x80"), (3, b"b"), *true)
+    db = sqlite3.connect(shop)
+    for text in (b"Gr\xfc", b"\xfc\xdfe", b"\x93", "€ä".encode("cp1252"), "«a".encode() + b"\xab", "漢".encode()[:1], b"\xed\xa0\x80"):
+        try:
+            db.execute("insert into t values (99, cast(? as text))", (text,))
+        except sqlite3.IntegrityError as fault:
+            if str(fault) == "mirror: a text isn't UTF-8":
+                continue
+        raise Wrong(f"a text {text} is taken")
+    db.close()
     status, said, told = script("mirror/drain.py", shop, store, "7")
     wanted = "change 3, `insert t 2`, has a text that isn't UTF-8", "Stored before that: the name of this mirror, 2 changes\n"
     if status != 1 or wanted[0] not in told or not told.endswith(wanted[1]):
         raise Wrong(f"a drain of a text that isn't UTF-8 ends with {status}: {said}{told}")
     db = sqlite3.connect(shop)
     db.execute("create table u (id integer primary key, v text)")
-    db.execute("insert into u values (1, cast(x'fc' as text))")
+    db.execute("insert into u values (1, cast(x'e980' as text))")
     db.execute("update mirror_outbox set statement = 'insert t 2 ''Gru''' where number = 3")
     db.commit()
     db.close()
     status, _, told = script("mirror/attach.py", shop, "u")
     if status != 1 or "text that isn't UTF-8" not in told:
         raise Wrong(f"a table with a text that isn't UTF-8 is attached: {status} {told}")
-    drains(shop, store, 2)
+    drains(shop, store, 10)
 
 
 def main(words):

@@ -10,9 +10,8 @@ how the database is used.
 A table needs a primary key of one column. Columns are of kind int where SQLite's types give integers, bytes where they give
 blobs, and otherwise text, with numbers as SQLite prints them. A column after --utf8 is of kind bytes: the UTF-8 of its texts.
 
-A change that no store can hold is refused when the shop makes it, so that nothing is missing later (but a text that isn't UTF-8, at which
-drain.py stops): a value of another type than
-its column's, a key that is null, a text with a line end, a tab or another byte below 0x20 (--utf8 takes it), a row of more than
+A change that no store can hold is refused when the shop makes it, so that nothing is missing later: a value of another type than
+its column's, a key that is null, a text that isn't UTF-8, or with a line end, a tab or another byte below 0x20 (--utf8 takes it), a row of more than
 32,000 bytes. Columns that a table gets afterwards aren't mirrored. Where another column than the key is unique, `replace` takes
 rows away without telling: the shop then sets `pragma recursive_triggers = on`.
 """
@@ -24,6 +23,27 @@ from urllib.parse import quote
 
 NAME = re.compile(r"[a-z_][a-z0-9_]{0,31}")
 
+
+def without(text, *letters):
+    """An expression of SQL: the text without these letters."""
+    for letter in letters:
+        text = f"replace({text}, char({letter}), '')"
+    return text
+
+
+def any_of(first, last):
+    """A pattern of SQL for a text with one of these letters."""
+    return f"'*[' || char({first}) || '-' || char({last}) || ']*'"
+
+
+# What isn't UTF-8 is read as U+FFFD, as are two other letters, or as one of U+0080 to U+00BF. Once the true ones are taken away, none may be
+# left. (Few texts pass that aren't UTF-8. At these drain.py stops.)
+NOT_UTF8 = "".join(
+    f"""
+        select raise(abort, 'mirror: a text isn''t UTF-8') where new.statement glob {any_of(first, last)}
+        and {without('new.statement', *range(first, last + 1))} glob {any_of(first, last)};"""
+    for first, last in [(65533, 65535), *((first, first + 7) for first in range(128, 192, 8))]
+)
 OUTBOX = (
     "create table if not exists mirror_outbox (number integer primary key autoincrement, statement text not null)",
     """create table if not exists mirror_state (
@@ -34,10 +54,11 @@ OUTBOX = (
         only integer primary key check (only = 1), name integer not null, is_stored integer not null)""",
     "insert or ignore into mirror_name values (1, abs(random() % 9223372036854775807), 0)",
     "create table if not exists mirror_attached (name text primary key)",
-    """create trigger if not exists mirror_limits after insert on mirror_outbox begin
+    f"""create trigger if not exists mirror_limits after insert on mirror_outbox begin
         select raise(abort, 'mirror: the row has more than 32,000 bytes') where length(cast(new.statement as blob)) > 32000;
         select raise(abort, 'mirror: a text has a line end, a tab, or another byte below 0x20')
         where new.statement glob '*[' || char(1) || '-' || char(31) || char(127) || ']*';
+        {NOT_UTF8.strip()}
     end""",
 )
 # an index that holds nothing: it goes wherever its table goes, and is gone with it
