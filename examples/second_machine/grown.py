@@ -33,7 +33,9 @@ def missing(earlier, store):
     if len(store) > gate and store.startswith(earlier[:gate]):
         return None
     header = verify.header_of(store)
-    if header is None or header[0] != verify.header_of(earlier)[0]:
+    if header is None:
+        return f"it is no store: {verify.what_is(store)}"
+    if header[0] != verify.header_of(earlier)[0]:
         return "the header is another one"
     there = verify.records(store, *verify.STORE)
     for _, payload in verify.records(earlier, *verify.STORE):
