@@ -377,7 +377,7 @@ def hold_store(conf, durable=False):
 
 
 def hold_end(conf, again=True):
-    """Sees that a filing writes over nothing behind the end of the store but what looks as a crash leaves it: a gate 00, and no record that
+    """Sees that a filing or a run writes over nothing behind the end of the store but what looks as a crash leaves it: a gate 00, and no record that
     another one follows."""
     _, length = content_of(conf.store, 0)
     begin = max(0, length - 1) // verify.SEGMENT * verify.SEGMENT
@@ -405,7 +405,7 @@ def hold_end(conf, again=True):
             # that is another alarm, and nothing is filed
             return None
         ends = f"{conf.store} ends at byte {begin + end + 1}, and {len(behind)} bytes stand behind it"
-        raise Wrong(f"{ends}, which no crash leaves so: nothing is filed over them. Hold the store against its copies (docs/OPERATING.md)")
+        raise Wrong(f"{ends}, which no crash leaves so: nothing is written over them. Hold the store against its copies (docs/OPERATING.md)")
     return None
 
 
