@@ -236,6 +236,11 @@ def refuses_strangers(folder):
     dragoon(f"store={other}", "run", "7", lines="create mirrored a text b text\n")
     stops(older[0], other, "is the store of something else")
     drains(*older, 2)
+    db = sqlite3.connect(old[0])
+    db.executescript("delete from mirror_outbox; drop trigger mirror_t_insert")
+    db.close()
+    if "triggers are gone: mirror_t_insert. What" not in script("mirror/drain.py", *old, "7")[2]:
+        raise Wrong("a drain of an older attachment whose outbox was emptied sees no triggers")
     stops(*attached(folder, "lost", (1, "a"), then="delete from mirror_state"), "mirror_state has lost its row")
 
 

@@ -212,17 +212,20 @@ def drain(db, program, most):
 
 
 def attached_in(db):
-    """The tables that attach.py attached, under the names of then. An earlier one tells them in the outbox alone."""
-    if db.execute("select 1 from sqlite_master where name = 'mirror_attached'").fetchone():
-        yield from (name for (name,) in db.execute("select name from mirror_attached"))
-    yield from (statement.split(" ")[1] for (statement,) in db.execute("select statement from mirror_outbox where statement glob 'create *'"))
+    """The tables that attach.py attached, under the names of then. An earlier one told them in the outbox alone: they are noted, too."""
+    db.execute("create table if not exists mirror_attached (name text primary key)")
+    noted = {name for (name,) in db.execute("select name from mirror_attached")}
+    told = {statement.split(" ")[1] for (statement,) in db.execute("select statement from mirror_outbox where statement glob 'create *'")}
+    for name in told - noted:
+        db.execute("insert into mirror_attached values (?)", (name,))
+    return noted | told
 
 
 def lost_triggers(db):
     """The triggers of attach.py that are gone: that of the outbox, and those of each table that is there, under its name or another one."""
     there = {name.lower(): (kind, on.lower()) for name, kind, on in db.execute("select name, type, tbl_name from sqlite_master")}
     lost = []
-    for table in sorted(set(attached_in(db))):
+    for table in sorted(attached_in(db)):
         names = [f"mirror_{table}_{change}" for change in CHANGED]
         # it is where its index is, or one of its triggers; but one of its own name is taken for it
         found = [there[name][1] for name in (f"mirror_{table}_is", *names) if name in there]
