@@ -20,6 +20,7 @@ chains nor a tree.
 writes such a file to TARGET, and `restore` a new store, of what STORE and COPY hold. COPY is /dev/null where there is none, and a TARGET of
 more than one byte is left as it is. They print `evidence N`, or `restored K lost M` and the granules that are lost; or `unsealed`, or
 `header altered N` with status 1. Where a call has no answer, the line is `fault NAME`, and the status is that of NAME in docs/COMMANDS.md.
+Where nothing was made, standard error says why.
 Of `restore` HeaderLost is 24: neither store passes. An empty book is one without batches.
 """
 import errno

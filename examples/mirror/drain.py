@@ -131,8 +131,7 @@ def stored_up_to(db, program):
     # asked after the store, which nobody else has open from then on
     (name, is_stored), state = name_of(db), db.execute("select sent, acknowledged from mirror_state").fetchone()
     if state is None:
-        raise Stopped("the table mirror_state has lost its row, so nobody knows what was sent: put the database back from a copy, or begin "
-            "with a new one and a new store. Nothing was stored")
+        raise Stopped("mirror_state has lost its row, so nobody knows what was sent. Put the database back from a copy. Nothing was stored")
     if theirs not in (None, name) or theirs is None and is_stored and number is not None:
         raise Stopped(f"{program.store} is the store of another database: its mirror is {theirs or 'without a name'}, and this one {name or 'has none'}. "
             "Nothing was stored")
