@@ -190,7 +190,7 @@ CANNOT_SAY = (
 )
 HOW_TO_CHECK = (
     "Compare the SHA-256 of `SHA256SUMS` with the one that was signed or handed over.",
-    "`sha256sum -c SHA256SUMS` in the bundle's folder says whether each file is as that list says.",
+    "`sha256sum --strict -c SHA256SUMS` in the bundle's folder says whether each file is as that list says.",
     "`bash check` there does the same. It makes the evidence file anew of store, copy and book, and examines it by the book. It takes Python alone.",
     "Whoever trusts none of these scripts writes others: `docs/FORMATS.md` has each byte.",
 )
