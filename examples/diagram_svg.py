@@ -164,6 +164,8 @@ def main(words):
         return f"diagram_svg: {plain(words[0]) if words else 'standard input'} can't be read: {why}"
     if not text.startswith("report "):
         return "diagram_svg: this is no report"
+    if count := len(re.findall("^report ", text, re.MULTILINE)) - 1:
+        return f"diagram_svg: {count} more report{'s' * (count > 1)} stand{'s' * (count == 1)} behind this one: draw each from a file of its own"
     head, events, *rest = read(text)
     if len({len(signs) for _, signs in events}) > 1:
         return "diagram_svg: the report isn't whole: its events have not the same tiles"

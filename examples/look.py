@@ -26,19 +26,19 @@ from parts.store import GRANULES, LIMIT, Frontier, Policy, Store, Tables, Transa
 
 def of_store(store):
     """What the store says, in numbers and names."""
-    tables, last, number, counts, granules = Tables(), 0, 0, collections.Counter(), set()
+    tables, last, number, counts, granules = Tables(), 0, 0, collections.Counter(falls=store.falls()), set()
     for item in store.items():
         counts[type(item)] += 1
         if isinstance(item, Policy):
             continue
-        counts["falls"] += item.moment < last
         last = max(last, item.moment)
         if not isinstance(item, Frontier):
             counts["gaps"] += item.number != number + 1
             number = item.number
             granules.add(store.granule(item))
-            for operation in item.operations:
-                counts["misfits"] += tables.apply(operation) is not None
+    for transaction in store.by_moment():
+        for operation in transaction.operations:
+            counts["misfits"] += tables.apply(operation) is not None
     return {
         "store": store.path, "bytes": len(store.content), "format": store.format, "id": store.id, "first_second": store.epoch, "last_moment": last,
         "odd_moment": store.odd_moment(last, int(time.time())),
@@ -91,7 +91,7 @@ def store_lines(it, date):
     yield "last moment", f"{date(it['first_second'] + it['last_moment'])}, moment {it['last_moment']}{odd}"
     yield "transactions", f"{it['transactions']:,}, in {counted(it['granules_with_transactions'], 'granule')}"
     if it["misfits"]:
-        yield "misfits", f"{counted(it['misfits'], 'operation')} that fit no table: no honest writer stores such"
+        yield "misfits", f"{counted(it['misfits'], 'operation')} that fit no table: records were altered, or are missing"
     if it["falling_moments"]:
         yield "moments fall", f"{counted(it['falling_moments'], 'item')} of a moment before that of an earlier one: no honest writer stores such"
     if it["gaps_in_numbers"]:

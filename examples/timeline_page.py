@@ -6,8 +6,9 @@
 KEY stands as in a statement, as 7, true or x'00ff'. A text may stand without its quotes. Filings and validations come from BOOK, and
 without one they are left out. Dates are those of ZONE, as Europe/Zurich, or else of UTC. The page is one file that any browser shows
 and prints, and loads nothing from outside. It reads the files as docs/FORMATS.md says and opens none for writing; whether the store is
-what was filed it can't say: examples/report_page.py does. It ends with 0 if the page is made, also of a row that never was, and with 3
-if a file can't be read, the store has another id, or has no such table.
+what was filed it can't say: examples/report_page.py does. Versions go by their moments, as `history` has them. Where moments fall or
+operations fit no table, the page's banner says so. It ends with 0 if the page is made, also of a row that never was, and with 3 if a file
+can't be read, the store has another id, or has no such table.
 """
 import re
 import sys
@@ -17,7 +18,7 @@ sys.dont_write_bytecode = True
 from parts import moments, page
 from parts.book import CLEAN, Batch, Book, said
 from parts.script import Refused, counted, end, number, plain, words_of
-from parts.store import Create, Frontier, Policy, Put, Store, Tables, hidden, kind_of, literal
+from parts.store import Create, Put, Store, Tables, hidden, kind_of, literal
 
 MOST_TICKS, MOST_BARS = 400, 400
 # `by` is the number of the transaction that put the row, and `stop` is None where it is the current one
@@ -41,26 +42,32 @@ def key_of(word, kind):
 
 
 class History:
-    """One pass over a store: the versions of a row, the moments of all commits, and the last moment."""
+    """The versions of a row, the moments and numbers of all commits, and the last moment; and what no honest writer stores: how many
+    moments fall, and how many operations fit no table.
+    """
 
     def __init__(self, store, table, word):
-        self.tables, self.versions, self.commits, self.last, self.key = Tables(), [], [], 0, None
-        self.table = table
-        for item in store.items():
-            if isinstance(item, Policy):
-                continue
-            self.last = max(self.last, item.moment)
-            if not isinstance(item, Frontier):
-                self.commits.append(item.moment)
-                for operation in item.operations:
-                    self.take(operation, item, word)
+        self.tables, self.versions, self.commits, self.last, self.key = Tables(), [], [], store.last_moment(), None
+        self.table, self.falls, self.misfits = table, store.falls(), 0
+        for transaction in store.by_moment():
+            self.commits.append(Event(transaction.moment, "", f"transaction {transaction.number}"))
+            for operation in transaction.operations:
+                self.take(operation, transaction, word)
         if table not in self.tables.columns:
             there = ", ".join(sorted(self.tables.columns)[:20]) or "none"
             raise Refused(f"{plain(store.path)} has no table {plain(table)}; its tables are: {there}")
 
+    def odd(self):
+        """What no honest writer stores, in sentences."""
+        if self.falls:
+            yield f"Moments fall at {counted(self.falls, 'item')}: no honest writer stores such. The versions go by their moments."
+        if self.misfits:
+            yield f"{counted(self.misfits, 'operation')} fit{'s' * (self.misfits == 1)} no table, and {'counts' if self.misfits == 1 else 'count'} for nothing: records were altered, or are missing."
+
     def take(self, operation, transaction, word):
         """An operation that fits this row's table may begin a version, and stops the one before."""
         misfit = self.tables.apply(operation)
+        self.misfits += misfit is not None
         if misfit or operation.table != self.table:
             return
         if isinstance(operation, Create):
@@ -113,8 +120,7 @@ class Page:
             yield f'<span class="tick {"bad" if is_bad else first.kind}" style="left:{left}" title="{page.attribute(told)}"></span>'
 
     def lanes(self):
-        commits = (Event(moment, "", f"transaction {at}") for at, moment in enumerate(self.history.commits, 1))
-        yield self.lane(f"{len(self.history.commits):,} commits", self.ticks(commits))
+        yield self.lane(f"{len(self.history.commits):,} commits", self.ticks(self.history.commits))
         if self.given.notary:
             batches = [it for it in self.filings if isinstance(it, Batch)]
             marks = [it for it in self.filings if not isinstance(it, Batch)]
@@ -163,9 +169,11 @@ class Page:
         yield f"<h1>{page.safe(given.table)} {page.long(literal(self.history.key))}: its history</h1>"
         is_there = bool(versions) and versions[-1].stop is None
         state = "The row is there now." if is_there else "The row isn't there now." if versions else "The store shows no such row."
-        if behind := self.store.behind():
+        behind, odd = self.store.behind(), list(self.history.odd())
+        if behind:
             state += f" More of it may stand hidden behind records: {counted(behind, 'byte')}."
-        yield f'<div class="verdict {"good" if is_there else "open"}"><b>{counted(len(versions), "version")}</b>{state}</div>'
+        colour = "bad" if odd else "good" if is_there else "open"
+        yield f'<div class="verdict {colour}"><b>{counted(len(versions), "version")}</b>{" ".join([state, *odd])}</div>'
         yield page.heading("Over time")
         yield from self.lanes()
         yield "<p class=soft>Point at a bar or a line to read its date. A number in a bar is that of the version below.</p>"

@@ -189,6 +189,31 @@ def begun_anew(folder):
     dragoon(*devices, "run", "7", "scripted", lines="now 360\nnotarize\n")
 
 
+def tampered(folder):
+    """The worked store with a row stored since; that with rows planted, moved and doubled; a copy of its first minutes; and books with one
+    digest of the altered store, or another one of the header.
+    """
+    verify, book = made.verify, BOOK.read_bytes()
+    items = [it for _, it in verify.records(WORKED.read_bytes(), *verify.STORE)] + [transaction(10, 480, row(8, 8))]
+    early, late, last = (transaction(number, moment, row(9, 9)) for number, moment in ((999, 301), (999, 999), (11, 301)))
+    begin = [transaction(1, 0, b"\x01" + word("t") + b"\x02" + word("k") + b"\x01" + word("v") + b"\x01")]
+    rows = [transaction(at + 2, moment, row(9, at)) for at, moment in enumerate((60, 120, 90))]
+    for name, payloads in (
+        ("longer", items), ("planted", [*items, last]), ("planted_in", [*items[:7], early, *items[7:]]), ("planted_late", [*items[:7], late, *items[7:]]),
+        ("planted_twice", [*items, transaction(5, 301, row(9, 9))]), ("swapped", [items[1], items[0], *items[2:]]), ("doubled", [*items, items[3]]),
+        ("early", [*items[:3], transaction(4, 120, row(2, 7))]), ("falls", begin + rows), ("misfits", [*begin, rows[0], transaction(3, 120, put("t", b"\0"))]),
+    ):
+        (folder / name).write_bytes(made.laid(verify.header_of(WORKED.read_bytes())[0], payloads))
+    digests, others = (list(verify.plan(of.read_bytes(), 1))[1] for of in (WORKED, ALTERED))
+    for name, seal in (("of_leaf", "node 0 5"), ("of_root", "node 3 0"), ("of_cum", "cum 0")):
+        (folder / name).write_bytes(book.replace(digests[seal], others[seal]))
+    (folder / "of_header").write_bytes(made.changed(book, 93, book[93] ^ 1))
+
+
+def row(key, value):
+    return put("t", *(b"\x01" + struct.pack(">q", it) for it in (key, value)))
+
+
 def files(folder):
     """The worked files, and others that aren't what they should be."""
     worked = WORKED.read_bytes()
@@ -204,8 +229,9 @@ def files(folder):
     content = (folder / "in_segment").read_bytes()
     gates = [gate for *_, gate in made.verify.run(content, 65_536, 131_072, made.verify.Source.item, 32_768)]
     (folder / "in_segment").write_bytes(content[: gates[9]] + b"\0" + content[gates[9] + 1 :])
+    tampered(folder)
     reported = dragoon(f"store={ALTERED}", f"notary={folder / 'book'}", "analyse", "7", "a3d")[1].splitlines(keepends=True)
-    for name, lines in (("whole_report", reported), ("early_report", reported[:-1]), ("earlier_report", reported[:3])):
+    for name, lines in (("whole_report", reported), ("two_reports", reported * 2), ("early_report", reported[:-1]), ("earlier_report", reported[:3])):
         (folder / name).write_text("".join(lines))
     policy = record(b"\x03" + bytes(8) + b"\x02\x03")
     for name, content in (("cut", worked[:65]), ("hides_all", worked[:64] + b"\xa6" + worked[65:]), ("policy", worked[:64] + policy + worked[64:]),
@@ -347,6 +373,9 @@ def in_words(folder):
             raise Wrong(f"{name} without a program ends with {done.returncode}: {done.stderr}")
     (folder / "report").write_text("report a3d id 7 tiles 0 clean\n")
     for output, why in ((">/dev/full", "No space left on device"), (">&-", "Bad file descriptor")):
+    ("diagram_svg.py", ("two_reports",), 1, ("diagram_svg: 1 more report stands behind this one: draw each from a file of its own",)),
+    ("timeline_page.py", ("falls", "7", "t", "9"), 0, ('verdict bad"><b>3 versions</b>', "Moments fall at 1 item: no honest writer stores such. The versions go by their moments.", "moment 90, transaction 4", "to 1970-01-01 00:02:00 UTC")),
+    ("timeline_page.py", ("misfits", "7", "t", "9"), 0, ('verdict bad"><b>1 version</b>', "1 operation fits no table, and counts for nothing: records were altered, or are missing.")),
         for name, *words in (("report_page.py", WORKED, BOOK, "7"), ("explain", WORKED, BOOK, "7"), ("look.py", WORKED), ("dump.py", WORKED), ("differ.py", WORKED, WORKED),
                              ("verify.py", WORKED, BOOK, "7"), ("quorum/compare", BOOK, folder / "book"), ("diagram_svg.py", folder / "report")):
             done = subprocess.run(["bash", "-c", f'"$0" "$@" {output}', sys.executable, EXAMPLES / name, *words], capture_output=True, text=True)

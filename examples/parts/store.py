@@ -87,6 +87,19 @@ class Store:
     def transactions(self):
         return (item for item in self.items() if isinstance(item, Transaction))
 
+    def falls(self):
+        """How many items have a moment before that of an earlier one. No honest writer stores such."""
+        last, count = 0, 0
+        for item in self.items():
+            if not isinstance(item, Policy):
+                count += item.moment < last
+                last = max(last, item.moment)
+        return count
+
+    def by_moment(self):
+        """The transactions as the tables take them: by their moments, and in file order within one."""
+        return sorted(self.transactions(), key=lambda it: it.moment) if self.falls() else self.transactions()
+
     def granule(self, transaction):
         return transaction.moment // self.width
 
