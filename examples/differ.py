@@ -6,13 +6,14 @@
 STORE is the one that is in doubt, and COPY one that isn't. A transaction of the one stands beside that of the same number in the
 other. Where they differ both are shown, with their moments and dates, and the names of the columns whose values differ. With
 --granule only what has a moment of granule G in one of them counts. Dates are those of ZONE, or else of UTC. The first line says where
-both files are the same, byte by byte. With --book it says, too, whether COPY is itself what was filed, up to the last tile that ended
-in it.
+both files are the same, byte by byte. With --book it says, too, whether COPY is itself what was filed, up to the last filed tile that
+ended in it. What COPY has behind that is compared with no digest.
 
-Headers, policies and Frontiers are compared as well. Of the Frontiers of STORE those count that stand in front of the last item of COPY.
-The last line counts. What stands behind the last transaction of COPY is counted and not shown: that was stored since. Standard error
-says where bytes stand behind the end of one of the two, or of BOOK. It ends with 0 if nothing differs up to there, or nothing was compared, with 1
-if something does, or COPY isn't what was filed, and with 3 if a file can't be read or is no store.
+Headers, policies and Frontiers are compared as well, and how often and in which order the transactions stand there. The last line counts.
+What may have been stored since is counted and not shown. It has a new number, no moment before the last one of COPY, and stands behind all
+that COPY has. So it is with a Frontier, which has no number. Standard error says where bytes stand behind the end of one of the two, or of
+BOOK. It ends with 0 if nothing differs up to there, or nothing was compared. It ends with 1 if something does, if COPY or BOOK isn't what
+was filed, or BOOK is none, and with 3 if a file can't be read or is no store.
 """
 import itertools
 import sys
@@ -21,6 +22,7 @@ from collections import Counter
 sys.dont_write_bytecode = True
 import verify
 from parts import moments
+from parts.notary import is_altered, not_filed, shown_of_copy
 from parts.script import ALTERED, content_of, counted, end, number, plain, tell, words_of
 from parts.store import Create, Frontier, Policy, Put, Store, Tables, Transaction, hidden, item_of, literal, shown
 
@@ -29,12 +31,12 @@ SAID = {"id": "id", "epoch": "first second", "width": "width of granules", "k": 
 
 
 class Side:
-    """One of the two stores, read once: its transactions as they are spelled, its policies, its Frontiers with the number of items in
-    front of each, and the columns of its tables.
+    """One of the two stores, read once: its transactions as they are spelled and their places, its policies, its Frontiers with their
+    places, and the columns of its tables. A place is a number of items, up to that one.
     """
 
     def __init__(self, path):
-        self.store, self.payloads, self.policies, self.frontiers, self.last, tables = Store(path), [], [], [], 0, Tables()
+        self.store, self.payloads, self.places, self.policies, self.frontiers, self.last, tables = Store(path), [], [], [], [], 0, Tables()
         self.count = 0
         for item in self.store.items():
             self.count += 1
@@ -45,20 +47,25 @@ class Side:
                 self.frontiers.append((self.count, item.moment))
             elif isinstance(item, Transaction):
                 self.payloads.append(item.payload)
+                self.places.append(self.count)
                 for operation in item.operations:
                     if isinstance(operation, Create):
                         tables.apply(operation)
-        self.columns = tables.columns
+        self.columns, self.numbers = tables.columns, set(map(number_in, self.payloads))
         self.store.tell_hidden()
 
     def apart(self, other):
-        """The transactions that the other store hasn't, under their numbers. Only a hostile store has two under one."""
-        theirs, found = set(other.payloads), {}
-        for payload in self.payloads:
-            if payload not in theirs:
-                transaction = item_of(verify.Source(payload))
-                found.setdefault(transaction.number, []).append(transaction)
-        return found
+        """The spellings that the other store hasn't, in file order."""
+        theirs = set(other.payloads)
+        return [it for it in self.payloads if it not in theirs]
+
+    def since(self, copy):
+        """Those of them that may have been stored since: under new numbers, at no earlier moment, and behind all that the copy has."""
+        first = {}
+        for at, payload in enumerate(self.payloads):
+            first.setdefault(number_in(payload), at)
+        behind = max((at for number, at in first.items() if number in copy.numbers), default=-1)
+        return [it for it in self.payloads[behind + 1 :] if number_in(it) not in copy.numbers and moment_in(it) >= copy.last]
 
 
 def changes(ours, theirs, columns):
@@ -71,15 +78,16 @@ def changes(ours, theirs, columns):
                 yield f"        {name}: {plain(literal(one))} in the store, {plain(literal(other))} in the copy"
 
 
-def pair(ours, theirs, columns, store, copy, zone):
+def pair(ours, theirs, columns, sides, zone):
     """The lines that show two transactions side by side. One of them may be missing."""
-    yield f"transaction {(ours or theirs).number}"
-    for name, transaction, of in (("store", ours, store), ("copy", theirs, copy)):
+    shown_number = (ours or theirs).number
+    yield f"transaction {shown_number}"
+    for name, transaction, side in zip(("store", "copy"), (ours, theirs), sides):
         if transaction is None:
-            yield f"    {name:6}has none"
+            yield f"    {name:6}has {'no second one' if shown_number in side.numbers else 'none'}"
         else:
-            when = moments.date(of.epoch + transaction.moment, zone)
-            yield f"    {name:6}granule {of.granule(transaction)}, moment {transaction.moment}, {when}"
+            when = moments.date(side.store.epoch + transaction.moment, zone)
+            yield f"    {name:6}granule {side.store.granule(transaction)}, moment {transaction.moment}, {when}"
     for one, other in itertools.zip_longest(ours.operations if ours else [], theirs.operations if theirs else []):
         both = [shown(it) if it else None for it in (one, other)]
         if both[0] != both[1]:
@@ -109,62 +117,96 @@ def front_lines(side, other):
 
 
 def frontier_lines(side, other):
-    """The moments of the Frontiers that differ, up to the last item of the copy. The clock that a store goes by is that of its last item."""
-    theirs = [moment for _, moment in other.frontiers]
-    ours = [moment for place, moment in side.frontiers if place <= other.count]
-    only = Counter(ours) - Counter(theirs), Counter(theirs) - Counter(ours)
-    for name, moments_of, of in (("store", only[0], side), ("copy", only[1], other)):
-        for moment in sorted(moments_of)[:9]:
+    """The moments of the Frontiers that differ, but for those that were stored since. The clock that a store goes by is that of its last item."""
+    left, alone, theirs = Counter(moment for _, moment in other.frontiers), [], set(other.payloads)
+    shared = max((place for place, payload in zip(side.places, side.payloads) if payload in theirs), default=0)
+    for place, moment in side.frontiers:
+        if left[moment]:
+            left[moment], shared = left[moment] - 1, max(shared, place)
+        else:
+            alone.append((place, moment))
+    lost = sorted(left.elements())
+    ours = sorted(moment for place, moment in alone if moment < other.last or place < shared or lost and place <= other.count)
+    for name, found, of in (("store", ours, side), ("copy", lost, other)):
+        for moment in found[:9]:
             yield f"Frontier: moment {moment}, {moments.date(of.store.epoch + moment)}, in the {name} alone"
-        if len(moments_of) > 9:
-            yield f"Frontier: {len(moments_of) - 9} more in the {name} alone"
+        if len(found) > 9:
+            yield f"Frontier: {len(found) - 9} more in the {name} alone"
 
 
-def copy_line(copy, content, path):
-    """What the book says of the copy, up to the last tile that ended in it: whether it isn't what was filed, and how."""
+def order_lines(ours, theirs):
+    """Where the transactions that both have stand more often in one, or in another order."""
+    counts, others = Counter(ours), Counter(theirs)
+    both = counts.keys() & others.keys()
+    apart = [it for it in dict.fromkeys(theirs) if it in both and counts[it] != others[it]]
+    for payload in apart[:9]:
+        yield f"transaction {number_in(payload)} stands {times(counts[payload])} in the store, {times(others[payload])} in the copy"
+    if apart[9:]:
+        yield f"{counted(len(apart) - 9, 'transaction')} more stand in the one more often than in the other"
+    orders = [[it for it in dict.fromkeys(side) if it in both] for side in (ours, theirs)]
+    if orders[0] != orders[1]:
+        first = next(it for it in zip(*orders) if it[0] != it[1])
+        yield "the transactions stand in another order: where the copy has transaction {1}, the store has {0}".format(*map(number_in, first))
+
+
+def times(count):
+    return "once" if count == 1 else f"{count} times"
+
+
+def copy_line(copy, content, path, zone):
+    """Whether the book shows the copy to be another one than was filed, or shows nothing; and a line that says so."""
     try:
         batches = verify.batches_of(content, copy.store.id)
     except ValueError:
-        return False, f"of the copy nothing was compared with a book: {plain(path)} is none"
+        return True, f"of the copy nothing was compared with a book: {plain(path)} is none"
     if not batches:
         return False, f"of the copy nothing was compared with the book: nothing is filed under the id {copy.store.id}"
-    tiles = 0
-    while tiles + 1 < len(batches) and copy.store.end_of(tiles + 1) <= copy.last:
-        tiles += 1
-    lines, both = verify.compare(copy.store.content, batches[: tiles + 1], copy.store.id)
-    if "altered" not in lines[0]:
-        return False, f"the copy is what was filed, as far as it goes: {lines[0]}"
-    said = verify.who_was_altered(both) if lines[1:] else None
-    if said == verify.BOOK_ALONE:
-        return False, f"the copy is what was filed, as far as it goes; of the book some digests are altered: {lines[0]}"
-    return True, f"the copy ISN'T what was filed, or the book isn't: {lines[0]}; {said}" if said else f"the copy ISN'T what was filed: {lines[0]}"
+    found = shown_of_copy(copy.store.content, batches, copy.store.id)
+    if is_altered(found):
+        return True, not_filed("the copy", found).replace("isn't", "ISN'T", 1)
+    if not found.tiles:
+        return False, "of the copy nothing was compared with the book but the header: no filed tile ended in it"
+    end = copy.store.end_of(found.tiles)
+    return False, f"up to moment {end}, {moments.date(copy.store.epoch + end, zone)}, the copy is what was filed: {found.verdict}"
 
 
 def compare(side, other, granule, zone):
     """The lines that show what differs, and one that sums it up."""
-    store, copy, columns = side.store, other.store, {**side.columns, **other.columns}
-    ours, theirs = side.apart(other), other.apart(side)
-    last = max((number_in(it) for it in other.payloads), default=0)
-    lines, granules, differ, since = list(front_lines(side, other)), set(), 0, 0
-    for number in sorted({*ours, *theirs}):
-        for one, its in itertools.zip_longest(ours.get(number, ()), theirs.get(number, ())):
-            there = {of.granule(it) for it, of in ((one, store), (its, copy)) if it}
-            if granule is None or granule in there:
-                differ += number <= last
-                since += number > last
-                granules |= there if number <= last else set()
-                lines += pair(one, its, columns, store, copy, zone) if number <= last else ()
-    if not ours and not theirs and side.payloads != other.payloads:
-        lines.append("the same transactions stand in another order, or more than once")
+    columns, widths = {**side.columns, **other.columns}, (side.store.width, other.store.width)
+
+    def counts(payload):
+        return granule is None or granule in {moment_in(payload) // width for width in widths}
+
+    since = set(side.since(other))
+    ours, theirs = ([it for it in one.apart(of) if it not in since] for one, of in ((side, other), (other, side)))
+    lines, granules, differ = list(front_lines(side, other)), set(), 0
+    for one, its in paired(ours, theirs):
+        there = {of.store.granule(it) for it, of in ((one, side), (its, other)) if it}
+        if granule is None or granule in there:
+            differ += 1
+            granules |= there
+            lines += pair(one, its, columns, (side, other), zone)
+    order = list(order_lines(*([it for it in of.payloads if counts(it)] for of in (side, other))))
     of_store = set(side.payloads)
-    same = sum(it in of_store and granule in (None, moment_in(it) // copy.width) for it in other.payloads)
+    same = sum(it in of_store and counts(it) for it in other.payloads)
     named = f", in granule{'s' * (len(granules) > 1)} {' '.join(map(str, sorted(granules)))}" if granules else ""
-    compared = f"{differ:,} of {counted(differ + same, 'transaction')} differ{'s' * (differ == 1)}{named}" if differ + same else "no transaction was compared"
-    return lines, f"{compared}; behind the last one of the copy the store has {since}"
+    none = "no transaction was compared" + (f": the copy has none in granule {granule}" if granule is not None else "")
+    compared = f"{differ:,} of {counted(differ + same, 'transaction')} differ{'s' * (differ == 1)}{named}" if differ + same else none
+    compared += ", and not all stand in one order, or as often" if order else ""
+    return lines + order, f"{compared}; behind the last one of the copy the store has {sum(map(counts, since))}"
+
+
+def paired(ours, theirs):
+    """The transactions that the other store hasn't, side by side under their numbers. Only a hostile store has two under one."""
+    found = {}
+    for at, payloads in enumerate((ours, theirs)):
+        for payload in payloads:
+            found.setdefault(number_in(payload), ([], []))[at].append(item_of(verify.Source(payload)))
+    return [both for _, sides in sorted(found.items()) for both in itertools.zip_longest(*sides)]
 
 
 def main(given):
-    side, other, is_altered, front = Side(given.store), Side(given.copy), False, []
+    side, other, is_bad, front = Side(given.store), Side(given.copy), False, []
     lines, summary = compare(side, other, given.granule, given.zone)
     if side.store.content == other.store.content:
         front = ["the copy is the same as the store, byte by byte"]
@@ -172,9 +214,9 @@ def main(given):
         book = content_of(given.book)
         if behind := verify.is_book(book) and verify.behind_ends(book, verify.BOOK)[0]:
             tell(f"behind the end of {plain(given.book)} stand {hidden(behind)}. What is filed there isn't compared")
-        is_altered, said = copy_line(other, book, given.book)
+        is_bad, said = copy_line(other, book, given.book, given.zone)
         front.append(said)
-    return "".join(line + "\n" for line in [*front, *lines, summary]), ALTERED if lines or is_altered else 0
+    return "".join(line + "\n" for line in [*front, *lines, summary]), ALTERED if lines or is_bad else 0
 
 
 def words():

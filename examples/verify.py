@@ -9,12 +9,12 @@
 It computes every digest that is planned for the sealed tiles, and compares each with the one that was filed under ID. The
 first line is the verdict, as `validate` words it: `unsealed`, `clean N`, `altered N from P` or `header altered N`. N is the
 number of sealed tiles, and P the first one with a digest that differs. Behind `altered` stands a line for each name: `NAME`
-where the digest differs, else `NAME is not filed`, or `NAME is not planned` of a tile behind the last granule. Where only the book was
-altered, or the two agree from a later tile on, standard error says so; `validate` compares fewer digests, and may say `clean` then. What
-else is filed is compared with nothing, and named there, too. With `--era E` it compares the tiles of that era alone, by their parts and nodes: the chain at a tile's end goes by
-all tiles before, too. N is the number of the era's sealed tiles then. It writes no file, and ends with 0 if nothing differs, 1 if something
-does, and 2 on other words. It ends with 3 if a file can't be read or is no book, the store has no era E, or that era's tiles have neither
-chains nor a tree.
+where the digest differs, else `NAME is not filed`, or `NAME is not planned` of a tile behind the last granule. Where digests contradict
+one another, standard error says what follows: that the book was altered, or either of the two. `validate` compares fewer digests, and may
+say `clean` then. What else is filed is compared with nothing, and named there, too. With `--era E` it compares the tiles of that
+era alone, by their parts and nodes: the chain at a tile's end goes by all tiles before, too. N is the number of the era's sealed tiles
+then. It writes no file, and ends with 0 if nothing differs, 1 if something does, and 2 on other words. It ends with 3 if a file can't be
+read or is no book, the store has no era E, or that era's tiles have neither chains nor a tree.
 
 `examine` prints what the program's `examine` prints of an evidence file, by docs/COMMANDS.md, and ends with the same status. `evidence`
 writes such a file to TARGET, and `restore` a new store, of what STORE and COPY hold. COPY is /dev/null where there is none, and a TARGET of
@@ -23,6 +23,7 @@ more than one byte is left as it is. They print `evidence N`, or `restored K los
 Where nothing was made, standard error says why.
 Of `restore` HeaderLost is 24: neither store passes. An empty book is one without batches.
 """
+import bisect
 import errno
 import functools
 import hashlib
@@ -478,40 +479,93 @@ def report(store, batches, id, era=None):
     return compare(store, batches, id, era)[0]
 
 
-def agreed_tile(both):
-    """The last tile whose chain over all transactions is the one that was filed, where each behind it has the parts or leaves that were
-    filed; -1 where all tiles have these; None where there is no such tile.
+# ---- where a book may be what was altered
+
+
+def granules_of(name, eras):
+    """The granules by whose transactions a digest goes: ranges, each by its first one and the one behind its last."""
+    kind, *numbers = name.replace("whole", "255").replace("bit ", "").split()
+    if kind == "node":
+        era, level, index = map(int, ["0", *numbers][-3:])
+        first = eras[era].granule + (index << level)
+        return [(first, first + (1 << level))]
+    tile, bit = map(int, [*numbers, "255"][:2])
+    first = 0 if kind == "cum" else first_of(eras, tile)
+    behind = first_of(eras, tile) + (1 << eras[era_at(eras, tile)].k)
+    return [(first, behind)] if bit == 255 else [(begin, begin + (1 << bit)) for begin in range(first, behind, 2 << bit)]
+
+
+def joined(ranges):
+    """The same granules in rising ranges that don't touch."""
+    found = []
+    for first, behind in sorted(ranges):
+        if found and first <= found[-1][1]:
+            found[-1] = found[-1][0], max(found[-1][1], behind)
+        else:
+            found.append((first, behind))
+    return found
+
+
+def are_within(ranges, wide):
+    """Whether all of these granules lie in such ranges."""
+    places = [(bisect.bisect(wide, (first, float("inf"))) - 1, behind) for first, behind in ranges]
+    return all(at >= 0 and behind <= wide[at][1] for at, behind in places)
+
+
+def sides_of(planned, filed):
+    """The names of a batch that go by transactions: those whose digests are the same, and those whose digests differ or are missing."""
+    names = [name for name in planned if name.startswith(("cum ", "tile ", "node "))]
+    return [name for name in names if filed.get(name) == planned[name]], [name for name in names if filed.get(name) != planned[name]]
+
+
+def doubt_of_book(both, eras):
+    """Why the book may be what was altered, in sentences; or None.
+
+    Suppose a digest is the same, and is the one that was filed. Then the transactions of its granules are those that were filed. So every
+    other digest over these granules is the one that was filed, too. Where one of them differs, one of the two was altered in the book. A
+    filing puts all digests of a tile into it at once, of one store. Of two filings the store may have been another one each time, and a chain
+    goes by the header besides, which was filed before.
     """
-    for tile in reversed(range(len(both) - 1)):
-        planned, filed = both[tile + 1]
-        same = {name for name, value in planned.items() if filed.get(name) == value}
-        if f"cum {tile}" in same:
-            return tile
-        leaves = {name for name in planned if re.fullmatch("node (?:[0-9]+ )?0 [0-9]+", name)}
-        if f"tile {tile} whole" not in same and not (leaves and leaves <= same):
-            return None
-    return -1
+    sides = [sides_of(*it) for it in both]
+    bad = [(at - 1, same, differing) for at, (same, differing) in enumerate(sides) if differing]
+    for tile, same, differing in bad:
+        if contradicts(same, [name for name in differing if not name.startswith("cum ")], eras):
+            return (f"the book was altered: of tile {tile} some digests differ, and others of the same filing over the same transactions don't. "
+                    "Whether the store was altered, too, the two can't say: hold the book against its copies")
+    same = [name for names, _ in sides for name in names]
+    for tile, _, differing in bad:
+        if contradicts(same, differing, eras):
+            return (f"of the digests that were filed with tile {tile} some differ, and others over the same transactions don't. Either the book was "
+                    "altered, or the store was, between two filings, and the later one didn't compare. Hold the book against its copies")
+    return None
 
 
-BOOK_ALONE = "other digests of the same filings don't differ: what was altered is the book, and not the store"
+def contradicts(same, differing, eras):
+    """Whether one of the digests that differ goes by transactions alone by which others go that don't."""
+    wide = joined(it for name in same for it in granules_of(name, eras))
+    return any(are_within(granules_of(name, eras), wide) for name in differing)
 
 
-def who_was_altered(both):
-    """What digests that don't differ say of those that do, or None. A filing puts all digests of a tile into the book at once. So those of
-    the same filing show that the book was altered. Those of a later one show no more than how the store was then.
-    """
-    tile, bad = agreed_tile(both), [at for at in range(len(both) - 1) if any(differences(*both[at + 1]))]
-    if tile is None or not bad:
+def doubt_of_header(store, batches, id):
+    """The same where the header isn't the one that was filed. Every chain begins with it."""
+    header = header_of(store)
+    if not batches or header is None or header[1] != id or is_header_filed(store, batches, id):
         return None
-    if all(agreed_tile(both[: at + 2]) is not None for at in bad):
-        return BOOK_ALONE
-    return (f"the chain over all transactions up to tile {tile} doesn't differ. Either earlier digests of the book were altered, or the store was "
-            f"altered before tile {tile} was filed, by a filing that didn't compare. Hold the book against its copies")
+    tiles = min(len(batches) - 1, tiles_within(eras_of(store)))
+    for tile, (planned, filed) in enumerate(zip(list(plan(store, tiles))[1:], map(first_seals, batches[1:]))):
+        if filed.get(f"cum {tile}") == planned[f"cum {tile}"]:
+            return (f"the chain up to tile {tile} begins with this header, and doesn't differ. Either the book was altered, or the header was, before "
+                    f"tile {tile} was filed, and that filing didn't compare. Hold the book against its copies")
+    return None
 
 
-def tell_of_book(lines, both):
+def doubt(store, batches, id, both):
+    """The same of whatever was compared."""
+    return doubt_of_book(both, eras_of(store)) if both else doubt_of_header(store, batches, id)
+
+
+def tell_of_book(said, both):
     """Says on standard error where the book may be what was altered, and what it has that nothing plans."""
-    said = who_was_altered(both) if lines[1:] else None
     if said:
         print(f"verify: {said}", file=sys.stderr)
     more = [name for planned, filed in both if planned for name in filed if name not in planned]
@@ -613,13 +667,15 @@ def comparison(store_name, book_name, id, era):
     """Compares a store with a book. The answer is the lines and the status."""
     store, book = map(content_of, (store_name, book_name))
     swapped = " (STORE stands before BOOK)" if is_book(store) and header_of(book) else ""
-    lines, both = compare(store, batches_of(book, int(id), f"{plain(book_name)}{swapped}"), int(id), era)
+    batches = batches_of(book, int(id), f"{plain(book_name)}{swapped}")
+    lines, both = compare(store, batches, int(id), era)
     if begins_as(store, b"DRAGOON"):
         tell_hidden(store_name, store, STORE)
     tell_hidden(book_name, book, BOOK)
     tell_little(lines[0], store_name, store, id, era)
-    tell_of_book(lines, both)
-    return lines, 1 if "altered" in lines[0] else 0
+    is_altered = "altered" in lines[0]
+    tell_of_book(doubt(store, batches, int(id), both) if is_altered else None, both)
+    return lines, 1 if is_altered else 0
 
 
 def main(words):

@@ -7,6 +7,7 @@ On the worked store, on the altered one, on the worked one with each of its byte
 none is given), each with an id, a width, an exponent, chains, statements and up to six policies of its own: as it is, and with one
 byte changed. Some of the policies are put in by hand, and most of those begin no era. Then on as many of more than 65,536 bytes, as they
 are and damaged. All stand in both formats. Only format 2 is made by the program, and format 1 has the same items, laid out by hand.
+A book has to be called altered exactly where no altered store explains which of its digests differ.
 """
 import importlib.util
 import itertools
@@ -116,13 +117,42 @@ def foreign_seals(folder):
             if (status, said) != (wanted[0], verdict + "\n") or verdict != wanted[1] or (f"nothing was compared with them: {name}\n" in told) != wanted[2]:
                 raise Wrong(f"{name} put into batch {batch}: verify.py says {said + told}")
             tried += 1
-    for name, place, of_book in (("node 0 3", book.index(b"\3\0\0\0\0\3") + 5, True), ("cum 0", book.index(b"\1\0\0\0\0", 148) + 4, True)):
+    for name, place, says in (("node 0 3", book.index(b"\3\0\0\0\0\3") + 5, "the book was altered: of tile 0"), ("cum 0", book.index(b"\1\0\0\0\0", 148) + 4, "Either the book was altered")):
         (folder / "book").write_bytes(changed(book, place, 0x40))
         status, said, told = script("verify.py", folder / "store", folder / "book", "7")
-        if (status, said) != (1, f"altered 1 from 0\n{name} is not filed\n") or ("what was altered is the book, and not the store" in told) != of_book:
+        if (status, said) != (1, f"altered 1 from 0\n{name} is not filed\n") or says not in told:
             raise Wrong(f"the name {name} damaged: verify.py says {said + told}")
         tried += 1
     print(f"verify: {tried} books with seals that nothing plans, or a damaged name, are told as such")
+
+
+def doubts():
+    """A book is said to be altered exactly where no alteration of the header or of some of eight rows explains which of the digests of a filing
+    differ. Of rows that are as earlier digests have them, and of the header, either may have been.
+    """
+    rng, tried, altered = random.Random(0), 0, 0
+    items = [b"\1" + verify.number(at + 1, 4) + verify.number(60 * at, 8) + b"\0\1\3\1t\0" for at in range(8)]
+    for (k, tiles), algorithms in itertools.product(((3, 1), (2, 2)), range(4)):
+        fields = verify.number(7, 8) + bytes(8) + verify.number(60, 4) + bytes([k, algorithms])
+
+        def planned(of):
+            return list(verify.plan(laid(fields, [it[:-3] + b"\1u\0" if at in of else it for at, it in enumerate(items)]), tiles))
+
+        *before, whole = planned(())
+        of_each = [frozenset(name for name, value in planned((at,))[-1].items() if value != whole[name]) for at in range(8)]
+        sets = [[at for at in range(8) if of >> at & 1] for of in range(256)]
+        last = {frozenset().union(*(of_each[at] for at in of)) for of in sets if not of or of[0] >> k == tiles - 1}
+        any_row = {frozenset().union(*(of_each[at] for at in of)) for of in sets}
+        by_filing = any_row | {it | {f"cum {tiles - 1}"} for it in any_row}
+        some = [frozenset(it) for count in (1, 2) for it in itertools.combinations(sorted(whole), count)]
+        for differing in [*by_filing, *some, *(frozenset(it for it in whole if rng.random() < 0.5) for _ in range(99))]:
+            filed = {name: bytes(32) if name in differing else value for name, value in whole.items()}
+            said = verify.doubt_of_book([*((it, it) for it in before), (whole, filed)], verify.eras_of(laid(fields, items)))
+            wanted = None if differing in last else "of the digests" if differing in by_filing else "the book was altered"
+            if not (said or "").startswith(wanted or "") or said and not wanted:
+                raise Wrong(f"where {sorted(differing)} differ, verify.py says {said}, and not {wanted}")
+            tried, altered = tried + 1, altered + (wanted == "the book was altered")
+    print(f"verify: of {tried} ways in which digests differ {altered} show that the book was altered, and are told as such")
 
 
 def eras_as_a_user(folder):
@@ -140,7 +170,7 @@ def eras_as_a_user(folder):
         ("eras.book", "2", 3, ("era 2 has no tile chains and no tree",)),
         ("eras.book", "3", 0, ("clean 0\n", "only the header and the eras were compared: era 3 has no filed tile yet")),
         ("eras.book", "4", 3, ("the eras of the store are 0 to 3, and 4 is none of them",)),
-        ("whole.book", "0", 1, ("altered 2 from 0\ntile 0 whole\n", "what was altered is the book, and not the store")),
+        ("whole.book", "0", 1, ("altered 2 from 0\ntile 0 whole\n", "the book was altered: of tile 0 ", "Whether the store was altered, too, the two can't say")),
     ):
         ended, said, told = script("verify.py", store, folder / name, "7", "--era", era)
         if ended != status or not all(it in said + told for it in says):
@@ -305,6 +335,7 @@ def main(words):
         as_a_user()
         worked(folder)
         foreign_seals(folder)
+        doubts()
         eras_as_a_user(folder)
         for lines, damage, what in ((a_script, [one_byte, in_policy], "with one byte changed"), (a_large_script, DAMAGE, "above 65,536 bytes, damaged")):
             verdicts = [verdict for seed in range(count) for verdict in made(folder, seed, lines, damage)]

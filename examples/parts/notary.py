@@ -1,4 +1,11 @@
-"""What a book answers under an id, and the faults by which a call ends that has no answer. Written from docs/FORMATS.md, as verify.py is."""
+"""What a book answers under an id, what a store and a book show of each other, and the faults by which a call ends that has no answer.
+
+Written from docs/FORMATS.md, as verify.py is. A digest that is the same shows the transactions that it goes by, if it is the one that was
+filed. Where a store differs, it was altered, or the book was. Where the book contradicts itself, the book was altered, and shows nothing
+certain of the store.
+"""
+from collections import namedtuple
+
 import verify
 
 STATUS = {
@@ -73,3 +80,42 @@ def rows(content, granules):
         if isinstance(moment, int) and moment // width in held:
             held[moment // width].append(spelled)
     return held
+
+
+# ---- what a store and a book show of each other
+
+# the verdict in the words of verify.py, over so many tiles; and why it may be the book that was altered, in sentences, or None
+Shown = namedtuple("Shown", "verdict tiles doubt")
+
+
+def is_altered(found):
+    return "altered" in found.verdict
+
+
+def shown(content, batches, id):
+    """What a store shows, and the batches of a book under an id."""
+    lines, both = verify.compare(content, batches, id)
+    doubt = verify.doubt(content, batches, id, both) if "altered" in lines[0] else None
+    return Shown(lines[0], max(0, len(batches) - 1), doubt)
+
+
+def shown_of_copy(content, batches, id):
+    """The same of a copy that may be older: up to the last filed tile that ended in it."""
+    if verify.header_of(content) is None:
+        return shown(content, batches, id)
+    eras, width, last, tiles = verify.eras_of(content), verify.header_of(content)[2], last_moment(content), 0
+    while tiles + 1 < len(batches) and verify.first_of(eras, tiles + 1) * width <= last:
+        tiles += 1
+    return shown(content, batches[: tiles + 1], id)
+
+
+def last_moment(content):
+    """The last moment of a store's items."""
+    items = ((item, spelled) for item, spelled in verify.records(content, *verify.STORE) if not isinstance(item, verify.Era))
+    return max((int.from_bytes(spelled[1:9], "big") if item is None else item for item, spelled in items), default=0)
+
+
+def not_filed(name, found):
+    """That a store isn't what was filed, in words."""
+    book, why = (", or the book isn't", f"; {found.doubt}") if found.doubt else ("", "")
+    return f"{name} isn't what was filed{book}: {found.verdict}{why}"

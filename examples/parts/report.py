@@ -98,7 +98,9 @@ def named(ranges):
 def headed(found):
     """What a line of a report names, as the front of a sentence."""
     said = named(found.ranges) if found.ranges else "no set of just so many granules explains it"
-    return f"Tile {found.tile}: {said}" if found.tile is not None else said.capitalize()
+    if found.tile is None:
+        return said.capitalize()
+    return f"Tile {found.tile}: {'at least one of ' * said.startswith('granules ')}{said}"
 
 
 def verdict(report, content, book):
@@ -125,7 +127,7 @@ def verdict(report, content, book):
     doubt = f"So nothing that is filed ({tiles}) can be compared, and every granule of it is in doubt."
     if eras := other_eras(report, content, book):
         return "Eras altered", f"The header is the one that was filed. {eras} {doubt}"
-    return "Header altered", f"{other_header(report, content)} {doubt}"
+    return "Header altered", f"{other_header(report, content, book)} {doubt}"
 
 
 def other_eras(report, content, book):
@@ -144,8 +146,8 @@ def other_eras(report, content, book):
     return f"Its eras aren't: {said}. A policy was changed, added or taken away: `examples/look.py` shows the eras of the store and of a copy."
 
 
-def other_header(report, content):
-    """Why the header isn't the one that was filed: a store with this id and other fields, another store, or none."""
+def other_header(report, content, book):
+    """Why the header isn't the one that was filed: a store with this id and other fields, another store, or none; or the book was altered."""
     header = verify.header_of(content)
     if header is None:
         return f"The file has no header of a store: {what_is(content)}."
@@ -153,7 +155,9 @@ def other_header(report, content):
         return f"The file is another store: its id is {header[1]}, and not {report.id}."
     first = int.from_bytes(header[0][8:16], "big")
     now = f"Today's says granules of {header[2]} s, {1 << header[3]} to a tile, and second {first} as the first."
-    return f"The store has the id {report.id}, and another header than was filed: it was made anew, or its header was changed. {now}"
+    doubt = verify.doubt_of_header(content, [it.seals for it in book.batches(report.id)], report.id)
+    why = f". But {doubt}" if doubt else ": it was made anew, or its header was changed"
+    return f"The store has the id {report.id}, and another header than was filed{why}. {now}"
 
 
 def span(since, until, zone):
