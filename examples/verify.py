@@ -17,13 +17,15 @@ then. It writes no file, and ends with 0 if nothing differs, 1 if something does
 read or is no book, the store has no era E, or that era's tiles have neither chains nor a tree.
 
 `examine` prints what the program's `examine` prints of an evidence file, by docs/COMMANDS.md, and ends with the same status. `evidence`
-writes such a file to TARGET, and `restore` a new store, of what STORE and COPY hold. COPY is /dev/null where there is none, and a TARGET of
-more than one byte is left as it is. They print `evidence N`, or `restored K lost M` and the granules that are lost; or `unsealed`, or
-`header altered N` with status 1. Where a call has no answer, the line is `fault NAME`, and the status is that of NAME in docs/COMMANDS.md.
-Where nothing was made, standard error says why.
+writes such a file to TARGET, and `restore` a new store, of what STORE and COPY hold. COPY is /dev/null where there is none. TARGET is there
+only once it is whole, and one of more than one byte is left as it is. They print `evidence N`, or `restored K lost M` and the granules that
+are lost; or `unsealed`, or `header altered N` with status 1. Where a call has no answer, the line is `fault NAME`, and the status is that of
+NAME in docs/COMMANDS.md. Standard error says why nothing was made. It also says which originals COPY didn't give, what isn't sealed that
+TARGET lacks, and where STORE or TARGET isn't what was filed by other digests.
 Of `restore` HeaderLost is 24: neither store passes. An empty book is one without batches.
 """
 import bisect
+import contextlib
 import errno
 import functools
 import hashlib
@@ -604,6 +606,7 @@ def is_number(word):
     return re.fullmatch(r"0|[1-9][0-9]{0,19}", word) is not None and int(word) < 1 << 64
 
 
+File = namedtuple("File", "name content")
 # the calls that a word in front names, and how many words stand behind it
 CALLS = {"examine": 3, "evidence": 5, "restore": 5}
 
@@ -614,6 +617,8 @@ def call(name, book, id, *files):
     from parts import evidence, notary, restored
 
     target = pathlib.Path(files[-1]) if name != "examine" else None
+    if target and target.exists() and not target.is_file() and not target.is_dir():
+        raise OSError(errno.EINVAL, "it is no plain file", str(target))
     read = [b"" if file == os.devnull else content_of(file) for file in (book, *(files[:-1] if target else files))]
     try:
         if target and target.exists() and target.stat().st_size > 1:
@@ -626,41 +631,76 @@ def call(name, book, id, *files):
     tell_why(lines[0], book, id, files, read)
     for content in made:
         if content is not None:
-            target.write_bytes(content)
+            keep(content, target)
+            told = {"evidence": evidence.told, "restore": restored.told}[name]
+            for said in told(lines, *map(File, map(plain, files), [*read[1:], content]), read[0], int(id)):
+                print(f"verify: {said}", file=sys.stderr)
     if is_book(read[0]):
         tell_hidden(book, read[0], BOOK)
     for file, content in zip(files[:-1], read[1:]):
-        tell_hidden(file, content, STORE)
+        if begins_as(content, b"DRAGOON"):
+            tell_hidden(file, content, STORE)
     return lines, status
+
+
+def keep(content, target):
+    """Writes a file that is there only once it is whole."""
+    whole = os.path.realpath(target)
+    part = f"{whole}.{os.getpid()}.part"
+    try:
+        with open(part, "xb") as file:
+            file.write(content)
+            file.flush()
+            os.fsync(file.fileno())
+        os.replace(part, whole)
+    except OSError as fault:
+        with contextlib.suppress(OSError):
+            os.unlink(part)
+        raise OSError(fault.errno, fault.strerror, str(target)) from None
 
 
 def tell_why(line, book, id, files, read):
     """Says on standard error why such a call has this answer, where it made or confirmed nothing."""
-    book, first, target = plain(book), plain(files[0]), plain(files[-1])
+    book, first, target, found = plain(book), plain(files[0]), plain(files[-1]), " ".join(line.split(" ")[:2])
+    nothing = nothing_under(id, read[0]) if found in ("unsealed", "other header") else None
+    fail = [f"{plain(file)} {what_fails(content, id, read[0])}" for file, content in zip(files, read[1:]) if found in ("fault HeaderLost", "header altered")]
     said = {
         "fault AlreadyThere": f"{target} is there, and stays as it is: name another file",
         "fault NotaryFault": f"{book} is no notary's book: {what_is(read[0])}",
-        "fault HeaderLost": "nothing was made: " + "; ".join(f"{plain(file)} {what_fails(content, id)}" for file, content in zip(files, read[1:])),
+        "fault HeaderLost": "nothing was made: " + "; ".join(fail),
         "fault NotEvidence": f"{first} is no evidence file: {'it begins as one, and is cut or changed' if read[1][:8] == b'DRAGEVD1' else what_is(read[1])}",
         "fault InputLimit": f"{first} is longer than an evidence file can be",
         "fault Full": "nothing was made: what is restored is longer than a store can be",
         "fault NotSealedSo": f"nothing was made: a tile that is filed in {book} has no tree",
         "fault SealMissing": f"{book} lacks a digest that was filed with the others: compare it with its copies",
         "fault NotaryInconsistent": f"{book} contradicts itself: compare it with its copies",
-        "unsealed": f"nothing was made: {book} " + ("is empty" if is_empty(read[0]) else f"has nothing that was filed under the id {id}"),
-        "other header": f"{first} is evidence of another id than {id}, or of another header or other eras than {book} has under it",
-        "header altered": f"nothing was made: {first} {what_fails(read[1], id)}",
-    }.get(" ".join(line.split(" ")[:2]))
+        "unsealed": f"nothing was made: {book} {nothing}",
+        "other header": f"nothing was compared: {book} {nothing}" if nothing else f"{first} is evidence of another id than {id}, or of another header or other eras than {book} has under it",
+        "header altered": f"nothing was made: {''.join(fail[:1])}",
+    }.get(found)
     if said:
         print(f"verify: {said}", file=sys.stderr)
 
 
-def what_fails(content, id):
+def nothing_under(id, book):
+    """That a book has nothing under the id, in words; or None."""
+    if is_empty(book):
+        return "is empty"
+    try:
+        return None if batches_of(book, int(id)) else f"has nothing that was filed under the id {id}"
+    except ValueError:
+        return None
+
+
+def what_fails(content, id, book):
     """Why a store doesn't pass, in words."""
     header = header_of(content)
     if header is None:
         return f"is no store: {what_is(content)}"
-    return f"has the id {header[1]}, and not {id}" if str(header[1]) != id else "has another header or other eras than were filed"
+    if str(header[1]) != str(id):
+        return f"has the id {header[1]}, and not {id}"
+    said = doubt_of_header(content, batches_of(book, int(id)), int(id))
+    return f"has another header or other eras than were filed{f'; {said}' if said else ''}"
 
 
 def comparison(store_name, book_name, id, era):

@@ -11,9 +11,12 @@ COUNT evidence files (20,000 if none is given) are cut, turned, or spelled other
 a harmed one, exactly what verify.py says, with the same status.
 """
 import importlib.util
+import os
 import pathlib
 import random
 import re
+import resource
+import subprocess
 import sys
 import tempfile
 import time
@@ -57,33 +60,65 @@ def as_a_user(folder):
     """The script itself, and the program on the same files: what they print, and how they end."""
     (folder / "book").write_bytes(BOOK.read_bytes())
     (folder / "other").write_bytes(made.changed(WORKED.read_bytes(), 261, 1))
-    nothing = pathlib.Path("/dev/null")
-    for call, words, status, text, length in (
-        ("evidence", (BOOK, "7", ALTERED, WORKED), 0, "evidence 1\n", 133),
-        ("evidence", (BOOK, "7", ALTERED, ALTERED), 0, "evidence 1\n", 88),
-        ("evidence", (BOOK, "7", WORKED, nothing), 0, "evidence 0\n", 38),
-        ("evidence", (BOOK, "8", ALTERED, WORKED), 0, "unsealed\n", None),
-        ("evidence", (BOOK, "7", nothing, WORKED), 1, "header altered 1\n", None),
-        ("evidence", (WORKED, "7", ALTERED, WORKED), 6, "fault NotaryFault\n", None),
-        ("restore", (BOOK, "7", ALTERED, folder / "other"), 0, "restored 8 lost 0\n", 445),
-        ("restore", (BOOK, "7", ALTERED, ALTERED), 0, "restored 7 lost 1\nlost granules 5 to 5\n", 403),
-        ("restore", (BOOK, "7", nothing, nothing), 24, "fault HeaderLost\n", None),
-        ("restore", (nothing, "7", ALTERED, WORKED), 0, "unsealed\n", None),
+    nothing, longer, other_header, of_root, of_leaf, of_header = pathlib.Path("/dev/null"), *(folder / it for it in ("longer", "header", "of_root", "of_leaf", "of_header"))
+    more = laid(verify.header_of(WORKED.read_bytes())[0], [*(it for _, it in verify.records(WORKED.read_bytes(), *verify.STORE)), of_length(480, 60)])
+    longer.write_bytes(more)
+    other_header.write_bytes(made.changed(more, 24, 1))
+    planned = [next(it for it in list(verify.plan(of.read_bytes(), 1))[1:]) for of in (WORKED, ALTERED)]
+    for path, name in ((of_root, "node 3 0"), (of_leaf, "node 0 5")):
+        path.write_bytes(BOOK.read_bytes().replace(planned[0][name], planned[1][name]))
+    of_header.write_bytes(made.changed(BOOK.read_bytes(), 93, BOOK.read_bytes()[93] ^ 1))
+    altered, lacks = "the book was altered: of tile 0 ", "has 1 transaction behind the sealed tiles that"
+    for call, words, status, text, length, said_besides in (
+        ("evidence", (BOOK, "7", ALTERED, WORKED), 0, "evidence 1\n", 133, ()),
+        ("evidence", (BOOK, "7", ALTERED, ALTERED), 0, "evidence 1\n", 88, ("altered.store gave the originals of 0 of 1: of granule 5 it hasn't what was filed",)),
+        ("evidence", (BOOK, "7", ALTERED, other_header), 0, "evidence 1\n", 88, ("header gave no original: it has another header or other eras than were filed",)),
+        ("evidence", (BOOK, "7", ALTERED, BOOK), 0, "evidence 1\n", 88, ("worked.book gave no original: it is no store: it is a notary's book",)),
+        ("evidence", (BOOK, "7", ALTERED, nothing), 0, "evidence 1\n", 88, ()),
+        ("evidence", (BOOK, "7", WORKED, nothing), 0, "evidence 0\n", 38, ("shows no granule: by the tree no sealed one of ",)),
+        ("evidence", (BOOK, "7", WORKED, ALTERED), 0, "evidence 0\n", 38, ("shows no granule", "altered.store isn't what was filed: altered 1 from 0. Are the two swapped?")),
+        ("evidence", (of_root, "7", ALTERED, WORKED), 0, "evidence 0\n", 38, ("shows no granule", f"altered.store isn't what was filed, or the book isn't: altered 1 from 0; {altered}")),
+        ("evidence", (of_header, "7", WORKED, WORKED), 1, "header altered 1\n", None, ("nothing was made", "the chain up to tile 0 begins with this header, and doesn't differ. Either the book was altered,")),
+        ("evidence", (BOOK, "8", ALTERED, WORKED), 0, "unsealed\n", None, ("nothing was made",)),
+        ("evidence", (BOOK, "7", nothing, WORKED), 1, "header altered 1\n", None, ("nothing was made",)),
+        ("evidence", (WORKED, "7", ALTERED, WORKED), 6, "fault NotaryFault\n", None, ("is no notary's book",)),
+        ("restore", (BOOK, "7", ALTERED, folder / "other"), 0, "restored 8 lost 0\n", 445, ()),
+        ("restore", (BOOK, "7", ALTERED, ALTERED), 0, "restored 7 lost 1\nlost granules 5 to 5\n", 403, ()),
+        ("restore", (BOOK, "7", longer, WORKED), 0, "restored 8 lost 0\n", 510, ()),
+        ("restore", (BOOK, "7", WORKED, longer), 0, "restored 8 lost 0\n", 445, (f"longer {lacks}",)),
+        ("restore", (BOOK, "7", other_header, WORKED), 0, "restored 8 lost 0\n", 445, ("what isn't sealed was taken from ", f"header {lacks}")),
+        ("restore", (BOOK, "7", WORKED, other_header), 0, "restored 8 lost 0\n", 445, ("nothing was taken from ", f"header {lacks}")),
+        ("restore", (of_leaf, "7", ALTERED, WORKED), 0, "restored 8 lost 0\n", 445, (f"isn't what was filed, or the book isn't: altered 1 from 0; {altered}",)),
+        ("restore", (BOOK, "7", nothing, nothing), 24, "fault HeaderLost\n", None, ("nothing was made",)),
+        ("restore", (nothing, "7", ALTERED, WORKED), 0, "unsealed\n", None, ("nothing was made",)),
     ):
         target = folder / "target"
         target.unlink(missing_ok=True)
         *said, told = script("verify.py", call, *words, target)
         found = tuple(said), target.stat().st_size if target.exists() else None
         # where nothing is made, a sentence says why
-        if found != ((status, text), length) or told.startswith("verify: ") != (length is None):
+        if found != ((status, text), length) or bool(told) != bool(said_besides) or not all(it in told for it in said_besides):
             raise Wrong(f"verify.py {call} {' '.join(map(str, words))} says {found}: {told}")
-        if call == "restore" and length and dragoon(f"store={target}", f"notary={folder / 'book'}", "validate", "7")[0] != int("lost granules" in text):
+        is_altered = "lost granules" in text or words[0] == of_leaf
+        if call == "restore" and length and dragoon(f"store={target}", f"notary={folder / 'book'}", "validate", "7")[0] != int(is_altered):
             raise Wrong(f"what verify.py {call} {' '.join(map(str, words))} makes is another store")
         taken = 13, "fault AlreadyThere\n", f"verify: {target} is there, and stays as it is: name another file\n"
         if length and (found := script("verify.py", call, *words, target)) != taken:
             raise Wrong(f"verify.py {call} over a file that is there says {found}")
     examined_by_users(folder)
+    targets_that_are_none(folder)
     print("evidence: verify.py makes the evidence and the restored stores of the worked files, and says what the program says of them")
+
+
+def targets_that_are_none(folder):
+    """What is no plain file is no target, and one that a disk doesn't hold isn't left there in part."""
+    os.mkfifo(folder / "pipe")
+    for target, limit, why in ((folder / "pipe", None, "it is no plain file"), ("/dev/null", None, "it is no plain file"), (folder / "full", 0, "File too large")):
+        call = [sys.executable, EXAMPLES / "verify.py", "restore", BOOK, "7", ALTERED, WORKED, target]
+        limited = None if limit is None else lambda: resource.setrlimit(resource.RLIMIT_FSIZE, (limit, limit))
+        done = subprocess.run(call, capture_output=True, text=True, timeout=60, preexec_fn=limited)
+        if (done.returncode, done.stdout, done.stderr) != (3, "", f"verify: {target}: {why}\n") or list(folder.glob("full*")):
+            raise Wrong(f"verify.py restore into {target} says {done}")
 
 
 def examined_by_users(folder):
@@ -104,6 +139,10 @@ def examined_by_users(folder):
         found = tuple(said), dragoon_of(folder / "file", f"notary={folder / 'book'}", "examine", id)
         if found != ((status, text),) * 2 or bool(told) != bool(status):
             raise Wrong(f"of {len(content)} bytes under the id {id} verify.py and the program say {found}")
+    (folder / "file").write_bytes(whole)
+    for book, id, why in (("/dev/null", "7", "nothing was compared: /dev/null is empty\n"), (BOOK, "8", "has nothing that was filed under the id 8\n")):
+        if not (told := script("verify.py", "examine", book, id, folder / "file")[2]).endswith(why):
+            raise Wrong(f"verify.py examine by {book} under the id {id} says {told}")
 
 
 # ---- the limits of a file

@@ -6,7 +6,7 @@ from collections import namedtuple
 
 import verify
 from verify import Era, number
-from .notary import Fault, Notary, digests, leaf, node, rows
+from .notary import Fault, Notary, digests, is_altered, leaf, node, not_filed, rows, shown, shown_of_copy
 
 LETTERS, LIMIT, LONGEST, NO_COPY, WITH_COPY = b"DRAGEVD1", 67_108_864, 32_768, b"\0", b"\1"
 
@@ -130,6 +130,25 @@ def gather(store, copy, book, id):
     if len(content) >= LIMIT:
         raise Fault("Full")
     return [f"evidence {len(entries)}"], 0, content
+
+
+def told(lines, store, copy, target, book, id):
+    """What an evidence file that was made doesn't show, in sentences. Each file is its name and its content."""
+    entries = Reader(target.content).evidence().entries
+    apart = [str(it.granule) for it in entries if it.second is None]
+    if not entries:
+        yield f"{target.name} shows no granule: by the tree no sealed one of {store.name} is altered"
+        batches = verify.batches_of(book, id)
+        found, of_copy = shown(store.content, batches, id), shown_of_copy(copy.content, batches, id)
+        if is_altered(found):
+            yield not_filed(store.name, found)
+        elif of_copy.verdict.startswith("altered"):
+            yield f"{not_filed(copy.name, of_copy)}. Are the two swapped?"
+    elif apart and copy.content and not Notary(book, id).passes(copy.content):
+        yield f"{copy.name} gave no original: it {verify.what_fails(copy.content, id, book)}"
+    elif apart and copy.content:
+        named = f"granule{'s' * (len(apart) > 1)} {', '.join(apart[:9])}" + (f" and {len(apart) - 9} more" if apart[9:] else "")
+        yield f"{copy.name} gave the originals of {len(entries) - len(apart)} of {len(entries)}: of {named} it hasn't what was filed"
 
 
 def altered(store, eras, notary):

@@ -1,10 +1,11 @@
 """A new store that is made of a store and its copy, of what a book confirms. Written from docs/FORMATS.md."""
 import itertools
+from collections import Counter
 
 import verify
 from verify import number
 from .laid import laid_out
-from .notary import Fault, Notary, digests, leaf, rows
+from .notary import Fault, Notary, digests, is_altered, leaf, not_filed, rows, shown
 
 
 def restore(store, copy, book, id):
@@ -28,6 +29,29 @@ def restore(store, copy, book, id):
         raise Fault("Full")
     lines = [f"restored {end - len(lost)} lost {len(lost)}"]
     return lines + [f"lost granules {begin} to {last}" for begin, last in runs(lost)], 0, b"".join(pieces)
+
+
+def told(lines, store, copy, target, book, id):
+    """What a store that was restored lacks, and where it isn't what was filed, in sentences. Each file is its name and its content."""
+    notary = Notary(book, id)
+    if not notary.passes(store.content):
+        yield f"what isn't sealed was taken from {copy.name}, and nothing from {store.name}: that {verify.what_fails(store.content, id, book)}"
+    elif copy.content and not notary.passes(copy.content):
+        yield f"nothing was taken from {copy.name}: it {verify.what_fails(copy.content, id, book)}"
+    moment = verify.first_of(verify.eras_of(target.content), notary.tiles) * verify.header_of(target.content)[2]
+    for source in (store, copy):
+        lacks = sum((Counter(since(source.content, moment)) - Counter(since(target.content, moment))).values())
+        if lacks:
+            yield f"{source.name} has {lacks} transaction{'s' * (lacks > 1)} behind the sealed tiles that {target.name} lacks"
+    found = shown(target.content, notary.batches, id)
+    if is_altered(found) and lines[0].endswith(" lost 0"):
+        yield not_filed(target.name, found)
+
+
+def since(content, moment):
+    """The transactions of a store from this moment on."""
+    is_store = len(content) > verify.FIRST_GATE and verify.begins_as(content, b"DRAGOON")
+    return [spelled for at, spelled in verify.records(content, *verify.STORE) if isinstance(at, int) and at >= moment] if is_store else []
 
 
 class Source:
