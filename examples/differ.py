@@ -6,14 +6,14 @@
 STORE is the one that is in doubt, and COPY one that isn't. A transaction of the one stands beside that of the same number in the
 other. Where they differ both are shown, with their moments and dates, and the names of the columns whose values differ. With
 --granule only what has a moment of granule G in one of them counts. Dates are those of ZONE, or else of UTC. The first line says where
-both files are the same, byte by byte. With --book it says, too, whether COPY is itself what was filed, up to the last filed tile that
-ended in it. What COPY has behind that is compared with no digest.
+both files are the same, byte by byte. With --book it says, too, whether COPY is itself what was filed, up to the last filed tile of its
+eras that ended in it. What COPY has behind that is compared with no digest.
 
 Headers, policies and Frontiers are compared as well, and how often and in which order the transactions stand there. The last line counts.
 What may have been stored since is counted and not shown. It has a new number, no moment before the last one of COPY, and stands behind all
-that COPY has. So it is with a Frontier, which has no number. Standard error says where bytes stand behind the end of one of the two, or of
-BOOK. It ends with 0 if nothing differs up to there, or nothing was compared. It ends with 1 if something does, if COPY or BOOK isn't what
-was filed, or BOOK is none, and with 3 if a file can't be read or is no store.
+that COPY has. So it is with Frontiers, which have no number, and with policies, which have neither. Standard error says where bytes stand
+behind the end of one of the two, or of BOOK. It ends with 0 if nothing differs up to there, or nothing was compared. It ends with 1 if
+something does, if COPY or BOOK isn't what was filed, or BOOK is none, and with 3 if a file can't be read or is no store.
 """
 import itertools
 import sys
@@ -31,7 +31,7 @@ SAID = {"id": "id", "epoch": "first second", "width": "width of granules", "k": 
 
 
 class Side:
-    """One of the two stores, read once: its transactions as they are spelled and their places, its policies, its Frontiers with their
+    """One of the two stores, read once: its transactions as they are spelled and their places, its policies and Frontiers with their
     places, and the columns of its tables. A place is a number of items, up to that one.
     """
 
@@ -42,7 +42,7 @@ class Side:
             self.count += 1
             self.last = max(self.last, 0 if isinstance(item, Policy) else item.moment)
             if isinstance(item, Policy):
-                self.policies.append(item)
+                self.policies.append((self.count, item))
             elif isinstance(item, Frontier):
                 self.frontiers.append((self.count, item.moment))
             elif isinstance(item, Transaction):
@@ -111,13 +111,15 @@ def front_lines(side, other):
         ours, theirs = getattr(side.store, name), getattr(other.store, name)
         if ours != theirs:
             yield f"header: {SAID[name]} {ours} in the store, {theirs} in the copy"
-    if side.policies != other.policies:
-        yield f"policies: {len(side.policies)} in the store, {len(other.policies)} in the copy, and not the same; look.py says which eras they begin"
-    yield from frontier_lines(side, other)
+    alone, lost, shared = apart_in(side, other)
+    policies, theirs = ([policy for _, policy in of.policies] for of in (side, other))
+    if policies[: len(theirs)] != theirs or any(place < shared for place, _ in side.policies[len(theirs) :]):
+        yield f"policies: {len(policies)} in the store, {len(theirs)} in the copy, and not the same; look.py says which eras they begin"
+    yield from frontier_lines(side, other, alone, lost, shared)
 
 
-def frontier_lines(side, other):
-    """The moments of the Frontiers that differ, but for those that were stored since. The clock that a store goes by is that of its last item."""
+def apart_in(side, other):
+    """The Frontiers that one of the two has alone, those of the store with their places; and the place of its last item that the copy has."""
     left, alone, theirs = Counter(moment for _, moment in other.frontiers), [], set(other.payloads)
     shared = max((place for place, payload in zip(side.places, side.payloads) if payload in theirs), default=0)
     for place, moment in side.frontiers:
@@ -125,7 +127,11 @@ def frontier_lines(side, other):
             left[moment], shared = left[moment] - 1, max(shared, place)
         else:
             alone.append((place, moment))
-    lost = sorted(left.elements())
+    return alone, sorted(left.elements()), shared
+
+
+def frontier_lines(side, other, alone, lost, shared):
+    """The moments of the Frontiers that differ, but for those that were stored since. The clock that a store goes by is that of its last item."""
     ours = sorted(moment for place, moment in alone if moment < other.last or place < shared or lost and place <= other.count)
     for name, found, of in (("store", ours, side), ("copy", lost, other)):
         for moment in found[:9]:
@@ -165,7 +171,7 @@ def copy_line(copy, content, path, zone):
     if is_altered(found):
         return True, not_filed("the copy", found).replace("isn't", "ISN'T", 1)
     if not found.tiles:
-        return False, "of the copy nothing was compared with the book but the header: no filed tile ended in it"
+        return False, "of the copy nothing was compared with the book but the header: no filed tile of its eras ended in it"
     end = copy.store.end_of(found.tiles)
     return False, f"up to moment {end}, {moments.date(copy.store.epoch + end, zone)}, the copy is what was filed: {found.verdict}"
 

@@ -4,9 +4,9 @@
     python3 examples/checks/looking.py [COUNT]
 
 COUNT stores (1,000 if none is given) with statements and sessions of their own are dumped, whole or in two parts, and made anew
-from that. The new store has to say the same `link`. Then come verdicts of each kind, files that are none, hostile texts, and the
-worked store and book with one byte changed (each one, from 100 stores on): no script may print a traceback, or a letter that steers
-what shows it.
+from that. The new store has to say the same `link`. As many go on behind a copy of theirs, and differ in nothing from it. Then come
+verdicts of each kind, files that are none, hostile texts, and the worked store and book with one byte changed (each one, from 100 stores
+on): no script may print a traceback, or a letter that steers what shows it.
 """
 import contextlib
 import hashlib
@@ -96,6 +96,24 @@ def restored(folder, seed):
     if any(not it.startswith(("Frontier: ", "the copy is the same")) for it in inside(differ, store, new)[1].splitlines()[:-1]):
         raise Wrong(f"made store {seed}: differ.py finds that it isn't what was dumped")
     return int(links[0][1].split()[1])
+
+
+def grown(folder, seed):
+    """A store that went on behind its copy, with policies and filings, differs from it in nothing; and the copy is what was filed."""
+    rng, store, copy, book = random.Random(seed), folder / "store", folder / "new", folder / "filed"
+    for path in (store, book):
+        path.unlink(missing_ok=True)
+    width = rng.choice([1, 60, 3600])
+    dragoon(f"store={store}", "init", "7", str(width), str(rng.randint(0, 4)), rng.choice(["m", "t", "a", "ta"]))
+    lines = made.a_script(rng, width).splitlines()
+    cut = rng.randint(0, len(lines))
+    for part in (lines[:cut], lines[cut:]):
+        shutil.copy(store, copy)
+        dragoon(f"store={store}", f"notary={book}", "run", "7", "scripted", lines="\n".join(part) + "\n")
+    status, said, told = inside(differ, *(["--book", book] if book.exists() else []), store, copy)
+    odd = [it for it in said.splitlines() if not it.startswith(("the copy is the same", "up to moment", "of the copy nothing", "0 of ", "no transaction was"))]
+    if status or odd or told:
+        raise Wrong(f"made store {seed} beside its copy: {odd or told}")
 
 
 # ---- files by hand
@@ -285,8 +303,8 @@ SAYS = [
     ("differ.py", ("--book", BOOK, ALTERED, ALTERED), 1, ("the copy is the same as the store, byte by byte\nthe copy ISN'T what was filed: altered 1 from 0\n0 of 9 transactions differ;",)),
     ("differ.py", ("--book", "hides_filings", ALTERED, WORKED), 1, ("differ: behind the end of", "hides_filings stand 848 bytes")),
     ("differ.py", ("--book", BOOK, ALTERED, WORKED), 1, ("up to moment 480, 1970-01-01 00:08:00 UTC, the copy is what was filed: clean 1\n", "1 of 9 transactions differs")),
-    ("differ.py", ("--book", BOOK, WORKED, "shorter"), 0, ("of the copy nothing was compared with the book but the header: no filed tile ended in it\n0 of 9 transactions differ;",)),
-    ("differ.py", ("--book", BOOK, WORKED, "early"), 1, ("of the copy nothing was compared with the book but the header: no filed tile ended in it\ntransaction 4\n",)),
+    ("differ.py", ("--book", BOOK, WORKED, "shorter"), 0, ("of the copy nothing was compared with the book but the header: no filed tile of its eras ended in it\n0 of 9 transactions differ;",)),
+    ("differ.py", ("--book", BOOK, WORKED, "early"), 1, ("of the copy nothing was compared with the book but the header: no filed tile of its eras ended in it\ntransaction 4\n",)),
     *(("differ.py", ("--book", book, copy, copy), 1, ("the copy ISN'T what was filed, or the book isn't: altered 1 from 0; the book was altered: of tile 0",))
       for book, copy in (("of_leaf", ALTERED), ("of_root", ALTERED), ("of_cum", ALTERED), ("of_root", WORKED))),
     *(("differ.py", ("--book", book, WORKED, WORKED), 1, ("the copy ISN'T what was filed, or the book isn't: altered 1 from 0; of the digests that were filed with tile 0",)) for book in ("other_digest", "of_cum")),
@@ -526,6 +544,8 @@ def main(words):
         folder = pathlib.Path(name)
         transactions = sum(restored(folder, seed) for seed in range(count))
         print(f"looking: {count} stores, with {transactions} transactions, were dumped and made anew under the same link")
+        for seed in range(count):
+            grown(folder, seed)
         odd(folder)
         files(folder)
         in_words(folder)

@@ -100,11 +100,14 @@ def shown(content, batches, id):
 
 
 def shown_of_copy(content, batches, id):
-    """The same of a copy that may be older: up to the last filed tile that ended in it."""
+    """The same of a copy that may be older: up to the last filed tile of its eras that ended in it."""
     if verify.header_of(content) is None:
         return shown(content, batches, id)
     eras, width, last, tiles = verify.eras_of(content), verify.header_of(content)[2], last_moment(content), 0
-    while tiles + 1 < len(batches) and verify.first_of(eras, tiles + 1) * width <= last:
+    for batch in batches[1:]:
+        begins_another = any(name.startswith("era ") and int(name[4:]) >= len(eras) for name, _ in batch)
+        if begins_another or verify.first_of(eras, tiles + 1) * width > last:
+            break
         tiles += 1
     return shown(content, batches[: tiles + 1], id)
 
