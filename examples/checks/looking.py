@@ -336,6 +336,9 @@ SAYS = [
     ("diagram_svg.py", ("nowhere",), 1, ("diagram_svg: nowhere can't be read: No such file",)),
     ("explain", (WORKED, BOOK, "7"), 0, ("Clean: ",)),
     ("explain", ("--alg", "tiled", ALTERED, BOOK, "7"), 1, ("Tile 0: at least one of granules 5, 7, changed between 1970-01-01 00:08:00 UTC",)),
+    *((name, ("--alg", "mono", ALTERED, "of_leaf", "7"), status, ("or the book isn", "the book was altered: of tile 0 some digests differ, and others of the same filing over"))
+      for name, status in (("explain", 1), ("report_page.py", 0))),
+    ("explain", ("--alg", "mono", WORKED, "of_cum", "7"), 1, ("Altered: ", "The store isn't what was filed, or the book isn't: of the digests that were filed with tile 0 some differ,")),
     *((name, (WORKED, "of_header", "7"), status, ("The store has the id 7, and another header than was filed. But the chain up to tile 0 begins with this header, and",))
       for name, status in (("explain", 1), ("report_page.py", 0))),
     ("explain", (WORKED, BOOK, "9"), 0, ("Nothing was filed: ", "it is a store with the id 7")),

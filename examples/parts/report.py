@@ -6,6 +6,7 @@ from collections import namedtuple
 import verify
 from . import moments
 from .book import nothing_of
+from .notary import shown
 from .script import Refused, counted, plain
 from .store import Create, Store, Tables, hidden, what_is
 
@@ -122,6 +123,8 @@ def verdict(report, content, book):
     if report.verdict == "clean":
         return "Clean", f"What stands in the store up to the end of the last filed tile is what was filed: {tiles}."
     if report.verdict == "altered":
+        if found := shown(content, [it.seals for it in book.batches(report.id)], report.id).doubt:
+            return "Altered", f"The store isn't what was filed, or the book isn't: {found}."
         changed = f"Of what is filed ({tiles}) at least one transaction was changed, added or taken away."
         return "Altered", f"The store isn't what was filed. {changed}"
     doubt = f"So nothing that is filed ({tiles}) can be compared, and every granule of it is in doubt."
