@@ -23,8 +23,9 @@ def gate_of(content):
     return max([begin, *(gate for *_, gate in verify.run(content, begin, limit, READ, LONGEST))])
 
 
-def named(payload):
-    return {1: f"its transaction {int.from_bytes(payload[1:5], 'big')}", 2: "a Frontier of it", 3: "a policy of it"}[payload[0]]
+def named(payload, number):
+    """An item of the earlier store, by the count of its transactions up to there: the number in an altered one may be altered."""
+    return {1: f"its transaction {number}", 2: "a Frontier of it", 3: "a policy of it"}[payload[0]]
 
 
 def missing(earlier, store):
@@ -37,13 +38,14 @@ def missing(earlier, store):
         return f"it is no store: {verify.what_is(store)}"
     if header[0] != verify.header_of(earlier)[0]:
         return "the header is another one"
-    there = verify.records(store, *verify.STORE)
+    there, number = verify.records(store, *verify.STORE), 0
     for _, payload in verify.records(earlier, *verify.STORE):
+        number += payload[0] == 1
         _, other = next(there, (None, None))
         if other is None:
-            return f"{named(payload)} isn't there, nor what stood behind that"
+            return f"{named(payload, number)} isn't there, nor what stood behind that"
         if other != payload:
-            return f"something else stands in place of {named(payload)}"
+            return f"something else stands in place of {named(payload, number)}"
     return None
 
 
