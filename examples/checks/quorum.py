@@ -107,6 +107,8 @@ def table(folder):
     # the same batches, filed a second later
     anew = books.spelled([it[:13] + struct.pack(">Q", int.from_bytes(it[13:21], "big") + 1) + it[21:] for it in books.read(EXAMPLES / "worked.book").payloads])
     short, other = whole[:125] + b"\0", whole[:200] + b"\1" + whole[201:]
+    # put back behind the first batch, and validated since
+    back = books.spelled([books.read(EXAMPLES / "worked.book").payloads[0], struct.pack(">BQQIBI", 2, 7, 99, 0, 0, 0)])
     for status, text, contents in [
         (0, "majority 3 of 3: 913 bytes, 21 seals, 0 marks\na: the same\nb: the same\nc: the same\n", (whole, whole, whole)),
         (1, "c: behind from byte 125: lacks 20 seals and 0 marks\n", (whole, whole, short)),
@@ -123,6 +125,7 @@ def table(folder):
         (1, "majority 2 of 3: 65 bytes, 0 seals, 0 marks\na: goes on alone from byte 64: 21 seals and 0 marks more\nb: the same\nc: no book", (whole, b"", None)),
         (1, "compare: more than half have nothing filed", (whole, b"", b"")),
         (1, "a: differs from byte 64 on, where the majority's has 21 seals and 0 marks; it filed batch 0 under the id 7 BEFORE the majority did", (whole, anew, anew)),
+        (1, "a: differs from byte 125 on, where the majority's has 0 seals and 1 marks; it has 1 batch that the majority lacks, from batch 1 under the id 7 on", (whole, back, back)),
         (3, "no majority: no book is what more than half of 3 say\na: 21 seals and 0 marks\n", (whole, other, short)),
         (3, "no majority", (whole, None, None)),
         (3, "b: no book: its head is no book's\n", (whole, bytes(99), b"\xa7" * 99)),
@@ -135,6 +138,10 @@ def table(folder):
     expect(0, "mend: a: differs from byte 64 on", "mend", *"abc")
     os.unlink("a.mended")
     # mend
+    for others in (back, short):
+        for name, content in zip("abc", (whole, others, others)):
+            put(pathlib.Path(name), content)
+        expect(3, "mend: nothing is written: a has what the majority lacks", "mend", *"abc")
     for name, content in zip("abc", (other, whole, whole)):
         put(pathlib.Path(name), content)
     expect(0, "a.mended: 913 bytes, 21 seals", "mend", *"abc")

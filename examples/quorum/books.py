@@ -108,6 +108,19 @@ def filed_before(book, majority):
     return next(((int.from_bytes(it[:8], "big"), int.from_bytes(it[8:], "big")) for it in names), None)
 
 
+def only_here(book, majority):
+    """The batches of this book of which the majority has none, as their ids and indexes. What isn't in turn was altered, and vouches for nothing."""
+    known, ended, names = {it[1:13] for it in majority if it[0] == 1}, collections.Counter(), []
+    for name in (it[1:13] for it in book if it[0] == 1):
+        id, index = int.from_bytes(name[:8], "big"), int.from_bytes(name[8:], "big")
+        if index != ended[id]:
+            break
+        ended[id] += 1
+        if name not in known:
+            names.append((id, index))
+    return names
+
+
 def standing(book, majority):
     """How a book stands to the majority's, in words; `the same` where nothing is to be done."""
     if book.why:
@@ -124,8 +137,11 @@ def standing(book, majority):
         text = f"missed some from byte {place} on: lacks {seals_of(majority) - seals_of(mine)} seals and {marks_of(majority) - marks_of(mine)} marks"
     else:
         text = f"differs from byte {place} on, where the majority's has {seals_of(lacks)} seals and {marks_of(lacks)} marks"
+        if more_batches := only_here(mine, majority):
+            (id, index), count = more_batches[0], len(more_batches)
+            text += f"; it has {count} batch{'es' * (count > 1)} that the majority lacks, from batch {index} under the id {id} on, as where the others were put back: look at anchors"
         if earlier := filed_before(mine, majority):
-            text += "; it filed batch {1} under the id {0} BEFORE the majority did, as where those were begun anew: look at anchors".format(*earlier)
+            text += "; it filed batch {1} under the id {0} BEFORE the majority did, as where those were begun anew or put back: look at anchors".format(*earlier)
     if book.odd:
         text += f"; the file has {book.odd} byte{'s' * (book.odd != 1)}, and is no notary's book"
     return text + (f"; {book.behind} bytes stand behind its end" if book.behind else "")
