@@ -34,6 +34,8 @@ is_there() {
 new_file() { made_in "${TMPDIR:-/tmp}" 'let TMPDIR name one that you can write to'; }
 new_folder() {
     if [ $# -eq 0 ]; then
+        # (books are named with commas between them, and some of their copies lie here)
+        [[ ${TMPDIR:-} != *,* ]] || { plain "${0##*/}: TMPDIR=$TMPDIR has a comma: let it name a folder without one" >&2; return 1; }
         made_in "${TMPDIR:-/tmp}" 'let TMPDIR name one that you can write to' -d
     else
         made_in "$(dirname -- "$1")" 'make it, or name one that you can write to' -d -- "$1.XXXXXX"
