@@ -4,12 +4,15 @@
     python3 examples/report_page.py [--alg ALG] [--zone ZONE] STORE BOOK ID >report.html
 
 It says the verdict in words; of which store and book that is, with their SHA-256, and when; each altered granule, when it was changed
-and what stands in it now; the diagram; what was filed and validated; what the algorithm can't say; and what to do next.
+and what stands in it now; the diagram; what was filed and validated; what the algorithm can't say; and what to do next. Beside the report
+it has the verdict of verify.py, and says where digests of the book contradict one another. It is green only where a tile was compared,
+both say `clean`, and no bytes stand behind the records of either file.
 
 It asks over copies, so it writes neither file, and the SHA-256 are those of what was asked. ALG is mono, tiled, `tiled KAPPA` or a3d,
 and behind the last three ` era E` may stand: --alg 'a3d era 1'. Where none is given it is a3d where all sealed tiles have the tree,
-tiled where all have tile chains, else mono. Dates are those of ZONE, as Europe/Zurich, or else of UTC. It ends with 0 if the page is
-made, whatever the verdict, and with 3 if there is no report. DRAGOON names another program than ./dragoon.
+tiled where all have tile chains, else mono. It is mono, too, where nodes of the book contradict one another. Dates are those of ZONE, as
+Europe/Zurich, or else of UTC. It ends with 0 if the page is made, whatever the verdict, and with 3 if there is no report. DRAGOON names
+another program than ./dragoon.
 """
 import hashlib
 import os
@@ -18,13 +21,12 @@ import sys
 sys.dont_write_bytecode = True
 import diagram_svg
 import verify
-from parts import moments, page, report as reports
+from parts import judged, moments, page, report as reports
 from parts.book import Batch, Book, said
-from parts.script import algorithm, ask_report, counted, end, number, words_of
+from parts.script import algorithm, counted, end, number, words_of
 from parts.store import Store, chains
 
 MOST_GRANULES, MOST_TRANSACTIONS, MOST_OPERATIONS, MOST_EVENTS = 50, 50, 20, 40
-COLOUR = {"clean": "good", "altered": "bad", "header altered": "bad", "unsealed": "open"}
 
 
 class Page:
@@ -34,6 +36,7 @@ class Page:
         self.given, self.asked = given, asked
         self.report = reports.read(asked.output)
         self.book = Book(given.book, asked.book)
+        self.judged = judged.verdict(self.report, asked, self.book)
         header = verify.header_of(asked.store)
         is_read = header and self.report.verdict != "header altered"
         # (of another header, or other eras, nothing but these is shown)
@@ -61,6 +64,8 @@ class Page:
             yield "First second", f"{page.safe(self.date(self.fields.epoch))} ({self.fields.epoch})"
         if self.store:
             yield "Filed", self.filed()
+        if self.judged.by_verify:
+            yield "verify.py", f"<code>{page.safe(self.judged.by_verify)}</code>"
 
     def eras(self):
         """Each era of the store: where it begins, and what its tiles are."""
@@ -103,7 +108,7 @@ class Page:
     def changed(self, found):
         when = reports.span(found.since, found.until, self.given.zone)
         odd = ' class="note bad"' if found.until < found.since else ""
-        return page.facts([("Changed", f"<span{odd}>{page.safe(when)}</span>")])
+        return page.facts([(judged.changed(found).capitalize(), f"<span{odd}>{page.safe(when)}</span>")])
 
     def row(self, transaction):
         when = f"{page.safe(self.date(self.store.epoch + transaction.moment))}<br><span class=soft>moment {transaction.moment}</span>"
@@ -139,16 +144,18 @@ class Page:
     # ---- all of it
 
     def parts(self):
-        title, sentence = reports.verdict(self.report, self.asked.store, self.book)
         yield f"<h1>{page.safe(os.path.basename(self.given.store))}: is it what was filed?</h1>"
-        yield f'<div class="verdict {COLOUR[self.report.verdict]}"><b>{title}</b>{page.safe(sentence)}</div>'
+        yield f'<div class="verdict {self.judged.colour}"><b>{self.judged.title}</b>{page.with_code(self.judged.said)}</div>'
         yield page.heading("What was asked")
         yield page.facts(self.files())
-        if self.report.verdict == "altered":
+        # (by digests that don't fit one another nothing is named)
+        if self.report.verdict == "altered" and not self.judged.odd:
             yield page.heading("What was altered")
             if self.report.first:
                 tile, *span = self.report.first
                 yield f'<p class="note bad">The first change was in tile {tile}, {page.safe(reports.span(*span, self.given.zone))}.</p>'
+            if earlier := judged.earlier(self.report, self.book, self.given.zone):
+                yield f'<p class="note bad">These spans may begin too late. {page.safe(earlier)}</p>'
             yield from self.cards()
             yield page.heading("When")
             yield self.diagram()
@@ -158,7 +165,7 @@ class Page:
         yield page.heading("What this can't say")
         yield page.listed(reports.cannot_say(self.report))
         yield page.heading("What to do next")
-        yield page.listed(reports.what_next(self.report, self.book, self.asked), "ol")
+        yield page.listed(judged.what_next(self.report, self.book, self.asked, self.judged.odd), "ol")
         if self.asked.told:
             yield page.heading("What the program says besides")
             yield "".join(f"<p><code>{page.safe(line)}</code></p>" for line in self.asked.told.splitlines())
@@ -167,8 +174,8 @@ class Page:
 
 
 def main(given):
-    made = Page(given, ask_report(given))
-    return page.page(f"{os.path.basename(given.store)}: {made.report.verdict}", made.parts()), 0
+    made = Page(given, judged.ask_report(given))
+    return page.page(f"{os.path.basename(given.store)}: {made.judged.title.lower()}", made.parts()), 0
 
 
 def words():

@@ -1,0 +1,84 @@
+"""What explain and report_page.py say of a report, the store and the book together: the verdict, and what of it is in doubt."""
+import re
+from collections import namedtuple
+
+import verify
+from . import fits, moments, report as reports, script
+from .book import CLEAN
+from .script import ALTERED, Refused
+
+COLOUR = {"clean": "good", "altered": "bad", "header altered": "bad", "unsealed": "open"}
+# `by_verify` is the first line of verify.py, or None where it has no verdict; `odd` is in what the book contradicts itself, or None
+Verdict = namedtuple("Verdict", "colour title said by_verify odd status")
+
+
+def ask_report(given):
+    """The report that was asked for. Where none was named, and nodes of the book contradict one another, it is by mono."""
+    try:
+        return script.ask_report(given)
+    except Refused as why:
+        if given.alg or "fault NotaryInconsistent" not in str(why):
+            raise
+        return script.ask(given.store, given.book, "analyse", given.id, "mono")
+
+
+def verdict(report, asked, book):
+    """The verdict. It is green only where tiles were compared, verify.py says the same, and nothing stands hidden."""
+    title, said = reports.verdict(report, asked.store, book)
+    batches = [it.seals for it in book.batches(report.id)]
+    by_verify, odd = of_verify(report, asked.store, batches), fits.contradiction(asked.store, batches, report.id)
+    status = ALTERED if "altered" in f"{report.verdict} {by_verify}" else 0
+    if odd:
+        return Verdict("bad", "The book contradicts itself", f"By {reports.algorithm_of(report)} the program says `{report.verdict}`. {odd}", by_verify, odd, ALTERED)
+    if by_verify and kind_of(by_verify) != report.verdict:
+        return Verdict("bad", "No verdict", f"The program says `{report.verdict}`, and verify.py `{by_verify}`. One of them is wrong.", by_verify, odd, status)
+    if report.verdict == "clean" and (what := hidden_in(asked, book)):
+        return Verdict("open", "No verdict", f"Bytes stand behind the records of {what}, and were compared with nothing. Up to there: {said}", by_verify, odd, status)
+    return Verdict("good" if title == "Clean" else "open" if report.verdict == "clean" else COLOUR[report.verdict], title, said, by_verify, odd, status)
+
+
+def of_verify(report, store, batches):
+    """What verify.py says of the same tiles."""
+    try:
+        return verify.report(store, batches, report.id, report.era)[0]
+    except ValueError:
+        return None
+
+
+def kind_of(line):
+    return re.match("unsealed|clean|altered|header altered", line)[0]
+
+
+def hidden_in(asked, book):
+    """Behind the records of which of the two files bytes stand, in words."""
+    in_store = re.search("^dragoon: the store .* bytes stand behind it:", asked.told, re.MULTILINE)
+    return " and of ".join(["the store"] * bool(in_store) + ["the book"] * bool(book.hidden()))
+
+
+def earlier(report, book, zone):
+    """Where a validation said otherwise before the last clean one: from when on a change may be, in sentences; or None."""
+    marks = book.marks(report.id)
+    clean = [at for at, it in enumerate(marks) if it.outcome == CLEAN]
+    bad = next((it for it in marks[: clean[-1]] if it.outcome != CLEAN), None) if clean else None
+    if not bad or not report.found:
+        return None
+    tile = report.first[0] if report.first else 0
+    since = max([it.moment for it in marks[: marks.index(bad)] if it.outcome == CLEAN and it.tiles > tile] + [it.moment for it in book.batches(report.id)[tile + 1 : tile + 2]])
+    if since >= max(it.since for it in report.found):
+        return None
+    return f"A validation at {moments.date(bad.moment, zone)} found a store that was altered, and a later one a clean store. " \
+        f"So another file was validated in between, or it was put back. It may have changed from {moments.date(since, zone)} on (second {since})."
+
+
+def changed(found):
+    """How it is said that what a line of a report names was changed: not each of several tiles has to be."""
+    return "at least one changed" if found.tile is None and sum(last - first + 1 for first, last in found.ranges) > 1 else "changed"
+
+
+def what_next(report, book, asked, odd):
+    """What to do next, a sentence each."""
+    if odd:
+        yield "File nothing and validate nothing. Keep the store and the book as they are, with their SHA-256: `examples/case` does that."
+        yield "Hold the book against the copies and sums that others have. Then ask over copies of the store, by the book that holds."
+    if not odd or report.verdict in ("altered", "header altered"):
+        yield from reports.what_next(report, book, asked)
