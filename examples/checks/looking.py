@@ -336,18 +336,18 @@ SAYS = [
     ("diagram_svg.py", ("nowhere",), 1, ("diagram_svg: nowhere can't be read: No such file",)),
     ("explain", (WORKED, BOOK, "7"), 0, ("Clean: ",)),
     ("explain", ("--alg", "tiled", ALTERED, BOOK, "7"), 1, ("Tile 0: at least one of granules 5, 7, changed between 1970-01-01 00:08:00 UTC",)),
-    *((name, ("--alg", "mono", ALTERED, "of_leaf", "7"), status, ("or the book isn", "the book was altered: of tile 0 some digests differ, and others of the same filing over"))
+    *((name, ("--alg", "mono", ALTERED, "of_leaf", "7"), status, ("The book contradicts itself", "No store has all digests of this book: beside the others"))
       for name, status in (("explain", 1), ("report_page.py", 0))),
-    ("explain", ("--alg", "mono", WORKED, "of_cum", "7"), 1, ("Altered: ", "The store isn't what was filed, or the book isn't: of the digests that were filed with tile 0 some differ,")),
-    *((name, (WORKED, "of_header", "7"), status, ("The store has the id 7, and another header than was filed. But the chain up to tile 0 begins with this header, and",))
+    ("explain", ("--alg", "mono", WORKED, "of_cum", "7"), 1, ("The book contradicts itself: ", "By mono the program says `altered`. No store has all digests of this book: beside the others cum 0 can't stand.")),
+    *((name, (WORKED, "of_header", "7"), status, ("The book contradicts itself", "The chain over the header and all transactions up to tile 0 is the one that was filed.",))
       for name, status in (("explain", 1), ("report_page.py", 0))),
     ("explain", (WORKED, BOOK, "9"), 0, ("Nothing was filed: ", "it is a store with the id 7")),
     ("explain", ("empty", BOOK, "7"), 1, ("Header altered: ", "it is empty")),
     ("explain", (WORKED, "short", "7"), 0, ("Nothing was filed: ", "Of the book: its 2 bytes don't begin as those of a store or a book.")),
     ("explain", (WORKED, "empty", "7"), 0, ("Nothing was filed: ", "Of the book: it is empty.")),
     ("explain", (WORKED, "hides_filings", "7"), 0, ("Nothing was filed: ", "File nothing and validate nothing with this book: 848 bytes")),
-    ("explain", (WORKED, "other_kind", "7"), 0, ("Clean so far: ", "File nothing and validate nothing with this book: 787 bytes")),
-    ("explain", ("hidden", BOOK, "7"), 0, ("Clean: ", "Store nothing and file nothing: bytes stand behind the store's end")),
+    ("explain", (WORKED, "other_kind", "7"), 0, ("No verdict: ", "File nothing and validate nothing with this book: 787 bytes")),
+    ("explain", ("hidden", BOOK, "7"), 0, ("No verdict: ", "Store nothing and file nothing: bytes stand behind the store's end")),
     ("explain", ("in_segment", "empty", "7"), 0, ("Nothing was filed: ", "Store nothing and file nothing: bytes stand behind the records of a segment")),
     ("explain", ("other_id", BOOK, "7"), 1, ("its id is 8, and not 7",)),
     ("look.py", ("eras",), 0, ("era 1           from tile 2 on, granule 4: 4 granules to a tile; tile chains and the tree; no tile: the next era begins at the same one\n", "era 2 from tile 2 on, granule 4: 8 granules to a tile; tile chains and the tree room left")),
@@ -377,7 +377,7 @@ SAYS = [
     ("verify.py", ("anew", "kept_on", "7"), 1, ("altered 3 from 0\n", "of the digests that were filed with tile 0 some differ, and others over the same transactions don't. Either the book was altered, or the store was, between two filings,")),
     ("differ.py", ("--book", "kept_on", "anew", "anew"), 1, ("the copy ISN'T what was filed, or the book isn't: altered 3 from 0; of the digests that were filed with tile 0",)),
     ("verify.py", (WORKED, "other_front", "7"), 3, ("it begins as a notary's book, whose front is cut or damaged",)),
-    ("report_page.py", ("hidden", BOOK, "7"), 0, ("<b>Clean</b>", "Store nothing and file nothing")),
+    ("report_page.py", ("hidden", BOOK, "7"), 0, ('<div class="verdict open"><b>No verdict</b>', "Store nothing and file nothing")),
     ("verify.py", (WORKED, "\x1b[31m", "7"), 3, ("verify: \\u{1b}[31m: No such file",)),
     ("verify.py", (WORKED, "a\nb", "7"), 3, ("verify: a\\nb: No such file",)),
     ("look.py", ("a\nb",), 3, ("look: a\\nb can't be read",)),
