@@ -148,9 +148,10 @@ class Page:
         yield f'<div class="verdict {self.judged.colour}"><b>{self.judged.title}</b>{page.with_code(self.judged.said)}</div>'
         yield page.heading("What was asked")
         yield page.facts(self.files())
-        # (by digests that don't fit one another nothing is named)
-        if self.report.verdict == "altered" and not self.judged.odd:
+        if self.report.verdict == "altered":
             yield page.heading("What was altered")
+            if self.judged.odd:
+                yield f'<p class="note bad">{judged.DOUBTED}</p>'
             if self.report.first:
                 tile, *span = self.report.first
                 yield f'<p class="note bad">The first change was in tile {tile}, {page.safe(reports.span(*span, self.given.zone))}.</p>'

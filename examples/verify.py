@@ -531,21 +531,25 @@ def doubt_of_book(both, eras):
     sides = [sides_of(*it) for it in both]
     bad = [(at - 1, same, differing) for at, (same, differing) in enumerate(sides) if differing]
     for tile, same, differing in bad:
-        if contradicts(same, [name for name in differing if not name.startswith("cum ")], eras):
+        if goes_by(covered(same, eras), [name for name in differing if not name.startswith("cum ")], eras):
             return (f"the book was altered: of tile {tile} some digests differ, and others of the same filing over the same transactions don't. "
                     "Whether the store was altered, too, the two can't say: hold the book against its copies")
-    same = [name for names, _ in sides for name in names]
+    wide = covered([name for same, _ in sides for name in same], eras)
     for tile, _, differing in bad:
-        if contradicts(same, differing, eras):
+        if goes_by(wide, differing, eras):
             return (f"of the digests that were filed with tile {tile} some differ, and others over the same transactions don't. Either the book was "
                     "altered, or the store was, between two filings, and the later one didn't compare. Hold the book against its copies")
     return None
 
 
-def contradicts(same, differing, eras):
-    """Whether one of the digests that differ goes by transactions alone by which others go that don't."""
-    wide = joined(it for name in same for it in granules_of(name, eras))
-    return any(are_within(granules_of(name, eras), wide) for name in differing)
+def covered(names, eras):
+    """The granules by whose transactions one of these digests goes at least."""
+    return joined(it for name in names for it in granules_of(name, eras))
+
+
+def goes_by(wide, names, eras):
+    """Whether one of these digests goes by transactions of such granules alone."""
+    return any(are_within(granules_of(name, eras), wide) for name in names)
 
 
 def doubt_of_header(store, batches, id):
@@ -561,9 +565,24 @@ def doubt_of_header(store, batches, id):
     return None
 
 
+def doubt_of_eras(store, batches, id):
+    """The same where the eras aren't those that were filed."""
+    if not batches or not is_header_filed(store, batches, id):
+        return None
+    tiles = min(len(batches) - 1, tiles_within(eras_of(store)))
+    sides = [[{name: value for name, value in seals.items() if not name.startswith("era ")} for seals in both]
+             for both in zip_longest(plan(store, tiles), map(first_seals, batches), fillvalue={})][1:]
+    if sides and all(planned == filed for planned, filed in sides):
+        return ("every digest that was filed with a tile is the one that the store gives, but for an era's. Either the book was altered there, or a policy "
+                "was that changes nothing else. Hold the book against its copies")
+    return None
+
+
 def doubt(store, batches, id, both):
     """The same of whatever was compared."""
-    return doubt_of_book(both, eras_of(store)) if both else doubt_of_header(store, batches, id)
+    if both:
+        return doubt_of_book(both, eras_of(store))
+    return doubt_of_header(store, batches, id) or doubt_of_eras(store, batches, id)
 
 
 def tell_of_book(said, both):

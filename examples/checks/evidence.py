@@ -32,10 +32,10 @@ spec.loader.exec_module(made)
 sys.path.insert(0, str(EXAMPLES))
 import verify
 from verify import number
-from parts import evidence, fits, restored
+from parts import evidence, restored
 from parts.evidence import Entry
 from parts.laid import in_format, laid, record
-from parts.notary import Fault, rows
+from parts.notary import Fault, contradiction, rows, shown
 
 WORKED, ALTERED, BOOK = (EXAMPLES / name for name in ("worked.store", "altered.store", "worked.book"))
 OF_EACH = 50
@@ -613,7 +613,7 @@ def cases(rng, folder, seed):
     what = f"made store {seed}"
     whole, book, id = a_store(rng, folder)
     store, copy = tampered(rng, whole), rng.choice([whole, tampered(rng, whole), b""])
-    if book and verify.header_of(store) and (odd := fits.contradiction(store, verify.batches_of(book, id), id)):
+    if book and verify.header_of(store) and (odd := contradiction(shown(store, verify.batches_of(book, id), id))):
         raise Wrong(f"{what}: the book is said to contradict itself: {odd}")
     content = gathered(folder, store, copy, book, id, what)
     lost = restored_of(folder, whole, store, copy, book, id, what)

@@ -336,10 +336,10 @@ SAYS = [
     ("diagram_svg.py", ("nowhere",), 1, ("diagram_svg: nowhere can't be read: No such file",)),
     ("explain", (WORKED, BOOK, "7"), 0, ("Clean: ",)),
     ("explain", ("--alg", "tiled", ALTERED, BOOK, "7"), 1, ("Tile 0: at least one of granules 5, 7, changed between 1970-01-01 00:08:00 UTC",)),
-    *((name, ("--alg", "mono", ALTERED, "of_leaf", "7"), status, ("The book contradicts itself", "No store has all digests of this book: beside the others"))
+    *((name, ("--alg", "mono", ALTERED, "of_leaf", "7"), status, ("The book contradicts itself", "The book was altered: of tile 0 some digests differ, and others of the same filing"))
       for name, status in (("explain", 1), ("report_page.py", 0))),
-    ("explain", ("--alg", "mono", WORKED, "of_cum", "7"), 1, ("The book contradicts itself: ", "By mono the program says `altered`. No store has all digests of this book: beside the others cum 0 can't stand.")),
-    *((name, (WORKED, "of_header", "7"), status, ("The book contradicts itself", "The chain over the header and all transactions up to tile 0 is the one that was filed.",))
+    ("explain", ("--alg", "mono", WORKED, "of_cum", "7"), 1, ("The book contradicts itself: ", "By mono the program says `altered`. Of the digests that were filed with tile 0 some differ, and others over the same transactions don't.")),
+    *((name, (WORKED, "of_header", "7"), status, ("The book contradicts itself", "The chain up to tile 0 begins with this header",))
       for name, status in (("explain", 1), ("report_page.py", 0))),
     ("explain", (WORKED, BOOK, "9"), 0, ("Nothing was filed: ", "it is a store with the id 7")),
     ("explain", ("empty", BOOK, "7"), 1, ("Header altered: ", "it is empty")),

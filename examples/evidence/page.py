@@ -20,8 +20,8 @@ from collections import Counter, namedtuple
 sys.dont_write_bytecode = True
 sys.path.insert(0, str(pathlib.Path(__file__).resolve().parent.parent))
 import verify
-from parts import evidence, fits, moments, page
-from parts.notary import leaf
+from parts import evidence, moments, page
+from parts.notary import contradiction, leaf, shown, shown_of_copy
 from parts.script import Refused, content_of, counted, end, plain, tell, words_of
 from parts.store import Create, Store, chains, item_of
 
@@ -94,7 +94,7 @@ class Page:
         self.verified, self.told = self.text("verified").splitlines() or [""], self.text("told").splitlines()
         self.evidence = file_of(contents["evidence"], "`evidence` in this folder")
         self.width, self.epoch, self.left = self.store.width, self.store.epoch, MOST_TRANSACTIONS
-        self.odd = fits.contradiction(contents["store"], self.batches, self.id)
+        self.odd = contradiction(shown(contents["store"], self.batches, self.id))
         self.hidden = [name for name, content, kind in (("book", self.book, verify.BOOK), ("store", self.store.content, verify.STORE))
                        if stands_hidden(content, kind) or any(it.startswith(f"dragoon: the {BY_PROGRAM[name]} ") and " bytes stand behind it" in it for it in self.told)]
         self.altered = [it for it in self.said or [] if not it.first]
@@ -211,11 +211,7 @@ class Page:
         """What verify.py says of the copy, of the tiles that ended in it."""
         if verify.header_of(self.copy) is None:
             return "no store"
-        copy, tiles = Store("the copy", self.copy), 0
-        last = copy.last_moment()
-        while tiles < self.tiles and tiles < verify.tiles_within(copy.eras) and copy.end_of(tiles + 1) <= last:
-            tiles += 1
-        return verify.report(self.copy, self.batches[: tiles + 1], self.id)[0]
+        return shown_of_copy(self.copy, self.batches, self.id).verdict
 
     def file(self, file):
         return f'{page.safe(file.path)}, {counted(file.length, "byte")}<br><span class="sum">SHA-256 {file.sum}</span>'

@@ -3,10 +3,13 @@ import re
 from collections import namedtuple
 
 import verify
-from . import fits, moments, report as reports, script
+from . import moments, report as reports, script
 from .book import CLEAN
+from .notary import contradiction, shown
 from .script import ALTERED, Refused
 
+# said above what a report names, where the book contradicts itself
+DOUBTED = "What follows is named by digests of this book that don't fit one another."
 COLOUR = {"clean": "good", "altered": "bad", "header altered": "bad", "unsealed": "open"}
 # `by_verify` is the first line of verify.py, or None where it has no verdict; `odd` is in what the book contradicts itself, or None
 Verdict = namedtuple("Verdict", "colour title said by_verify odd status")
@@ -26,7 +29,8 @@ def verdict(report, asked, book):
     """The verdict. It is green only where tiles were compared, verify.py says the same, and nothing stands hidden."""
     title, said = reports.verdict(report, asked.store, book)
     batches = [it.seals for it in book.batches(report.id)]
-    by_verify, odd = of_verify(report, asked.store, batches), fits.contradiction(asked.store, batches, report.id)
+    found = shown(asked.store, batches, report.id)
+    by_verify, odd = found.verdict if report.era is None else of_verify(report, asked.store, batches), contradiction(found)
     status = ALTERED if "altered" in f"{report.verdict} {by_verify}" else 0
     if odd:
         return Verdict("bad", "The book contradicts itself", f"By {reports.algorithm_of(report)} the program says `{report.verdict}`. {odd}", by_verify, odd, ALTERED)
@@ -38,7 +42,7 @@ def verdict(report, asked, book):
 
 
 def of_verify(report, store, batches):
-    """What verify.py says of the same tiles."""
+    """What verify.py says of the same era."""
     try:
         return verify.report(store, batches, report.id, report.era)[0]
     except ValueError:
@@ -56,10 +60,10 @@ def hidden_in(asked, book):
 
 
 def earlier(report, book, zone):
-    """Where a validation said otherwise before the last clean one: from when on a change may be, in sentences; or None."""
+    """Where the last validation but clean ones said altered, and a clean one came behind it: from when on a change may be, in sentences; or None."""
     marks = book.marks(report.id)
     clean = [at for at, it in enumerate(marks) if it.outcome == CLEAN]
-    bad = next((it for it in marks[: clean[-1]] if it.outcome != CLEAN), None) if clean else None
+    bad = next((it for it in reversed(marks[: clean[-1]]) if it.outcome == verify.ALTERED), None) if clean else None
     if not bad or not report.found:
         return None
     tile = report.first[0] if report.first else 0

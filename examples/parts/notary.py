@@ -99,6 +99,11 @@ def shown(content, batches, id):
     return Shown(lines[0], max(0, len(batches) - 1), doubt)
 
 
+def contradiction(found):
+    """In what a book contradicts itself by what a store shows, in sentences; or None."""
+    return f"{found.doubt[0].upper()}{found.doubt[1:]}." if found.doubt else None
+
+
 def shown_of_copy(content, batches, id):
     """The same of a copy that may be older: up to the last filed tile of its eras that ended in it."""
     if verify.header_of(content) is None:

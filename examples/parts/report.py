@@ -6,7 +6,6 @@ from collections import namedtuple
 import verify
 from . import moments
 from .book import nothing_of
-from .notary import shown
 from .script import Refused, counted, plain
 from .store import Create, Store, Tables, hidden, what_is
 
@@ -123,14 +122,12 @@ def verdict(report, content, book):
     if report.verdict == "clean":
         return "Clean", f"What stands in the store up to the end of the last filed tile is what was filed: {tiles}."
     if report.verdict == "altered":
-        if found := shown(content, [it.seals for it in book.batches(report.id)], report.id).doubt:
-            return "Altered", f"The store isn't what was filed, or the book isn't: {found}."
         changed = f"Of what is filed ({tiles}) at least one transaction was changed, added or taken away."
         return "Altered", f"The store isn't what was filed. {changed}"
     doubt = f"So nothing that is filed ({tiles}) can be compared, and every granule of it is in doubt."
     if eras := other_eras(report, content, book):
         return "Eras altered", f"The header is the one that was filed. {eras} {doubt}"
-    return "Header altered", f"{other_header(report, content, book)} {doubt}"
+    return "Header altered", f"{other_header(report, content)} {doubt}"
 
 
 def other_eras(report, content, book):
@@ -149,8 +146,8 @@ def other_eras(report, content, book):
     return f"Its eras aren't: {said}. A policy was changed, added or taken away: `examples/look.py` shows the eras of the store and of a copy."
 
 
-def other_header(report, content, book):
-    """Why the header isn't the one that was filed: a store with this id and other fields, another store, or none; or the book was altered."""
+def other_header(report, content):
+    """Why the header isn't the one that was filed: a store with this id and other fields, another store, or none."""
     header = verify.header_of(content)
     if header is None:
         return f"The file has no header of a store: {what_is(content)}."
@@ -158,9 +155,7 @@ def other_header(report, content, book):
         return f"The file is another store: its id is {header[1]}, and not {report.id}."
     first = int.from_bytes(header[0][8:16], "big")
     now = f"Today's says granules of {header[2]} s, {1 << header[3]} to a tile, and second {first} as the first."
-    doubt = verify.doubt_of_header(content, [it.seals for it in book.batches(report.id)], report.id)
-    why = f". But {doubt}" if doubt else ": it was made anew, or its header was changed"
-    return f"The store has the id {report.id}, and another header than was filed{why}. {now}"
+    return f"The store has the id {report.id}, and another header than was filed: it was made anew, or its header was changed. {now}"
 
 
 def span(since, until, zone):
