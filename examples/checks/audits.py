@@ -268,7 +268,7 @@ def ends(made, folder):
     served.ends(5, f"<2>dragoon alarm=store store=w command=run status=5 no file {store}\n")
     store.write_bytes(b"")
     served.start()
-    served.ends(4, "<2>dragoon alarm=store store=w command=run status=4 fault NotAStore\n")
+    served.ends(5, "<2>dragoon alarm=store store=w command=run status=5 ")
     served.is_alarm("store", 2, "was cut or put back: it has 0 bytes")
     (folder / "away").replace(store)
     served.start()
@@ -290,6 +290,42 @@ def ends(made, folder):
         served.is_alarm("store", 0, "OK")
 
 
+def lost(made, folder):
+    """A store that is put back under an open run, and another file at the path of one: nothing more is stored, and the alarm stays."""
+    served = Served(made, folder, "0.1")
+    store, old = folder / "store", (folder / "store").read_bytes()
+    says(served.connect(), "insert t 400 1\n", "ok 302\n")
+    right = store.read_bytes()
+    served.wait(lambda: f" {len(right)} " in (folder / "w.length").read_text(), "the length isn't kept")
+    store.write_bytes(old)
+    served.ends(5, f"was cut or put back: it has {len(old)} bytes, and had {len(right)} on")
+    # one that was written to since by somebody else isn't taken either
+    for _ in range(3):
+        served.start()
+        served.ends(5, "command=run status=5 ")
+        served.is_alarm("store", 2, f"remove {folder}/w.length")
+        dragoon(f"store={store}", "run", "7", lines="insert t 500 1\ninsert t 501 1\ndelete t 500\ndelete t 501\n")
+    store.write_bytes(right)
+    for path, status, fault in ((store, 5, "DiskFault"), (folder / "book", 6, "NotaryFault")):
+        served.start("3600", "3600")
+        client, copy = served.connect(), folder / "copy"
+        copy.write_bytes(path.read_bytes())
+        says(client, f"insert t {500 + status} 1\nvalidate\n", f"ok {298 + status}\nclean 9\n")
+        copy.replace(path)
+        client.sendall(b"insert t 600 1\n")
+        said = client.recv(65_536).decode()
+        served.ends(status, f"fault {fault}: at {path} stands another file than the run has open; what it had stands in {folder}/w.{path.name}.")
+        if not said.startswith(f"fault {fault}"):
+            raise Wrong(f"to a line behind that is replied {said}")
+        served.is_alarm("store" if path == store else "notary", 2, "stands another file" if path == store else "was cut")
+        (left,) = folder.glob(f"w.{path.name}.*")
+        left.replace(path)
+    served.start()
+    served.keeps("validate", 0, "clean 9")
+    says(served.connect(), "get t 505\nget t 506\nget t 600\n", "row 505 1\nrow 506 1\nnone\n")
+    served.stop()
+
+
 def main(words):
     count_of(words, None, __doc__)
     with tempfile.TemporaryDirectory() as room:
@@ -297,7 +333,7 @@ def main(words):
         fill(folder / "made")
         for number, row in enumerate(CHANGES):
             try_change(folder / "made", folder / str(number), *row)
-        for number, tried in enumerate((replies, alterations, books, ends)):
+        for number, tried in enumerate((replies, alterations, books, ends, lost)):
             tried(folder / "made", folder / f"w{number}")
     print(f"audits: {len(CHANGES)} changes of an open store are told, and a run that is kept open serves, files, audits and ends as it has to")
 

@@ -2,7 +2,9 @@
 import collections
 import contextlib
 import fcntl
+import functools
 import hashlib
+import itertools
 import os
 import pathlib
 import re
@@ -12,11 +14,15 @@ import time
 
 sys.path.insert(1, str(pathlib.Path(__file__).resolve().parents[1]))
 import verify
+from parts import store as stored
+from parts.moments import date
 
 PROGRAM = os.environ.get("DRAGOON") or str(pathlib.Path(__file__).resolve().parents[2] / "dragoon")
 # how many seconds a command waits for others
 WAIT = os.environ.get("WAIT", "600")
 STORE_LIMIT, GRANULES = 67_108_864, 1_048_576
+# where fewer bytes are left in a store, the longest transaction has no room
+LONGEST_RECORD = 32_774
 OPEN = verify.OPEN
 KEYS = ("STORE", "BOOK", "ID", "ALG", "STATE")
 COMMANDS = ("notarize", "validate", "run", "analyse")
@@ -24,20 +30,35 @@ COMMANDS = ("notarize", "validate", "run", "analyse")
 Conf = collections.namedtuple("Conf", "name store book id alg state")
 # `last` is the clock's second of the last moment
 Header = collections.namedtuple("Header", "bytes_left granules_left full_at tile_seconds last")
-# `end` is the place of the gate that ends the records: all bytes in front of it stay as they are. `others` are the other ids that it has
-Book = collections.namedtuple("Book", "content end tiles filed mark others")
+# `end` is the place of the gate that ends the records: all bytes in front of it stay as they are. `others` are the other ids that it has,
+# `hidden` is how many bytes stand behind its end that no append that was cut off leaves
+Book = collections.namedtuple("Book", "content end tiles filed mark others hidden left")
+# how many bytes, seals and marks a book still takes
+Left = collections.namedtuple("Left", "bytes seals marks")
+# fewer than these are few: at 24 marks a day and a tile of eight minutes, some months
+FEW = Left(1 << 25, 1 << 18, 1 << 12)
+# an item by its moment, and by the front of the SHA-256 of its bytes
+Item = collections.namedtuple("Item", "moment digest")
+# how a store stands: `bytes` is up to the gate that ends it, `last` the digest of the last item of that segment, `behind` how many bytes stand behind
+# that gate, and `records` how many whole records, at most 2. `gates` are those of that segment, by their places in the file, each with the last item
+# in front of it. Of another format than 2, and of no store, `bytes` is the length, and `last` says nothing
+Stand = collections.namedtuple("Stand", "id bytes last length behind records gates")
+UNSAID, NONE = "-", Item(0, "none")
 Ended = collections.namedtuple("Ended", "status moment answer")
-Kept = collections.namedtuple("Kept", "id tiles end digest moment")
+Kept = collections.namedtuple("Kept", "id tiles end digest moment path", defaults=[None])
 Sealed = collections.namedtuple("Sealed", "id tiles moment")
-Length = collections.namedtuple("Length", "id bytes moment")
+# `bytes` and `last` as of a Stand. An earlier version kept the length alone
+Length = collections.namedtuple("Length", "id bytes moment last path", defaults=[UNSAID, None])
 
 CLEAN, ALTERED = verify.CLEAN, verify.ALTERED
 # the statuses of a command that say something of the store's file, of the notary, or of the history; all others are faults
 STORE_STATUSES, NOTARY_STATUSES, ALTERED_STATUSES = {4, 5}, {6, 11, 12, 19}, {1, 10}
-# what is added of bytes behind the end of the store once a command had them there that writes
-WRITTEN_OVER = ", and what was stored since may be written over them"
+# what is added of bytes behind the end of a file once a command had them there that writes
+STORED_OVER, FILED_OVER = (f", and what was {what} since may be written over them" for what in ("stored", "filed"))
 # these stand, whatever else a command ends with, until one ends well
 STANDING = ALTERED_STATUSES | NOTARY_STATUSES
+# the statuses of a filing that a store ends with which takes nothing any more
+CLOSED_STATUSES = {15, 16}
 USAGE, STORE_FAULT, NOTARY_FAULT, CANNOT = 2, 5, 6, 70
 
 
@@ -54,11 +75,7 @@ class Rewritten(Wrong):
 
 
 class Shorter(Wrong):
-    """The store isn't as long as it was. A store only grows."""
-
-
-def date(seconds):
-    return time.strftime("%Y-%m-%d %H:%M:%S UTC", time.gmtime(seconds))
+    """The store hasn't what it had. A store only grows."""
 
 
 # ---- the conf
@@ -136,42 +153,107 @@ def content_of(path, most=None, durable=False):
 def store_id(conf):
     """The id of the store, or None where the file is none."""
     try:
-        head, _ = content_of(conf.store, 65)
+        return stand_of(conf.store).id
     except Wrong:
         return None
-    return struct.unpack_from(">Q", head, 9)[0] if len(head) == 65 and head[:9] in (b"\xa7DRAGOON1", b"\xa7DRAGOON2") else None
 
 
 def read_header(conf):
     """How much the store can still take, where the file is a store of this id."""
     head, length = content_of(conf.store, 65)
-    if len(head) < 65 or head[:9] not in (b"\xa7DRAGOON1", b"\xa7DRAGOON2"):
-        raise Wrong(f"{conf.store} is no store")
-    id, epoch, width, exponent = struct.unpack_from(">QQIB", head, 9)
+    header = verify.header_of(head)
+    if header is None:
+        raise Wrong(f"{conf.store} is no store" + (f": {verify.what_is(head)}" if head[1:9] in verify.LETTERS else ""))
+    fields, id, width, exponent, _ = header
     if id != conf.id:
         raise Wrong(f"{conf.store} has another id")
-    if not width:
-        raise Wrong(f"{conf.store} is no store")
+    epoch = int.from_bytes(fields[8:16], "big")
     granule = max(0, int(time.time()) - epoch) // width
     last = epoch + (last_moment(conf, length) if head[8:9] == b"2" else 0)
-    return Header(max(0, STORE_LIMIT - length), max(0, GRANULES - granule), epoch + GRANULES * width, width << min(exponent, 10), last)
+    return Header(max(0, STORE_LIMIT - length), max(0, GRANULES - granule), epoch + GRANULES * width, width << exponent, last)
+
+
+def segment_of(file, begin):
+    """The bytes of a segment, and its gates by their places in the file. With each stands the last item in front of it there, or none. A policy
+    has the moment of the item before it."""
+    file.seek(begin)
+    content, first, moment = file.read(verify.SEGMENT), 0 if begin else verify.FIRST_GATE, 0
+    gates = {begin + first: NONE}
+    for _, payload, gate in verify.run(content, first, len(content), *verify.STORE[:2]) if len(content) > first else ():
+        if payload[0] != 3:
+            at = {1: 5, 2: 1}[payload[0]]
+            moment = int.from_bytes(payload[at : at + 8], "big")
+        gates[begin + gate] = Item(moment, hashlib.sha256(payload).hexdigest()[:16])
+    return content, gates
+
+
+def begin_of(place):
+    """Where the segment of a place begins."""
+    return max(0, place) // verify.SEGMENT * verify.SEGMENT
 
 
 def last_moment(conf, length):
     """The last moment of a store of format 2, as its last segment with one says; or 0."""
     try:
         with verify.opened(conf.store) as file:
-            for begin in range((length - 1) // verify.SEGMENT * verify.SEGMENT, -1, -verify.SEGMENT):
-                file.seek(begin)
-                content = file.read(verify.SEGMENT)
-                first = 0 if begin else verify.FIRST_GATE
-                found = verify.run(content, first, len(content), *verify.STORE[:2]) if len(content) > first else ()
-                places = [(payload, {1: 5, 2: 1}[payload[0]]) for _, payload, _ in found if payload[0] != 3]
-                if places:
-                    return max(int.from_bytes(payload[at : at + 8], "big") for payload, at in places)
+            segments = (segment_of(file, begin)[1] for begin in range(begin_of(length - 1), -1, -verify.SEGMENT))
+            return next((last for gates in segments if (last := max(gates.values()).moment)), 0)
     except OSError as error:
         raise Wrong(f"{conf.store}: {error.strerror}") from error
-    return 0
+
+
+@functools.lru_cache
+def successor(conf):
+    """The store in the same folder that goes on behind this one, or None. Its second transaction puts this one's id into the table `before`."""
+    folder, ending = os.path.dirname(conf.store), os.path.splitext(conf.store)[1]
+    with contextlib.suppress(OSError):
+        paths = (os.path.join(folder, name) for name in sorted(os.listdir(folder)) if name.endswith(ending))
+        return next((path for path in paths if path != conf.store and goes_on(path, conf.id)), None)
+    return None
+
+
+def goes_on(path, id):
+    """Whether the store at this path goes on behind the one of this id."""
+    with contextlib.suppress(Wrong):
+        front, _ = content_of(path, 4_096)
+        if verify.header_of(front):
+            items = (item for item, *_ in verify.run(front, verify.FIRST_GATE, len(front), *stored.RECORDS[:2]))
+            second = list(itertools.islice((it for it in items if isinstance(it, stored.Transaction)), 1, 2))
+            return any(isinstance(it, stored.Put) and it.table == "before" and it.values[0] == str(id) for item in second for it in item.operations)
+    return False
+
+
+def stand_of(path, durable=False):
+    """How the store stands. With `durable` that is on the disk, too."""
+    try:
+        with verify.opened(path) as file:
+            head, length = file.read(65), os.fstat(file.fileno()).st_size
+            header = verify.header_of(head)
+            stand = Stand(header and header[1], length, UNSAID, length, 0, 0, {})
+            if header and verify.LETTERS[head[1:9]] == 2:
+                begin = begin_of(length - 1)
+                content, gates = segment_of(file, begin)
+                end = max(gates) - begin
+                behind = len(content) - end - 1 if any(content[end + 1 :]) else 0
+                stand = Stand(header[1], begin + end + 1, gates[begin + end].digest, length, behind, records_behind(content, end, verify.STORE), gates)
+            if durable:
+                os.fsync(file.fileno())
+            return stand
+    except OSError as error:
+        raise Wrong(f"{path}: {error.strerror}") from error
+
+
+def records_behind(content, end, kind):
+    """How many whole records stand behind the gate that ends a file: 0, 1, or 2 for more. A crash leaves one at most, behind a gate 00."""
+    behind = content[end + 1 :]
+    if not any(behind):
+        return 0
+    if content[end] != 0:
+        return 2
+    # as if the gate were open
+    opened = bytes([OPEN]) + behind
+    gates = [opened[gate] for *_, gate in verify.run(opened, 0, len(opened), *kind[:2])]
+    return min(2, len(gates) + (gates[:1] == [OPEN]))
 
 
 def read_book(conf, content):
@@ -180,7 +262,7 @@ def read_book(conf, content):
         raise Wrong(f"{conf.book} is empty: the first `notarize` is made by hand")
     if not verify.is_book(content):
         raise Wrong(f"{conf.book} is no book")
-    end, batches, filed, mark, others = verify.FIRST_GATE, 0, None, None, set()
+    end, batches, filed, mark, others, marks, seals = verify.FIRST_GATE, 0, None, None, set(), 0, 0
 
     def read():
         nonlocal end
@@ -190,7 +272,9 @@ def read_book(conf, content):
 
     try:
         for filing in verify.in_turn(read()):
-            if filing.id == conf.id and isinstance(filing, verify.Mark):
+            is_mark = isinstance(filing, verify.Mark)
+            marks, seals = marks + is_mark, seals + (0 if is_mark else filing.count)
+            if filing.id == conf.id and is_mark:
                 mark = filing
             elif filing.id == conf.id:
                 batches, filed = batches + 1, filing.moment
@@ -198,7 +282,8 @@ def read_book(conf, content):
                 others.add(filing.id)
     except ValueError as why:
         raise Wrong(f"{conf.book} is no book: {why}") from why
-    return Book(content, end, max(0, batches - 1), filed, mark, sorted(others))
+    left = Left(max(0, verify.BOOK[2] - len(content)), verify.MOST_SEALS - seals, verify.MOST_MARKS - marks)
+    return Book(content, end, max(0, batches - 1), filed, mark, sorted(others), verify.hidden(content, end), left)
 
 
 def filed_elsewhere(book):
@@ -251,10 +336,10 @@ def read_kept(conf):
 def kept_in(file, kind):
     """What was kept in a file, or None where it isn't there."""
     try:
-        words = left_in(file).split()
-        if len(words) != len(kind._fields):
+        words = left_in(file).removesuffix("\n").split(" ", len(kind._fields) - 1)
+        if len(words) < len(kind._fields) - len(kind._field_defaults):
             raise ValueError("other words")
-        return kind(*(word if name == "digest" else int(word) for name, word in zip(kind._fields, words)))
+        return kind(*(word if name in ("digest", "last", "path") else int(word) for name, word in zip(kind._fields, words)))
     except FileNotFoundError:
         return None
     except ValueError as error:
@@ -274,25 +359,51 @@ def left_in(file):
 
 
 def hold(conf, durable=False):
-    """The book, held against what was kept of it; and that. Where its bytes weren't kept, no record may stand behind its end. A gate that
-    is open has a whole record behind it in any case."""
+    """The book, held against what was kept of it; and that. Behind its end may stand what one crash leaves, and no record where its bytes weren't
+    kept. A gate that is open has a whole record behind it in any case."""
     kept, (content, _) = read_kept(conf), content_of(conf.book, durable=durable)
-    if kept and len(content) <= kept.end:
-        raise Rewritten(f"{conf.book} was cut: it has {len(content)} bytes, and had more than {kept.end} on {date(kept.moment)}{elsewhere(conf, content)}")
-    if kept and digest(content, kept.end) != kept.digest:
-        raise Rewritten(f"{conf.book} was rewritten: its first {kept.end} bytes aren't those of {date(kept.moment)}{elsewhere(conf, content)}")
+    book_front(conf, kept, content)
     book, least = read_book(conf, content), sealed(conf, kept)
-    ends, hidden = f"{conf.book} ends at byte {book.end + 1}", verify.hidden(content, book.end)
+    ends = f"{conf.book} ends at byte {book.end + 1}"
     if content[book.end] == OPEN:
-        raise Rewritten(f"{ends}, in a record that was cut or altered, and {hidden} bytes stand behind it: records may be hidden there (docs/NOTARY.md)")
+        raise Rewritten(f"{ends}, in a record that was cut or altered, and {book.hidden} bytes stand behind it: records may be hidden there (docs/NOTARY.md)")
     if book.tiles < least:
         raise Rewritten(f"{conf.book} has {book.tiles} sealed tiles, and had {least} on {date(kept.moment)}")
-    if not (kept and kept.end) and hidden:
-        raise Rewritten(f"{ends}, and {hidden} bytes stand behind it: records may be hidden there (docs/NOTARY.md)")
+    if book.hidden and not (kept and kept.end):
+        raise Rewritten(f"{ends}, and {book.hidden} bytes stand behind it: records may be hidden there (docs/NOTARY.md)")
+    if book.hidden and records_behind(content, book.end, verify.BOOK) > 1:
+        raise Rewritten(f"{ends}, and {book.hidden} bytes stand behind it, which no crash leaves so: records are hidden there (docs/NOTARY.md)")
     if kept and not kept.end:
         had = f"{kept.tiles} sealed tiles on {date(kept.moment)}"
         raise Wrong(f"{kept_file(conf)} is lost, and {conf.book} had {had}: hold the book against its copies, then remove {sealed_file(conf)}")
+    if kept and (moved := moved_from(kept.path, conf.book)):
+        raise Wrong(f"BOOK {moved}, remove {kept_file(conf)} and {sealed_file(conf)}")
     return book, kept
+
+
+def book_front(conf, kept, content):
+    """Sees that the book begins with what was kept of it."""
+    if not kept:
+        return
+    if len(content) <= kept.end:
+        what = f"was cut: it has {len(content)} bytes, and had more than {kept.end} on {date(kept.moment)}"
+    elif digest(content, kept.end) != kept.digest:
+        what = f"was rewritten: its first {kept.end} bytes aren't those of {date(kept.moment)}"
+    else:
+        return
+    if kept.id != conf.id:
+        both = f"{kept_file(conf)} and {sealed_file(conf)}"
+        front = f"{conf.book} isn't the book that was kept under the id {kept.id}{elsewhere(conf, content)}"
+        raise Wrong(f"{front}. The conf has the id {conf.id}: set it right, or remove {both}")
+    raise Rewritten(f"{conf.book} {what}{elsewhere(conf, content)}")
+
+
+def moved_from(before, path):
+    """Words on a conf that names another file than before, while that one still stands there; or None."""
+    if not before or before == path or path.startswith("/proc/self/fd/") or not os.path.isfile(before) or is_same(before, path):
+        return None
+    why = "two files that go on under one id spoil each other. Set the conf right; where this is meant"
+    return f"was {before}, which still stands there, and is {path} now: {why}"
 
 
 def begin(conf, book, kept):
@@ -321,28 +432,40 @@ def sealed(conf, kept):
 def keep_behind(conf, answer):
     """Keeps what the book is behind a call that was answered so, where that is what it was, and grown."""
     book, kept = hold(conf, durable=True)
-    least, told = sealed(conf, kept), re.match(r"(?:sealed|clean) ([0-9]+)$", answer)
-    if told and int(told[1]) < least:
+    least, told = sealed(conf, kept), re.match(r"(sealed|clean) ([0-9]+)$", answer)
+    if told and int(told[2]) < least:
         raise Wrong(f"{answer}, and {least} tiles were sealed on {date(kept.moment)}")
+    if told and (int(told[2]) > book.tiles or told[1] == "sealed" and int(told[2]) < book.tiles):
+        raise Wrong(f"{answer}, and {conf.book} has {book.tiles} sealed tiles: another file was filed in")
     keep(conf, book, max(least, book.tiles))
 
 
 def keep(conf, book, tiles):
     """Keeps what the book is now."""
     now = int(time.time())
-    write_kept(kept_file(conf), Kept(conf.id, tiles, book.end, digest(book.content, book.end), now))
+    write_kept(kept_file(conf), Kept(conf.id, tiles, book.end, digest(book.content, book.end), now, conf.store and conf.book))
     write_kept(sealed_file(conf), Sealed(conf.id, tiles, now))
 
 
 def write_kept(file, kept):
-    write_whole(file, " ".join(map(str, kept)) + "\n")
+    """Writes what is kept, where it says something new."""
+    with contextlib.suppress(Wrong):
+        was = kept_in(file, type(kept))
+        if was and was._replace(moment=kept.moment) == kept:
+            return
+    write_whole(file, " ".join(str(it) for it in kept if it is not None) + "\n")
+
+
+def at_once(path, flags):
+    """Opens what is written. A pipe without a reader is an OSError, and no wait."""
+    return os.open(path, flags | os.O_NONBLOCK, 0o666)
 
 
 def write_whole(path, text):
     """Whatever stops it, the file is the old one or the new one."""
     new = path.with_name(path.name + ".new")
     try:
-        with open(new, "w") as file:
+        with open(new, "w", opener=at_once) as file:
             file.write(text)
             file.flush()
             os.fsync(file.fileno())
@@ -367,46 +490,60 @@ def length_file(conf):
     return pathlib.Path(conf.state) / f"{conf.name}.length"
 
 
-def hold_store(conf, durable=False):
-    """How long the store is, and what was kept of that, or None. It only grows."""
-    kept, (_, length) = kept_in(length_file(conf), Length), content_of(conf.store, 0, durable)
-    if kept and kept.id == conf.id and length < kept.bytes:
-        had = f"{conf.store} was cut or put back: it has {length} bytes, and had {kept.bytes} on {date(kept.moment)}"
-        raise Shorter(f"{had}. Look for the longer one; where this one is to stay, remove {length_file(conf)}")
-    return length, kept
+def hold_store(conf, durable=False, unless_broken=False):
+    """How the store stands, held against what was kept of it; and that, or None. With `unless_broken` nothing is said of one that a filing finds
+    altered: that is another alarm, and nothing is filed."""
+    kept, stand = kept_in(length_file(conf), Length), stand_of(conf.store, durable)
+    if not kept or kept.id != conf.id or stand.id not in (None, conf.id):
+        # (of one of another id the program says so)
+        return stand, kept
+    if why := lost_of(conf, kept, stand, unless_broken):
+        raise Shorter(f"{conf.store} {why}. Look for the right one; where this one is to stay, remove {length_file(conf)}")
+    if moved := moved_from(kept.path, conf.store):
+        raise Wrong(f"STORE {moved}, remove {length_file(conf)}")
+    return stand, kept
 
 
-def hold_end(conf, again=True):
-    """Sees that a filing or a run writes over nothing behind the end of the store but what looks as a crash leaves it: a gate 00, and no record that
-    another one follows."""
-    _, length = content_of(conf.store, 0)
-    begin = max(0, length - 1) // verify.SEGMENT * verify.SEGMENT
-    try:
-        with verify.opened(conf.store) as file:
-            letters = file.read(9)[1:]
-            file.seek(begin)
-            content = file.read(verify.SEGMENT)
-    except OSError as error:
-        raise Wrong(f"{conf.store}: {error.strerror}") from error
-    first = 0 if begin else verify.FIRST_GATE
-    if verify.LETTERS.get(letters) != 2 or len(content) <= first:
-        return None
-    end = max([first, *(gate for *_, gate in verify.run(content, first, len(content), *verify.STORE[:2]))])
-    behind = content[end + 1 :]
-    # as if the gate were open
-    opened = bytes([OPEN]) + behind
-    gates = [opened[gate] for *_, gate in verify.run(opened, 0, len(opened), *verify.STORE[:2])]
-    if any(behind) and (content[end] != 0 or gates[:1] == [OPEN]):
-        if again:
-            # a run may have written while this was read
-            time.sleep(0.2)
-            return hold_end(conf, False)
-        if is_broken(conf):
-            # that is another alarm, and nothing is filed
+def lost_of(conf, kept, stand, unless_broken):
+    """Why the store hasn't what was kept of it, in words; or None."""
+    # an earlier version kept the length, with what stood behind the end
+    if (stand.length if kept.last == UNSAID else stand.bytes) < kept.bytes:
+        if unless_broken and stand.length >= kept.bytes and is_broken(conf):
             return None
-        ends = f"{conf.store} ends at byte {begin + end + 1}, and {len(behind)} bytes stand behind it"
-        raise Wrong(f"{ends}, which no crash leaves so: nothing is written over them. Hold the store against its copies (docs/OPERATING.md)")
-    return None
+        what = "hides records, or was cut or put back" if stand.behind else "was cut or put back"
+        end = f" up to the gate that ends it, and {stand.length} in all" if stand.length > stand.bytes else ""
+        return f"{what}: it has {stand.bytes} bytes{end}, and had {kept.bytes} on {date(kept.moment)}"
+    if UNSAID in (kept.last, stand.last):
+        return None
+    gates = stand.gates
+    if kept.bytes - 1 < min(gates):
+        try:
+            with verify.opened(conf.store) as file:
+                _, gates = segment_of(file, begin_of(kept.bytes - 1))
+        except OSError as error:
+            raise Wrong(f"{conf.store}: {error.strerror}") from error
+    there = gates.get(kept.bytes - 1)
+    if there and there.digest == kept.last or unless_broken and is_broken(conf):
+        return None
+    how = "it was put back and written to since, or an item was altered"
+    return f"has another record, or none, where one ended at byte {kept.bytes} on {date(kept.moment)}: {how}"
+
+
+def hold_end(conf, stand, again=True):
+    """Sees that a filing or a run writes over nothing behind the end of the store but what looks as a crash leaves it: a gate 00, and no record that
+    another one follows. One record is noted first."""
+    ends = f"the store {conf.store} ends at byte {stand.bytes}, and {stand.behind} bytes stand behind it"
+    if not stand.records:
+        return
+    if again:
+        # a run may have written while this was read
+        time.sleep(0.2)
+        hold_end(conf, stand_of(conf.store), False)
+    elif stand.records == 1:
+        note(behind_file(conf), ends, STORED_OVER)
+    elif not is_broken(conf):
+        why = "which no crash leaves so: nothing is written over them. Hold the store against its copies (docs/OPERATING.md)"
+        raise Wrong(f"{ends.removeprefix('the store ')}, {why}")
 
 
 def is_broken(conf):
@@ -420,13 +557,15 @@ def is_broken(conf):
     return lines[0].startswith("header altered") or f"cum {len(batches) - 2}" in lines
 
 
-def keep_length(conf):
-    """Keeps how long the store is now, where it grew. Where nothing was kept of it, its length is believed, which is told."""
-    length, kept = hold_store(conf, durable=True)
-    if not kept or (kept.id, kept.bytes) != (conf.id, length):
-        write_kept(length_file(conf), Length(conf.id, length, int(time.time())))
+def keep_length(conf, path=None):
+    """Keeps how the store stands now. Where nothing was kept of it, it is believed, which is told. It is read at the conf's path, and kept as one
+    at `path`."""
+    stand, kept = hold_store(conf, durable=True)
+    if stand.id != conf.id:
+        return
+    write_kept(length_file(conf), Length(conf.id, stand.bytes, int(time.time()), stand.last, path or conf.store))
     if not kept or kept.id != conf.id:
-        tell_believed(conf, f"how long {conf.store} was, so its {length} bytes")
+        tell_believed(conf, f"how long {conf.store} was, so its {stand.bytes} bytes")
 
 
 # ---- how commands ended
@@ -434,7 +573,7 @@ def keep_length(conf):
 
 def alone(conf, until):
     """Waits until nothing else looks after this store. Nothing does while the file that is answered is open."""
-    lock = open(pathlib.Path(conf.state) / f"{conf.name}.lock", "a")
+    lock = open(pathlib.Path(conf.state) / f"{conf.name}.lock", "a", opener=at_once)
     while True:
         try:
             fcntl.flock(lock, fcntl.LOCK_EX | fcntl.LOCK_NB)
@@ -471,33 +610,54 @@ def hear(conf, command, told):
     stand there."""
     print(told, end="", file=sys.stderr, flush=True)
     behind = re.search("^dragoon: (the store .* bytes stand behind it):", told, re.MULTILINE)
-    if not behind:
-        return
-    file, kept = behind_file(conf), ""
+    if behind:
+        is_kept(conf, command, lambda: note(behind_file(conf), behind[1], STORED_OVER if command in ("notarize", "run") else ""))
+
+
+def note(file, words, over):
+    """Keeps words on bytes behind the end of a file, till somebody removes them. What was noted first stays, and `over` is added once."""
+    kept = ""
     with contextlib.suppress(FileNotFoundError, ValueError, Unknown):
         kept = left_in(file).strip()
-    said = kept or f"{date(int(time.time()))}: {behind[1]}"
-    if command in ("notarize", "run") and WRITTEN_OVER not in said:
-        said += WRITTEN_OVER
+    said = kept or f"{date(int(time.time()))}: {words}"
+    if over not in said:
+        said += over
     if said != kept:
-        is_kept(conf, command, lambda: write_whole(file, said + "\n"))
+        write_whole(file, said + "\n")
 
 
 def between_looks(conf, ask, files):
     """What is asked, as a status and an answer, between two looks at both files. The second one keeps what they are then. Where something
-    may be filed the store is held before: a verdict may say more of one that is shorter, and changes nothing behind its end."""
-    wrong = look_at(conf, lambda: begin(conf, *hold(conf, durable=True)), lambda: files and (hold_store(conf), hold_end(conf)))
+    may be stored or filed the store is held before: a verdict may say more of one that lacks something, and changes nothing behind its end."""
+    wrong = look_at(conf, lambda: look_into_book(conf), lambda: files and look_into_store(conf))
     if wrong:
         return wrong
     status, answer = ask()
-    try:
-        # how long a store is counts where the program took it
-        wrong = look_at(conf, lambda: keep_behind(conf, answer), lambda: status or keep_length(conf))
-    except OSError as error:
-        wrong = CANNOT, f"{answer}, and that can't be kept: {error.filename}: {error.strerror}"
+    wrong = look_behind(conf, answer, not status)
     # where nothing was ever filed under the id, nobody looks after this store
     unsealed = (NOTARY_FAULT, answer) if answer == "unsealed" else None
     return (status, answer) if status else wrong or unsealed or (status, answer)
+
+
+def look_into_book(conf):
+    """The look at the book before the program is called. One record behind its end, as a crash may leave it, is noted first."""
+    book, kept = hold(conf, durable=True)
+    begin(conf, book, kept)
+    if book.hidden:
+        note(hidden_file(conf), f"the book {conf.book} ends at byte {book.end + 1}, and {book.hidden} bytes stand behind it", FILED_OVER)
+
+
+def look_into_store(conf):
+    """The look at the store before something is stored or filed."""
+    hold_end(conf, hold_store(conf, unless_broken=True)[0])
+
+
+def look_behind(conf, answer, is_well):
+    """The look at both files behind a call, which keeps how they stand. How a store stands counts where the program took it."""
+    try:
+        return look_at(conf, lambda: keep_behind(conf, answer), lambda: is_well and keep_length(conf))
+    except OSError as error:
+        return CANNOT, f"{answer}, and that can't be kept: {error.filename}: {error.strerror}"
 
 
 def look_at(conf, book, store):
@@ -575,6 +735,14 @@ def tell_alarm(name, command, status, last):
     print(f"<2>dragoon {said}", file=sys.stderr, flush=True)
 
 
+def cannot(conf, name, command, why):
+    """Tells that a command couldn't be carried out, and keeps that, too, where there is a conf. Answers the status."""
+    tell_alarm(name, command, CANNOT, why)
+    if conf:
+        is_end_kept(conf, command, CANNOT, why)
+    return CANNOT
+
+
 def last_end(conf, command):
     """How this command ended the last time, or None where it never did."""
     return next(iter(ends_of(conf, command)), None)
@@ -603,15 +771,26 @@ def behind_file(conf):
     return pathlib.Path(conf.state) / f"{conf.name}.behind"
 
 
-def behind_store(conf):
-    """What the program said of bytes that stand behind the end of the store, or None. It stays until somebody removes the file."""
-    file = behind_file(conf)
+def hidden_file(conf):
+    return pathlib.Path(conf.state) / f"{conf.name}.hidden"
+
+
+def noted(file, what):
+    """What was noted of bytes that stand behind the end of a file, or None. It stays until somebody removes that."""
     try:
-        return left_in(file).strip() or f"bytes stand behind the end of {conf.store}: {file} is there, and has lost what was said of them"
+        return left_in(file).strip() or f"bytes stand behind the end of {what}: {file} is there, and has lost what was said of them"
     except FileNotFoundError:
         return None
     except ValueError as error:
         raise Wrong(f"{file} is garbled") from error
+
+
+def behind_store(conf):
+    return noted(behind_file(conf), conf.store)
+
+
+def behind_book(conf):
+    return noted(hidden_file(conf), conf.book)
 
 
 def ended_well(conf, command):
@@ -624,13 +803,41 @@ def ended_well(conf, command):
 
 
 def failed(conf, alarm):
-    """What a notarize, validate or run said that ended with this alarm, where nothing has ended well since; of `altered` also the last analysis."""
-    for command in COMMANDS[:4 if alarm == "altered" else 3]:
+    """What a command said that ended with this alarm, where nothing has ended well since; of `analyse` no validation. That a store takes nothing
+    any more is no alarm where another one goes on behind it."""
+    for command in COMMANDS:
         with contextlib.suppress(Unknown):
             for ended in ends_of(conf, command):
-                if ended.status and alarm_of(ended.status) == alarm:
+                is_closed = command in ("notarize", "run") and ended.status in CLOSED_STATUSES
+                if ended.status and alarm_of(ended.status) == alarm and not (is_closed and successor(conf)):
                     return f"{command} ended with {ended.status}, {ended.answer}"
     return None
+
+
+def shared(confs):
+    """Words on each conf that names the store of another one, or its book with the same id."""
+    first = {}
+    for conf in confs:
+        for what, path, id in (("store", conf.store, None), ("book and one id", conf.book, conf.id)):
+            there = stat_of(path)
+            other = first.setdefault((what, id, (there.st_dev, there.st_ino) if there else path), conf)
+            if other is not conf:
+                yield f"{other.name} and {conf.name} name one {what}, {path}: nobody looks after the store of one of them"
+                break
+
+
+def is_same(path, other):
+    """Whether both paths lead to one file."""
+    one, two = stat_of(path), stat_of(other)
+    return path == other or bool(one and two) and os.path.samestat(one, two)
+
+
+def stat_of(path):
+    """Which file stands at a path, or None."""
+    try:
+        return os.stat(path)
+    except OSError:
+        return None
 
 
 def unknown_end(conf):
