@@ -204,23 +204,38 @@ def last_moment(conf, length):
 
 @functools.lru_cache
 def successor(conf):
-    """The store in the same folder that goes on behind this one, or None. Its second transaction puts this one's id into the table `before`."""
+    """The store in the same folder that goes on behind this one, or None. Its second transaction puts this one's id into the table `before`, and how
+    many transactions it had: one that was stored in since isn't closed."""
     folder, ending = os.path.dirname(conf.store), os.path.splitext(conf.store)[1]
     with contextlib.suppress(OSError):
         paths = (os.path.join(folder, name) for name in sorted(os.listdir(folder)) if name.endswith(ending))
-        return next((path for path in paths if path != conf.store and goes_on(path, conf.id)), None)
+        return next((path for path in paths if path != conf.store and goes_on(path, conf)), None)
     return None
 
 
-def goes_on(path, id):
-    """Whether the store at this path goes on behind the one of this id."""
-    with contextlib.suppress(Wrong):
+def goes_on(path, conf):
+    """Whether the store at this path goes on behind the conf's one as that is."""
+    with contextlib.suppress(Wrong, OSError):
         front, _ = content_of(path, 4_096)
         if verify.header_of(front):
             items = (item for item, *_ in verify.run(front, verify.FIRST_GATE, len(front), *stored.RECORDS[:2]))
             second = list(itertools.islice((it for it in items if isinstance(it, stored.Transaction)), 1, 2))
-            return any(isinstance(it, stored.Put) and it.table == "before" and it.values[0] == str(id) for item in second for it in item.operations)
+            rows = [it.values for item in second for it in item.operations if isinstance(it, stored.Put) and it.table == "before"]
+            kept = [row[1] for row in rows if row[0] == str(conf.id) and len(row) == 3 and isinstance(row[1], int)]
+            return bool(kept) and kept[0] >= last_number(conf)
     return False
+
+
+def last_number(conf):
+    """The number of the last transaction of a store of format 2, or 0."""
+    with verify.opened(conf.store) as file:
+        length = os.fstat(file.fileno()).st_size
+        for begin in range(begin_of(length - 1), -1, -verify.SEGMENT):
+            content, gates = segment_of(file, begin)
+            numbers = [int.from_bytes(content[gate - begin + 6 : gate - begin + 10], "big") for gate in list(gates)[:-1] if content[gate - begin + 5] == 1]
+            if numbers:
+                return numbers[-1]
+    return 0
 
 
 def stand_of(path, durable=False):
