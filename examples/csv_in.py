@@ -9,6 +9,7 @@
     --kind NAME=KIND    the kind of a column: int, text, bool (TRUE or True is true), bytes (the field is hexadecimal) or utf8 (see below)
     --empty-text        an empty field of a text, bytes or utf8 column has no bytes; otherwise every empty field is null
     --add               the table is there already: no `create`. Fields go by place, with the key in front: so stand the table's columns
+    --like STORE        the table is there already, in this store: no `create`. Fields go by name, in its order and by its kinds
     --session N         transactions of many rows, by session N (0 to 15)
     --rows N            so many rows in a transaction at most, 256 if not given
     --delimiter C       between fields, a comma if not given; `tab` is a tab
@@ -23,15 +24,21 @@ What the language can't hold is refused with its row and column, and so is a row
 is empty or stands there twice, and a name that is none. Nothing is written then, and the status is 1. Row 1 is the heading, and goes into no
 table: a file without one wants one. Where it looks like a row, or --names stands for it, standard error says so.
 
-FILE is in UTF-8; `-` is standard input. After a crash give the statements again: what is there is refused (RowExists), and
-the rest goes in.
+FILE is in UTF-8; `-` is standard input. After a crash give the statements again: what is there is refused (RowExists, and TableExists of
+the `create`), and the rest goes in. Each other refusal among the replies is of a row that didn't go in. TableExists the first time says that the
+table was there before: then the rows went in by place, whatever their heading says. --like STORE is for that.
 """
 import argparse
 import csv
 import io
+import pathlib
 import re
 import sys
 import unicodedata
+
+sys.dont_write_bytecode = True
+sys.path.insert(0, str(pathlib.Path(__file__).resolve().parent))
+from parts import script, store
 
 NAME = re.compile(r"[a-z_][a-z0-9_]{0,31}")
 BARRED = re.compile(r"[\x00-\x1f\x7f]")
@@ -160,8 +167,12 @@ def note_looks(columns, rows):
 def read(file, delimiter):
     """The heading, and the rows with their numbers. Empty lines are passed over."""
     text = file.read()
+    if text[:2] == "\0\0":
+        raise Refused("it begins with bytes 0x00, as a crash may leave of a file: look for a whole one")
     if text[:2] in ("\udcff\udcfe", "\udcfe\udcff") or "\0" in text[:2]:
         raise Refused("this is UTF-16: `iconv -f UTF-16 -t UTF-8` makes UTF-8 of it")
+    if found := re.match("sep=(.)[\r\n]", text):
+        raise Refused(f"row 1: `sep={found[1]}` is a word for Excel alone: take this line out, and say --delimiter {'tab' if found[1] == chr(9) else repr(found[1])}")
     rows, table, number, begin = csv.reader(io.StringIO(text, newline=""), delimiter=delimiter, strict=True), [], 0, 0
     try:
         for number, row in enumerate(rows, 1):
@@ -178,6 +189,32 @@ def read(file, delimiter):
         if len(table[0][1]) == 1 and sign in table[0][1][0]:
             raise Refused(f"row 1: this is one column with {name} in its name: --delimiter {name} cuts there")
     return table[0][1], table[1:]
+
+
+def columns_like(options):
+    """The columns and kinds of the table in the store that --like names."""
+    try:
+        content = store.Store(options.like)
+    except script.Refused as fault:
+        raise Refused(str(fault)) from None
+    for transaction in content.transactions():
+        for operation in transaction.operations:
+            if isinstance(operation, store.Create) and operation.table == options.table:
+                return dict(operation.columns)
+    raise Refused(f"{script.plain(options.like)} has no table {options.table}")
+
+
+def as_stored(names, options):
+    """The key and the kinds of the columns in the store, where the file has the same columns, and nothing else is said of them."""
+    stored, said = columns_like(options), dict(options.kind)
+    if sorted(stored) != sorted(names):
+        raise Refused(f"the columns of {options.table} are {', '.join(stored)} in the store, and {', '.join(names)} in the file")
+    for name, kind in said.items():
+        if KINDS[kind] != stored[name]:
+            raise Refused(f"column {name} is of kind {stored[name]} in the store")
+    if options.key not in (None, next(iter(stored))):
+        raise Refused(f"the key is {next(iter(stored))} in the store")
+    return list(stored), {**stored, **said}
 
 
 def columns_of(heading, rows, options):
@@ -199,8 +236,12 @@ def columns_of(heading, rows, options):
     for number, row in rows:
         if len(row) != len(names):
             raise Refused(f"row {number}: {len(row)} fields for {len(names)} columns")
-    columns = [(name, at, kinds.get(name) or kind_of(row[at] for _, row in rows)) for at, name in enumerate(names)]
-    return sorted(columns, key=lambda column: column[0] != key)
+    if options.like:
+        order, kinds = as_stored(names, options)
+    else:
+        order = sorted(names, key=lambda name: name != key)
+    at = {name: at for at, name in enumerate(names)}
+    return [(name, at[name], kinds.get(name) or kind_of(row[at[name]] for _, row in rows)) for name in order]
 
 
 def inserts(rows, columns, options):
@@ -244,17 +285,19 @@ def in_transactions(lines, session, rows):
 def statements(file, options):
     heading, rows = read(file, options.delimiter)
     columns = columns_of(heading, rows, options)
-    if not rows and not options.add:
+    if not rows and not options.add and not options.like:
         print("csv_in: there is no row, so each column without --kind NAME=KIND becomes text, the key too", file=sys.stderr)
     note_heading(heading, columns, options)
-    note_looks([column for column in columns if column[0] not in dict(options.kind)], rows)
-    if not options.add:
+    note_looks([column for column in columns if column[0] not in dict(options.kind) and not options.like], rows)
+    if not options.add and not options.like:
         yield f"create {options.table} " + " ".join(f"{name} {KINDS[kind]}" for name, _, kind in columns)
     lines = inserts(rows, columns, options)
     if options.session is None:
         yield from (line for line, _ in lines)
     else:
         yield from in_transactions(lines, options.session, options.rows)
+    if not options.add and not options.like and [name for name, *_ in columns] != (options.names.split(",") if options.names else heading):
+        print(f"csv_in: the table's columns are {', '.join(name for name, *_ in columns)}, in this order: csv_out.py takes them so", file=sys.stderr)
 
 
 def words():
@@ -275,14 +318,16 @@ def words():
             raise argparse.ArgumentTypeError(f"{word} isn't one sign that can stand between fields")
         return word
 
-    options = "[--names A,B,..] [--key NAME] [--kind NAME=KIND].. [--empty-text] [--add] [--session N [--rows N]]"
+    options = "[--names A,B,..] [--key NAME] [--kind NAME=KIND].. [--empty-text] [--add | --like STORE] [--session N [--rows N]]"
     parser = argparse.ArgumentParser(usage=f"csv_in.py {options} [--delimiter C] TABLE FILE", description=__doc__,
         formatter_class=argparse.RawDescriptionHelpFormatter)
     parser.add_argument("--names")
     parser.add_argument("--key")
     parser.add_argument("--kind", action="append", type=kind, default=[])
     parser.add_argument("--empty-text", action="store_true")
-    parser.add_argument("--add", action="store_true")
+    is_there = parser.add_mutually_exclusive_group()
+    is_there.add_argument("--add", action="store_true")
+    is_there.add_argument("--like", metavar="STORE")
     parser.add_argument("--session", type=int, choices=range(16), metavar="N")
     parser.add_argument("--rows", type=int, choices=range(1, OPERATIONS + 1), metavar="N")
     parser.add_argument("--delimiter", type=delimiter, default=",")

@@ -84,6 +84,8 @@ REFUSED = [  # options, heading, rows, and what is said
     ([], "a,b", ['1,"x', 'y"', "", '2,"x', "3,y"], "row 4, which begins in line 5: a quote in it is never closed"),
     ([], "a,b", ['1,"x"y'], "line 2: "),
     ([], "1,Ada", ["2,Bob"], "row 1, column 1: no name, or one that stands there twice (where row 1 is a heading, --names c_1,ada would do; where it is a row, put"),
+    ([], "sep=;", ["a;b", "1;x"], "row 1: `sep=;` is a word for Excel alone: take this line out, and say --delimiter ';'"),
+    ([], "\0\0\0", ["\0"], "it begins with bytes 0x00, as a crash"),
     ([], "a;b", ["1;x"], "row 1: this is one column with ';' in its name: --delimiter ';' cuts there"),
     ([], "a\tb", ["1\tx"], "row 1: this is one column with tab in its name: --delimiter tab cuts there"),
     (["--delimiter", ";"], "a,b", ["1,x"], "row 1: this is one column with ',' in its name"),
@@ -104,7 +106,7 @@ HEADINGS = [  # options, the file, and what is said
     ([], "id,n\n1,x\n", ""), ([], "a,true\n1,false\n", ROW.format("a,true") + LIKE), (["--names", "a,b"], "1,Ada\n2,Bob\n", ROW.format("1,Ada") + LIKE),
     (["--names", "a,b"], "2026-12-31,x\n?,y\n", ROW.format("2026-12-31,x") + LIKE), (["--names", "a,b"], "#,N\x1b\n1,x\n", ROW.format("#,N?")),
     (["--add", "--key", "n"], "id,n\n1,x\n", "csv_in: the fields go by place, so the columns of t have to be n, id, in this order"),
-    (["--names", "a,b"], "金額1,b\n1,x\n", ROW.format("金額1,b")),
+    (["--names", "a,b"], "金額1,b\n1,x\n", ROW.format("金額1,b")), (["--key", "n"], "id,n\n1,x\n", "csv_in: the table's columns are n, id, in this order: csv_out.py takes them so"),
 ]
 NO_REPLIES = (
     "", "row 1\n", "row 1\nrows 2\n", "row 1 2\nrows 1\n", "rows 0\nrows 0\n", "version 1 - row 1\nrows 1\n", "none\n",
@@ -149,11 +151,31 @@ def refusals(folder):
             raise Wrong(f"csv_out takes the reply {reply!r}")
 
 
+def like_a_store(folder):
+    """By --like the fields go by name, and by the kinds that the store has."""
+    store = folder / "like.store"
+    dragoon(f"store={store}", "init", "7", "60", "3", "m")
+    dragoon(f"store={store}", "run", "7", lines="create t id int name text city text hex bytes\n")
+    like = "csv_in.py", "--like", store
+    found = script(*like, "--kind", "hex=utf8", "t", "-", lines="city,id,hex,name\n7,1,A,true\n")
+    if found != (0, "insert t 1 'true' '7' x'41'\n", ""):
+        raise Wrong(f"a file like a table becomes {found}")
+    for words, lines, wanted in [
+        (["t"], "city,id\nBonn,1\n", "the columns of t are id, name, city, hex in the store, and city, id in the file"), (["u"], "id\n1\n", "no table u"),
+        (["--kind", "id=text", "t"], "city,id,name,hex\nBonn,1,Max,\n", "column id is of kind int in the store"), (["t"], "city,id,name,hex\nBonn,x,Max,\n", "row 2, column id: isn't a number"),
+        (["--key", "city", "t"], "city,id,name,hex\nBonn,1,Max,\n", "the key is id in the store"),
+    ]:
+        status, out, told = script(*like, *words, "-", lines=lines)
+        if (status, out) != (1, "") or wanted not in told:
+            raise Wrong(f"wanted {wanted}; csv_in --like ends with {status} and {told}")
+
+
 def main(words):
     count, rng = count_of(words, 10_000, __doc__), random.Random(1)
     rows = [a_row(rng, number) for number in range(count)]
     with tempfile.TemporaryDirectory() as name:
         refusals(pathlib.Path(name))
+        like_a_store(pathlib.Path(name))
         print(f"tables: refuses what can't be held, in {len(REFUSED) + 1} tries")
         both_ways(pathlib.Path(name), rows[: max(1, count // 10)])
         both_ways(pathlib.Path(name), rows[: max(1, count // 10)], "--empty-text")
