@@ -5,6 +5,7 @@
 
 DATE stands at its foot. Headings become sections, a table an entry for each row, and a link to another page names that page.
 """
+import os
 import pathlib
 import re
 import sys
@@ -106,7 +107,12 @@ def main(words):
     except (OSError, ValueError) as error:
         print(f"man.py: {error}", file=sys.stderr)
         return 3
-    print(made)
+    try:
+        print(made, flush=True)
+    except OSError as error:
+        os.dup2(os.open(os.devnull, os.O_WRONLY), 1)
+        print(f"man.py: the output: {error.strerror}", file=sys.stderr)
+        return 3
     return 0
 
 
