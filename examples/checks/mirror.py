@@ -5,9 +5,9 @@
 
 It is 100 times if no number is given. A shop changes two tables all the time, and drains take the changes into a store. At some
 moment kill -9 ends one of these, chosen by lot: the shop, the drain, the program under it, or drain and program; or the drain as
-it would read the `ok N` of a commit. Triggers are dropped, and tables. A drain is given a store that is
-another database's, and a text that isn't UTF-8. At the end one more drain takes what is left, and the store is held against the database:
-each table, and of each key the rows that it ever had, in order.
+it would read the `ok N` of a commit. Triggers are dropped and changed, tables too, and the outbox is emptied. A drain is given a store that is
+another database's, a copy of the database, and a text that isn't UTF-8. At the end one more drain takes what is left, and the store is held
+against the database: each table, and of each key the rows that it ever had, in order.
 """
 import os
 import pathlib
@@ -54,6 +54,9 @@ for line in sys.stdin.buffer:
     program.stdin.write(line)
     program.stdin.flush()
     reply = program.stdout.readline()
+    while line.startswith(b"scan ") and reply.startswith(b"row "):
+        sys.stdout.buffer.write(reply)
+        reply = program.stdout.readline()
     left -= line == b"s0 commit\\n"
     if left == 0:
         os.kill(os.getppid(), signal.SIGKILL)
@@ -126,14 +129,14 @@ def compare(folder):
     text = "case when {0} is null then 'null' else '''' || replace({0}, '''', '''''') || '''' end"
     columns = {"customer": f"cast(id as text), {text.format('name')}, {text.format('quote(price)')}",
         "invoice": "cast(id as text), 'x''' || lower(hex(memo)) || ''''"}
-    statements = [statement for (statement,) in db.execute("select statement from mirror_outbox order by number")]
+    statements = [statement for (statement,) in db.execute("select statement from kept order by number")]
     for table in columns:
         if dragoon(f"store={folder / 'store'}", "run", "7", lines=f"scan {table}\n") != (0, scanned(db, table, columns[table])):
             raise Wrong(f"the table {table} isn't that of the database")
         made = {}
         for statement in statements:
             if found := re.fullmatch(rf"(?:insert|update) {table} ((\S+).*)", statement):
-                made.setdefault(found[2], []).append(re.sub("x'.*'", lambda it: it[0].lower(), found[1]))
+                made.setdefault(found[2], []).append(found[1])
         _, replies = dragoon(f"store={folder / 'store'}", "run", "7", lines="".join(f"history {table} {key}\n" for key in made))
         stored = {}
         for row in re.findall(r"^version \d+ (?:\d+|-) row (.*)$", replies, re.MULTILINE):
@@ -156,49 +159,100 @@ def files_by_hand_first(folder):
         raise Wrong(f"a drain that files ends with {status}: {said}{told}")
 
 
-# what is done to a database, and the triggers that are gone then
-LOST = [
-    ("drop trigger mirror_t_rename", "mirror_t_rename"),
-    ("drop table t; create table t (id integer primary key, v int)", "mirror_t_insert, mirror_t_update, mirror_t_rename, mirror_t_delete"),
-    ("drop trigger mirror_limits", "mirror_limits"),
-    ("drop table t", None), ("alter table t rename to u", None),
-    ("delete from mirror_outbox where number < 2; drop trigger mirror_t_update", "mirror_t_update"),
-    ("alter table t rename to u; drop trigger mirror_t_delete", "mirror_t_delete"),
-    ("alter table t rename to u; " + "; ".join(f"drop trigger mirror_t_{it}" for it in ("insert", "update", "rename", "delete")),
-        "mirror_t_insert, mirror_t_update, mirror_t_rename, mirror_t_delete"),
-    ("alter table t rename to u; create table t (id integer primary key)", "mirror_t_insert, mirror_t_update, mirror_t_rename, mirror_t_delete"),
+# what is done to a database, how its drain ends then, how many changes it took or None where it stores nothing, and what it says
+ALL = ", ".join(f"mirror_t_{it}" for it in ("insert", "update", "rename", "delete"))
+NO_TRIGGERS = "; ".join(f"drop trigger {it}" for it in ALL.split(", "))
+DONE = [
+    ("drop trigger mirror_t_rename", 1, 1, "triggers are gone: mirror_t_rename. What"),
+    ("drop table t; create table t (id integer primary key, v int)", 1, 1, f"triggers are gone: {ALL}. What"),
+    ("drop trigger mirror_limits", 1, 1, "triggers are gone: mirror_limits. What"),
+    ("delete from t; drop table t", 0, 3, ""), ("alter table t rename to u; alter table u rename v to w; update u set w = 4", 0, 3, ""),
+    ("drop table t", 1, 1, "t, which the database has under no name, differs from the store's by 2 rows: `row 1 2` in the store alone; `row 2 2` in the"),
+    ("create table u as select * from t; drop table t", 1, 1, "under no name"),
+    ("alter table t rename to u; drop trigger mirror_t_delete", 1, 1, "triggers are gone: mirror_t_delete. What"),
+    (f"alter table t rename to u; {NO_TRIGGERS}", 1, 1, f"triggers are gone: {ALL}. What"),
+    ("alter table t rename to u; create table t (id integer primary key)", 1, 1, f"triggers are gone: {ALL}. What"),
+    ("alter table t add column w", 0, 1, "t has columns that no store gets: w\n"),
+    # another trigger of the same name, and one of the shop's that keeps attach.py's from being asked
+    ("drop trigger mirror_t_update; create trigger mirror_t_update after update on t begin select 1; end", 1, 1, "triggers are others than attach.py made: mirror_t_update. What"),
+    ("create trigger s after insert on t begin select raise(ignore); end; insert into t values (9, 9)", 1, 1, "differs from the store's by 1 row: `row 9 9` in the database alone"),
+    # triggers of the shop that change what is being told
+    ("create trigger s after update of v on t when new.v = 7 begin update t set v = 8 where id = new.id; end; update t set v = 7", 0, 5, ""),
+    ("create trigger s after insert on t begin update t set v = 7 where id = new.id; end; insert into t values (3, 3)", 0, 3, ""),
+    ("create trigger s after insert on t when new.v = 7 begin delete from t where id = new.id; end; insert into t values (3, 7)", 0, 3, ""),
+    ("create trigger s after delete on t begin insert into t values (old.id, 9); end; delete from t", 0, 5, ""),
+    # the outbox
+    ("delete from mirror_outbox; insert into t values (3, 3), (4, 4)", 1, None, "change 3 is gone from the outbox"),
+    ("insert into t values (3, 3); delete from mirror_outbox", 1, None, "changes 3 to 4 are gone from the outbox"),
+    ("delete from mirror_outbox; delete from sqlite_sequence; insert into t values (3, 3)", 1, None, "the outbox counts from 1 again, and all changes up to 2"),
+    ("delete from sqlite_sequence", 0, 1, ""),
 ]
 # an earlier attach.py made none of these
-OF_NOW = "drop table mirror_name; drop table mirror_attached; drop index mirror_t_is"
+OF_NOW = "drop table mirror_name; drop table mirror_attached; drop table mirror_trigger; drop index mirror_t_is; alter table mirror_state drop column pruned"
 
 
-def sees_triggers(folder):
-    """A table without its triggers is no news but to its history. One that is gone, or has another name, has all of them."""
-    for at, (done, lost) in enumerate(LOST):
-        shop, store = folder / f"{at}.db", folder / f"{at}.store"
+def sees_what_is_done(folder):
+    """A table that isn't in the store as in the database is named, and so are triggers that are gone or others, and changes that are."""
+    for at, (done, status, count, text) in enumerate(DONE):
+        shop, store = attached(folder, f"done {at}", (1, 2))
+        drains(shop, store, 2)
         db = sqlite3.connect(shop)
-        db.execute("create table t (id integer primary key, v int)")
-        db.commit()
-        script("mirror/attach.py", shop, "t")
-        dragoon(f"store={store}", "init", "7", "60", "3", "m")
-        db.execute("insert into t values (1, 2)")
-        db.commit()
-        script("mirror/drain.py", shop, store, "7")
         db.executescript(f"insert into t values (2, 2); {done}")
         db.close()
-        status, said, told = script("mirror/drain.py", shop, store, "7")
-        if (status, said) != (int(bool(lost)), "drained 1\n") or (f"triggers are gone: {lost}. What" in told) != bool(lost):
-            raise Wrong(f"a drain after `{done}` ends with {status}: {said}{told}")
+        found = script("mirror/drain.py", shop, store, "7")
+        if found[:2] != (status, f"drained {count}\n" if count else "") or text not in found[2] or bool(found[2]) != bool(text):
+            raise Wrong(f"a drain after `{done}` ends with {found}")
+        if count:
+            left = sqlite3.connect(shop).execute("select count(*) from mirror_outbox").fetchone()
+            if left != (0,):
+                raise Wrong(f"a drain leaves {left} changes in the outbox that it took")
+
+
+# what is attached, and why not
+NOT_ATTACHED = [
+    (["--utf8", "t.nmae", "t"], "name text", "--utf8 t.nmae is no column of t"), (["--utf8", "T.name", "t"], "name text", "--utf8 T.name is no column of t"),
+    (["t"], "id text primary key collate nocase", "the key t.id is compared by NOCASE"), (["t"], "id primary key", "the key t.id has no type"),
+]
+
+
+def attaches_anew(folder):
+    """What has no key that both count alike isn't attached; and with --anew a new store takes all."""
+    for at, (words, columns, text) in enumerate(NOT_ATTACHED):
+        shop = folder / f"not {at}.db"
+        db = sqlite3.connect(shop)
+        db.execute(f"create table t ({columns if 'primary' in columns else 'id integer primary key, ' + columns})")
+        db.close()
+        status, _, told = script("mirror/attach.py", *words[:-1], shop, words[-1])
+        if status != 1 or text.lower() not in told.lower():
+            raise Wrong(f"attach {words} of ({columns}) ends with {status}: {told}")
+    shop, store = attached(folder, "anew", (1, 2), (2, 3))
+    drains(shop, store, 3)
+    store.unlink()
+    dragoon(f"store={store}", "init", "7", "60", "3", "m")
+    stops(shop, store, "is empty, and changes up to 3 were stored in another store")
+    if "t is attached already" not in script("mirror/attach.py", shop, "t")[2]:
+        raise Wrong("a table is attached twice")
+    db = sqlite3.connect(shop)
+    db.executescript("insert into t values (5, 5); create unique index w on t (v)")
+    db.close()
+    status, _, told = script("mirror/attach.py", "--anew", shop, "t")
+    if status or "changes that waited in the outbox, and are in no store: 1\n" not in told or "t has another unique column" not in told:
+        raise Wrong(f"attach --anew ends with {status}: {told}")
+    drains(shop, store, 4)
+    drains(shop, store, 0)
+    for words in (["--notary", ""], ["--notary", "a,,b"], ["--changes", "0"], ["--note", "a"]):
+        if (told := script("mirror/drain.py", *words, shop, store, "7"))[:2] != (2, ""):
+            raise Wrong(f"a drain with {words} ends with {told}")
 
 
 def attached(folder, name, *rows, then=""):
     """A database of this name with a table of these rows, attached, and a store for it."""
     db = sqlite3.connect(folder / f"{name}.db")
-    db.execute("create table t (id integer primary key, v text)")
+    db.execute(f"create table t (id integer primary key, v {'int' if rows and isinstance(rows[0][1], int) else 'text'})")
     db.commit()
     script("mirror/attach.py", folder / f"{name}.db", "t")
     for row in rows:
-        db.execute("insert into t values (?, cast(? as text))", row)
+        db.execute("insert into t values (?, iif(typeof(?2) = 'blob', cast(?2 as text), ?2))", row)
     db.commit()
     db.executescript(then)
     db.close()
@@ -229,6 +283,11 @@ def refuses_strangers(folder):
         drains(*pair, 0)
     for shop, store in ((ours[0], theirs[1]), (theirs[0], ours[1]), (ours[0], old[1]), (old[0], ours[1]), (older[0], ours[1])):
         stops(shop, store, "is the store of another database")
+    copy = folder / "copy.db"
+    copy.write_bytes(ours[0].read_bytes())
+    stops(copy, ours[1], f"the database was {ours[0].resolve()} at the last drain, and is {copy.resolve()} now")
+    if script("mirror/drain.py", "--moved", copy, ours[1], "7") != (0, "drained 0\n", ""):
+        raise Wrong("a drain takes no database that was moved")
     other = folder / "other.store"
     dragoon(f"store={other}", "init", "7", "60", "3", "m")
     dragoon(f"store={other}", "run", "7", lines="create t id int v text\n")
@@ -265,13 +324,14 @@ def stops_at_text(folder):
     db = sqlite3.connect(shop)
     db.execute("create table u (id integer primary key, v text)")
     db.execute("insert into u values (1, cast(x'e980' as text))")
+    db.execute("update t set v = 'Gru' where id = 2")
     db.execute("update mirror_outbox set statement = 'insert t 2 ''Gru''' where number = 3")
     db.commit()
     db.close()
     status, _, told = script("mirror/attach.py", shop, "u")
     if status != 1 or "text that isn't UTF-8" not in told:
         raise Wrong(f"a table with a text that isn't UTF-8 is attached: {status} {told}")
-    drains(shop, store, 10)
+    drains(shop, store, 11)
 
 
 def main(words):
@@ -289,6 +349,10 @@ def main(words):
         status, _, told = script("mirror/attach.py", "--utf8", "invoice.memo", folder / "shop.db", "customer", "invoice")
         if status or dragoon(f"store={folder / 'store'}", "init", "7", "60", "3", "m")[0]:
             raise Wrong(f"the mirror can't be made: {told}")
+        db = sqlite3.connect(folder / "shop.db")
+        db.executescript("""create table kept as select number, statement from mirror_outbox;
+            create trigger keeps after insert on mirror_outbox begin insert into kept values (new.number, new.statement); end""")
+        db.close()
         status, _, told = script("mirror/drain.py", folder / "shop.db", folder / "store", "8")
         if status != 1 or "no store with the id 8\n" not in told or "has the id 7, and not 8" not in told:
             raise Wrong(f"a drain with a wrong id ends with {status}: {told}")
@@ -297,7 +361,8 @@ def main(words):
             if (status, said, told) != (0, wanted, ""):
                 raise Wrong(f"a drain where nothing is wrong ends with {status}: {said}{told}")
         files_by_hand_first(folder)
-        sees_triggers(folder)
+        sees_what_is_done(folder)
+        attaches_anew(folder)
         refuses_strangers(folder)
         stops_at_text(folder)
         killed = [one_time(folder, rng) for _ in range(count)]
