@@ -2,6 +2,7 @@
 
 How records follow one another, and what a header is, stands in verify.py. Here stands what the payloads say.
 """
+import itertools
 import re
 from collections import namedtuple
 
@@ -67,6 +68,16 @@ RECORDS = item_of, 32_768, LIMIT
 
 
 # ---- a store
+
+
+def row_before(front):
+    """What the second transaction of a store puts into the table `before`, by the front of its bytes; or None. successor/open_next opens a store so."""
+    if verify.header_of(front) is None:
+        return None
+    items = (item for item, *_ in verify.run(front, verify.FIRST_GATE, len(front), *RECORDS[:2]))
+    second = itertools.islice((it for it in items if isinstance(it, Transaction)), 1, 2)
+    rows = [it.values for item in second for it in item.operations if isinstance(it, Put) and it.table == "before"]
+    return next((row for row in rows if len(row) == 3), None)
 
 
 class Store:
