@@ -11,10 +11,11 @@ A table needs a primary key of one column, with a type, that is compared byte by
 integers, bytes where they give blobs, and otherwise text, with numbers as SQLite prints them. A column after --utf8 is of kind bytes: the
 UTF-8 of its texts.
 
-A change that no store can hold is refused when the shop makes it, so that nothing is missing later: a value of another type than
-its column's, a key that is null or has a fraction, a text that isn't UTF-8, or with a line end, a tab or another byte below 0x20 (--utf8 takes it), a row of more than
-32,000 bytes. Columns that a table gets afterwards aren't mirrored, and a mirrored one can't be dropped. Where another column than the key is
-unique, `replace` takes rows away without telling: the shop then sets `pragma recursive_triggers = on`. Standard error names such a table.
+A change that no store can hold is refused when the shop makes it, so that nothing is missing later: a value of another type than its
+column's, a key that is null or has a fraction, a text that isn't UTF-8, or with a line end, a tab or another byte below 0x20 (--utf8 takes
+it), a row of more than 32,000 bytes. Columns that a table gets afterwards aren't mirrored, and a mirrored one can't be dropped. Where
+another column than the key is unique, `replace` takes rows away without telling: the shop then sets `pragma recursive_triggers = on`.
+Standard error names such a table.
 
 With --anew all that an earlier attach.py made is taken away first, in the same transaction. It is for a new store: the old one takes no
 change any more. What waited in the outbox is in no store then, and standard error says how much that was.

@@ -375,8 +375,9 @@ def unlike(db, program, number, table, columns):
         return None
     shown = "; ".join(found[:SHOWN]).encode(errors="surrogateescape").decode(errors="backslashreplace") + "; .." * (len(found) > SHOWN)
     where = "" if now else ", which the database has under no name,"
+    alone = f". If the database lacks such a row rightly, `delete {table} KEY` in the store ends this" * found[-1].endswith(" in the store alone")
     return (f"{table}{where} differs from the store's by {counted(len(found), 'row')}: {verify.plain(shown)}. "
-        "Its triggers were passed by, or the store was written to")
+        f"Its triggers were passed by, or the store was written to{alone}")
 
 
 def compare(db, program, number):
