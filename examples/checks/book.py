@@ -30,6 +30,8 @@ import verify
 import watched
 
 JOB = EXAMPLES / "operate" / "job"
+# nobody writes to a book while this reads it
+watched.MOMENT = 0
 
 
 def make_store(path, seconds, width, exponent):

@@ -21,6 +21,10 @@ PROGRAM = os.environ.get("DRAGOON") or str(pathlib.Path(__file__).resolve().pare
 # how many seconds a command waits for others
 WAIT = os.environ.get("WAIT", "600")
 STORE_LIMIT, GRANULES = 67_108_864, 1_048_576
+# so many seconds lie between two reads of what stands behind the end of a file
+MOMENT = 0.2
+# behind so many seconds without an end a command is late
+LATE = {"notarize": 7_200, "validate": 93_600}
 # where fewer bytes are left in a store, the longest transaction has no room
 LONGEST_RECORD = 32_774
 OPEN = verify.OPEN
@@ -40,9 +44,9 @@ FEW = Left(1 << 25, 1 << 18, 1 << 12)
 # an item by its moment, and by the front of the SHA-256 of its bytes
 Item = collections.namedtuple("Item", "moment digest")
 # how a store stands: `bytes` is up to the gate that ends it, `last` the digest of the last item of that segment, `behind` how many bytes stand behind
-# that gate, and `records` how many whole records, at most 2. `gates` are those of that segment, by their places in the file, each with the last item
-# in front of it. Of another format than 2, and of no store, `bytes` is the length, and `last` says nothing
-Stand = collections.namedtuple("Stand", "id bytes last length behind records gates")
+# that gate, `rest` these bytes, and `records` how many whole records, at most 2. `gates` are those of that segment, by their places in the file, each
+# with the last item in front of it. Of another format than 2, and of no store, `bytes` is the length, and `last` says nothing
+Stand = collections.namedtuple("Stand", "id bytes last length behind rest records gates")
 UNSAID, NONE = "-", Item(0, "none")
 Ended = collections.namedtuple("Ended", "status moment answer")
 Kept = collections.namedtuple("Kept", "id tiles end digest moment path", defaults=[None])
@@ -57,7 +61,7 @@ STORE_STATUSES, NOTARY_STATUSES, ALTERED_STATUSES = {4, 5}, {6, 11, 12, 19}, {1,
 STORED_OVER, FILED_OVER = (f", and what was {what} since may be written over them" for what in ("stored", "filed"))
 # these stand, whatever else a command ends with, until one ends well
 STANDING = ALTERED_STATUSES | NOTARY_STATUSES
-# the statuses of a filing that a store ends with which takes nothing any more
+# the statuses that a command ends with where a store or its book takes nothing any more
 CLOSED_STATUSES = {15, 16}
 USAGE, STORE_FAULT, NOTARY_FAULT, CANNOT = 2, 5, 6, 70
 
@@ -76,6 +80,10 @@ class Rewritten(Wrong):
 
 class Shorter(Wrong):
     """The store hasn't what it had. A store only grows."""
+
+
+class Busy(OSError):
+    """Another job of the store runs."""
 
 
 # ---- the conf
@@ -244,13 +252,13 @@ def stand_of(path, durable=False):
         with verify.opened(path) as file:
             head, length = file.read(65), os.fstat(file.fileno()).st_size
             header = verify.header_of(head)
-            stand = Stand(header and header[1], length, UNSAID, length, 0, 0, {})
+            stand = Stand(header and header[1], length, UNSAID, length, 0, b"", 0, {})
             if header and verify.LETTERS[head[1:9]] == 2:
                 begin = begin_of(length - 1)
                 content, gates = segment_of(file, begin)
                 end = max(gates) - begin
-                behind = len(content) - end - 1 if any(content[end + 1 :]) else 0
-                stand = Stand(header[1], begin + end + 1, gates[begin + end].digest, length, behind, records_behind(content, end, verify.STORE), gates)
+                rest, records = content[end + 1 :], records_behind(content, end, verify.STORE)
+                stand = Stand(header[1], begin + end + 1, gates[begin + end].digest, length, len(rest) if any(rest) else 0, rest, records, gates)
             if durable:
                 os.fsync(file.fileno())
             return stand
@@ -269,6 +277,24 @@ def records_behind(content, end, kind):
     opened = bytes([OPEN]) + behind
     gates = [opened[gate] for *_, gate in verify.run(opened, 0, len(opened), *kind[:2])]
     return min(2, len(gates) + (gates[:1] == [OPEN]))
+
+
+def settled(read, behind):
+    """What `read` finds of a file, and whether what `behind` says of its end stays. Where a second read finds other bytes there, or another end, a
+    run or a filing is under way."""
+    first = read()
+    if not behind(first):
+        return first, False
+    time.sleep(MOMENT)
+    second = read()
+    return second, behind(first) == behind(second)
+
+
+def is_locked(path):
+    """Whether a process has this file locked, as the program does, as far as /proc tells."""
+    with contextlib.suppress(OSError):
+        return f":{os.stat(path).st_ino} " in pathlib.Path("/proc/locks").read_text()
+    return False
 
 
 def read_book(conf, content):
@@ -376,17 +402,24 @@ def left_in(file):
 def hold(conf, durable=False):
     """The book, held against what was kept of it; and that. Behind its end may stand what one crash leaves, and no record where its bytes weren't
     kept. A gate that is open has a whole record behind it in any case."""
-    kept, (content, _) = read_kept(conf), content_of(conf.book, durable=durable)
-    book_front(conf, kept, content)
-    book, least = read_book(conf, content), sealed(conf, kept)
-    ends = f"{conf.book} ends at byte {book.end + 1}"
-    if content[book.end] == OPEN:
+    kept = read_kept(conf)
+
+    def read():
+        content, _ = content_of(conf.book, durable=durable)
+        book_front(conf, kept, content)
+        return read_book(conf, content)
+
+    book, stays = settled(read, lambda it: it.hidden and (it.end, it.content[it.end :]))
+    least, ends = sealed(conf, kept), f"{conf.book} ends at byte {book.end + 1}"
+    if book.content[book.end] == OPEN:
         raise Rewritten(f"{ends}, in a record that was cut or altered, and {book.hidden} bytes stand behind it: records may be hidden there (docs/NOTARY.md)")
+    if not stays:
+        book = book._replace(hidden=0)
     if book.tiles < least:
         raise Rewritten(f"{conf.book} has {book.tiles} sealed tiles, and had {least} on {date(kept.moment)}")
     if book.hidden and not (kept and kept.end):
         raise Rewritten(f"{ends}, and {book.hidden} bytes stand behind it: records may be hidden there (docs/NOTARY.md)")
-    if book.hidden and records_behind(content, book.end, verify.BOOK) > 1:
+    if book.hidden and records_behind(book.content, book.end, verify.BOOK) > 1:
         raise Rewritten(f"{ends}, and {book.hidden} bytes stand behind it, which no crash leaves so: records are hidden there (docs/NOTARY.md)")
     if kept and not kept.end:
         had = f"{kept.tiles} sealed tiles on {date(kept.moment)}"
@@ -544,18 +577,13 @@ def lost_of(conf, kept, stand, unless_broken):
     return f"has another record, or none, where one ended at byte {kept.bytes} on {date(kept.moment)}: {how}"
 
 
-def hold_end(conf, stand, again=True):
+def hold_end(conf, stand, is_ours):
     """Sees that a filing or a run writes over nothing behind the end of the store but what looks as a crash leaves it: a gate 00, and no record that
     another one follows. One record is noted first."""
     ends = f"the store {conf.store} ends at byte {stand.bytes}, and {stand.behind} bytes stand behind it"
-    if not stand.records:
-        return
-    if again:
-        # a run may have written while this was read
-        time.sleep(0.2)
-        hold_end(conf, stand_of(conf.store), False)
-    elif stand.records == 1:
-        note(behind_file(conf), ends, STORED_OVER)
+    if stand.records == 1:
+        if is_ours or not is_locked(conf.store):
+            note(behind_file(conf), ends, STORED_OVER)
     elif not is_broken(conf):
         why = "which no crash leaves so: nothing is written over them. Hold the store against its copies (docs/OPERATING.md)"
         raise Wrong(f"{ends.removeprefix('the store ')}, {why}")
@@ -595,7 +623,7 @@ def alone(conf, until):
             return lock
         except BlockingIOError as error:
             if time.monotonic() >= until:
-                raise OSError(error.errno, "another job of this store runs", lock.name) from error
+                raise Busy(error.errno, "another job of this store runs", lock.name) from error
         time.sleep(0.1)
 
 
@@ -622,10 +650,10 @@ def status_of(process):
 
 def hear(conf, command, told):
     """Hands on what the program told on standard error, and keeps what it said of bytes behind the end of the store, and whether they still
-    stand there."""
+    stand there. Of a store that another process writes to it isn't kept."""
     print(told, end="", file=sys.stderr, flush=True)
     behind = re.search("^dragoon: (the store .* bytes stand behind it):", told, re.MULTILINE)
-    if behind:
+    if behind and not re.search("^dragoon: the store .* is locked by another process", told, re.MULTILINE):
         is_kept(conf, command, lambda: note(behind_file(conf), behind[1], STORED_OVER if command in ("notarize", "run") else ""))
 
 
@@ -641,10 +669,11 @@ def note(file, words, over):
         write_whole(file, said + "\n")
 
 
-def between_looks(conf, ask, files):
+def between_looks(conf, ask, files, is_ours=False):
     """What is asked, as a status and an answer, between two looks at both files. The second one keeps what they are then. Where something
-    may be stored or filed the store is held before: a verdict may say more of one that lacks something, and changes nothing behind its end."""
-    wrong = look_at(conf, lambda: look_into_book(conf), lambda: files and look_into_store(conf))
+    may be stored or filed the store is held before: a verdict may say more of one that lacks something, and changes nothing behind its end.
+    With `is_ours` a run of our own has both open, and is idle."""
+    wrong = look_at(conf, lambda: look_into_book(conf, is_ours), lambda: files and look_into_store(conf, is_ours))
     if wrong:
         return wrong
     status, answer = ask()
@@ -654,17 +683,20 @@ def between_looks(conf, ask, files):
     return (status, answer) if status else wrong or unsealed or (status, answer)
 
 
-def look_into_book(conf):
-    """The look at the book before the program is called. One record behind its end, as a crash may leave it, is noted first."""
+def look_into_book(conf, is_ours):
+    """The look at the book before the program is called. One record behind its end, as a crash may leave it, is noted first, unless another
+    process may be writing it."""
     book, kept = hold(conf, durable=True)
     begin(conf, book, kept)
-    if book.hidden:
+    if book.hidden and (is_ours or not is_locked(conf.book)):
         note(hidden_file(conf), f"the book {conf.book} ends at byte {book.end + 1}, and {book.hidden} bytes stand behind it", FILED_OVER)
 
 
-def look_into_store(conf):
+def look_into_store(conf, is_ours=False):
     """The look at the store before something is stored or filed."""
-    hold_end(conf, hold_store(conf, unless_broken=True)[0])
+    stand, stays = settled(lambda: hold_store(conf, unless_broken=True)[0], lambda it: it.records and (it.bytes, it.rest))
+    if stays:
+        hold_end(conf, stand, is_ours)
 
 
 def look_behind(conf, answer, is_well):
@@ -732,6 +764,16 @@ def keep_end(conf, command, status, last):
     if command in ("notarize", "validate") and not status and not ended_well(conf, "run"):
         # store and book open again, after a run that failed
         end_file(conf, "run").unlink(missing_ok=True)
+    if command == "notarize" and not status:
+        # the store has what it had
+        for other in ("validate", "analyse"):
+            with contextlib.suppress(Unknown):
+                ends = ends_of(conf, other)
+                left = [ended for ended in ends if ended.status != STORE_FAULT]
+                if not left:
+                    end_file(conf, other).unlink(missing_ok=True)
+                elif left != ends:
+                    write_whole(end_file(conf, other), spelled_ends(left))
     if command == "validate" and not status:
         # what an earlier analysis found, and what an earlier filing did before it ended with another fault
         end_file(conf, "analyse").unlink(missing_ok=True)
@@ -750,12 +792,23 @@ def tell_alarm(name, command, status, last):
     print(f"<2>dragoon {said}", file=sys.stderr, flush=True)
 
 
-def cannot(conf, name, command, why):
-    """Tells that a command couldn't be carried out, and keeps that, too, where there is a conf. Answers the status."""
+def cannot(conf, name, command, error, what):
+    """Tells that a command couldn't be carried out, and keeps that, too, where there is a conf. Answers the status. That another job runs is no
+    end of a command, and is kept where that one is late."""
+    why = f"{error.filename or what}: {error.strerror or error}"
     tell_alarm(name, command, CANNOT, why)
-    if conf:
+    if conf and (not isinstance(error, Busy) or is_late(conf, command)):
         is_end_kept(conf, command, CANNOT, why)
     return CANNOT
+
+
+def is_late(conf, command):
+    """Whether its last end is older than the alarms allow, or can't be read."""
+    try:
+        ended = last_end(conf, command)
+        return command in LATE and ended is not None and not 0 <= time.time() - ended.moment <= LATE[command]
+    except Unknown:
+        return True
 
 
 def last_end(conf, command):
@@ -823,7 +876,7 @@ def failed(conf, alarm):
     for command in COMMANDS:
         with contextlib.suppress(Unknown):
             for ended in ends_of(conf, command):
-                is_closed = command in ("notarize", "run") and ended.status in CLOSED_STATUSES
+                is_closed = command != "analyse" and ended.status in CLOSED_STATUSES
                 if ended.status and alarm_of(ended.status) == alarm and not (is_closed and successor(conf)):
                     return f"{command} ended with {ended.status}, {ended.answer}"
     return None
