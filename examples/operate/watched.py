@@ -4,11 +4,9 @@ import contextlib
 import fcntl
 import functools
 import hashlib
-import itertools
 import os
 import pathlib
 import re
-import struct
 import sys
 import time
 
@@ -224,13 +222,8 @@ def successor(conf):
 def goes_on(path, conf):
     """Whether the store at this path goes on behind the conf's one as that is."""
     with contextlib.suppress(Wrong, OSError):
-        front, _ = content_of(path, 4_096)
-        if verify.header_of(front):
-            items = (item for item, *_ in verify.run(front, verify.FIRST_GATE, len(front), *stored.RECORDS[:2]))
-            second = list(itertools.islice((it for it in items if isinstance(it, stored.Transaction)), 1, 2))
-            rows = [it.values for item in second for it in item.operations if isinstance(it, stored.Put) and it.table == "before"]
-            kept = [row[1] for row in rows if row[0] == str(conf.id) and len(row) == 3 and isinstance(row[1], int)]
-            return bool(kept) and kept[0] >= last_number(conf)
+        row = stored.row_before(content_of(path, 4_096)[0])
+        return bool(row) and row[0] == str(conf.id) and isinstance(row[1], int) and row[1] >= last_number(conf)
     return False
 
 
