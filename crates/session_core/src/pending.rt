@@ -14,10 +14,7 @@ use std::alloc::{AllocError, Global};
 use std::marker::Model;
 use store_engine::Store;
 use tt_table::{Known, Write};
-use tuple_bytes::{MAX_OPS, MAX_PAYLOAD, Op, Ops, op_size};
-
-/// The bytes of a transaction before its operations: the mark of one, its number, its moment, and their count.
-const TXN_HEAD: usize = 15;
+use tuple_bytes::{MAX_OPS, MAX_PAYLOAD, Op, Ops, TXN_HEAD, op_size};
 
 /// Operations, and the bytes that they take as a transaction.
 #[derive(Drop)]

@@ -33,7 +33,7 @@
 //! | a refusal comes exactly where it has a cause, by the first cause; want of memory may come before | `refused` |
 //! | where there is a cause, the disk is untouched, also where want of memory comes before | `same` of `commit` and of `policy`, `unstored` of `frontier` |
 //! | the number is that of the transactions before and one more | `number` of `commit` |
-//! | why operations would be refused can be asked before, with nothing done | `value` of `commit_refusal` |
+//! | why operations would be refused can be asked before, with nothing done and no memory taken | `value` of `commit_refusal` |
 //! | after Ok the store has the item, after a refusal it is as it was, after a fault or want of memory it is closed; the tables have nothing that is not durable | `stands` |
 //! | want of memory in `frontier` and `policy` comes before the item is known: they are stored and known whole, or not known | `kept` |
 //! | the eras are those of all items, and the chains go by them | `value` of `eras`, `under` of `chains` |

@@ -35,11 +35,11 @@ use chain_state::Chains;
 use disk_model::Disk;
 use policy_eras::Eras;
 use segment_file::SegmentFile;
-use std::alloc::{AllocError, Global};
+use std::alloc::Global;
 use std::marker::Model;
 use step_count::{Ledger, Steps};
 use tt_table::Tables;
-use tuple_bytes::{EncodeFail, Header, MAX_FILE, MAX_GRANULES, MAX_OPS, Ops, granule};
+use tuple_bytes::{Header, MAX_FILE, MAX_GRANULES, MAX_OPS, Ops, granule, txn_size};
 
 /// A store that is open: what its file holds, as tables, and where the next record goes. Each call on
 /// it is lent the disk, whose bytes have to be as the last call left them.
@@ -151,53 +151,25 @@ impl Store {
         }
     }
 
-    /// Why `commit` would refuse these operations at these clock seconds, if it would. Nothing is done.
-    pub fn commit_refusal(
-        &self,
-        alloc: Global,
-        ops: &Ops,
-        now: u64,
-    ) -> Result<Option<StoreFail>, AllocError>
-        requires some { 0 < length ops.now }
-        requires counted { All IsCountedOp ops.now }
-        ensures value { IfOk result (λ fault. fault
-            ≡ commit_fault (tail_of self.now) self.now.at.is_closed ops.now now) }
+    /// Why `commit` would refuse these operations at these clock seconds, if it would. Nothing is done, and no memory is
+    /// taken: their bytes are counted, and not spelled.
+    pub fn commit_refusal(&self, ops: &Ops, now: u64) -> Option<StoreFail>
+        ensures value { result ≡ commit_fault (tail_of self.now) self.now.at.is_closed ops.now now }
     {
         let Some(moment) = self.moment_at(now) else {
             let last = self.contents.last;
-            return Ok(Some(StoreFail::ClockBack { last }));
+            return Some(StoreFail::ClockBack { last });
         };
         let is_late = granule(moment, self.header.width) >= u64::from(MAX_GRANULES);
         if is_late {
-            return Ok(Some(StoreFail::TooLate));
+            return Some(StoreFail::TooLate);
         }
         if ops.as_slice().len() > usize::from(MAX_OPS) {
-            return Ok(Some(StoreFail::TooManyOps));
+            return Some(StoreFail::TooManyOps);
         }
-        let number = self.txn_count() + 1;
-        let txn = NextItem::Txn {
-            number,
-            moment,
-            ops,
-        };
-        self.item_refusal(alloc, &txn)
-    }
-
-    /// Why an item would not be stored.
-    fn item_refusal(
-        &self,
-        alloc: Global,
-        item: &NextItem<'_>,
-    ) -> Result<Option<StoreFail>, AllocError>
-        requires counted { IsCounted (lent_item item.now) }
-        requires few_ops { op_count_of (lent_item item.now) ≤ max_ops }
-        ensures value { IfOk result (λ fault. fault
-            ≡ item_fault (tail_of self.now) self.now.at.is_closed (lent_item item.now)) }
-    {
-        match item.encode(alloc) {
-            Ok(payload) => Ok(self.room_refusal(payload.as_slice().len())),
-            Err(EncodeFail::NoMemory) => Err(AllocError),
-            Err(fail) => Ok(Some(StoreFail::from(fail))),
+        match txn_size(ops) {
+            Some(bytes) => self.room_refusal(bytes),
+            None => Some(StoreFail::TooLong),
         }
     }
 

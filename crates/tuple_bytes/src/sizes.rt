@@ -1,13 +1,17 @@
-//! How many bytes an operation is spelled by, counted without spelling it.
+//! How many bytes an operation and a transaction are spelled by, counted without spelling them.
 
-ghost use Rattle.std.specs.Prelude.{◌≡◌, ◌+◌, ◌<◌, ◌≤◌, ◌^◌, length, SomeIff};
+ghost use Rattle.std.specs.Prelude.{◌≡◌, ◌+◌, ◌<◌, ◌≤◌, ◌^◌, ℕ, length, SomeIff};
 ghost use Rattle.tuple_bytes.specs.Limits.{max_payload};
-ghost use Rattle.tuple_bytes.specs.Spelling.{spell_word, spell_value, spell_column, spell_columns, spell_row, spell_op};
+ghost use Rattle.tuple_bytes.specs.Spelling.{spell_word, spell_value, spell_column, spell_columns, spell_row, spell_op, spell_txn};
+ghost use Rattle.tuple_bytes.specs.Writing.{txn_by};
 
 use crate::limits::MAX_PAYLOAD;
-use crate::op::{Column, Op};
+use crate::op::{Column, Op, Ops};
 use crate::value::Value;
 use crate::word::Word;
+
+/// The bytes of a transaction in front of its operations: its tag, its number, its moment, and their count.
+pub const TXN_HEAD: usize = 15;
 
 fn word_size(word: &Word) -> usize
     ensures value { result ≡ length (spell_word word.now) }
@@ -79,6 +83,25 @@ pub fn op_size(op: &Op) -> Option<usize>
     let size = 1 + word_size(table) + rest;
     if size > MAX_PAYLOAD {
         return None;
+    }
+    Some(size)
+}
+
+/// The bytes of a transaction of these operations, whatever its number and its moment, where they are at most
+/// `MAX_PAYLOAD`.
+#[tactic(auto, using(crate::proofs::Counting::sized_next, crate::proofs::Counting::sized_all))]
+pub fn txn_size(ops: &Ops) -> Option<usize>
+    ensures value { (number moment : ℕ) → SomeIff result
+        (length (spell_txn (txn_by number moment ops.now)) ≤ max_payload)
+        (length (spell_txn (txn_by number moment ops.now))) }
+{
+    let ops = ops.as_slice();
+    let mut size = TXN_HEAD;
+    for op in ops {
+        size += op_size(op)?;
+        if size > MAX_PAYLOAD {
+            return None;
+        }
     }
     Some(size)
 }

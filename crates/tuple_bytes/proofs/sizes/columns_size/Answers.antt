@@ -10,6 +10,6 @@ returns-then-size-gt-MAX_PAYLOAD c = record {
     fits,
     c.if-size-gt-MAX_PAYLOAD.true,
     c.column_size-size.ensures.value,
-    sized_front spell_column c.loop-column.size c.args.columns.now c.loop-column.column-index c.column-item.result c.loop-column-test.true c.column-item.is c.loop-column.invariant.0,
+    sized_front 1 spell_column c.loop-column.size c.args.columns.now c.loop-column.column-index c.column-item.result c.loop-column-test.true c.column-item.is c.loop-column.invariant.0,
   );
 }

@@ -5,4 +5,4 @@ use Rattle.tuple_bytes.proofs.Counting.{IsSized}
 use Rattle.tuple_bytes.proofs.sizes.columns_size.Given as goal
 
 abbrev pub invariant-loop-column : goal.invariant-loop-column
-invariant-loop-column l = IsSized spell_column l.size l.columns l.column-index × (l.size ≤ max_payload)
+invariant-loop-column l = IsSized 1 spell_column l.size l.columns l.column-index × (l.size ≤ max_payload)

@@ -10,6 +10,6 @@ returns-then-size-gt-MAX_PAYLOAD c = record {
     fits,
     c.if-size-gt-MAX_PAYLOAD.true,
     c.value_size-size.ensures.value,
-    sized_front spell_value c.loop-value.size c.args.row.now c.loop-value.value-index c.value-item.result c.loop-value-test.true c.value-item.is c.loop-value.invariant.0,
+    sized_front 1 spell_value c.loop-value.size c.args.row.now c.loop-value.value-index c.value-item.result c.loop-value-test.true c.value-item.is c.loop-value.invariant.0,
   );
 }

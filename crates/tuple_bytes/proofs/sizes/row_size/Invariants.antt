@@ -5,4 +5,4 @@ use Rattle.tuple_bytes.proofs.Counting.{IsSized}
 use Rattle.tuple_bytes.proofs.sizes.row_size.Given as goal
 
 abbrev pub invariant-loop-value : goal.invariant-loop-value
-invariant-loop-value l = IsSized spell_value l.size l.row l.value-index × (l.size ≤ max_payload)
+invariant-loop-value l = IsSized 1 spell_value l.size l.row l.value-index × (l.size ≤ max_payload)
