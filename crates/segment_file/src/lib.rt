@@ -37,6 +37,7 @@
 //! | after Ok the file holds the old items and the new one, and is durable | `added`, `durable` of `Appends` |
 //! | on a settled disk a crash at any moment leaves the old items, with the new one or without | `images` of `Appends` |
 //! | the bytes before the gate are as they were, whatever was answered | `front` of `Appends` |
+//! | a file closes at a fault of its disk or at that one's want of memory, and at nothing else | `closes` of `append` |
 //! | an append makes its calls in their order, none after one that failed; `calls` is their number | `trace` of `Appends`, `each` |
 //! | a whole store is written so that a crash leaves no header, or all of it | `images` of `LaysOut` |
 //! | what is laid out is found again | `laid_is_found` |

@@ -58,9 +58,9 @@ StandsAfter payload (Err fails.Closed) old new = new ≡ old
 StandsAfter payload (Err fails.AlreadyThere) old new = ⊥
 StandsAfter payload (Err fails.NotAStore) old new = ⊥
 
--- A journal closes only at a fault of its disk, or where a disk that takes memory has none left.
-abbrev pub Closes : Bool → Result (Unit {0}) JournalFail → Standing → Standing → Type 0
-Closes takes_memory result old new = old.is_closed ≡ false → new.is_closed ≡ true → IsErrOf result fails.DiskFault ⊎ (IsErrOf result fails.NoMemory × (takes_memory ≡ true))
+-- A file closes only at a fault of its disk, or where a disk that takes memory has none left.
+abbrev pub Closes : Bool → Result (Unit {0}) JournalFail → Bool → Bool → Type 0
+Closes takes_memory result was_closed is_closed = was_closed ≡ false → is_closed ≡ true → IsErrOf result fails.DiskFault ⊎ (IsErrOf result fails.NoMemory × (takes_memory ≡ true))
 
 -- the bytes before a place are as they were
 abbrev pub KeepsFront : ℕ → List ℕ → List ℕ → Type 0

@@ -81,7 +81,7 @@ impl<S: Shape> Journal<S> {
         ensures closed { IsErrOf result Closed ↔ IsTrue self.old.is_closed }
         ensures store_full { IsErrOf result StoreFull ↔ IsRefusedAsFull S.WHOLE self.old payload.now }
         ensures moves { StandsAfter payload.now result self.old self.new }
-        ensures closes { Closes D.takes_memory result self.old self.new }
+        ensures closes { Closes D.takes_memory result self.old.is_closed self.new.is_closed }
         ensures kept { OnErr result (self.new ≡ self.old → disk.new ≡ disk.old) }
         ensures told { WhereTold (D.state disk.old).reads (D.state disk.new).reads
             (Appends S.is_head S.shape self.old payload.now result (D.state disk.old) (D.state disk.new)) }
