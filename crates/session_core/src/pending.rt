@@ -1,10 +1,10 @@
 //! What a session wants to store.
 
-ghost use Rattle.std.specs.Prelude.{◌≡◌, ◌+◌, ◌∷◌, ◌++◌, [], IfOk, OnOk, OnErr, drop, length};
+ghost use Rattle.std.specs.Prelude.{◌≡◌, ◌+◌, ◌∷◌, ◌++◌, [], IfOk, OnOk, OnErr, length};
 ghost use Rattle.std.specs.List.{All};
 ghost use Rattle.tuple_bytes.specs.Writing.{IsCountedOp};
 ghost use Rattle.history_model.specs.Answers.{op_of, prepared, write_key, write_name};
-ghost use Rattle.tt_table.specs.Known.{NoneOfKey};
+ghost use Rattle.tt_table.specs.Known.{IsKnown};
 ghost use Rattle.session_model.specs.Statements.{size_fault, pend, pended};
 ghost use Rattle.session_core.specs.Sizes.{IsSizeOf};
 ghost use Rattle.session_core.specs.Speaking.{over_now};
@@ -92,24 +92,20 @@ impl Pending {
         }
     }
 
-    /// A change, where the tables take it. None of the operations from a place on is of its key.
+    /// A change, where the tables take it.
     pub(crate) fn change(
         &mut self,
         store: &Store,
         change: Write,
-        last: usize,
+        known: &Known,
     ) -> Result<Reply, AllocError>
         requires counted { IsCountedOp (op_of change) }
-        requires apart { NoneOfKey (write_name change) (write_key change) (drop last self.old) }
+        requires known { IsKnown (write_name change) (write_key change) known.now self.old }
         ensures reply { IfOk result (λ reply. reply ≡ (pend self.old (prepared (over_now store.now self.old) change)).reply) }
         ensures value { OnOk result (self.new ≡ (pend self.old (prepared (over_now store.now self.old) change)).pending) }
         ensures err { OnErr result (self.new ≡ self.old) }
     {
-        let known = Known {
-            creates_from: 0,
-            changes_to: last,
-        };
-        match store.tables().prepare_known(&self.ops, &known, change) {
+        match store.tables().prepare_known(&self.ops, known, change) {
             Ok(op) => self.add(op),
             Err(fail) => refused_by_tables(fail),
         }

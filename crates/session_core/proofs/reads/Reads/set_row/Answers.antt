@@ -7,4 +7,4 @@ use Rattle.session_core.proofs.reads.Reads.set_row.Goals as goal
 
 pub returns-clause-value : goal.returns-clause-value
 returns-clause-value c =
-    subst (λ (k : Value). OnOk c.set_key.result (AreSameReads (keys_of c.set_key.new.self) (keys_of c.args.self.now ++ Existence c.args.table.now ∷ Key c.args.table.now k ∷ []))) c.key_or-key.ensures.value c.set_key.ensures.value
+    subst (λ (k : Value). OnOk c.set_key.result (AreSameReads (keys_of c.set_key.new.self.places) (keys_of c.args.self.now.places ++ Existence c.args.table.now ∷ Key c.args.table.now k ∷ []))) c.key_or-key.ensures.value c.set_key.ensures.value
