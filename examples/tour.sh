@@ -7,7 +7,7 @@
 #
 # DRAGOON=PROGRAM in the environment names another program than ./dragoon.
 set -uo pipefail
-root=$(cd "$(dirname "${BASH_SOURCE[0]}")/.." && pwd)
+root=$(CDPATH='' cd -- "$(dirname -- "${BASH_SOURCE[0]}")/.." && pwd)
 program=${DRAGOON:-$root/dragoon}
 
 if [ "${1:-}" = --check ]; then
