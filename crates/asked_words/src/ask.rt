@@ -21,22 +21,23 @@ pub enum Ask {
 
 impl Ask {
     pub fn of(call: &[String]) -> Ask {
-        match call.first() {
-            Some(word) => named(word.as_str()),
-            None => Ask::Nothing,
-        }
+        let first = call.first().map_or("", |word| word.as_str());
+        COMMANDS
+            .iter()
+            .find(|(command, _)| *command == first)
+            .map_or(Ask::Nothing, |(_, ask)| *ask)
     }
 
     pub fn uses_store(self) -> bool {
-        self != Ask::Drill && self != Ask::Examine && self != Ask::Nothing
+        !matches!(self, Ask::Drill | Ask::Examine | Ask::Nothing)
     }
 
     pub fn uses_notary(self) -> bool {
-        self.adds() || self == Ask::Examine || self == Ask::Restore || self.gives_verdict()
+        self.adds() || self.gives_verdict() || matches!(self, Ask::Examine | Ask::Restore)
     }
 
     pub fn uses_copy(self) -> bool {
-        self == Ask::Evidence || self == Ask::Restore
+        matches!(self, Ask::Evidence | Ask::Restore)
     }
 
     pub fn uses_target(self) -> bool {
@@ -45,7 +46,10 @@ impl Ask {
 
     /// Whether it writes nothing into an empty file.
     pub fn only_asks(self) -> bool {
-        self == Ask::Link || self == Ask::Validate || self == Ask::Analyse || self == Ask::Examine
+        matches!(
+            self,
+            Ask::Link | Ask::Validate | Ask::Analyse | Ask::Examine
+        )
     }
 
     /// Whether it changes nothing unless a line of its input does.
@@ -55,12 +59,7 @@ impl Ask {
 
     /// Whether it takes no store of the first format.
     pub fn adds(self) -> bool {
-        self == Ask::Run || self == Ask::Make || self.files_or_turns()
-    }
-
-    /// Whether it holds the store against what is filed before it adds to one of them.
-    fn files_or_turns(self) -> bool {
-        self == Ask::Notarize || self == Ask::Policy
+        matches!(self, Ask::Run | Ask::Make | Ask::Notarize | Ask::Policy)
     }
 
     /// The id that its words give of a store that is there, or that an evidence file is to be of.
@@ -92,45 +91,29 @@ impl Ask {
 
     /// Whether what it replies may be a verdict over a file.
     pub fn gives_verdict(self) -> bool {
-        match self {
-            Ask::Validate | Ask::Analyse | Ask::Evidence | Ask::Run | Ask::Make => true,
-            _ => false,
-        }
+        matches!(
+            self,
+            Ask::Validate | Ask::Analyse | Ask::Evidence | Ask::Run | Ask::Make
+        )
     }
 
     pub fn takes_lines(self) -> bool {
-        self == Ask::Run || self == Ask::Drill
+        matches!(self, Ask::Run | Ask::Drill)
     }
 }
 
-fn named(word: &str) -> Ask {
-    if word == "link" {
-        Ask::Link
-    } else if word == "init" {
-        Ask::Init
-    } else if word == "run" {
-        Ask::Run
-    } else if word == "make" {
-        Ask::Make
-    } else if word == "drill" {
-        Ask::Drill
-    } else if word == "notarize" {
-        Ask::Notarize
-    } else if word == "policy" {
-        Ask::Policy
-    } else if word == "validate" {
-        Ask::Validate
-    } else if word == "analyse" {
-        Ask::Analyse
-    } else if word == "migrate" {
-        Ask::Migrate
-    } else if word == "evidence" {
-        Ask::Evidence
-    } else if word == "examine" {
-        Ask::Examine
-    } else if word == "restore" {
-        Ask::Restore
-    } else {
-        Ask::Nothing
-    }
-}
+const COMMANDS: [(&str, Ask); 13] = [
+    ("link", Ask::Link),
+    ("init", Ask::Init),
+    ("run", Ask::Run),
+    ("make", Ask::Make),
+    ("drill", Ask::Drill),
+    ("notarize", Ask::Notarize),
+    ("policy", Ask::Policy),
+    ("validate", Ask::Validate),
+    ("analyse", Ask::Analyse),
+    ("migrate", Ask::Migrate),
+    ("evidence", Ask::Evidence),
+    ("examine", Ask::Examine),
+    ("restore", Ask::Restore),
+];

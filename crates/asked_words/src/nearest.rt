@@ -100,28 +100,20 @@ const FORMS: [Form; 13] = [
 
 impl fmt::Display for Slot {
     fn fmt<W: fmt::Write>(&self, f: &mut fmt::Formatter<W>) -> fmt::Result {
-        match self {
-            Slot::Id => write!(
-                f,
-                "ID, a number of 64 bits, without a sign or zeros at its front"
-            ),
-            Slot::Width => write!(
-                f,
-                "W, the seconds of a granule, 1 to 86400, without zeros at its front"
-            ),
-            Slot::Exponent => write!(f, "K, 0 to 10: a tile has 2^K granules"),
-            Slot::Algorithms => write!(f, "ALGS, one of m, t, a and ta"),
-            Slot::Scripted => write!(f, "`scripted`, or nothing"),
-            Slot::Seed => write!(
-                f,
-                "SEED, a number of 64 bits, without a sign or zeros at its front"
-            ),
-            Slot::Steps => write!(f, "N, 1 to 100000"),
-            Slot::Algorithm => write!(f, "ALG, one of mono, tiled, tiled KAPPA and a3d"),
-            Slot::Kappa => write!(f, "KAPPA, 1 to 1024, or `era E`, or nothing"),
-            Slot::Era => write!(f, "`era E`, or nothing"),
-            Slot::EraNumber => write!(f, "E, the number of an era, 0 to 4294967295"),
-        }
+        let what = match self {
+            Slot::Id => "ID, a number of 64 bits, without a sign or zeros at its front",
+            Slot::Width => "W, the seconds of a granule, 1 to 86400, without zeros at its front",
+            Slot::Exponent => "K, 0 to 10: a tile has 2^K granules",
+            Slot::Algorithms => "ALGS, one of m, t, a and ta",
+            Slot::Scripted => "`scripted`, or nothing",
+            Slot::Seed => "SEED, a number of 64 bits, without a sign or zeros at its front",
+            Slot::Steps => "N, 1 to 100000",
+            Slot::Algorithm => "ALG, one of mono, tiled, tiled KAPPA and a3d",
+            Slot::Kappa => "KAPPA, 1 to 1024, or `era E`, or nothing",
+            Slot::Era => "`era E`, or nothing",
+            Slot::EraNumber => "E, the number of an era, 0 to 4294967295",
+        };
+        write!(f, "{what}")
     }
 }
 

@@ -187,6 +187,10 @@ pub fn session_of(word: &[u8]) -> Option<usize> {
     }
 }
 
+pub(crate) fn is_one_of(words: &[&str], token: &[u8]) -> bool {
+    words.iter().any(|word| word.as_bytes() == token)
+}
+
 fn is_digits(token: &[u8]) -> bool {
     !token.is_empty() && token.iter().all(|byte| byte.is_ascii_digit())
 }
@@ -205,10 +209,7 @@ fn is_name(token: &[u8]) -> bool {
 }
 
 fn is_kind(token: &[u8]) -> bool {
-    token == b"int".as_slice()
-        || token == b"text".as_slice()
-        || token == b"bytes".as_slice()
-        || token == b"bool".as_slice()
+    is_one_of(&["int", "text", "bytes", "bool"], token)
 }
 
 /// A column, a comparison and a value without a space between them.
@@ -220,16 +221,11 @@ fn is_joined(token: &[u8]) -> bool {
 }
 
 fn is_compare(token: &[u8]) -> bool {
-    token == b"=".as_slice()
-        || token == b"!=".as_slice()
-        || token == b"<".as_slice()
-        || token == b"<=".as_slice()
-        || token == b">".as_slice()
-        || token == b">=".as_slice()
+    is_one_of(&["=", "!=", "<", "<=", ">", ">="], token)
 }
 
 fn is_value(token: &[u8]) -> bool {
-    if token == b"true".as_slice() || token == b"false".as_slice() || token == b"null".as_slice() {
+    if is_one_of(&["true", "false", "null"], token) {
         return true;
     }
     if let Some(hex) = token.strip_prefix(b"x'".as_slice()) {
