@@ -203,36 +203,16 @@ fn look_into(alloc: Global, disk: &mut Peek) -> Result<Found, DiskFail> {
     let mut head = [0; 64];
     disk.read_at(0, &mut head)?;
     if length > 64 && BookShape::head(&head) {
-        let (filed, behind) = walk_book(alloc, disk, length)?;
-        return Ok(Found::Book { filed, behind });
+        return book_in(alloc, disk, length);
     }
-    if let Some(front) = read_front(disk)? {
-        let (eras, behind) = walk_store(alloc, disk, length, &front)?;
-        let Front { format, header } = front;
-        return Ok(Found::Store {
-            header,
-            in_all: algorithms_in_all(&eras),
-            format,
-            behind,
-        });
-    }
-    let letters = Letters::of(head.as_slice());
-    if is_free(disk)? {
-        Ok(Found::Empty {
-            bytes: length,
-            letters,
-        })
-    } else {
-        Ok(Found::Other { letters })
+    match read_front(disk)? {
+        Some(front) => store_in(alloc, disk, length, front),
+        None => other_in(disk, length, Letters::of(head.as_slice())),
     }
 }
 
 /// Goes over all records: when the last batch of a book was filed, and what stands behind the last closed gate.
-fn walk_book(
-    alloc: Global,
-    disk: &mut Peek,
-    length: u64,
-) -> Result<(Option<u64>, Option<Behind>), DiskFail> {
+fn book_in(alloc: Global, disk: &mut Peek, length: u64) -> Result<Found, DiskFail> {
     let mut records = Records::<BookShape>::at_first(alloc)?;
     records.read_head(disk)?;
     let mut filed = None;
@@ -242,29 +222,23 @@ fn walk_book(
         }
         filed = filed_at(records.payload()).or(filed);
     }
-    Ok((
-        filed,
-        behind_gate::<BookShape>(alloc, disk, records.place(), length)?,
-    ))
+    let behind = behind_gate::<BookShape>(alloc, disk, records.place(), length)?;
+    Ok(Found::Book { filed, behind })
 }
 
 /// Goes over all records of a store, in any of its segments: its eras, and what stands behind the first closed gate that has
 /// bytes behind it.
-fn walk_store(
-    alloc: Global,
-    disk: &mut Peek,
-    length: u64,
-    front: &Front,
-) -> Result<(Eras, Option<Behind>), DiskFail>
-    requires fits { FitsHeader front.now.header }
+fn store_in(alloc: Global, disk: &mut Peek, length: u64, front: Front) -> Result<Found, DiskFail>
+    requires fits { FitsHeader front.header }
 {
-    let mut records = SegmentRecords::at_first(alloc, disk, front.format)?;
-    let mut eras = Eras::new(alloc, &front.header)?;
+    let Front { format, header } = front;
+    let mut records = SegmentRecords::at_first(alloc, disk, format)?;
+    let mut eras = Eras::new(alloc, &header)?;
     let mut within = None;
     for _ in 0..u64::MAX {
         let gate = records.place();
         let found = records.advance(disk)?;
-        if within.is_none() && front.format == Format::Two {
+        if within.is_none() && format == Format::Two {
             within = behind_segments(alloc, disk, gate, records.place())?;
         }
         if !found {
@@ -273,7 +247,24 @@ fn walk_store(
         eras.offer_payload(records.payload());
     }
     let last = behind_gate::<StoreShape>(alloc, disk, records.place(), length)?;
-    Ok((eras, within.or(last)))
+    Ok(Found::Store {
+        header,
+        in_all: algorithms_in_all(&eras),
+        format,
+        behind: within.or(last),
+    })
+}
+
+/// Of a file that is neither.
+fn other_in(disk: &mut Peek, length: u64, letters: Letters) -> Result<Found, DiskFail> {
+    if is_free(disk)? {
+        Ok(Found::Empty {
+            bytes: length,
+            letters,
+        })
+    } else {
+        Ok(Found::Other { letters })
+    }
 }
 
 /// What stands behind the records of a segment, of those from that of a gate on that end before that of a place.
