@@ -1,5 +1,7 @@
 //! Which command the words ask for, for what is told of it.
 
+use crate::forms::FORMS;
+
 /// By the first word alone: whether the others fit is found where the call is made.
 #[derive(Clone, Copy, PartialEq, Eq)]
 pub enum Ask {
@@ -22,10 +24,10 @@ pub enum Ask {
 impl Ask {
     pub fn of(call: &[String]) -> Ask {
         let first = call.first().map_or("", |word| word.as_str());
-        COMMANDS
+        FORMS
             .iter()
-            .find(|(command, _)| *command == first)
-            .map_or(Ask::Nothing, |(_, ask)| *ask)
+            .find(|form| form.word == first)
+            .map_or(Ask::Nothing, |form| form.ask)
     }
 
     pub fn uses_store(self) -> bool {
@@ -101,19 +103,3 @@ impl Ask {
         matches!(self, Ask::Run | Ask::Drill)
     }
 }
-
-const COMMANDS: [(&str, Ask); 13] = [
-    ("link", Ask::Link),
-    ("init", Ask::Init),
-    ("run", Ask::Run),
-    ("make", Ask::Make),
-    ("drill", Ask::Drill),
-    ("notarize", Ask::Notarize),
-    ("policy", Ask::Policy),
-    ("validate", Ask::Validate),
-    ("analyse", Ask::Analyse),
-    ("migrate", Ask::Migrate),
-    ("evidence", Ask::Evidence),
-    ("examine", Ask::Examine),
-    ("restore", Ask::Restore),
-];

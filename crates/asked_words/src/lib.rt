@@ -3,8 +3,8 @@
 //!
 //! | Question | Module |
 //! |---|---|
-//! | which command is it, and which devices does it use | `ask` |
-//! | which word is not understood, and what may stand there | `nearest`, with the page in `usage` |
+//! | which command is it, and which devices does it use | `ask`, by `forms` |
+//! | which word is not understood, and what may stand there | `nearest`, by `forms`, with the page in `usage` |
 //! | at which column does a line leave the grammar, and what is wanted there | `wording`, by `grammar`, `tokens` and `wanted` |
 //! | what does a refusal of a line mean | `refusal` |
 //! | how is a text from outside shown on a terminal | `shown` |
@@ -21,6 +21,7 @@
 #![tactic(auto)]
 
 mod ask;
+mod forms;
 mod grammar;
 mod nearest;
 mod refusal;
