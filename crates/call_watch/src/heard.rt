@@ -148,29 +148,40 @@ impl<'a> Heard<'a> {
         self.shared.sessions.refuse(self.replies, refusal);
     }
 
-    /// What the notary was given or asked by a line with this reply.
+    /// What the notary was given or asked by a line with this reply, and what it says of a store or an evidence file.
     fn hear(&mut self, reply: Front) {
         let text = reply.text();
-        self.is_filed = self.is_filed || text.starts_with("sealed ") || is_of_validate(text);
+        self.is_filed = self.is_filed || text.starts_with("sealed ") || is_compared(text);
+        self.is_none_shown = self.is_none_shown
+            || text.starts_with("examined 0 ")
+            || text == "evidence 0";
+        self.lost = second_number(text, "restored ").unwrap_or(self.lost);
+        self.refused_of_made = second_number(text, "made ").unwrap_or(self.refused_of_made);
+        self.hear_turn(text);
+        self.hear_piece(reply);
+        self.hear_verdict(reply);
+    }
+
+    fn hear_turn(&mut self, text: &str) {
         if text.starts_with("era ") {
             self.is_turned = true;
             self.is_turned_uncompared = self.is_turned_uncompared || text.ends_with(" tile 0");
         }
-        self.is_none_shown = self.is_none_shown
-            || text.starts_with("examined 0 ")
-            || text == "evidence 0";
-        if let Some(lost) = lost_of_restored(text) {
-            self.lost = lost;
-        }
-        if let Some(refused) = refused_of_made(text) {
-            self.refused_of_made = refused;
-        }
+    }
+
+    /// A verdict ends an audit.
+    fn hear_piece(&mut self, reply: Front) {
+        let text = reply.text();
         if text.starts_with(PIECE) {
             self.piece = reply;
-        } else if text == "unsealed" || is_of_validate(text) {
+        } else if is_of_validate(text) {
             self.piece = Front::new();
         }
-        if text == "unsealed" || text.starts_with("report ") || is_of_validate(text) {
+    }
+
+    fn hear_verdict(&mut self, reply: Front) {
+        let text = reply.text();
+        if text.starts_with("report ") || is_of_validate(text) {
             self.verdict = reply;
             if self.altered.length == 0 && says_altered(text) {
                 self.altered = reply;
@@ -217,20 +228,19 @@ fn is_alarm(refusal: &str) -> bool {
         || refusal.starts_with("NotaryInconsistent ")
 }
 
-/// Of `made N refused R txns T` the number R.
-fn refused_of_made(reply: &str) -> Option<u64> {
-    let mut words = reply.strip_prefix("made ")?.split(' ');
+/// Of a reply that begins so its second number: R of `made N refused R txns T`, and M of `restored K lost M`.
+fn second_number(reply: &str, begin: &str) -> Option<u64> {
+    let mut words = reply.strip_prefix(begin)?.split(' ');
     words.nth(2)?.parse::<u64>().ok()
 }
 
-/// Of `restored K lost M` the number M.
-fn lost_of_restored(reply: &str) -> Option<u64> {
-    let mut words = reply.strip_prefix("restored ")?.split(' ');
-    words.nth(2)?.parse::<u64>().ok()
-}
-
-/// Of a store of which something is filed.
+/// The verdict of `validate`, and of an audit.
 fn is_of_validate(reply: &str) -> bool {
+    reply == "unsealed" || is_compared(reply)
+}
+
+/// That of a store of which something is filed.
+fn is_compared(reply: &str) -> bool {
     reply.starts_with("clean ") || says_altered_first(reply)
 }
 

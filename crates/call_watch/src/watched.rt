@@ -173,13 +173,7 @@ fn step_of(takes_lines: bool, count: u64) -> Step {
 
 /// How many lines end in a piece.
 fn ends_in(piece: &[u8]) -> u64 {
-    let mut ends: u64 = 0;
-    for byte in piece {
-        if *byte == b'\n' {
-            ends = ends.saturating_add(1);
-        }
-    }
-    ends
+    piece.iter().filter(|byte| **byte == b'\n').count() as u64
 }
 
 /// An output that takes the line of progress away before it writes to the same terminal, and hears what is written.
