@@ -1,6 +1,7 @@
 //! Seconds since 1970 as a date of the civil calendar, by UTC.
 
 use std::fmt;
+use tuple_bytes::Header;
 
 /// A Unix second.
 #[derive(Clone, Copy)]
@@ -58,4 +59,10 @@ impl fmt::Display for Date {
             "{year:04}-{month:02}-{day:02} {hour:02}:{minute:02}:{second:02} UTC"
         )
     }
+}
+
+/// Where what a store can tell ends.
+pub(crate) fn end_of(header: Header) -> Date {
+    let granules = u64::from(header.width).saturating_mul(1_048_576);
+    Date(header.epoch.saturating_add(granules))
 }

@@ -1,11 +1,11 @@
 //! What is odd about the files of a call. Each oddity is told by itself, however the call ended and whatever the other files
 //! are: only what the line of a fault says of its own file isn't said again.
 
+use crate::ending::{Ending, Knows, OtherId, is_done};
+use crate::fault::{IS_OLD, tell_damaged, tell_member_failed};
+use crate::kind::{Kind, Was};
 use crate::known::Known;
-use crate::telling::{
-    Called, Ending, IS_OLD, Kind, Knows, Named, Notaries, OtherId, Was, is_done, tell_damaged,
-    tell_member_failed,
-};
+use crate::named::{Called, Named, Notaries};
 use asked_words::Ask;
 use call_devices::{Behind, Found, Odd};
 use history_model::Format;
@@ -82,49 +82,67 @@ enum Oddity<'a> {
 
 /// Says each on a line of its own.
 pub(crate) fn tell_oddities<R: Eprint>(rt: &R, ending: &Ending<'_, '_>) -> io::Result<()> {
-    let store = &ending.store;
-    let copy = &ending.copy;
-    let target = &ending.target;
     let books = ending.notaries.0.as_slice();
-    say(rt, behind_of(ending, store))?;
-    say(rt, behind_of(ending, copy))?;
+    say(
+        rt,
+        &[
+            behind_of(ending, &ending.store),
+            behind_of(ending, &ending.copy),
+        ],
+    )?;
     for book in books {
-        say(rt, behind_of(ending, book))?;
+        say(rt, &[behind_of(ending, book)])?;
     }
-    say(rt, nothing_in(ending, store))?;
-    say(rt, strange_in(ending, store))?;
-    say(rt, other_id(ending))?;
-    say(rt, old(ending))?;
-    say(rt, nothing_in(ending, copy))?;
-    say(rt, strange_in(ending, copy))?;
-    say(rt, strange_in(ending, target))?;
+    say(rt, &of_stores(ending))?;
     for book in books {
-        say(rt, nothing_in(ending, book))?;
-        say(rt, strange_in(ending, book))?;
-        say(rt, odd_in(ending, book))?;
-        say(rt, unasked(ending, book))?;
+        say(rt, &of_book(ending, book))?;
     }
-    let others = [
+    say(rt, &of_words(ending))
+}
+
+fn of_stores<'a>(ending: &'a Ending<'a, 'a>) -> [Option<Oddity<'a>>; 7] {
+    [
+        nothing_in(ending, &ending.store),
+        strange_in(ending, &ending.store),
+        other_id(ending),
+        old(ending),
+        nothing_in(ending, &ending.copy),
+        strange_in(ending, &ending.copy),
+        strange_in(ending, &ending.target),
+    ]
+}
+
+fn of_book<'a>(ending: &'a Ending<'a, 'a>, book: &'a Named<'a>) -> [Option<Oddity<'a>>; 4] {
+    [
+        nothing_in(ending, book),
+        strange_in(ending, book),
+        odd_in(ending, book),
+        unasked(ending, book),
+    ]
+}
+
+/// What is odd about the words of the call, given its files.
+fn of_words<'a>(ending: &'a Ending<'a, 'a>) -> [Option<Oddity<'a>>; 9] {
+    [
         ending.knows().map(Oddity::Knows),
-        overwritten(ending),
-        unused(store, ending.ask.uses_store()),
-        unused(copy, ending.ask.uses_copy()),
-        unused(target, ending.ask.uses_target()),
+        overwritten(&ending.store, ending.ask == Ask::Init),
+        overwritten(&ending.target, ending.ask.uses_target()),
+        unused(&ending.store, ending.ask.uses_store()),
+        unused(&ending.copy, ending.ask.uses_copy()),
+        unused(&ending.target, ending.ask.uses_target()),
         unused_books(ending),
         lost(ending),
         unnamed(ending),
-    ];
-    for oddity in others {
-        say(rt, oddity)?;
-    }
-    Ok(())
+    ]
 }
 
-fn say<R: Eprint>(rt: &R, oddity: Option<Oddity<'_>>) -> io::Result<()> {
-    match oddity {
-        Some(oddity) => eprintln!(rt; "dragoon: {oddity}"),
-        None => Ok(()),
+fn say<R: Eprint>(rt: &R, oddities: &[Option<Oddity<'_>>]) -> io::Result<()> {
+    for oddity in oddities {
+        if let Some(oddity) = oddity {
+            eprintln!(rt; "dragoon: {oddity}")?;
+        }
     }
+    Ok(())
 }
 
 /// Whether the line of the fault says what this file is, or what happened to it.
@@ -167,25 +185,36 @@ fn behind_of<'a>(ending: &'a Ending<'a, 'a>, device: &'a Named<'a>) -> Option<Od
 }
 
 fn nothing_in<'a>(ending: &'a Ending<'a, 'a>, device: &'a Named<'a>) -> Option<Oddity<'a>> {
-    let is_asked = ending.ask.compares() && uses_notary(ending);
-    let is_odd = device.odd == Odd::Differs;
-    if !holds_nothing(device) || is_told(ending, device) || !(is_asked || is_odd) {
+    if !holds_nothing(device) || is_told(ending, device) || !is_missed(ending, device) {
         return None;
     }
-    let is_member = matches!(device.called, Called::Member { .. });
-    let is_among = is_member && ending.notaries.0.iter().any(|book| is_book(book));
-    let is_only_book = matches!(device.called, Called::Book);
-    let is_store = matches!(device.called, Called::Store);
+    let is_among = is_among_books(ending, device);
     Some(Oddity::Nothing {
         device,
-        is_uncompared: is_done(ending)
-            && ending.ask != Ask::Restore
-            && (is_store || has_store(ending))
-            && !is_later_compared(ending)
-            && !is_among,
-        is_written: device.was_made || is_only_book && ending.heard.is_filed,
+        is_uncompared: !is_among && is_uncompared(ending, device),
+        is_written: device.was_made
+            || matches!(device.called, Called::Book) && ending.heard.is_filed,
         is_among,
     })
+}
+
+/// Whether the call compares by what should stand there, or a notary stood out by it.
+fn is_missed(ending: &Ending<'_, '_>, device: &Named<'_>) -> bool {
+    device.odd == Odd::Differs || ending.ask.compares() && uses_notary(ending)
+}
+
+/// Whether another notary's book holds something.
+fn is_among_books(ending: &Ending<'_, '_>, device: &Named<'_>) -> bool {
+    matches!(device.called, Called::Member { .. })
+        && ending.notaries.0.iter().any(|book| is_book(book))
+}
+
+/// Whether the call was carried out without it, and nothing was filed in it later and compared.
+fn is_uncompared(ending: &Ending<'_, '_>, device: &Named<'_>) -> bool {
+    is_done(ending)
+        && ending.ask != Ask::Restore
+        && (matches!(device.called, Called::Store) || has_store(ending))
+        && !is_later_compared(ending)
 }
 
 fn is_book(device: &Named<'_>) -> bool {
@@ -205,24 +234,29 @@ fn is_later_compared(ending: &Ending<'_, '_>) -> bool {
         && !heard.is_unsealed()
 }
 
-/// A notary that failed tells so what its file is.
 fn strange_in<'a>(ending: &'a Ending<'a, 'a>, device: &'a Named<'a>) -> Option<Oddity<'a>> {
-    let is_strange = match device.found {
-        Found::Store { .. } => !matches!(device.called, Called::Store | Called::Copy),
-        Found::Book { .. } => {
-            matches!(device.called, Called::Store | Called::Copy | Called::Target)
-        }
-        Found::Other { .. } | Found::NoFile | Found::Unread => true,
-        Found::Unused | Found::Missing | Found::Empty { .. } => false,
-    };
-    let is_used = match device.called {
-        Called::Book | Called::Member { .. } => uses_notary(ending) && device.odd == Odd::No,
-        _ => true,
-    };
-    if is_strange && is_used && !is_told(ending, device) {
+    if is_strange(device) && is_asked(ending, device) && !is_told(ending, device) {
         Some(Oddity::Strange { device })
     } else {
         None
+    }
+}
+
+/// Whether something else stands there.
+fn is_strange(device: &Named<'_>) -> bool {
+    match device.found {
+        Found::Store { .. } => !matches!(device.called, Called::Store | Called::Copy),
+        Found::Book { .. } => !matches!(device.called, Called::Book | Called::Member { .. }),
+        Found::Other { .. } | Found::NoFile | Found::Unread => true,
+        Found::Unused | Found::Missing | Found::Empty { .. } => false,
+    }
+}
+
+/// Of a book, whether its notary was asked. One that failed tells so what its file is.
+fn is_asked(ending: &Ending<'_, '_>, device: &Named<'_>) -> bool {
+    match device.called {
+        Called::Book | Called::Member { .. } => uses_notary(ending) && device.odd == Odd::No,
+        Called::Store | Called::Copy | Called::Target => true,
     }
 }
 
@@ -278,18 +312,10 @@ fn is_left_alone(ending: &Ending<'_, '_>, device: &Named<'_>) -> bool {
     ending.status == Status::NotaryFault && full == 1 && !holds_nothing(device)
 }
 
-/// A device that is made anew, and held something that counts as nothing.
-fn overwritten<'a>(ending: &'a Ending<'a, 'a>) -> Option<Oddity<'a>> {
-    let device = if ending.ask.uses_target() {
-        &ending.target
-    } else {
-        &ending.store
-    };
+/// Of a device that the call makes, one that held something that counts as nothing.
+fn overwritten<'a>(device: &'a Named<'a>, is_made: bool) -> Option<Oddity<'a>> {
     match device.found {
-        Found::Empty { bytes, .. }
-            if bytes > 0
-                && device.was_written
-                && (ending.ask == Ask::Init || ending.ask.uses_target()) => {
+        Found::Empty { bytes, .. } if bytes > 0 && device.was_written && is_made => {
             Some(Oddity::Overwritten { device })
         }
         _ => None,
@@ -354,24 +380,26 @@ fn tell_behind<W: fmt::Write>(
         bytes,
         is_within,
     } = behind;
-    if is_within {
-        write!(
-            f,
-            "{device} ends a segment at byte {end}, and {bytes} bytes stand behind it: no crash leaves such bytes there, and whoever hides records does; docs/NOTARY.md"
-        )?;
+    let left = if is_left_behind {
+        "; they aren't in the target"
     } else {
-        write!(
+        ""
+    };
+    if is_within {
+        return write!(
             f,
-            "{device} ends at byte {end}, and {bytes} bytes stand behind it: a crash leaves such bytes, and so does whoever hides records; docs/NOTARY.md"
-        )?;
-        if device.was_written {
-            write!(f, "; this call wrote over the first of them")?;
-        }
+            "{device} ends a segment at byte {end}, and {bytes} bytes stand behind it: no crash leaves such bytes there, and whoever hides records does; docs/NOTARY.md{left}"
+        );
     }
-    if is_left_behind {
-        write!(f, "; they aren't in the target")?;
-    }
-    Ok(())
+    let over = if device.was_written {
+        "; this call wrote over the first of them"
+    } else {
+        ""
+    };
+    write!(
+        f,
+        "{device} ends at byte {end}, and {bytes} bytes stand behind it: a crash leaves such bytes, and so does whoever hides records; docs/NOTARY.md{over}{left}"
+    )
 }
 
 const UNCOMPARED: &str = ": nothing was compared";
@@ -384,17 +412,18 @@ fn tell_nothing<W: fmt::Write>(
     f: &mut fmt::Formatter<W>,
 ) -> fmt::Result {
     let was = Was(device.found);
-    write!(f, "{device} {was}")?;
-    if is_uncompared {
-        write!(f, "{UNCOMPARED}")?;
-    }
-    if is_written {
-        write!(f, ", and it was made anew")?;
-    }
-    if is_among {
-        write!(f, "; docs/NOTARY.md says what to do")?;
-    }
-    Ok(())
+    let uncompared = if is_uncompared { UNCOMPARED } else { "" };
+    let made = if is_written {
+        ", and it was made anew"
+    } else {
+        ""
+    };
+    let next = if is_among {
+        "; docs/NOTARY.md says what to do"
+    } else {
+        ""
+    };
+    write!(f, "{device} {was}{uncompared}{made}{next}")
 }
 
 fn tell_odd<W: fmt::Write>(device: &Named<'_>, ask: Ask, f: &mut fmt::Formatter<W>) -> fmt::Result {

@@ -1,72 +1,49 @@
 //! What output and status alone don't say of what was carried out: what was compared, found and refused.
 
-use crate::date::{Date, Moment};
+use crate::ending::{Ending, is_done};
+use crate::named::Named;
 use crate::oddities::{has_store, holds_nothing};
-use crate::telling::{Analyses, Ending, Kind, Named, Notaries, end_of, is_done};
-use asked_words::{Ask, ShownBytes, first_wrong, is_join, meaning, meaning_in_join};
+use crate::warned::Told;
+use asked_words::Ask;
 use call_devices::Found;
-use call_watch::{LONGEST, Refused, Sessions, is_too_long};
 use line_runs::Status;
-use std::{fmt, io};
+use std::io;
 
-/// One thing to say.
+/// One thing to say of an ending.
 #[derive(Clone, Copy)]
-enum Warning<'a> {
+pub(crate) enum Warning {
     /// It stood in memory.
     Gone {
         word: &'static str,
         what: &'static str,
     },
-    Unsealed {
-        ending: &'a Ending<'a, 'a>,
-    },
+    Unsealed,
     HeaderAlone {
         of_era: bool,
     },
     /// What is filed first is compared with nothing.
-    First {
-        ending: &'a Ending<'a, 'a>,
-    },
+    First,
     /// An era was begun where no tile is filed.
-    TurnedUncompared {
-        ending: &'a Ending<'a, 'a>,
-    },
+    TurnedUncompared,
     /// An audit came to no verdict.
-    Auditing {
-        read: &'a str,
-    },
-    Altered {
-        ending: &'a Ending<'a, 'a>,
-    },
+    Auditing,
+    Altered,
     /// An evidence file has not what is filed under the id.
-    Unexamined {
-        ending: &'a Ending<'a, 'a>,
-    },
+    Unexamined,
     /// An evidence file shows no granule.
     NoneShown,
     /// So does one that was made.
-    NoneAltered {
-        store: &'a Named<'a>,
-    },
+    NoneAltered,
     /// The copy isn't a store of the id, so an evidence file shows nothing of it.
-    ShownAlone {
-        copy: &'a Named<'a>,
-    },
+    ShownAlone,
     /// Nothing is filed under the id of a store that was to be restored.
-    Unrestored {
-        ending: &'a Ending<'a, 'a>,
-    },
+    Unrestored,
     /// Granules are lost.
-    Lost {
-        ending: &'a Ending<'a, 'a>,
-    },
+    Lost,
     /// The notary has marked a verdict over no store of the id.
-    Marked {
-        notaries: &'a Notaries<'a>,
-    },
+    Marked,
     /// The clock says less than when something was filed.
     ClockBehind {
-        now: u64,
         filed: u64,
     },
     /// A report's span ends before it begins.
@@ -76,26 +53,26 @@ enum Warning<'a> {
     /// Lines of the generated script were refused.
     Made,
     /// Its filing or its validation was.
-    MadeLast {
-        refusal: &'a str,
-    },
+    MadeLast,
     /// Lines were refused.
-    Refused {
-        ending: &'a Ending<'a, 'a>,
-    },
+    Refused,
     /// A line was refused that isn't the first one, and that says that store and book don't go together.
-    Alarm {
-        refusal: &'a str,
-    },
+    Alarm,
     /// Sessions were begun and not committed.
-    Open {
-        sessions: &'a Sessions,
-    },
+    Open,
 }
 
 /// Says each on a line of its own.
 pub(crate) fn tell_warnings<R: Eprint>(rt: &R, ending: &Ending<'_, '_>) -> io::Result<()> {
-    let warnings = [
+    say(rt, ending, &of_verdict(ending))?;
+    say(rt, ending, &of_evidence(ending))?;
+    say(rt, ending, &[clock_of(ending)])?;
+    say(rt, ending, &of_lines(ending))
+}
+
+/// What was compared, and what was found by it.
+fn of_verdict(ending: &Ending<'_, '_>) -> [Option<Warning>; 7] {
+    [
         gone(ending),
         compared(ending),
         first(ending),
@@ -103,25 +80,36 @@ pub(crate) fn tell_warnings<R: Eprint>(rt: &R, ending: &Ending<'_, '_>) -> io::R
         auditing(ending),
         altered(ending),
         marked(ending),
-        examined(ending),
-        gathered(ending),
-        restored(ending),
-        clock_of(ending),
+    ]
+}
+
+/// What was made of an altered store and its copy.
+fn of_evidence(ending: &Ending<'_, '_>) -> [Option<Warning>; 3] {
+    [examined(ending), gathered(ending), restored(ending)]
+}
+
+/// What became of the lines of the input, or of the generated script.
+fn of_lines(ending: &Ending<'_, '_>) -> [Option<Warning>; 5] {
+    [
         unfed(ending),
         made(ending),
         refused(ending),
         alarm(ending),
         open(ending),
-    ];
+    ]
+}
+
+fn say<R: Eprint>(rt: &R, ending: &Ending<'_, '_>, warnings: &[Option<Warning>]) -> io::Result<()> {
     for warning in warnings {
-        if let Some(warning) = warning {
-            eprintln!(rt; "dragoon: {warning}")?;
+        if let Some(warning) = *warning {
+            let told = Told { warning, ending };
+            eprintln!(rt; "dragoon: {told}")?;
         }
     }
     Ok(())
 }
 
-fn gone<'a>(ending: &'a Ending<'a, 'a>) -> Option<Warning<'a>> {
+fn gone(ending: &Ending<'_, '_>) -> Option<Warning> {
     let is_ok = ending.status == Status::Ok;
     if is_ok && ending.ask == Ask::Init && ending.store.path.is_none() {
         return Some(Warning::Gone {
@@ -146,14 +134,13 @@ fn gone<'a>(ending: &'a Ending<'a, 'a>) -> Option<Warning<'a>> {
 }
 
 /// What the last verdict was of, where that is less than it may seem.
-fn compared<'a>(ending: &'a Ending<'a, 'a>) -> Option<Warning<'a>> {
+fn compared(ending: &Ending<'_, '_>) -> Option<Warning> {
     if !ending.ask.gives_verdict() {
         return None;
     }
     let said = ending.heard.verdict.text();
-    let is_there = ending.notaries.0.iter().any(|book| !holds_nothing(book));
-    if ending.heard.is_unsealed() && is_there {
-        return Some(Warning::Unsealed { ending });
+    if ending.heard.is_unsealed() && is_book_there(ending) {
+        return Some(Warning::Unsealed);
     }
     if said == "clean 0" || said.ends_with(" tiles 0 clean") {
         let of_era = said.split(' ').any(|word| word == "era");
@@ -162,54 +149,56 @@ fn compared<'a>(ending: &'a Ending<'a, 'a>) -> Option<Warning<'a>> {
     None
 }
 
+/// Whether one of the books held something.
+fn is_book_there(ending: &Ending<'_, '_>) -> bool {
+    ending.notaries.0.iter().any(|book| !holds_nothing(book))
+}
+
 /// Where the book is new, too, that is said of the book.
-fn first<'a>(ending: &'a Ending<'a, 'a>) -> Option<Warning<'a>> {
-    let is_there = ending.notaries.0.iter().any(|book| !holds_nothing(book));
+fn first(ending: &Ending<'_, '_>) -> Option<Warning> {
     if ending.has_begun
-        && is_there
+        && is_book_there(ending)
         && ending.ask.uses_notary()
         && !ending.notaries.are_in_memory()
     {
-        Some(Warning::First { ending })
+        Some(Warning::First)
     } else {
         None
     }
 }
 
 /// An era was begun over a notary that had no tile of the store. A drill has a notary of its own.
-fn turned<'a>(ending: &'a Ending<'a, 'a>) -> Option<Warning<'a>> {
+fn turned(ending: &Ending<'_, '_>) -> Option<Warning> {
     if ending.heard.is_turned_uncompared && ending.ask.uses_notary() {
-        Some(Warning::TurnedUncompared { ending })
+        Some(Warning::TurnedUncompared)
     } else {
         None
     }
 }
 
 /// An audit is under way within one run alone.
-fn auditing<'a>(ending: &'a Ending<'a, 'a>) -> Option<Warning<'a>> {
-    let read = ending.heard.read_by_audit();
-    if ending.ask == Ask::Run && read != "" {
-        Some(Warning::Auditing { read })
+fn auditing(ending: &Ending<'_, '_>) -> Option<Warning> {
+    if ending.ask == Ask::Run && ending.heard.read_by_audit() != "" {
+        Some(Warning::Auditing)
     } else {
         None
     }
 }
 
-fn altered<'a>(ending: &'a Ending<'a, 'a>) -> Option<Warning<'a>> {
+fn altered(ending: &Ending<'_, '_>) -> Option<Warning> {
     let said = ending.heard.altered.text();
     if said == "" || !ending.ask.gives_verdict() {
         None
     } else if has_store(ending) {
-        Some(Warning::Altered { ending })
+        Some(Warning::Altered)
     } else {
         None
     }
 }
 
 /// A verdict over what is no store of the id. A report and an evidence file leave no mark.
-fn marked<'a>(ending: &'a Ending<'a, 'a>) -> Option<Warning<'a>> {
+fn marked(ending: &Ending<'_, '_>) -> Option<Warning> {
     let said = ending.heard.altered.text();
-    let notaries = &ending.notaries;
     if said == ""
         || said.starts_with("report ")
         || !ending.ask.gives_verdict()
@@ -218,33 +207,32 @@ fn marked<'a>(ending: &'a Ending<'a, 'a>) -> Option<Warning<'a>> {
     {
         None
     } else {
-        Some(Warning::Marked { notaries })
+        Some(Warning::Marked)
     }
 }
 
 /// What there is to say of an evidence file.
-fn examined<'a>(ending: &'a Ending<'a, 'a>) -> Option<Warning<'a>> {
+fn examined(ending: &Ending<'_, '_>) -> Option<Warning> {
     if ending.ask != Ask::Examine {
         return None;
     }
     match ending.status {
-        Status::Altered => Some(Warning::Unexamined { ending }),
+        Status::Altered => Some(Warning::Unexamined),
         Status::Ok if ending.heard.is_none_shown => Some(Warning::NoneShown),
         _ => None,
     }
 }
 
 /// What an evidence file that was made doesn't show.
-fn gathered<'a>(ending: &'a Ending<'a, 'a>) -> Option<Warning<'a>> {
-    let (store, copy) = (&ending.store, &ending.copy);
+fn gathered(ending: &Ending<'_, '_>) -> Option<Warning> {
     if ending.ask != Ask::Evidence || ending.status != Status::Ok || !ending.target.was_written {
         None
     } else if ending.heard.is_none_shown {
-        Some(Warning::NoneAltered { store })
-    } else if is_of(copy, ending.id()) {
+        Some(Warning::NoneAltered)
+    } else if is_of(&ending.copy, ending.id()) {
         None
     } else {
-        Some(Warning::ShownAlone { copy })
+        Some(Warning::ShownAlone)
     }
 }
 
@@ -257,19 +245,19 @@ fn is_of(device: &Named<'_>, id: Option<u64>) -> bool {
 }
 
 /// What there is to say of a store that was restored.
-fn restored<'a>(ending: &'a Ending<'a, 'a>) -> Option<Warning<'a>> {
+fn restored(ending: &Ending<'_, '_>) -> Option<Warning> {
     if ending.ask != Ask::Restore || ending.status != Status::Ok {
         None
     } else if ending.heard.is_unsealed() {
-        Some(Warning::Unrestored { ending })
+        Some(Warning::Unrestored)
     } else if ending.heard.lost > 0 {
-        Some(Warning::Lost { ending })
+        Some(Warning::Lost)
     } else {
         None
     }
 }
 
-fn clock_of<'a>(ending: &'a Ending<'a, 'a>) -> Option<Warning<'a>> {
+fn clock_of(ending: &Ending<'_, '_>) -> Option<Warning> {
     let now = ending.now;
     let later = ending
         .notaries
@@ -279,10 +267,9 @@ fn clock_of<'a>(ending: &'a Ending<'a, 'a>) -> Option<Warning<'a>> {
         .find(|filed| now < *filed);
     let is_asked = ending.ask != Ask::Run || ending.heard.uses_notary();
     match later {
-        Some(filed) if is_asked && ending.ask.uses_clock(ending.call) => Some(Warning::ClockBehind {
-            now,
-            filed,
-        }),
+        Some(filed) if is_asked && ending.ask.uses_clock(ending.call) => {
+            Some(Warning::ClockBehind { filed })
+        }
         _ if ending.heard.goes_back && ending.ask.gives_verdict() => Some(Warning::SpanBack),
         _ => None,
     }
@@ -297,19 +284,18 @@ fn filed_in(book: &Named<'_>) -> Option<u64> {
 }
 
 /// What a session keeps is stored by its commit alone.
-fn open<'a>(ending: &'a Ending<'a, 'a>) -> Option<Warning<'a>> {
+fn open(ending: &Ending<'_, '_>) -> Option<Warning> {
     let is_at_end = matches!(&ending.status, Status::ReadFault | Status::InputLimit)
         || is_done(ending);
-    let sessions = ending.heard.sessions();
-    if ending.ask == Ask::Run && is_at_end && sessions.is_any_open() {
-        Some(Warning::Open { sessions })
+    if ending.ask == Ask::Run && is_at_end && ending.heard.sessions().is_any_open() {
+        Some(Warning::Open)
     } else {
         None
     }
 }
 
 /// Whatever fails in front of a pipe leaves no input.
-fn unfed<'a>(ending: &'a Ending<'a, 'a>) -> Option<Warning<'a>> {
+fn unfed(ending: &Ending<'_, '_>) -> Option<Warning> {
     let is_read = ending.ask == Ask::Run || ending.ask == Ask::Drill;
     if is_read && ending.status == Status::Ok && ending.heard.replies == 0 {
         Some(Warning::Unfed)
@@ -318,7 +304,7 @@ fn unfed<'a>(ending: &'a Ending<'a, 'a>) -> Option<Warning<'a>> {
     }
 }
 
-fn made<'a>(ending: &'a Ending<'a, 'a>) -> Option<Warning<'a>> {
+fn made(ending: &Ending<'_, '_>) -> Option<Warning> {
     let heard = ending.heard;
     if heard.refused_of_made > heard.refused {
         Some(Warning::Made)
@@ -327,280 +313,24 @@ fn made<'a>(ending: &'a Ending<'a, 'a>) -> Option<Warning<'a>> {
     }
 }
 
-fn refused<'a>(ending: &'a Ending<'a, 'a>) -> Option<Warning<'a>> {
+fn refused(ending: &Ending<'_, '_>) -> Option<Warning> {
     let heard = ending.heard;
     if heard.refused == 0 {
         None
     } else if ending.ask == Ask::Make {
-        let refusal = heard.first_refusal();
-        Some(Warning::MadeLast { refusal })
+        Some(Warning::MadeLast)
     } else {
-        Some(Warning::Refused { ending })
+        Some(Warning::Refused)
     }
 }
 
 /// In a drill it is part of the story.
-fn alarm<'a>(ending: &'a Ending<'a, 'a>) -> Option<Warning<'a>> {
+fn alarm(ending: &Ending<'_, '_>) -> Option<Warning> {
     let heard = ending.heard;
     let refusal = heard.alarm();
     if ending.ask == Ask::Run && refusal != "" && refusal != heard.first_refusal() {
-        Some(Warning::Alarm { refusal })
+        Some(Warning::Alarm)
     } else {
         None
-    }
-}
-
-fn tell_unsealed<W: fmt::Write>(ending: &Ending<'_, '_>, f: &mut fmt::Formatter<W>) -> fmt::Result {
-    if has_store(ending) {
-        write!(f, "nothing was compared: ")?;
-    }
-    tell_unknown(ending, f)
-}
-
-fn tell_unknown<W: fmt::Write>(ending: &Ending<'_, '_>, f: &mut fmt::Formatter<W>) -> fmt::Result {
-    let notary = &ending.notaries;
-    write!(f, "{notary} had nothing that was filed under ")?;
-    tell_id(ending, f)
-}
-
-fn tell_id<W: fmt::Write>(ending: &Ending<'_, '_>, f: &mut fmt::Formatter<W>) -> fmt::Result {
-    match ending.id() {
-        Some(id) => write!(f, "the id {id}"),
-        None => write!(f, "this id"),
-    }
-}
-
-fn tell_altered<W: fmt::Write>(ending: &Ending<'_, '_>, f: &mut fmt::Formatter<W>) -> fmt::Result {
-    let store = &ending.store;
-    let notary = &ending.notaries;
-    let said = ending.heard.altered.text();
-    if said.starts_with("header ") {
-        return write!(
-            f,
-            "{store} doesn't begin as the store that was filed, or has other eras: keep it and {notary} as they are, copy them, and compare with older copies; docs/OPERATING.md"
-        );
-    }
-    if said.starts_with("altered ") {
-        return write!(
-            f,
-            "{store} isn't what was filed: keep it and {notary} as they are, and copy them; `analyse` says which granules, and since when; docs/OPERATING.md"
-        );
-    }
-    write!(
-        f,
-        "{store} isn't what was filed: keep it and {notary} as they are, and copy them; docs/ANALYSIS.md says how to read the report"
-    )
-}
-
-fn tell_lost<W: fmt::Write>(ending: &Ending<'_, '_>, f: &mut fmt::Formatter<W>) -> fmt::Result {
-    let store = &ending.store;
-    let copy = &ending.copy;
-    let target = &ending.target;
-    match ending.heard.lost {
-        1 => write!(f, "1 granule is lost")?,
-        lost => write!(f, "{lost} granules are lost")?,
-    }
-    write!(
-        f,
-        ": neither {store} nor {copy} has there what was filed; {target} has no row of that time, and `validate` calls it altered. Look for another copy before anybody goes on with it; docs/OPERATING.md"
-    )
-}
-
-/// How many of how many replies. Blank lines have none, and count as lines of the input.
-fn tell_refused<W: fmt::Write>(ending: &Ending<'_, '_>, f: &mut fmt::Formatter<W>) -> fmt::Result {
-    let refused = ending.heard.refused;
-    let replies = ending.heard.replies;
-    let refusal = ending.heard.first_refusal();
-    let which = if replies == 1 {
-        write!(f, "the only reply is a refusal")?;
-        "that"
-    } else if refused == 1 {
-        write!(f, "1 of {replies} replies is a refusal")?;
-        "that"
-    } else {
-        write!(f, "{refused} of {replies} replies are refusals")?;
-        "the first one"
-    };
-    match ending.refused {
-        Some(line) => {
-            let number = line.number;
-            let shown = ShownBytes(line.text.as_slice());
-            write!(f, ", {which} to line {number}, `{shown}`: {refusal}, ")?;
-            tell_why(ending, line, refusal, f)
-        }
-        None => {
-            write!(f, ", {which} as {refusal}: ")?;
-            tell_meaning(ending, refusal, meaning(refusal), f)
-        }
-    }
-}
-
-fn tell_why<W: fmt::Write>(
-    ending: &Ending<'_, '_>,
-    line: &Refused,
-    refusal: &str,
-    f: &mut fmt::Formatter<W>,
-) -> fmt::Result {
-    let text = line.text.as_slice();
-    if refusal == "Syntax" {
-        if is_too_long(text) {
-            return write!(f, "it has more than {LONGEST} bytes");
-        }
-        if let Some(wrong) = first_wrong(text, ending.ask == Ask::Drill) {
-            let column = wrong.column;
-            let wanted = wrong.wanted;
-            return write!(f, "at column {column}: {wanted}");
-        }
-    }
-    let means = if is_join(text) {
-        meaning_in_join(refusal)
-    } else {
-        meaning(refusal)
-    };
-    tell_meaning(ending, refusal, means, f)
-}
-
-/// With the moment that a refusal speaks of. In a drill a store begins at the second of its `init`, which isn't known here.
-fn tell_meaning<W: fmt::Write>(
-    ending: &Ending<'_, '_>,
-    refusal: &str,
-    means: &str,
-    f: &mut fmt::Formatter<W>,
-) -> fmt::Result {
-    write!(f, "{means}")?;
-    let second = refusal
-        .strip_prefix("ClockBack ")
-        .and_then(|second| second.parse::<u64>().ok());
-    match (second, ending.store.found) {
-        (Some(second), Found::Store { header, .. }) => {
-            let epoch = header.epoch;
-            let moment = Moment { epoch, second };
-            write!(f, ", {moment}")
-        }
-        (Some(second), _) => write!(f, ", second {second} from its first one on"),
-        (None, Found::Store { header, .. }) if refusal == "TooLate" => {
-            let end = end_of(header);
-            write!(f, ", which ends at {end}: go on with another one")
-        }
-        (None, found) if refusal == "NotSealedSo" => {
-            let others = Analyses(found);
-            write!(f, ": take {others}")
-        }
-        _ => Ok(()),
-    }
-}
-
-impl fmt::Display for Warning<'_> {
-    fn fmt<W: fmt::Write>(&self, f: &mut fmt::Formatter<W>) -> fmt::Result {
-        match *self {
-            Warning::Gone { word, what } => write!(
-                f,
-                "no {word} was named: {what} stood in memory, and is gone"
-            ),
-            Warning::Unsealed { ending } => tell_unsealed(ending, f),
-            Warning::HeaderAlone { of_era: true } => write!(
-                f,
-                "only the header and the eras were compared: no tile of this era is filed, and no row is compared before its tile is"
-            ),
-            Warning::HeaderAlone { of_era: false } => write!(
-                f,
-                "only the header was compared: no tile is filed yet, and no row is compared before its tile is"
-            ),
-            Warning::TurnedUncompared { ending } => {
-                let store = &ending.store;
-                let notary = &ending.notaries;
-                write!(f, "{notary} had no sealed tile under ")?;
-                tell_id(ending, f)?;
-                write!(
-                    f,
-                    ": the policy stands at tile 0, and no tile was compared. If tiles of {store} are filed in another book, validate with that one: where it isn't clean, put back the copy from before; docs/OPERATING.md"
-                )
-            }
-            Warning::First { ending } => {
-                tell_unknown(ending, f)?;
-                write!(
-                    f,
-                    ": nothing was compared, and if this store was filed before, this is another book; docs/NOTARY.md"
-                )
-            }
-            Warning::Auditing { read } => write!(
-                f,
-                "the audit has read {read} items and isn't at its end: nothing was compared, and the next run begins it anew"
-            ),
-            Warning::Altered { ending } => tell_altered(ending, f),
-            Warning::Unexamined { ending } => {
-                let notary = &ending.notaries;
-                write!(f, "nothing was examined: the evidence file isn't of ")?;
-                tell_id(ending, f)?;
-                write!(
-                    f,
-                    ", or {notary} has no such header and eras filed under it: name the right file, id and book. Evidence of a store whose header or eras were altered is told so, too"
-                )
-            }
-            Warning::NoneShown => write!(
-                f,
-                "the evidence file shows no granule: whoever made it found none altered"
-            ),
-            Warning::NoneAltered { store } => write!(
-                f,
-                "no sealed granule of {store} is altered: the evidence file shows none"
-            ),
-            Warning::ShownAlone { copy } if copy.path.is_none() => write!(
-                f,
-                "no copy=FILE was named: the evidence file shows what the store holds alone, and nothing of what was filed there"
-            ),
-            Warning::ShownAlone { copy } => {
-                let kind = Kind(copy.found);
-                write!(
-                    f,
-                    "{copy} {kind}: the evidence file shows what the store holds alone, and nothing of what was filed there"
-                )
-            }
-            Warning::Unrestored { ending } => {
-                write!(f, "nothing was restored: ")?;
-                tell_unknown(ending, f)
-            }
-            Warning::Lost { ending } => tell_lost(ending, f),
-            Warning::Marked { notaries } => write!(
-                f,
-                "{notaries} keeps this verdict as a mark, which the diagrams of later reports show"
-            ),
-            Warning::ClockBehind { now, filed } => {
-                let now = Date(now);
-                let filed = Date(filed);
-                write!(
-                    f,
-                    "the clock went back: it says {now}, and the last batch was filed at {filed}"
-                )
-            }
-            Warning::SpanBack => write!(
-                f,
-                "the clock went back: a span of the report ends before it begins"
-            ),
-            Warning::Unfed => write!(
-                f,
-                "the input had no statement, so nothing was carried out: if it came through a pipe, look at what should have written it"
-            ),
-            Warning::Made => write!(
-                f,
-                "lines of the generated script were refused, as where a table `made` is there already"
-            ),
-            Warning::MadeLast { refusal } => {
-                let means = meaning(refusal);
-                write!(
-                    f,
-                    "the filing or the validation behind the generated script was refused as {refusal}: {means}"
-                )
-            }
-            Warning::Refused { ending } => tell_refused(ending, f),
-            Warning::Alarm { refusal } => {
-                let means = meaning(refusal);
-                write!(f, "a later line was refused as {refusal}: {means}")
-            }
-            Warning::Open { sessions } => write!(
-                f,
-                "no commit came for what was begun as {sessions}: nothing of it is stored"
-            ),
-        }
     }
 }
