@@ -20,14 +20,16 @@ from program import DRAGOON, EXAMPLES, Wrong, count_of
 PROGRAM = str(pathlib.Path(DRAGOON).resolve()) if "/" in DRAGOON else DRAGOON
 STORE, BOOK = "store=worked.store", "notary=worked.book"
 WHOLE = "usage: dragoon [store=FILE] [copy=FILE] [notary=FILE,..] [target=FILE] COMMAND"
+OPEN = "the gate there is open, and no whole record stands behind it, which no crash leaves so"
 BEHIND = "a crash leaves such bytes, and so does whoever hides records; docs/NOTARY.md"
 KEEP = "isn't what was filed: keep it and the notary's book worked.book as they are, and copy them"
 ONLY = "the only reply is a refusal, that to line"
 REFUSED = "replies is a refusal, that to line"
 MARKED = "dragoon: the notary's book worked.book keeps this verdict as a mark, which the diagrams of later reports show"
-WENT_BACK = "dragoon: the clock went back: it says 20.., and the last batch was filed at 36812-02-20 00:36:16 UTC"
+WENT_BACK = "dragoon: the clock says 20.., before the last filing, 36812-02-20 00:36:16 UTC: it was set back, or a scripted run filed that"
 GONE = "stood in memory, and is gone"
 QUORUM = "notary=a,b,c"
+ADDED = "differs from the others, and this call added to it: stop, and compare all of them; docs/NOTARY.md says why one does"
 DIFFERS = "differs from the others: keep it as it is; docs/NOTARY.md says why one does"
 LOST = "more than half of the books were missing, empty or without a batch, and what they say is what new books say: {}; docs/NOTARY.md"
 LOOK = "stop, keep the others as they are, and look for copies"
@@ -63,12 +65,24 @@ def hidden_within():
     file.write_bytes((content + b"hidden").ljust(65_536, b"\0") + content[last:])
 
 
+def lost_within():
+    """The first segment ends at the open gate of transaction 9, and transaction 10 stands in the next one."""
+    file = pathlib.Path("worked.store")
+    row = bytes.fromhex("a7 00000025 01 0000000a 00000000000001d6 0001 02 0174 02 010000000000000009 010000000000000000 00")
+    file.write_bytes(file.read_bytes()[:389].ljust(65_536, b"\0") + row)
+
+
 def new_store():
     call(["store=new.store", "init", "7", "60", "3", "ta"], "")
 
 
 def store_8():
     call(["store=new.store", "init", "8", "60", "3", "ta"], "")
+
+
+def a_row_of_today():
+    new_store()
+    call(["store=new.store", "run", "7"], "create t k int v int\ninsert t 1 0\n")
 
 
 def no_tree():
@@ -95,6 +109,29 @@ def book_of_9():
 def later_book():
     """The second of the last filing is set far ahead."""
     put("worked.book", 125 + 5 + 13, (1 << 40).to_bytes(8, "big"))
+
+
+def newer():
+    """The worked store with a row more, which isn't sealed."""
+    shutil.copy("worked.store", "new.store")
+    call(["store=new.store", "run", "7", "scripted"], "now 600\ninsert t 99 1\n")
+
+
+def moved():
+    """The row of granule 5, put behind all that is sealed, and its moment with it."""
+    newer()
+    put("new.store", 304 + 5 + 5, (600).to_bytes(8, "big"))
+
+
+def newer_of_another_header():
+    newer()
+    put("new.store", 24, b"\1")
+
+
+def two_altered():
+    """A store of which two granules are altered, and a copy of which one is."""
+    shutil.copy("altered.store", "other.store")
+    put("altered.store", 303, b"\1")
 
 
 def three_books():
@@ -137,10 +174,12 @@ ALTERED_ROW = evidence(5, [1], [0])
 EXAMINED = "granule 5 not as notarized shown 1 original 1 as notarized\nexamined 1 confirmed 1\n"
 ALTERED, COPY, EVIDENCE = "store=altered.store", "copy=worked.store", "target=new.evidence"
 ALONE = "the evidence file shows what the store holds alone, and nothing of what was filed there"
-NO_SUCH = "has no such header and eras filed under it: name the right file, id and book. Evidence of a store whose header or eras were altered is told so, too"
+NO_SUCH = "has no such header and eras filed under it. Name the right file, id and book. Evidence of a store whose header or eras were altered is told so, too"
 
 TURNED = "had no sealed tile under the id 7: the policy stands at tile 0, and no tile was compared. If tiles of the store worked.store are filed in another book, validate with that one: where it isn't clean, put back the copy from before; docs/OPERATING.md"
 
+UNSET = "dragoon: lines were stored before any `now M`, at the store's last moment, second 480, ..: without `scripted` a run goes by the clock"
+SEEK = ". If this store was filed before, look for its book; docs/NOTARY.md"
 UNFED = "dragoon: the input had no statement, so nothing was carried out: if it came through a pipe, look at what should have written it"
 
 # what, what is done before, the words, the input, the status, the output, and what is told line by line; .. stands for anything
@@ -167,7 +206,7 @@ ROWS = [
     ("an altered store, analysed", None, ["store=altered.store", BOOK, "analyse", "7", "mono"], "", 1, None,
      [f"dragoon: the store altered.store {KEEP}; docs/ANALYSIS.md says how to read the report"]),
     ("an altered header", lambda: put("worked.store", 30, b"\x01"), [STORE, BOOK, "validate", "7"], "", 1, "header altered 1\n",
-     ["dragoon: the store worked.store doesn't begin as the store that was filed, or has other eras: keep it and the notary's book worked.book as they are, .."]),
+     ["dragoon: the store worked.store doesn't begin as the store that was filed, or has other eras. If the notary's book worked.book is its own and no other store's, keep both as they are, .."]),
     ("a gate of the book that was turned", lambda: put("worked.book", 125, b"\xa6"), [STORE, BOOK, "validate", "7"], "", 0, "clean 0\n",
      [f"dragoon: the notary's book worked.book ends at byte 126, and 787 bytes stand behind it: {BEHIND}; this call wrote over the first of them", "dragoon: only the header was compared: .."]),
     ("a gate of the book that was closed", lambda: put("worked.book", 125, b"\x00"), [STORE, BOOK, "validate", "7"], "", 0, "clean 0\n",
@@ -177,7 +216,14 @@ ROWS = [
     ("records hidden in an earlier segment", hidden_within, [STORE, "link"], "", 0, None,
      ["dragoon: the store worked.store ends a segment at byte 445, and 6 bytes stand behind it: no crash leaves such bytes there, and whoever hides records does; docs/NOTARY.md"]),
     ("an open gate before a broken record", lambda: put("worked.store", 99, b"\x09"), [STORE, "link"], "", 0, None,
-     [f"dragoon: the store worked.store ends at byte 95, and 350 bytes stand behind it: {BEHIND}"]),
+     [f"dragoon: the store worked.store ends at byte 95, and 350 bytes stand behind it: {OPEN}; docs/NOTARY.md"]),
+    ("a store cut at an open gate", lambda: os.truncate("worked.store", 431), [STORE, "link"], "", 0, None,
+     [f"dragoon: the store worked.store ends at byte 431, and 0 bytes stand behind it: {OPEN}; docs/NOTARY.md"]),
+    ("a book cut at an open gate", lambda: os.truncate("worked.book", 126), [STORE, BOOK, "validate", "7"], "", 0, "clean 0\n",
+     [f"dragoon: the notary's book worked.book ends at byte 126, and 0 bytes stand behind it: {OPEN}; docs/NOTARY.md; this call wrote over the first of them", "dragoon: only the header was compared: .."]),
+    ("a transaction that is lost within a segment", lost_within, [STORE, "link"], "", 0, None,
+     [f"dragoon: the store worked.store ends a segment at byte 389, and 0 bytes stand behind it: {OPEN}; docs/NOTARY.md",
+      "dragoon: the store worked.store has transaction 10 behind transaction 8: some were lost or altered, or put in; `examples/look.py` says more"]),
     ("what an append leaves that was cut off", lambda: put("worked.store", None, bytes.fromhex("0000002501000000")), [STORE, "link"], "", 0, None, []),
     ("more than an append can leave", lambda: put("worked.store", None, b"\1" * 33000), [STORE, "link"], "", 0, None,
      [f"dragoon: the store worked.store ends at byte 445, and 33000 bytes stand behind it: {BEHIND}"]),
@@ -191,11 +237,11 @@ ROWS = [
     ("a validation without a book", None, [STORE, "validate", "7"], "", 0, "unsealed\n",
      ["dragoon: nothing was compared: the notary's book in memory (no file was named) had nothing that was filed under the id 7"]),
     ("a book that is missing", None, [STORE, "notary=none", "validate", "7"], "", 0, "unsealed\n",
-     ["dragoon: the notary's book none was missing: nothing was compared"]),
+     [f"dragoon: the notary's book none was missing: nothing was compared{SEEK}"]),
     ("a book that is empty", lambda: pathlib.Path("none").touch(), [STORE, "notary=none", "analyse", "7", "mono"], "", 0, "report mono id 7 tiles 0 unsealed\n",
-     ["dragoon: the notary's book none was empty: nothing was compared"]),
+     [f"dragoon: the notary's book none was empty: nothing was compared{SEEK}"]),
     ("a filing with a book that is missing", new_store, ["store=new.store", "notary=none", "notarize", "7"], "", 0, "sealed 0\n",
-     ["dragoon: the notary's book none was missing: nothing was compared, and it was made anew"]),
+     [f"dragoon: the notary's book none was missing: nothing was compared, and it was made anew{SEEK}"]),
     ("a store that is missing", None, ["store=none", "link"], "", 4, "fault NotAStore\n",
      ["dragoon: the store none is missing: make one by `init`, or name the right file"]),
     ("a book with nothing under the id", None, [STORE, BOOK, "validate", "8"], "", 0, "unsealed\n",
@@ -209,12 +255,29 @@ ROWS = [
     ("a book in the place of the store", None, ["store=worked.book", "run", "7"], "", 4, "fault NotAStore\n",
      ["dragoon: the store worked.book holds a notary's book: name the right file"]),
     ("a run that asks a book that is missing", None, [STORE, "notary=none", "run", "7"], "validate\n", 0, "unsealed\n",
-     ["dragoon: the notary's book none was missing: nothing was compared"]),
+     [f"dragoon: the notary's book none was missing: nothing was compared{SEEK}"]),
     ("a run that has a book analysed that is empty", lambda: pathlib.Path("none").touch(), [STORE, "notary=none", "run", "7"], "analyse mono\nget t 1\n", 0, None,
-     ["dragoon: the notary's book none was empty: nothing was compared"]),
+     [f"dragoon: the notary's book none was empty: nothing was compared{SEEK}"]),
     ("a run that asks no book, and none is there", None, [STORE, "notary=none", "run", "7"], "get t 1\n", 0, "row 1 0\n", []),
     ("a run that asks without a book", None, [STORE, "run", "7"], "validate\nanalyse mono\n", 0, None,
      ["dragoon: nothing was compared: the notary's book in memory (no file was named) had nothing that was filed under the id 7"]),
+    ("a scripted run that sets no clock", new_store, ["store=new.store", "run", "7", "scripted"], "create t k int\n", 0, "ok 1\n",
+     [UNSET.replace("480", "0")]),
+    ("a scripted run ahead of the clock", new_store, ["store=new.store", "run", "7", "scripted"], "now 60000000\ncreate t k int\n", 0, "ok\nok 1\n",
+     ["dragoon: the last moment of the store new.store is second 60000000, 20.., and the clock says 20..: nothing is stored there by the clock until then. If that moment is wrong, go back to the copy from before"]),
+    ("a generated script ahead of the clock", new_store, ["store=new.store", "make", "7", "1", "9"], "", 0, None,
+     [f"dragoon: no notary=FILE was named: what was filed {GONE}", "dragoon: only the header was compared: ..", "dragoon: the last moment of the store new.store is second 193, 20.., and .."]),
+    ("a question of a moment to come", None, [STORE, "run", "7"], "get t 1 as of 5\nscan t as of 99999999999\n", 0, None,
+     ["dragoon: a line asks for second 99999999999, 51.., and the clock says 20..: it was answered by what is stored so far. Moments are seconds from the store's first one on"]),
+    ("a last line without an end that stores", a_row_of_today, ["store=new.store", "run", "7"], "get t 1\n\ninsert t 9 1", 0, "row 1 0\nok 3\n",
+     ["dragoon: line 3, the last one, has no end: was the input cut off within it?"]),
+    ("one that is refused", None, [STORE, "run", "7"], "get t 1\ninsert t 1 1", 3, None,
+     [f"dragoon: 1 of 2 {REFUSED} 2, `insert t 1 1`: RowExists, there is a row of this key already", "dragoon: line 2, the last one, has no end: was the input cut off within it?"]),
+    ("one that stores nothing", None, [STORE, "run", "7"], "get t 1", 0, "row 1 0\n", []),
+    ("refusals of several kinds", a_row_of_today, ["store=new.store", "run", "7"], "create t k int\ninsert t 1 1\nget t 1\nget u 1\ninsert t 1 2\n", 3, None,
+     ["dragoon: 4 of 5 replies are refusals, the first one to line 1, `create t k int`: TableExists, there is a table of this name already", "dragoon: the refusals by kind: NoTable 1, TableExists 1, RowExists 2"]),
+    ("a session that goes on", a_row_of_today, ["store=new.store", "run", "7"], "s1 begin\ns1 insert t 1 1\ns1 insert t 9 1\ns1 commit\n", 3, "ok\nrefused RowExists\nok\nok 3\n",
+     ["dragoon: 1 of 4 replies is a refusal, that to line 2, `s1 insert t 1 1`: RowExists, there is a row of this key already", "dragoon: s1 was committed without 1 line that was refused: it stored the others alone"]),
     ("a run without a statement", None, [STORE, "run", "7"], "# none\n\n", 0, "", [UNFED]),
     ("a drill without an input", None, ["drill"], "", 0, "", [UNFED]),
     ("a run that finds nothing odd", None, [STORE, BOOK, "run", "7"], "validate\nanalyse mono\n", 0, "clean 1\nreport mono id 7 tiles 1 clean\n", []),
@@ -288,14 +351,14 @@ ROWS = [
     ("a text in the place of the store", lambda: pathlib.Path("text").write_bytes(b"some notes of mine\n"), ["store=text", "link"], "", 4, "fault NotAStore\n",
      ["dragoon: the store text holds 19 bytes, neither a store nor a notary's book: name the right file"]),
     ("a filing over a text", lambda: (new_store(), pathlib.Path("text").write_bytes(b"hello")), ["store=new.store", "notary=text", "notarize", "7"], "", 0, "sealed 0\n",
-     ["dragoon: the notary's book text held 5 bytes, neither a store nor a notary's book: nothing was compared, and it was made anew"]),
+     [f"dragoon: the notary's book text held 5 bytes, neither a store nor a notary's book: nothing was compared, and it was made anew{SEEK}"]),
     ("a filing with a book that is empty", lambda: (new_store(), pathlib.Path("none").touch()), ["store=new.store", "notary=none", "notarize", "7"], "", 0, "sealed 0\n",
-     ["dragoon: the notary's book none was empty: nothing was compared, and it was made anew"]),
+     [f"dragoon: the notary's book none was empty: nothing was compared, and it was made anew{SEEK}"]),
     ("files that aren't used", None, [STORE, "copy=a", "target=b", "link"], "", 0, None,
      ["dragoon: the copy a isn't used by this command", "dragoon: the target b isn't used by this command"]),
     ("a drill beside a store", None, [STORE, "drill"], "init 7 60 3 ta\n", 0, "ready 7\n", ["dragoon: the store worked.store isn't used by this command"]),
     ("a script that is generated twice", lambda: (new_store(), call(["store=new.store", "make", "7", "1", "20"], "")), ["store=new.store", "notary=new.book", "make", "7", "1", "20"], "", 3, None,
-     ["dragoon: the notary's book new.book was missing, and it was made anew", "dragoon: lines of the generated script were refused, as where a table `made` is there already"]),
+     ["dragoon: the notary's book new.book was missing, and it was made anew", "dragoon: the last moment of the store new.store is ..", "dragoon: lines of the generated script were refused, as where a table `made` is there already"]),
     ("files and no command", None, [STORE, BOOK], "", 2, "fault Usage\n", ["dragoon: no command stands behind the words that name files: those are link, .."]),
     ("a device without `=`", None, ["store", "worked.store", "link"], "", 2, "fault Usage\n",
      ["dragoon: `store` is no command, and names no device: store=FILE does, and copy=FILE, notary=FILE and target=FILE, in lower case"]),
@@ -308,19 +371,19 @@ ROWS = [
     ("a clock behind the last filing", later_book, [STORE, BOOK, "validate", "7"], "", 0, "clean 1\n",
      [WENT_BACK]),
     ("a clock that went back", lambda: put("worked.store", 17, (1 << 39).to_bytes(8, "big")), [STORE, "run", "7"], "insert t 9 9\n", 3, "refused ClockBack 480\n",
-     [f"dragoon: {ONLY} 1, `insert t 9 9`: ClockBack 480, the clock is behind the store's last moment, second 480, 19391-01-25 12:26:08 UTC"]),
+     [f"dragoon: {ONLY} 1, `insert t 9 9`: ClockBack 480, the clock is behind the store's last moment, second 480, 19391-01-25 12:26:08 UTC; docs/OPERATING.md"]),
     ("a filing by a clock that went back", lambda: put("worked.store", 17, (1 << 39).to_bytes(8, "big")), [STORE, "notarize", "7"], "", 14, "fault ClockBack 480\n",
-     ["dragoon: the clock is behind the store worked.store, whose last moment is second 480, 19391-01-25 12:26:08 UTC: set it right and start again; where it is right, the store's last moment was altered: hold the store against its copies"]),
+     ["dragoon: the clock is behind the store worked.store, whose last moment is second 480, 19391-01-25 12:26:08 UTC: set it right and start again. Where it is right, a scripted run has stored a moment that is still to come, so wait for it; or the store was altered, so hold it against its copies"]),
     ("a notary that is behind the others", three_books, [STORE, QUORUM, "validate", "7"], "", 0, "clean 1\n",
-     [f"dragoon: notary 2 of 3 (b) {DIFFERS}"]),
+     [f"dragoon: notary 2 of 3 (b) {ADDED}"]),
     ("a notary whose book is missing", a_book_missing, [STORE, QUORUM, "validate", "7"], "", 0, "clean 1\n",
-     ["dragoon: notary 2 of 3 (b) was missing; docs/NOTARY.md says what to do"]),
+     ["dragoon: notary 2 of 3 (b) was missing, and it was made anew; docs/NOTARY.md says what to do"]),
     ("a notary whose book is none", a_book_that_is_none, [STORE, QUORUM, "analyse", "7", "mono"], "", 0, None,
      ["dragoon: notary 2 of 3 (b) holds a store with the id 7, which begins at 1970-01-01 00:00:00 UTC; it stays as it is: name the right file, or look for copies of the book (docs/OPERATING.md)"]),
     ("a notary that is named twice", three_books, [STORE, "notary=a,c,c", "validate", "7"], "", 0, "clean 1\n",
      ["dragoon: notary 3 of 3 (c) is locked by another process, or named twice in one call"]),
     ("a run that a notary differs in", three_books, [STORE, QUORUM, "run", "7"], "validate\nvalidate\nanalyse a3d\n", 0, None,
-     [f"dragoon: notary 2 of 3 (b) {DIFFERS}"]),
+     [f"dragoon: notary 2 of 3 (b) {ADDED}"]),
     ("a run that asks no notary", three_books, [STORE, QUORUM, "run", "7"], "get t 1\n", 0, "row 1 0\n", []),
     ("notaries that all say the same", three_books, [STORE, "notary=a,c", "validate", "7"], "", 0, "clean 1\n", []),
     ("two notaries that differ", three_books, [STORE, "notary=a,b", "validate", "7"], "", 6, "fault NotaryFault\n",
@@ -350,14 +413,14 @@ ROWS = [
      ["dragoon: the store none is missing: make one by `init`, or name the right file", "dragoon: the notary's book none.book was missing"]),
     ("a filing of a store that is missing", None, ["store=none", "notary=none.book", "notarize", "7"], "", 4, "fault NotAStore\n",
      ["dragoon: the store none is missing: make one by `init`, or name the right file", "dragoon: the notary's book none.book was missing"]),
-    ("a session that isn't committed", None, [STORE, "run", "7", "scripted"], "s0 begin\ns0 insert t 9 9\n", 0, "ok\nok\n", [f"dragoon: no commit came for what was begun as s0: {UNSTORED}"]),
+    ("a session that isn't committed", None, [STORE, "run", "7", "scripted"], "s0 begin\ns0 insert t 9 9\n", 0, "ok\nok\n", [f"dragoon: no commit was carried out for what was begun as s0: {UNSTORED}"]),
     ("sessions of all kinds", None, [STORE, "run", "7", "scripted"],
      " s15  begin\r\ns1 begin\ns1 abort\ns2 begin\ns2 get t 9\ns3 begin\ns3 get t 9\ns3 insert t 9 9\ninsert t 9 9\ns3 commit\n # s4 begin\n# s5 begin\ns2 begin", 3, None,
-     ["dragoon: .. replies are refusals, the first one to line 10, ..", f"dragoon: no commit came for what was begun as s2, s15: {UNSTORED}"]),
+     [UNSET, "dragoon: .. replies are refusals, the first one to line 10, ..", "dragoon: the refusals by kind: Syntax 1, SessionOpen 1, Conflict 1", f"dragoon: no commit was carried out for what was begun as s2, s15: {UNSTORED}", "dragoon: line 13, the last one, has no end: was the input cut off within it?"]),
     ("a join of two kinds", None, [STORE, "run", "7", "scripted"], "create w k text\nover 1 to 2 join t w on k k\n", 3, None,
-     [f"dragoon: 1 of 2 {REFUSED} 2, `over 1 to 2 join t w on k k`: BadType 1, the two columns have different kinds, .."]),
+     [UNSET, f"dragoon: 1 of 2 {REFUSED} 2, `over 1 to 2 join t w on k k`: BadType 1, the two columns have different kinds, .."]),
     ("a commit that leaves its session", None, [STORE, "run", "7", "scripted"], "now 1099511627775\ns0 begin\ns0 insert t 9 9\ns0 commit\n", 3, None,
-     [f"dragoon: 1 of 4 {REFUSED} 4, `s0 commit`: TooLate, the clock is beyond what this store can tell, which ends at 1971-12-30 04:16:00 UTC: go on with another one", f"dragoon: no commit came for what was begun as s0: {UNSTORED}"]),
+     [f"dragoon: 1 of 4 {REFUSED} 4, `s0 commit`: TooLate, the clock is beyond what this store can tell, which ends at 1971-12-30 04:16:00 UTC: `now M` counts seconds from its first one on", f"dragoon: no commit was carried out for what was begun as s0: {UNSTORED}"]),
     ("a commit that is repeated", None, [STORE, "run", "7", "scripted"], "now 1099511627775\ns0 begin\ns0 insert t 9 9\ns0 commit\nnow 600\ns0 commit\n", 3, None,
      [f"dragoon: 1 of 6 {REFUSED} 4, .."]),
     ("a run over a store of format 1", None, [OLD, "run", "7"], "get t 1\n", 20, "fault OldFormat\n", [f"dragoon: {IS_OLD}"]),
@@ -373,18 +436,18 @@ ROWS = [
      ["dragoon: the target old.store is locked by another process, or named twice in one call: start again when it is free"]),
     ("a migration of another id", None, [OLD, "target=new.store", "migrate", "8"], "", 4, "fault NotAStore\n", [f"dragoon: {OLD_ID}"]),
     ("another id and a book that is missing", None, [STORE, "notary=none", "validate", "8"], "", 0, "unsealed\n",
-     [OTHER_ID, "dragoon: the notary's book none was missing: nothing was compared"]),
+     [OTHER_ID, f"dragoon: the notary's book none was missing: nothing was compared{SEEK}"]),
     ("another id and a damaged book", two_batches_with_one_index, [STORE, BOOK, "analyse", "8", "mono"], "", 6, "fault NotaryFault\n", ["dragoon: the notary's book worked.book is damaged: ..", OTHER_ID]),
     ("a first filing into the book of another store", store_8, ["store=new.store", BOOK, "notarize", "8"], "", 0, "sealed 0\n",
      ["dragoon: the notary's book worked.book had nothing that was filed under the id 8: nothing was compared, and if this store was filed before, this is another book; docs/NOTARY.md"]),
     ("another id under which something was filed", store_8, ["store=new.store", BOOK, "validate", "7"], "", 1, "header altered 1\n",
-     ["dragoon: the store new.store has the id 8, and not 7", "dragoon: the store new.store doesn't begin as the store that was filed, or has other eras: ..", MARKED]),
+     ["dragoon: the store new.store has the id 8, and not 7", "dragoon: the store new.store doesn't begin as the store that was filed, or has other eras. ..", MARKED]),
     ("store and book in each other's place", None, ["store=worked.book", "notary=worked.store", "validate", "7"], "", 6, "fault NotaryFault\n",
      ["dragoon: the notary's book worked.store holds a store with the id 7, ..", "dragoon: the store worked.book holds a notary's book"]),
     ("the same, filed", None, ["store=worked.book", "notary=worked.store", "notarize", "7"], "", 4, "fault NotAStore\n",
      ["dragoon: the store worked.book holds a notary's book: name the right file", "dragoon: the notary's book worked.store holds a store with the id 7, which begins at 1970-01-01 00:00:00 UTC"]),
     ("a book in the place of the store, validated", lambda: shutil.copy("worked.book", "b"), ["store=b", BOOK, "validate", "7"], "", 1, "header altered 1\n",
-     ["dragoon: the store b holds a notary's book", "dragoon: the store b doesn't begin as the store that was filed, or has other eras: ..", MARKED]),
+     ["dragoon: the store b holds a notary's book", "dragoon: the store b doesn't begin as the store that was filed, or has other eras. ..", MARKED]),
     ("nothing named", None, ["validate", "7"], "", 0, "unsealed\n",
      ["dragoon: no store=FILE was named: nothing was compared", "dragoon: the notary's book in memory (no file was named) had nothing that was filed under the id 7"]),
     ("a run without a store", None, ["run", "7"], "", 4, "fault NotAStore\n", ["dragoon: no store=FILE was named: name one, which `init` makes if it is new"]),
@@ -396,7 +459,7 @@ ROWS = [
     ("a script made over an altered store", None, ["store=altered.store", BOOK, "make", "7", "1", "3"], "", 3, "made 3 refused 1 txns 13\nrefused Broken\naltered 1 from 0\n",
      [f"dragoon: the store altered.store {KEEP}; ..", "dragoon: the filing or the validation behind the generated script was refused as Broken: what is filed isn't what is stored: .."]),
     ("a filing that is Broken, behind a line that is refused", None, ["store=altered.store", BOOK, "run", "7", "scripted"], "get u 1\nnotarize\n", 3, "refused NoTable\nrefused Broken\n",
-     ["dragoon: 2 of 2 replies are refusals, the first one to line 1, `get u 1`: NoTable, ..", "dragoon: a later line was refused as Broken: what is filed isn't what is stored: .."]),
+     ["dragoon: 2 of 2 replies are refusals, the first one to line 1, `get u 1`: NoTable, ..", "dragoon: the refusals by kind: NoTable 1, Broken 1", "dragoon: a later line was refused as Broken: what is filed isn't what is stored: .."]),
     ("a fault behind a line that is refused", three_books, [STORE, "notary=a,b", "run", "7"], "get u 1\nvalidate\n", 6, None,
      ["dragoon: the quorum of 2 notaries has no answer ..", f"dragoon: notary 1 of 2 (a) {DIFFERS}", f"dragoon: notary 2 of 2 (b) {DIFFERS}", f"dragoon: {ONLY} 1, `get u 1`: NoTable, .."]),
     ("a filing by a clock that is too far ahead, and was further", later_book, [STORE, BOOK, "notarize", "7"], "", 15, "fault TooLate\n",
@@ -410,7 +473,7 @@ ROWS = [
     ("a policy without the book", None, [STORE, "policy", "7", "1", "a"], "", 0, "era 1 from tile 0\n",
      [f"dragoon: the notary's book in memory (no file was named) {TURNED}"]),
     ("a policy over another book, in a run", None, [STORE, "notary=none", "run", "7", "scripted"], "policy 1 a\n", 0, "era 1 from tile 0\n",
-     ["dragoon: the notary's book none was missing: nothing was compared", f"dragoon: the notary's book none {TURNED}"]),
+     [f"dragoon: the notary's book none was missing: nothing was compared{SEEK}", f"dragoon: the notary's book none {TURNED}"]),
     ("a policy over an altered store", None, ["store=altered.store", BOOK, "policy", "7", "1", "a"], "", 10, "fault Broken\n",
      ["dragoon: the store altered.store isn't what was filed with the notary's book worked.book: keep both as they are, and `validate`; docs/OPERATING.md"]),
     ("a policy over format 1", None, [OLD, BOOK, "policy", "7", "1", "a"], "", 20, "fault OldFormat\n", [f"dragoon: {IS_OLD}"]),
@@ -437,9 +500,9 @@ ROWS = [
     ("evidence over a book that is none", None, ["notary=worked.store", "examine", "7"], ALTERED_ROW, 6, "fault NotaryFault\n",
      ["dragoon: the notary's book worked.store holds a store with the id 7, .."]),
     ("evidence of no granule", None, [BOOK, "examine", "7"], evidence(0), 0, "examined 0 confirmed 0\n",
-     ["dragoon: the evidence file shows no granule: whoever made it found none altered"]),
+     ["dragoon: the evidence file shows no granule: whoever made it found none altered, or left them out"]),
     ("evidence of a granule that isn't sealed", None, [BOOK, "examine", "7"], evidence(8, []), 11, "fault SealMissing node 0 8\n",
-     ["dragoon: the notary's book worked.book lacks the digest of a granule that the evidence file shows: either that isn't sealed, or its era has no tree, or the book was cut"]),
+     ["dragoon: the notary's book worked.book lacks the digest of a granule that the evidence file shows: either that isn't sealed, or its era has no tree, or the book was cut or altered"]),
     ("evidence that was cut", None, [BOOK, "examine", "7"], ALTERED_ROW[:-1], 23, "fault NotEvidence\n",
      ["dragoon: the input is no evidence file, or one that was cut or changed: ask whoever made it for the whole one"]),
     ("no evidence", None, [BOOK, "examine", "7"], "", 23, "fault NotEvidence\n",
@@ -454,23 +517,38 @@ ROWS = [
     ("one beside another store", store_8, [ALTERED, "copy=new.store", BOOK, EVIDENCE, "evidence", "7"], "", 0, "evidence 1\n",
      [f"dragoon: the copy new.store holds a store with the id 8, which begins at 20..: {ALONE}"]),
     ("one of a store that is not altered", None, [STORE, BOOK, EVIDENCE, "evidence", "7"], "", 0, "evidence 0\n",
-     ["dragoon: no sealed granule of the store worked.store is altered: the evidence file shows none"]),
+     ["dragoon: the search of the trees found no granule of the store worked.store that differs, and other digests weren't asked: the evidence file shows none"]),
     ("one into memory", None, [ALTERED, COPY, BOOK, "evidence", "7"], "", 0, "evidence 1\n", [f"dragoon: no target=FILE was named: what was written {GONE}"]),
     ("one over a file that is there", None, [ALTERED, COPY, BOOK, "target=old.store", "evidence", "7"], "", 13, "fault AlreadyThere\n",
      ["dragoon: the target old.store holds a store of the first format with the id 7, which begins at 1970-01-01 00:00:00 UTC, and stays as it is: name another file"]),
     ("evidence where nothing is filed", None, [STORE, COPY, BOOK, EVIDENCE, "evidence", "8"], "", 0, "unsealed\n",
      [OTHER_ID, "dragoon: nothing was compared: the notary's book worked.book had nothing that was filed under the id 8"]),
     ("evidence of another header", lambda: put("worked.store", 23, b"\1"), [STORE, BOOK, EVIDENCE, "evidence", "7"], "", 1, "header altered 1\n",
-     ["dragoon: the store worked.store doesn't begin as the store that was filed, or has other eras: keep it and the notary's book worked.book as they are, .."]),
+     ["dragoon: the store worked.store doesn't begin as the store that was filed, or has other eras. If the notary's book worked.book is its own and no other store's, keep both as they are, .."]),
     ("evidence of no store", None, [BOOK, EVIDENCE, "evidence", "7"], "", 1, "header altered 1\n", ["dragoon: no store=FILE was named: nothing was compared"]),
     ("evidence without a tree", no_tree, ["store=new.store", "notary=new.book", EVIDENCE, "evidence", "7"], "", 18, "fault NotSealedSo\n",
      ["dragoon: a sealed tile of the store new.store lacks the tree, by which altered granules are found for an evidence file: `analyse` it by `mono` or `tiled`"]),
     ("evidence without an id", None, [STORE, "evidence"], "", 2, "fault Usage\n", ["dragoon: `evidence` lacks a word: ID, ..", "  evidence ID ..", ".."]),
+    ("one beside a copy that is altered, too", lambda: shutil.copy("altered.store", "other.store"), [ALTERED, "copy=other.store", BOOK, EVIDENCE, "evidence", "7"], "", 0, "evidence 1\n",
+     ["dragoon: the copy other.store gave no original: it is older, has another header or other eras, or is altered there"]),
+    ("one of two granules, of which the copy has one", two_altered, [ALTERED, "copy=other.store", BOOK, EVIDENCE, "evidence", "7"], "", 0, "evidence 2\n",
+     ["dragoon: the copy other.store gave the originals of 1 of 2 granules: of the others it hasn't what was filed, being older or altered there"]),
     ("a restoring", None, [ALTERED, "copy=worked.store", "target=new.store", BOOK, "restore", "7"], "", 0, "restored 8 lost 0\n", []),
     ("a restoring of what both have altered", lambda: shutil.copy("altered.store", "other.store"), [ALTERED, "copy=other.store", "target=new.store", BOOK, "restore", "7"], "", 0, ONE_LOST,
-     ["dragoon: 1 granule is lost: neither the store altered.store nor the copy other.store has there what was filed; the target new.store has no row of that time, .."]),
+     ["dragoon: 1 granule is lost: what is filed of that time is neither what the store altered.store has nor what the copy other.store has, and the target new.store has no row of it. Validate a copy of the target new.store .."]),
     ("a restoring without a copy", None, [ALTERED, "target=new.store", BOOK, "restore", "7"], "", 0, ONE_LOST,
-     ["dragoon: 1 granule is lost: neither the store altered.store nor the copy in memory (no file was named) has there what was filed; .."]),
+     ["dragoon: 1 granule is lost: .. nor what the copy in memory (no file was named) has, .."]),
+    ("a restoring of rows that aren't sealed", newer, ["store=new.store", "target=made.store", BOOK, "restore", "7"], "", 0, "restored 8 lost 0\n",
+     ["dragoon: the target made.store has 1 transaction behind the sealed tiles, taken from the store new.store: no digest vouches for what isn't sealed"]),
+    ("a restoring of a store with a bit of its header turned", newer_of_another_header, ["store=new.store", "copy=worked.store", "target=made.store", BOOK, "restore", "7"], "", 0, "restored 8 lost 0\n",
+     ["dragoon: nothing was taken from the store new.store: it has another header or other eras than were filed",
+      "dragoon: the store new.store has 1 transaction behind the sealed tiles: `examples/differ.py` says which of them the target made.store lacks; docs/OPERATING.md"]),
+    ("a restoring of an older store", newer, [STORE, "copy=new.store", "target=made.store", BOOK, "restore", "7"], "", 0, "restored 8 lost 0\n",
+     ["dragoon: the copy new.store has 1 transaction behind the sealed tiles: .."]),
+    ("a restoring with a copy that doesn't pass", newer_of_another_header, [ALTERED, "copy=new.store", "target=made.store", BOOK, "restore", "7"], "", 0, ONE_LOST,
+     ["dragoon: 1 granule is lost: ..", "dragoon: nothing was taken from the copy new.store: it has another header or other eras than were filed"]),
+    ("a restoring of rows that were moved", moved, ["store=new.store", "copy=worked.store", "target=made.store", BOOK, "restore", "7"], "", 0, "restored 8 lost 0\n",
+     ["dragoon: the target made.store has 2 transactions behind the sealed tiles, ..", "dragoon: numbers or moments of the target made.store don't ascend, as where some were lost, or moved behind the sealed tiles: `examples/look.py` says where"]),
     ("a restoring into memory", None, [STORE, BOOK, "restore", "7"], "", 0, "restored 8 lost 0\n", [f"dragoon: no target=FILE was named: what was written {GONE}"]),
     ("a restoring into a store", None, [ALTERED, "target=worked.store", BOOK, "restore", "7"], "", 13, "fault AlreadyThere\n",
      ["dragoon: the target worked.store holds a store with the id 7, which begins at 1970-01-01 00:00:00 UTC, and stays as it is: name another file"]),
@@ -492,12 +570,12 @@ ROWS = [
 LINES = [
     ("no table", "get u 1\n", "NoTable, there is no table of this name", 1, "get u 1"),
     ("behind lines that are carried out", "\n# so\nget t 1\n\nget u 1\r\n", "NoTable, there is no table of this name", 5, "get u 1\\r"),
-    ("a last line without an end", "get t 1\ninsert t 1 1", "RowExists, there is a row of this key already", 2, "insert t 1 1"),
     ("capitals", "INSERT t 1 1\n", "Syntax, at column 1: words and names are in lower case", 1, "INSERT t 1 1"),
     ("a name in capitals", "get T 1\n", "Syntax, at column 5: words and names are in lower case", 1, "get T 1"),
     ("a semicolon", "insert t 9 9;\n", "Syntax, at column 12: no statement ends in `;`", 1, "insert t 9 9;"),
     ("a byte order mark", "\ufeffget t 1\n", "Syntax, at column 1: a byte order mark stands there: save the file without one", 1, ".."),
     ("UTF-16", "\udcff\udcfeg\0e\0t\0\n", "Syntax, at column 1: the input is in UTF-16: save it as UTF-8", 1, "(bytes that are no text)"),
+    ("zeros", "\0\0\0\n", "Syntax, at column 1: bytes of zero stand in the line, as a crash leaves them in a file: write that anew", 1, "\\0\\0\\0"),
     ("a tab", "get\tt 1\n", "Syntax, at column 4: a tab stands there, and only spaces separate words", 1, "get\\tt 1"),
     ("no statement", "select t\n", "Syntax, at column 1: a line begins with create, .. or the name of a session, s0 to s15", 1, "select t"),
     ("a text that isn't ended", "insert t 9 'a\n", "Syntax, at column 12: a text begins there and isn't ended by `'`; ..", 1, "insert t 9 'a"),
@@ -522,7 +600,7 @@ LINES = [
     ("a session that there isn't", "s16 begin\n", "Syntax, at column 1: a line of a session begins with its name, s0 to s15", 1, "s16 begin"),
     ("a session that isn't begun", "s0 get t 1\n", "NoSession, the session isn't begun", 1, "s0 get t 1"),
     ("what no session takes", "s0 notarize\n", "Syntax, at column 4: in a session a line goes on with create, ..", 1, "s0 notarize"),
-    ("a line that is too long", "insert t 9 " + "1" * 65_600, "Syntax, it has more than 65536 bytes", 1, ".."),
+    ("a line that is too long", "insert t 9 " + "1" * 65_600 + "\n", "Syntax, it has more than 65536 bytes", 1, ".."),
     ("an escape code", "get \x1b[2 1\n", "Syntax, at column 5: a name has to stand there: ..", 1, "get \\u{1b}[2 1"),
 ]
 

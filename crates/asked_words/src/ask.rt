@@ -86,6 +86,15 @@ impl Ask {
         }
     }
 
+    /// Whether what it stores has moments that no clock gave.
+    pub fn sets_moments(self, call: &[String]) -> bool {
+        match self {
+            Ask::Make => true,
+            Ask::Run => call.len() > 2,
+            _ => false,
+        }
+    }
+
     /// Whether it holds one thing against another, or says what is there.
     pub fn compares(self) -> bool {
         self.only_asks() || self.adds() || self.uses_copy()

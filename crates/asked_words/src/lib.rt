@@ -33,7 +33,7 @@ mod wording;
 
 pub use ask::Ask;
 pub use nearest::tell_usage;
-pub use refusal::{meaning, meaning_in_join};
+pub use refusal::{REFUSALS, kind_name, kind_of, meaning, meaning_in_join};
 pub use shown::{Shown, ShownBytes};
 pub use tokens::session_of;
 pub use wanted::{Wanted, Wrong};

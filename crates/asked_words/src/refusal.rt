@@ -11,8 +11,27 @@ pub fn meaning_in_join(refusal: &str) -> &'static str {
 }
 
 fn found_in(meanings: &[(&str, &'static str)], refusal: &str) -> Option<&'static str> {
-    let name = refusal.split(' ').next().unwrap_or(refusal);
+    let name = name_of(refusal);
     meanings.iter().find_map(|(known, words)| if *known == name { Some(*words) } else { None })
+}
+
+/// Its name, without what stands behind that in the reply.
+fn name_of(refusal: &str) -> &str {
+    refusal.split(' ').next().unwrap_or(refusal)
+}
+
+/// So many kinds of refusals there are.
+pub const REFUSALS: usize = 32;
+
+/// The place of its kind among all.
+pub fn kind_of(refusal: &str) -> Option<usize> {
+    let name = name_of(refusal);
+    MEANINGS.iter().position(|(known, _)| *known == name)
+}
+
+/// What the kind at this place is called.
+pub fn kind_name(kind: usize) -> &'static str {
+    MEANINGS.get(kind).map_or("", |(known, _)| *known)
 }
 
 const MEANINGS_IN_JOINS: [(&str, &str); 3] = [
@@ -24,7 +43,7 @@ const MEANINGS_IN_JOINS: [(&str, &str); 3] = [
     ),
 ];
 
-const MEANINGS: [(&str, &str); 32] = [
+const MEANINGS: [(&str, &str); REFUSALS] = [
     ("Syntax", "the line isn't in the grammar"),
     (
         "NumberTooWide",
@@ -63,7 +82,10 @@ const MEANINGS: [(&str, &str); 32] = [
     ("TooManyOps", "a session stores at most 256 operations"),
     ("TooLong", "a transaction has at most 32,768 bytes"),
     ("StoreFull", "the store is full: go on with another one"),
-    ("Full", "the notary has no room: go on with another book"),
+    (
+        "Full",
+        "the notary has no room: open the next store, and never another book for this one",
+    ),
     (
         "Broken",
         "what is filed isn't what is stored: keep store and book as they are, and `validate`; docs/OPERATING.md",

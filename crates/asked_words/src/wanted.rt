@@ -14,6 +14,8 @@ pub struct Wrong {
 pub enum Wanted {
     NoMark,
     NoUtf16,
+    NoZeros,
+    NoReturn,
     NoSemicolon,
     NoTab,
     NoControl,
@@ -48,6 +50,10 @@ impl fmt::Display for Wanted {
         let text = match self {
             Wanted::NoMark => "a byte order mark stands there: save the file without one",
             Wanted::NoUtf16 => "the input is in UTF-16: save it as UTF-8",
+            Wanted::NoZeros =>
+                "bytes of zero stand in the line, as a crash leaves them in a file: write that anew",
+            Wanted::NoReturn =>
+                "a carriage return stands in the line, and each line ends in a line feed",
             Wanted::NoSemicolon => "no statement ends in `;`",
             Wanted::NoTab => "a tab stands there, and only spaces separate words",
             Wanted::NoControl => "no text holds a tab or another byte below 0x20, nor 0x7F",

@@ -7,27 +7,32 @@ use crate::wanted::{Wanted, Wrong};
 /// Where the line leaves the grammar, or nothing where this doesn't find it.
 pub fn first_wrong(line: &[u8], is_drill: bool) -> Option<Wrong> {
     let line = line.strip_suffix(b"\r".as_slice()).unwrap_or(line);
-    if line.starts_with(b"\xef\xbb\xbf".as_slice()) {
-        return Some(Wrong {
-            column: 1,
-            wanted: Wanted::NoMark,
-        });
+    match coding_of(line) {
+        Some(wanted) => Some(Wrong { column: 1, wanted }),
+        None => line_fits(Rest::of(line), is_drill).err(),
     }
-    if is_utf16(line) {
-        return Some(Wrong {
-            column: 1,
-            wanted: Wanted::NoUtf16,
-        });
-    }
-    line_fits(Rest::of(line), is_drill).err()
 }
 
-/// Whether a line begins with the mark of UTF-16, or with a zero before or behind its first letter.
-fn is_utf16(line: &[u8]) -> bool {
-    line.starts_with(b"\xff\xfe".as_slice())
-        || line.starts_with(b"\xfe\xff".as_slice())
-        || line.first() == Some(&0)
-        || line.get(1) == Some(&0)
+/// What an input is that is no plain text. In UTF-16 a zero stands before or behind each letter, and nowhere two in a row.
+fn coding_of(line: &[u8]) -> Option<Wanted> {
+    match line {
+        [0xef, 0xbb, 0xbf, ..] => Some(Wanted::NoMark),
+        [0xff, 0xfe, ..] | [0xfe, 0xff, ..] => Some(Wanted::NoUtf16),
+        _ if has_zeros(line) => Some(Wanted::NoZeros),
+        [0, _, 0, ..] | [0, _] | [_, 0, _, 0, ..] | [_, 0] => Some(Wanted::NoUtf16),
+        _ if line.contains(&b'\r') => Some(Wanted::NoReturn),
+        _ => None,
+    }
+}
+
+/// Whether two bytes of zero stand there in a row, or nothing else.
+fn has_zeros(line: &[u8]) -> bool {
+    let behind = line.get(1..).unwrap_or(&[]);
+    line == [0].as_slice()
+        || line
+            .iter()
+            .zip(behind)
+            .any(|(byte, next)| *byte == 0 && *next == 0)
 }
 
 /// Whether a line that is in the grammar joins two tables.

@@ -7,7 +7,8 @@
 //! | a file that is missing, which the first change makes | `unmade` |
 //! | the notaries of a call, each with its book | `members` |
 //! | which of them failed, or differed from most | `ballot` |
-//! | what a file is, by reading it alone | `peek` |
+//! | what a file is, by reading it alone | `looking`, `found`, with `peek`, `item` and `behind` |
+//! | what a store holds, for which it is held against another | `content` |
 //! | how failures are counted | `faults` |
 //!
 //! | The layer above may rely on | Clause |
@@ -27,14 +28,24 @@
 #![tactic(auto)]
 
 mod ballot;
+mod behind;
+mod content;
 mod device;
 mod faults;
+mod found;
+mod item;
+mod looking;
 mod members;
 mod peek;
 mod unmade;
 
 pub use ballot::{Ballot, Odd};
+pub use behind::Behind;
+pub use content::Content;
 pub use device::Device;
+pub use found::{Found, Letters};
+pub use item::Jump;
+pub use looking::look;
 pub use members::{Member, quorum_of};
-pub use peek::{Behind, Found, Letters, Peek, look};
+pub use peek::Peek;
 pub use unmade::Unmade;

@@ -6,7 +6,7 @@ use crate::asked::Asked;
 use asked_words::Ask;
 use call_devices::{Device, Found, Member, quorum_of};
 use call_telling::{Called, Named};
-use call_watch::{Heard, Lines, Progress, Shared, WatchedDisk, WatchedSink, WatchedSource};
+use call_watch::{Heard, Progress, Shared, WatchedDisk, WatchedSink, WatchedSource};
 use notary_book::Book;
 use notary_quorum::Quorum;
 use outside_io::{StdSink, StdSource, SystemClock};
@@ -148,14 +148,13 @@ fn input_of<'a, R: Runtime + AllocGlobal + Drop>(
     let Terminals { input, error, .. } = terminals;
     let progress = Progress::new(rt, shared, "input", error && !input)?;
     let is_asked = input && error && (ask.takes_lines() || ask == Ask::Examine);
-    let lines = Lines::new(rt.alloc());
     Ok(WatchedSource::new(
         StdSource::new(rt.clone()?),
         progress,
         shared,
         is_asked,
         ask != Ask::Examine,
-        lines,
+        rt.alloc(),
     ))
 }
 

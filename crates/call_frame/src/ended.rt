@@ -2,8 +2,10 @@
 
 use crate::asked::Asked;
 use crate::devices::{CallDisk, CallNotary, Devices};
-use call_telling::{Ending, Known, Missed, Named, Notaries, tell};
-use call_watch::Shared;
+use asked_words::Ask;
+use call_devices::look;
+use call_telling::{Ending, Gathered, Known, Missed, Named, Notaries, Restored, tell};
+use call_watch::{Heard, Shared};
 use line_runs::Status;
 use outside_io::Clock;
 use std::fs::File;
@@ -38,14 +40,18 @@ pub fn tell_end<'a, R: Runtime + Files<File = File> + AllocGlobal + Drop>(
     learn(&mut named_copy, &copy);
     learn(&mut named_target, &target);
     let missed = Missed::of(ask, call, status, named_store.found);
+    look_again(rt, ask, call, &mut named_store, &mut named_target);
     learn_books(rt, &mut named_books, notary, shared, missed);
+    let restored = restored_by(rt, &out.heard, &named_store, &named_copy, &named_target);
     let ending = Ending {
         ask,
         call,
         status,
         store: named_store,
         copy: named_copy,
+        gathered: gathered_by(rt, ask, &named_target),
         target: named_target,
+        restored,
         notaries: Notaries(named_books),
         input: input.below().error(),
         is_input_empty: input.is_empty(),
@@ -67,6 +73,55 @@ fn learn<R: Runtime + Files<File = File> + AllocGlobal + Drop>(
     named.error = below.error();
     named.was_made = below.was_made();
     named.was_written = disk.is_written();
+}
+
+/// What a restoring has made, and a store that has got moments which no clock gave.
+fn look_again<R: Files<File = File> + AllocGlobal>(
+    rt: &R,
+    ask: Ask,
+    call: &[String],
+    store: &mut Named<'_>,
+    target: &mut Named<'_>,
+) {
+    if ask == Ask::Restore && target.was_written {
+        target.later = look(rt, rt.alloc(), target.path);
+    }
+    if ask.sets_moments(call) && store.was_written {
+        store.later = look(rt, rt.alloc(), store.path);
+    }
+}
+
+/// What the evidence file has that was written to the target.
+fn gathered_by<R: Files<File = File> + AllocGlobal>(
+    rt: &R,
+    ask: Ask,
+    target: &Named<'_>,
+) -> Option<Gathered> {
+    if ask == Ask::Evidence && target.was_written {
+        Gathered::read(rt, rt.alloc(), target.path)
+    } else {
+        None
+    }
+}
+
+/// What became of the files of a restoring, behind which the target was looked at.
+fn restored_by<R: Files<File = File> + AllocGlobal>(
+    rt: &R,
+    heard: &Heard<'_>,
+    store: &Named<'_>,
+    copy: &Named<'_>,
+    target: &Named<'_>,
+) -> Option<Restored> {
+    let sealed = heard.sealed()?;
+    Restored::read(
+        rt,
+        rt.alloc(),
+        sealed,
+        target.later,
+        store.path,
+        copy.path,
+        target.path,
+    )
 }
 
 /// The same of each notary's book, with how that notary stood out, and what its book says of an id without a store.

@@ -1,8 +1,10 @@
 //! How a call ended, and what its devices together tell of it.
 
+use crate::gathered::Gathered;
 use crate::kind::is_front;
 use crate::known::Known;
 use crate::named::{Named, Notaries};
+use crate::restored::Restored;
 use asked_words::Ask;
 use call_devices::Found;
 use call_watch::{Heard, Refused};
@@ -19,6 +21,10 @@ pub struct Ending<'a, 'w> {
     pub store: Named<'w>,
     pub copy: Named<'w>,
     pub target: Named<'w>,
+    /// What the evidence file has that the call has made, if it could be read again.
+    pub gathered: Option<Gathered>,
+    /// The same of a store that was restored.
+    pub restored: Option<Restored>,
     pub notaries: Notaries<'w>,
     pub input: Option<io::Error>,
     /// Whether an evidence file was to be the input, and it had no byte.
@@ -135,5 +141,30 @@ impl fmt::Display for Knows<'_> {
             f,
             " filed under the id {id}: a store of that id was there. Look for its file or for copies, and make none anew; docs/OPERATING.md"
         )
+    }
+}
+
+/// The id that the words give.
+#[derive(Clone, Copy)]
+pub(crate) struct Id(pub(crate) Option<u64>);
+
+impl fmt::Display for Id {
+    fn fmt<W: fmt::Write>(&self, f: &mut fmt::Formatter<W>) -> fmt::Result {
+        match self.0 {
+            Some(id) => write!(f, "the id {id}"),
+            None => write!(f, "this id"),
+        }
+    }
+}
+
+/// That nothing is filed under the id that the words give.
+#[derive(Clone, Copy)]
+pub(crate) struct Unknown<'a>(pub(crate) &'a Ending<'a, 'a>);
+
+impl fmt::Display for Unknown<'_> {
+    fn fmt<W: fmt::Write>(&self, f: &mut fmt::Formatter<W>) -> fmt::Result {
+        let notary = &self.0.notaries;
+        let id = Id(self.0.id());
+        write!(f, "{notary} had nothing that was filed under {id}")
     }
 }

@@ -95,12 +95,18 @@ fn tell_failed<W: fmt::Write>(
                 "{device} can't be opened: the path of a file stands behind `=`"
             )
         }
+        Some(error) if matches!(device.called, Called::Target) && device.was_written => write!(
+            f,
+            "{device}: {error}; what stands there may be cut off: remove it, mend this and start again"
+        ),
         Some(error) => {
             let hint = hint(device, error, ask);
-            write!(
-                f,
-                "{device}: {error}; mend this and start again, what was answered is kept{hint}"
-            )
+            let next = if ask == Ask::Run {
+                "mend this, and give the lines that have no answer again"
+            } else {
+                "mend this and start again, what was answered is kept"
+            };
+            write!(f, "{device}: {error}; {next}{hint}")
         }
         None => tell_no_book(device, f),
     }
@@ -305,21 +311,21 @@ fn tell_seal_missing<W: fmt::Write>(
     match ending.ask {
         Ask::Examine => write!(
             f,
-            "{notary} lacks the digest of a granule that the evidence file shows: either that isn't sealed, or its era has no tree, or the book was cut"
+            "{notary} lacks the digest of a granule that the evidence file shows: either that isn't sealed, or its era has no tree, or the book was cut or altered"
         ),
         Ask::Restore => write!(
             f,
-            "{notary} lacks a digest of what is sealed in {store} and {copy}: it is another store's, or was cut; keep all of them as they are"
+            "{notary} lacks a digest of what is sealed in {store} and {copy}: it is another store's, or was cut or altered; keep all of them as they are"
         ),
         _ => write!(
             f,
-            "{notary} lacks a digest of {store}: it is another store's, or was cut; keep both as they are"
+            "{notary} lacks a digest of {store}: it is another store's, or was cut or altered; keep both as they are"
         ),
     }
 }
 
 const MENDS_CLOCK: &str =
-    "set it right and start again; where it is right, the store's last moment was altered: hold the store against its copies";
+    "set it right and start again. Where it is right, a scripted run has stored a moment that is still to come, so wait for it; or the store was altered, so hold it against its copies";
 
 // Of the clock of a store, whose last moment is so many seconds behind its first.
 fn tell_clock_back<W: fmt::Write>(
@@ -379,7 +385,7 @@ fn tell_full<W: fmt::Write>(ending: &Ending<'_, '_>, f: &mut fmt::Formatter<W>) 
         ),
         Ask::Validate => write!(
             f,
-            "{notary} has no room for another mark: go on with another book"
+            "{notary} has no room for another mark: open the next store, and never another book for this one; docs/OPERATING.md"
         ),
         Ask::Policy => write!(f, "{store} is full: go on with another store"),
         _ => write!(

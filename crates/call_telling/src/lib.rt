@@ -4,12 +4,17 @@
 //! |---|---|
 //! | why the call ended with a fault, which file that is about, and what to do next | `fault` |
 //! | what is odd about the files, each oddity by itself | `oddities` |
-//! | what was compared, found and refused, where output and status don't say it | `warnings`, in the words of `warned` and `refused` |
+//! | what was compared and found, where output and status don't say it | `verdict` |
+//! | what an evidence file shows, and what a restoring took from which file | `copies` |
+//! | what is odd about moments and the clock | `moments` |
+//! | what became of the lines of the input | `lines`, with `refused` |
 //! | what a book says of an id of which no store was found | `known` |
+//! | what an evidence file has that was made, and what a restoring took from which file | `gathered`, `restored` |
 //! | what a device is called, what its file is, moments as dates of the calendar | `named`, `kind`, `date` |
 //!
-//! All of it is made from an [`Ending`] (`ending`): how the call ended, with what its devices tell. Behind a call that found no
-//! store the books are read once more, and not changed. Each function is safe and returns, for every input. No contract
+//! All of it is made from an [`Ending`] (`ending`): how the call ended, with what its devices tell. Some files are read once
+//! more behind the call, and not changed: the books where no store was found, an evidence file or a store that was made, and a
+//! store whose moments no clock gave. Each function is safe and returns, for every input. No contract
 //! speaks of these texts: `examples/check` tries them. What standard error doesn't take is lost.
 //!
 //! ```text
@@ -19,19 +24,25 @@
 //! ```
 #![tactic(auto)]
 
+mod copies;
 mod date;
 mod ending;
 mod fault;
+mod gathered;
 mod kind;
 mod known;
+mod lines;
+mod moments;
 mod named;
 mod oddities;
 mod refused;
+mod restored;
 mod telling;
-mod warned;
-mod warnings;
+mod verdict;
 
 pub use ending::Ending;
+pub use gathered::Gathered;
 pub use known::{Known, Missed};
 pub use named::{Called, Named, Notaries};
+pub use restored::Restored;
 pub use telling::tell;

@@ -26,6 +26,8 @@ pub struct Named<'a> {
     pub path: Option<&'a str>,
     /// What was found there before the call.
     pub found: Found,
+    /// What stands there behind it, where that is looked at.
+    pub later: Found,
     /// Why its last call that failed did so.
     pub error: Option<io::Error>,
     /// Whether it was missing, and was made.
@@ -43,12 +45,20 @@ impl<'a> Named<'a> {
             called,
             path,
             found,
+            later: Found::Unused,
             error: None,
             was_made: false,
             was_written: false,
             odd: Odd::No,
             known: Known::Unasked,
         }
+    }
+
+    /// Whether a store of this id was found there.
+    pub(crate) fn is_store_of(&self, id: Option<u64>) -> bool {
+        self.found
+            .header()
+            .is_some_and(|header| id == Some(header.id))
     }
 }
 

@@ -7,7 +7,7 @@ use crate::kind::{Kind, Was};
 use crate::known::Known;
 use crate::named::{Called, Named, Notaries};
 use asked_words::Ask;
-use call_devices::{Behind, Found, Odd};
+use call_devices::{Behind, Found, Jump, Odd};
 use history_model::Format;
 use line_runs::Status;
 use std::{fmt, io};
@@ -21,6 +21,11 @@ enum Oddity<'a> {
         behind: Behind,
         /// Whether all before them was written to another file.
         is_left_behind: bool,
+    },
+    /// A transaction's number isn't the one behind that of the one before it.
+    Jumps {
+        device: &'a Named<'a>,
+        jump: Jump,
     },
     /// It was missing, or empty.
     Nothing {
@@ -93,6 +98,7 @@ pub(crate) fn tell_oddities<R: Eprint>(rt: &R, ending: &Ending<'_, '_>) -> io::R
     for book in books {
         say(rt, &[behind_of(ending, book)])?;
     }
+    say(rt, &[jumps_in(&ending.store), jumps_in(&ending.copy)])?;
     say(rt, &of_stores(ending))?;
     for book in books {
         say(rt, &of_book(ending, book))?;
@@ -178,10 +184,20 @@ fn behind_of<'a>(ending: &'a Ending<'a, 'a>, device: &'a Named<'a>) -> Option<Od
     Some(Oddity::Behind {
         device,
         behind,
-        is_left_behind: (ending.ask == Ask::Migrate || ending.ask == Ask::Restore)
+        is_left_behind: ending.ask == Ask::Migrate
             && ending.status == Status::Ok
             && matches!(device.called, Called::Store | Called::Copy),
     })
+}
+
+fn jumps_in<'a>(device: &'a Named<'a>) -> Option<Oddity<'a>> {
+    match device.found {
+        Found::Store {
+            jump: Some(jump),
+            ..
+        } => Some(Oddity::Jumps { device, jump }),
+        _ => None,
+    }
 }
 
 fn nothing_in<'a>(ending: &'a Ending<'a, 'a>, device: &'a Named<'a>) -> Option<Oddity<'a>> {
@@ -192,10 +208,18 @@ fn nothing_in<'a>(ending: &'a Ending<'a, 'a>, device: &'a Named<'a>) -> Option<O
     Some(Oddity::Nothing {
         device,
         is_uncompared: !is_among && is_uncompared(ending, device),
-        is_written: device.was_made
-            || matches!(device.called, Called::Book) && ending.heard.is_filed,
+        is_written: device.was_made || ending.heard.is_filed && is_begun(device),
         is_among,
     })
+}
+
+/// Whether a book of a notary that held nothing was begun.
+fn is_begun(device: &Named<'_>) -> bool {
+    match device.called {
+        Called::Book => true,
+        Called::Member { .. } => device.was_written,
+        _ => false,
+    }
 }
 
 /// Whether the call compares by what should stand there, or a notary stood out by it.
@@ -344,12 +368,18 @@ fn has_no_batch(device: &Named<'_>) -> bool {
     holds_nothing(device) || matches!(&device.found, Found::Book { filed: None, .. })
 }
 
+/// Whether it has a batch.
+fn is_filed(device: &Named<'_>) -> bool {
+    matches!(&device.found, Found::Book { filed: Some(_), .. })
+}
+
 /// What more than half of the books say is then what new books say.
 fn lost<'a>(ending: &'a Ending<'a, 'a>) -> Option<Oddity<'a>> {
     let books = ending.notaries.0.as_slice();
     let new = books.iter().filter(|book| has_no_batch(book)).count();
-    let full = books.iter().filter(|book| is_book(book)).count();
-    if uses_notary(ending) && full > 0 && new > books.len().saturating_sub(new) {
+    let full = books.iter().filter(|book| is_filed(book)).count();
+    let is_quorum = books.len() > 1;
+    if is_quorum && uses_notary(ending) && full > 0 && new > books.len().saturating_sub(new) {
         let is_filed = ending.heard.is_filed;
         Some(Oddity::Lost { is_filed })
     } else {
@@ -379,26 +409,29 @@ fn tell_behind<W: fmt::Write>(
         end,
         bytes,
         is_within,
+        is_open,
     } = behind;
     let left = if is_left_behind {
         "; they aren't in the target"
     } else {
         ""
     };
-    if is_within {
-        return write!(
-            f,
-            "{device} ends a segment at byte {end}, and {bytes} bytes stand behind it: no crash leaves such bytes there, and whoever hides records does; docs/NOTARY.md{left}"
-        );
-    }
-    let over = if device.was_written {
+    let over = if device.was_written && !is_within {
         "; this call wrote over the first of them"
     } else {
         ""
     };
+    let ends = if is_within { "ends a segment" } else { "ends" };
+    let why = if is_open {
+        "the gate there is open, and no whole record stands behind it, which no crash leaves so"
+    } else if is_within {
+        "no crash leaves such bytes there, and whoever hides records does"
+    } else {
+        "a crash leaves such bytes, and so does whoever hides records"
+    };
     write!(
         f,
-        "{device} ends at byte {end}, and {bytes} bytes stand behind it: a crash leaves such bytes, and so does whoever hides records; docs/NOTARY.md{over}{left}"
+        "{device} {ends} at byte {end}, and {bytes} bytes stand behind it: {why}; docs/NOTARY.md{over}{left}"
     )
 }
 
@@ -420,6 +453,8 @@ fn tell_nothing<W: fmt::Write>(
     };
     let next = if is_among {
         "; docs/NOTARY.md says what to do"
+    } else if matches!(device.called, Called::Book) && is_uncompared {
+        ". If this store was filed before, look for its book; docs/NOTARY.md"
     } else {
         ""
     };
@@ -430,6 +465,10 @@ fn tell_odd<W: fmt::Write>(device: &Named<'_>, ask: Ask, f: &mut fmt::Formatter<
     match device.odd {
         Odd::Failed => tell_member_failed(device, ask, f),
         Odd::NoMemory => write!(f, "{device} found no memory"),
+        Odd::Differs | Odd::No if device.was_written => write!(
+            f,
+            "{device} differs from the others, and this call added to it: stop, and compare all of them; docs/NOTARY.md says why one does"
+        ),
         Odd::Differs | Odd::No => write!(
             f,
             "{device} differs from the others: keep it as it is; docs/NOTARY.md says why one does"
@@ -445,6 +484,13 @@ impl fmt::Display for Oddity<'_> {
                 behind,
                 is_left_behind,
             } => tell_behind(device, behind, is_left_behind, f),
+            Oddity::Jumps { device, jump } => {
+                let Jump { from, to } = jump;
+                write!(
+                    f,
+                    "{device} has transaction {to} behind transaction {from}: some were lost or altered, or put in; `examples/look.py` says more"
+                )
+            }
             Oddity::Nothing {
                 device,
                 is_uncompared,

@@ -88,12 +88,17 @@ fn tell_meaning<W: fmt::Write>(
         (Some(second), Found::Store { header, .. }) => {
             let epoch = header.epoch;
             let moment = Moment { epoch, second };
-            write!(f, ", {moment}")
+            write!(f, ", {moment}; docs/OPERATING.md")
         }
         (Some(second), _) => write!(f, ", second {second} from its first one on"),
         (None, Found::Store { header, .. }) if refusal == "TooLate" => {
             let end = end_of(header);
-            write!(f, ", which ends at {end}: go on with another one")
+            let next = if ending.ask.sets_moments(ending.call) {
+                "`now M` counts seconds from its first one on"
+            } else {
+                "go on with another one"
+            };
+            write!(f, ", which ends at {end}: {next}")
         }
         (None, found) if refusal == "NotSealedSo" => {
             let others = Analyses(found);

@@ -1,9 +1,12 @@
 //! What is said on standard error at the end: beside a fault line what happened to which file and what to do next, and
 //! else what the output and the status alone don't say.
 
+use crate::copies::tell_copies;
 use crate::ending::Ending;
+use crate::lines::tell_lines;
+use crate::moments::tell_moments;
 use crate::oddities::tell_oddities;
-use crate::warnings::tell_warnings;
+use crate::verdict::tell_verdict;
 use asked_words::tell_usage;
 use line_runs::Status;
 use std::io;
@@ -21,5 +24,8 @@ pub fn tell<R: Eprint + AllocGlobal>(rt: &R, ending: &Ending<'_, '_>) -> io::Res
         _ => eprintln!(rt; "dragoon: {ending}")?,
     }
     tell_oddities(rt, ending)?;
-    tell_warnings(rt, ending)
+    tell_verdict(rt, ending)?;
+    tell_copies(rt, ending)?;
+    tell_moments(rt, ending)?;
+    tell_lines(rt, ending)
 }

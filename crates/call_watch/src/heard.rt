@@ -1,5 +1,7 @@
 //! What went to the output, as far as something is told of it at the end.
 
+use crate::kinds::Kinds;
+use crate::noted::{Noted, What, number};
 use crate::sessions::Sessions;
 use crate::shared::Shared;
 use std::str;
@@ -57,6 +59,7 @@ pub struct Heard<'a> {
     pub replies: u64,
     pub refused: u64,
     first_refusal: Front,
+    kinds: Kinds,
     /// The first refusal that says that store and book don't go together.
     alarm: Front,
     /// How many lines of a generated script were refused, with what came behind it.
@@ -66,14 +69,25 @@ pub struct Heard<'a> {
     pub altered: Front,
     /// The last piece of an audit, where no verdict came behind it.
     piece: Front,
+    sessions: Sessions,
+    /// Whether a line has set the clock, and whether one stored something before that.
+    is_now_set: bool,
+    pub is_stored_unset: bool,
+    /// The latest moment that was asked for.
+    pub asked: u64,
+    /// Whether the last reply is one to a line that is worth a look if it was cut off.
+    is_last_telling: bool,
     /// Whether something was filed with the notary, or marked.
     pub is_filed: bool,
     /// Whether an era was begun, and whether one at tile 0, so that no tile was held against what is filed.
     is_turned: bool,
     pub is_turned_uncompared: bool,
-    /// Whether an evidence file shows no granule.
+    turned_at: Option<u64>,
+    /// Whether an evidence file shows no granule, or what no honest one does.
     pub is_none_shown: bool,
-    /// How many granules a restoring has lost.
+    pub is_unfit: bool,
+    /// How many granules a restoring has kept and lost.
+    kept: Option<u64>,
     pub lost: u64,
     /// Whether a report says that something happened between a moment and an earlier one.
     pub goes_back: bool,
@@ -87,15 +101,24 @@ impl<'a> Heard<'a> {
             replies: 0,
             refused: 0,
             first_refusal: Front::new(),
+            kinds: Kinds::new(),
             alarm: Front::new(),
             refused_of_made: 0,
             verdict: Front::new(),
             altered: Front::new(),
             piece: Front::new(),
+            sessions: Sessions::new(),
+            is_now_set: false,
+            is_stored_unset: false,
+            asked: 0,
+            is_last_telling: false,
             is_filed: false,
             is_turned: false,
             is_turned_uncompared: false,
+            turned_at: None,
             is_none_shown: false,
+            is_unfit: false,
+            kept: None,
             lost: 0,
             goes_back: false,
         }
@@ -125,14 +148,20 @@ impl<'a> Heard<'a> {
     /// A fault's line is no reply.
     fn begin_reply(&mut self, reply: &[u8]) {
         let front = Front::of(reply);
+        let line = self.shared.line_of(self.replies);
         if front.text().starts_with("fault ") {
+            self.hear_fault(line);
             return;
         }
         if let Some(refusal) = front.text().strip_prefix(REFUSED) {
             self.hear_refusal(front, refusal);
         }
         self.hear(front);
+        if let Some(line) = line {
+            self.hear_line(line, front);
+        }
         self.goes_back = self.goes_back || goes_back(reply);
+        self.is_unfit = self.is_unfit || is_unfit(reply);
         self.replies = self.replies.saturating_add(1);
     }
 
@@ -145,7 +174,38 @@ impl<'a> Heard<'a> {
             self.alarm = reply;
         }
         self.refused = self.refused.saturating_add(1);
-        self.shared.sessions.refuse(self.replies, refusal);
+        self.kinds.take(refusal);
+    }
+
+    /// The call ends in place of a reply to this line.
+    fn hear_fault(&mut self, line: Option<Noted>) {
+        self.is_last_telling = false;
+        if let Some(
+            Noted {
+                session: Some(session),
+                what: What::Commit,
+                ..
+            },
+        ) = line
+        {
+            self.sessions.forget(session);
+        }
+    }
+
+    /// What the reply says of its line.
+    fn hear_line(&mut self, line: Noted, reply: Front) {
+        let text = reply.text();
+        let refusal = text.strip_prefix(REFUSED);
+        if let Some(session) = line.session {
+            self.sessions.hear(session, line.what, text, refusal);
+        }
+        if refusal.is_none() {
+            self.is_now_set = self.is_now_set || line.what == What::Clock;
+            self.asked = self.asked.max(line.asked.unwrap_or(0));
+        }
+        let is_stored = text.starts_with("ok ");
+        self.is_stored_unset = self.is_stored_unset || is_stored && !self.is_now_set;
+        self.is_last_telling = is_stored || refusal.is_some() || text.starts_with("era ");
     }
 
     /// What the notary was given or asked by a line with this reply, and what it says of a store or an evidence file.
@@ -155,6 +215,7 @@ impl<'a> Heard<'a> {
         self.is_none_shown = self.is_none_shown
             || text.starts_with("examined 0 ")
             || text == "evidence 0";
+        self.kept = first_number(text, "restored ").or(self.kept);
         self.lost = second_number(text, "restored ").unwrap_or(self.lost);
         self.refused_of_made = second_number(text, "made ").unwrap_or(self.refused_of_made);
         self.hear_turn(text);
@@ -166,6 +227,10 @@ impl<'a> Heard<'a> {
         if text.starts_with("era ") {
             self.is_turned = true;
             self.is_turned_uncompared = self.is_turned_uncompared || text.ends_with(" tile 0");
+            self.turned_at = text
+                .rsplit(' ')
+                .next()
+                .and_then(|tile| tile.parse::<u64>().ok());
         }
     }
 
@@ -190,7 +255,33 @@ impl<'a> Heard<'a> {
     }
 
     pub fn sessions(&self) -> &Sessions {
-        &self.shared.sessions
+        &self.sessions
+    }
+
+    /// Whether memory was wanting for a line, so that less is known of the sessions.
+    pub fn is_lost(&self) -> bool {
+        self.shared.is_lost.get()
+    }
+
+    /// How many tiles were sealed by the last verdict, or as an era was begun.
+    pub fn sealed_tiles(&self) -> Option<u64> {
+        first_number(self.verdict.text(), "clean ")
+            .or(first_number(self.verdict.text(), "altered "))
+            .or(self.turned_at)
+    }
+
+    /// How many granules are sealed of a store that was restored.
+    pub fn sealed(&self) -> Option<u64> {
+        Some(self.kept?.saturating_add(self.lost))
+    }
+
+    pub fn kinds(&self) -> &Kinds {
+        &self.kinds
+    }
+
+    /// The number of the last line, where that has no end and was more than a question.
+    pub fn unended(&self) -> Option<u64> {
+        self.shared.unended.get().filter(|_| self.is_last_telling)
     }
 
     /// Its name, and what stands behind that in the reply.
@@ -228,7 +319,13 @@ fn is_alarm(refusal: &str) -> bool {
         || refusal.starts_with("NotaryInconsistent ")
 }
 
-/// Of a reply that begins so its second number: R of `made N refused R txns T`, and M of `restored K lost M`.
+/// Of a reply that begins so its first number: K of `restored K lost M`.
+fn first_number(reply: &str, begin: &str) -> Option<u64> {
+    let mut words = reply.strip_prefix(begin)?.split(' ');
+    words.next()?.parse::<u64>().ok()
+}
+
+/// Its second number: R of `made N refused R txns T`, and M of `restored K lost M`.
 fn second_number(reply: &str, begin: &str) -> Option<u64> {
     let mut words = reply.strip_prefix(begin)?.split(' ');
     words.nth(2)?.parse::<u64>().ok()
@@ -272,6 +369,19 @@ fn is_backward(line: &[u8]) -> bool {
     }
 }
 
-fn number(digits: &[u8]) -> Option<u64> {
-    str::from_utf8(digits).ok()?.parse::<u64>().ok()
+/// Whether a line of an examination says that a list is as notarized that is shown as altered, or that an original isn't.
+fn is_unfit(reply: &[u8]) -> bool {
+    reply.starts_with(b"granule ".as_slice())
+        && reply
+            .split(|byte| *byte == b'\n')
+            .any(|line| is_unfit_line(line))
+}
+
+/// `granule G as notarized ..`, or an original at its end that is `not as notarized`.
+fn is_unfit_line(line: &[u8]) -> bool {
+    let mut words = line.split(|byte| *byte == b' ');
+    if words.next() != Some(b"granule".as_slice()) {
+        return false;
+    }
+    words.nth(1) == Some(b"as".as_slice()) || line.ends_with(b" not as notarized".as_slice())
 }

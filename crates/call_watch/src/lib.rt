@@ -5,7 +5,9 @@
 //! | how far it is, on a line of its own at a terminal | `progress`, moved by `watched` |
 //! | which reply was refused first, what was filed, and what the verdict was | `heard` |
 //! | to which line of the input that refusal came | `lines` |
+//! | how many refusals of each kind came | `kinds` |
 //! | which sessions were begun, and which are left without a commit | `sessions` |
+//! | what each line of the input says of these and of moments | `script`, `noted` |
 //! | what these know of one another | `shared` |
 //!
 //! | The layer above may rely on | Clause |
@@ -23,15 +25,19 @@
 #![tactic(auto)]
 
 mod heard;
+mod kinds;
 mod lines;
+mod noted;
 mod progress;
+mod script;
 mod sessions;
 mod shared;
 mod watched;
 
 pub use heard::{Front, Heard};
-pub use lines::{LONGEST, Lines, Refused, is_too_long};
+pub use kinds::Kinds;
+pub use lines::{LONGEST, Refused, is_too_long};
 pub use progress::Progress;
-pub use sessions::Sessions;
+pub use sessions::{Sessions, Without};
 pub use shared::Shared;
 pub use watched::{WatchedDisk, WatchedSink, WatchedSource};

@@ -1,12 +1,7 @@
-//! Which sessions of a run are begun and not committed when its input ends.
+//! Which sessions of a run are begun and not committed, and which were committed without lines that were refused.
 
-use crate::lines::is_blank;
-use asked_words::session_of;
-use std::cell::Cell;
+use crate::noted::What;
 use std::fmt;
-
-/// As many bytes are kept of a line: enough for a session's name and `commit`, with one space between them.
-const FRONT: usize = 16;
 
 /// As many sessions a script has.
 const SESSIONS: usize = 16;
@@ -15,59 +10,87 @@ const SESSIONS: usize = 16;
 #[derive(Clone, Copy)]
 struct Session {
     is_open: bool,
-    /// The reply to its last `commit` or `abort`, counted from 0, where no `begin` came behind that.
-    ending: Option<u64>,
+    /// How many of its lines were refused since it was begun.
+    refused: u64,
 }
 
-/// What the lines that were read say of each session, and the replies to those that end one.
+const CLOSED: Session = Session {
+    is_open: false,
+    refused: 0,
+};
+
+/// The first of the commits that stored something, and not all that their sessions asked for.
+#[derive(Clone, Copy)]
+pub struct Without {
+    pub session: usize,
+    pub lines: u64,
+    /// How many such commits there are.
+    pub commits: u64,
+}
+
+/// What the replies to lines of sessions say.
 #[derive(Drop)]
 pub struct Sessions {
-    all: Cell<[Session; SESSIONS]>,
+    all: [Session; SESSIONS],
+    pub without: Option<Without>,
 }
 
 impl Sessions {
     pub(crate) fn new() -> Sessions {
-        let closed = Session {
-            is_open: false,
-            ending: None,
-        };
         Sessions {
-            all: Cell::new([closed; SESSIONS]),
+            all: [CLOSED; SESSIONS],
+            without: None,
         }
     }
 
-    /// A `begin` leaves a session that is open, whether it is refused or not.
-    fn begin(&self, number: usize) {
-        self.put(number, true, None);
-    }
-
-    /// A `commit` or an `abort` ends its session, unless the reply says otherwise later.
-    fn end(&self, number: usize, reply: u64) {
-        self.put(number, false, Some(reply));
-    }
-
-    fn put(&self, number: usize, is_open: bool, ending: Option<u64>) {
-        let mut all = self.all.get();
-        if let Some(session) = all.get_mut(number) {
-            *session = Session { is_open, ending };
-        }
-        self.all.set(all);
-    }
-
-    /// A reply that is a refusal. Of a `commit` it leaves the session, but for a conflict and a session that isn't begun.
-    pub(crate) fn refuse(&self, reply: u64, refusal: &str) {
-        let mut all = self.all.get();
-        for session in all.iter_mut() {
-            if session.ending == Some(reply) {
-                let is_ended = refusal == "NoSession" || refusal.starts_with("Conflict ");
-                session.is_open = !is_ended;
+    /// The reply to a line of this session.
+    pub(crate) fn hear(&mut self, number: usize, what: What, reply: &str, refusal: Option<&str>) {
+        let Some(session) = self.all.get_mut(number) else {
+            return;
+        };
+        match (what, refusal) {
+            (What::Begin, None) => session.is_open = true,
+            (What::Commit, None) => {
+                let lines = session.refused;
+                *session = CLOSED;
+                if lines > 0 && reply.starts_with("ok ") {
+                    self.note_without(number, lines);
+                }
             }
+            (What::Commit, Some(refusal)) if refusal.starts_with("Conflict ") => *session = CLOSED,
+            (What::Abort, None) => *session = CLOSED,
+            (What::Other, Some(_)) if session.is_open => {
+                session.refused = session.refused.saturating_add(1);
+            }
+            _ => {}
         }
-        self.all.set(all);
+    }
+
+    fn note_without(&mut self, session: usize, lines: u64) {
+        let without = match self.without {
+            Some(first) => Without {
+                session: first.session,
+                lines: first.lines,
+                commits: first.commits.saturating_add(1),
+            },
+            None => Without {
+                session,
+                lines,
+                commits: 1,
+            },
+        };
+        self.without = Some(without);
+    }
+
+    /// The call ended within a commit of this session, so it isn't known whether that is stored.
+    pub(crate) fn forget(&mut self, number: usize) {
+        if let Some(session) = self.all.get_mut(number) {
+            *session = CLOSED;
+        }
     }
 
     pub fn is_any_open(&self) -> bool {
-        self.all.get().iter().any(|session| session.is_open)
+        self.all.iter().any(|session| session.is_open)
     }
 }
 
@@ -75,84 +98,12 @@ impl Sessions {
 impl fmt::Display for Sessions {
     fn fmt<W: fmt::Write>(&self, f: &mut fmt::Formatter<W>) -> fmt::Result {
         let mut between = "";
-        for (number, session) in self.all.get().iter().enumerate() {
+        for (number, session) in self.all.iter().enumerate() {
             if session.is_open {
                 write!(f, "{between}s{number}")?;
                 between = ", ";
             }
         }
         Ok(())
-    }
-}
-
-/// Looks for the lines of an input that begin or end a session. Spaces in a row count as one.
-#[derive(Drop)]
-pub(crate) struct SessionLines {
-    front: [u8; FRONT],
-    length: usize,
-    /// So many lines before this one have a reply.
-    replied: u64,
-}
-
-impl SessionLines {
-    pub(crate) fn new() -> SessionLines {
-        SessionLines {
-            front: [0; FRONT],
-            length: 0,
-            replied: 0,
-        }
-    }
-
-    /// Takes what was read.
-    pub(crate) fn take(&mut self, piece: &[u8], sessions: &Sessions) {
-        for byte in piece {
-            if *byte == b'\n' {
-                self.end_line(sessions);
-            } else if *byte != b' ' || !self.is_behind_space() {
-                self.keep(*byte);
-            }
-        }
-    }
-
-    fn is_behind_space(&self) -> bool {
-        match self.length.checked_sub(1) {
-            Some(last) => self.front.get(last) == Some(&b' '),
-            None => false,
-        }
-    }
-
-    fn keep(&mut self, byte: u8) {
-        if let Some(kept) = self.front.get_mut(self.length) {
-            *kept = byte;
-            self.length = self.length.saturating_add(1);
-        }
-    }
-
-    /// The line is whole, by its end or by that of the input.
-    pub(crate) fn end_line(&mut self, sessions: &Sessions) {
-        let line = self.front.get(..self.length).unwrap_or(&[]);
-        if !is_blank(line) {
-            note(line, self.replied, sessions);
-            self.replied = self.replied.saturating_add(1);
-        }
-        self.length = 0;
-    }
-}
-
-/// Notes what a line says of its session, where it begins or ends one.
-fn note(line: &[u8], reply: u64, sessions: &Sessions) {
-    let line = line.strip_suffix(b"\r".as_slice()).unwrap_or(line);
-    let mut words = line
-        .split(|byte| *byte == b' ')
-        .filter(|word| !word.is_empty());
-    let session = words.next().and_then(session_of);
-    let word = words.next().unwrap_or(&[]);
-    let Some(session) = session.filter(|_| words.next().is_none()) else {
-        return;
-    };
-    if word == b"begin".as_slice() {
-        sessions.begin(session);
-    } else if word == b"commit".as_slice() || word == b"abort".as_slice() {
-        sessions.end(session, reply);
     }
 }

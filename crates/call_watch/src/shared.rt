@@ -1,6 +1,6 @@
 //! What the devices of a call know of one another, for what standard error is told.
 
-use crate::sessions::Sessions;
+use crate::noted::Noted;
 use call_devices::Ballot;
 use std::cell::Cell;
 
@@ -11,7 +11,13 @@ pub struct Shared {
     pub(crate) is_shown: Cell<bool>,
     /// Which reply was the first refusal, counted from 0.
     pub(crate) first_refused: Cell<Option<u64>>,
-    pub(crate) sessions: Sessions,
+    /// The lines that were read last, and which reply comes to the first of them.
+    pub(crate) noted: Cell<Option<Vec<Noted>>>,
+    pub(crate) first_noted: Cell<u64>,
+    /// Whether memory was wanting for one of them.
+    pub(crate) is_lost: Cell<bool>,
+    /// The number of a last line that has no end, counted from 1.
+    pub(crate) unended: Cell<Option<u64>>,
     pub ballot: Ballot,
 }
 
@@ -21,8 +27,22 @@ impl Shared {
         Shared {
             is_shown: Cell::new(false),
             first_refused: Cell::new(None),
-            sessions: Sessions::new(),
+            noted: Cell::new(None),
+            first_noted: Cell::new(0),
+            is_lost: Cell::new(false),
+            unended: Cell::new(None),
             ballot: Ballot::new(notaries),
         }
+    }
+
+    /// The line of this reply, counted from 0.
+    pub(crate) fn line_of(&self, reply: u64) -> Option<Noted> {
+        let place = reply.checked_sub(self.first_noted.get())?;
+        let lines = self.noted.take();
+        let line = lines
+            .as_ref()
+            .and_then(|lines| lines.get(place as usize).copied());
+        self.noted.set(lines);
+        line
     }
 }

@@ -3,10 +3,11 @@
 use crate::heard::Heard;
 use crate::lines::Lines;
 use crate::progress::{Progress, Step};
-use crate::sessions::SessionLines;
+use crate::script::Script;
 use crate::shared::Shared;
 use disk_model::{Disk, DiskFail};
 use outside_io::{Sink, Source, StreamFail};
+use std::alloc::Global;
 use std::rt::Runtime;
 
 /// A disk that shows how much was read of it, and written.
@@ -95,7 +96,7 @@ pub struct WatchedSource<'a, I: Drop, R: Runtime> {
     takes_lines: bool,
     /// How many lines were read, or bytes.
     count: u64,
-    sessions: SessionLines,
+    script: Script,
     pub lines: Lines,
 }
 
@@ -106,7 +107,7 @@ impl<'a, I: Source + Drop, R: Runtime> WatchedSource<'a, I, R> {
         shared: &'a Shared,
         is_asked: bool,
         takes_lines: bool,
-        lines: Lines,
+        alloc: Global,
     ) -> Self {
         WatchedSource {
             below,
@@ -115,8 +116,8 @@ impl<'a, I: Source + Drop, R: Runtime> WatchedSource<'a, I, R> {
             is_asked,
             takes_lines,
             count: 0,
-            sessions: SessionLines::new(),
-            lines,
+            script: Script::new(alloc),
+            lines: Lines::new(alloc),
         }
     }
 
@@ -151,9 +152,9 @@ impl<'a, I: Source + Drop, R: Runtime> Source for WatchedSource<'a, I, R> {
         self.count = self.count.saturating_add(ends_in(&into[..count]));
         self.lines.take(&into[..count]);
         if count == 0 {
-            self.sessions.end_line(&self.shared.sessions);
+            self.script.end(self.shared);
         } else {
-            self.sessions.take(&into[..count], &self.shared.sessions);
+            self.script.take(&into[..count], self.shared);
         }
         Ok(count)
     }

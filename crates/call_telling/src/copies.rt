@@ -1,0 +1,351 @@
+//! What an evidence file shows, and what a restoring took from which file, where the output doesn't say it.
+
+use crate::ending::{Ending, Id, Unknown};
+use crate::gathered::Gathered;
+use crate::kind::Kind;
+use crate::named::Named;
+use crate::restored::{Restored, Source};
+use asked_words::Ask;
+use line_runs::Status;
+use std::{fmt, io};
+
+/// One thing to say of what was made of a store and its copy.
+#[derive(Clone, Copy)]
+enum Warning<'a> {
+    /// An evidence file has not what is filed under the id.
+    Unexamined,
+    /// An evidence file shows no granule.
+    NoneShown,
+    /// It shows what `evidence` doesn't write.
+    Unfit,
+    /// One that was made shows no granule.
+    NoneAltered,
+    /// The copy isn't a store of the id, so an evidence file shows nothing of it.
+    ShownAlone,
+    /// The copy gave what was filed of fewer granules than an evidence file shows.
+    FewOriginals { gathered: Gathered },
+    /// Nothing is filed under the id of a store that was to be restored.
+    Unrestored,
+    /// No tile of it is filed.
+    NoneSealed,
+    /// This file doesn't pass.
+    Untaken { source: &'a Named<'a> },
+    /// So many transactions that aren't sealed were taken from this file.
+    Unsealed { source: &'a Named<'a>, count: u64 },
+    /// This file has more of them, or others.
+    More { source: &'a Named<'a>, count: u64 },
+    /// Numbers or moments of what was restored don't ascend.
+    Unordered,
+    /// Granules are lost.
+    Lost,
+}
+
+/// It, with what it is said of.
+#[derive(Clone, Copy)]
+struct Told<'a> {
+    warning: Warning<'a>,
+    ending: &'a Ending<'a, 'a>,
+}
+
+/// Says each on a line of its own.
+pub(crate) fn tell_copies<R: Eprint>(rt: &R, ending: &Ending<'_, '_>) -> io::Result<()> {
+    say(rt, ending, examined(ending))?;
+    say(rt, ending, gathered(ending))?;
+    say(rt, ending, unrestored(ending))?;
+    match ending.restored {
+        Some(restored) => tell_restored(rt, ending, &restored),
+        None => Ok(()),
+    }
+}
+
+fn tell_restored<R: Eprint>(
+    rt: &R,
+    ending: &Ending<'_, '_>,
+    restored: &Restored,
+) -> io::Result<()> {
+    say(rt, ending, none_sealed(restored))?;
+    say(rt, ending, untaken(&ending.store, restored.store))?;
+    say(rt, ending, untaken(&ending.copy, restored.copy))?;
+    say(rt, ending, unsealed(ending, restored))?;
+    say(rt, ending, more_of_store(ending, restored))?;
+    say(rt, ending, more_of_copy(ending, restored))?;
+    say(rt, ending, unordered(restored))
+}
+
+fn say<R: Eprint>(rt: &R, ending: &Ending<'_, '_>, warning: Option<Warning<'_>>) -> io::Result<()> {
+    match warning {
+        Some(warning) => {
+            let told = Told { warning, ending };
+            eprintln!(rt; "dragoon: {told}")
+        }
+        None => Ok(()),
+    }
+}
+
+/// What there is to say of an evidence file.
+fn examined<'a>(ending: &Ending<'_, '_>) -> Option<Warning<'a>> {
+    if ending.ask != Ask::Examine {
+        return None;
+    }
+    match ending.status {
+        Status::Altered => Some(Warning::Unexamined),
+        Status::Ok if ending.heard.is_none_shown => Some(Warning::NoneShown),
+        Status::Ok if ending.heard.is_unfit => Some(Warning::Unfit),
+        _ => None,
+    }
+}
+
+/// What an evidence file that was made doesn't show.
+fn gathered<'a>(ending: &Ending<'_, '_>) -> Option<Warning<'a>> {
+    if ending.ask != Ask::Evidence || ending.status != Status::Ok || !ending.target.was_written {
+        None
+    } else if ending.heard.is_none_shown {
+        Some(Warning::NoneAltered)
+    } else if ending.copy.is_store_of(ending.id()) {
+        few_originals(ending)
+    } else {
+        Some(Warning::ShownAlone)
+    }
+}
+
+fn few_originals<'a>(ending: &Ending<'_, '_>) -> Option<Warning<'a>> {
+    let gathered = ending.gathered?;
+    if gathered.originals < gathered.granules {
+        Some(Warning::FewOriginals { gathered })
+    } else {
+        None
+    }
+}
+
+/// What there is to say of a store that was restored, or wasn't, by the output alone.
+fn unrestored<'a>(ending: &Ending<'_, '_>) -> Option<Warning<'a>> {
+    if ending.ask != Ask::Restore || ending.status != Status::Ok {
+        None
+    } else if ending.heard.is_unsealed() {
+        Some(Warning::Unrestored)
+    } else if ending.heard.lost > 0 {
+        Some(Warning::Lost)
+    } else {
+        None
+    }
+}
+
+fn none_sealed<'a>(restored: &Restored) -> Option<Warning<'a>> {
+    if restored.sealed == 0 {
+        Some(Warning::NoneSealed)
+    } else {
+        None
+    }
+}
+
+fn untaken<'a>(named: &'a Named<'a>, source: Option<Source>) -> Option<Warning<'a>> {
+    match source {
+        Some(Source { passes: false, .. }) => Some(Warning::Untaken { source: named }),
+        _ => None,
+    }
+}
+
+/// No digest vouches for what isn't sealed.
+fn unsealed<'a>(ending: &'a Ending<'a, 'a>, restored: &Restored) -> Option<Warning<'a>> {
+    let source = if restored.is_of_store() {
+        &ending.store
+    } else {
+        &ending.copy
+    };
+    match restored.unsealed {
+        0 => None,
+        count => Some(Warning::Unsealed { source, count }),
+    }
+}
+
+/// A store from which nothing was taken may have more of its rows.
+fn more_of_store<'a>(ending: &'a Ending<'a, 'a>, restored: &Restored) -> Option<Warning<'a>> {
+    let store = restored.store?;
+    if store.has_others {
+        Some(Warning::More {
+            source: &ending.store,
+            count: store.unsealed,
+        })
+    } else {
+        None
+    }
+}
+
+/// A copy that doesn't pass may be that of another store.
+fn more_of_copy<'a>(ending: &'a Ending<'a, 'a>, restored: &Restored) -> Option<Warning<'a>> {
+    let copy = restored.copy?;
+    if copy.passes && copy.has_others {
+        Some(Warning::More {
+            source: &ending.copy,
+            count: copy.unsealed,
+        })
+    } else {
+        None
+    }
+}
+
+fn unordered<'a>(restored: &Restored) -> Option<Warning<'a>> {
+    if restored.is_in_order {
+        None
+    } else {
+        Some(Warning::Unordered)
+    }
+}
+
+impl fmt::Display for Told<'_> {
+    fn fmt<W: fmt::Write>(&self, f: &mut fmt::Formatter<W>) -> fmt::Result {
+        let ending = self.ending;
+        match self.warning {
+            Warning::Unexamined => tell_unexamined(ending, f),
+            Warning::NoneShown => write!(
+                f,
+                "the evidence file shows no granule: whoever made it found none altered, or left them out"
+            ),
+            Warning::Unfit => tell_unfit(ending, f),
+            Warning::NoneAltered => tell_none_altered(ending, f),
+            Warning::ShownAlone => tell_shown_alone(&ending.copy, f),
+            Warning::FewOriginals { gathered } => tell_few_originals(&ending.copy, gathered, f),
+            Warning::Unrestored => tell_unrestored(ending, f),
+            Warning::NoneSealed => write!(
+                f,
+                "no tile is filed yet: the header alone was compared, and all rows were taken as they stand"
+            ),
+            Warning::Untaken { source } => write!(
+                f,
+                "nothing was taken from {source}: it has another header or other eras than were filed"
+            ),
+            Warning::Unsealed { source, count } => {
+                let target = &ending.target;
+                let transactions = Transactions(count);
+                write!(
+                    f,
+                    "{target} has {transactions} behind the sealed tiles, taken from {source}: no digest vouches for what isn't sealed"
+                )
+            }
+            Warning::More { source, count } => tell_more(&ending.target, source, count, f),
+            Warning::Unordered => tell_unordered(&ending.target, f),
+            Warning::Lost => tell_lost(ending, f),
+        }
+    }
+}
+
+fn tell_unexamined<W: fmt::Write>(
+    ending: &Ending<'_, '_>,
+    f: &mut fmt::Formatter<W>,
+) -> fmt::Result {
+    let notary = &ending.notaries;
+    let id = Id(ending.id());
+    write!(
+        f,
+        "nothing was examined: the evidence file isn't of {id}, or {notary} has no such header and eras filed under it. Name the right file, id and book. Evidence of a store whose header or eras were altered is told so, too"
+    )
+}
+
+fn tell_unfit<W: fmt::Write>(ending: &Ending<'_, '_>, f: &mut fmt::Formatter<W>) -> fmt::Result {
+    let notary = &ending.notaries;
+    write!(
+        f,
+        "`evidence` shows what isn't as notarized alone, and beside it what is: so the file was changed, or {notary} was"
+    )
+}
+
+fn tell_none_altered<W: fmt::Write>(
+    ending: &Ending<'_, '_>,
+    f: &mut fmt::Formatter<W>,
+) -> fmt::Result {
+    let store = &ending.store;
+    write!(
+        f,
+        "the search of the trees found no granule of {store} that differs, and other digests weren't asked: the evidence file shows none"
+    )
+}
+
+fn tell_shown_alone<W: fmt::Write>(copy: &Named<'_>, f: &mut fmt::Formatter<W>) -> fmt::Result {
+    if copy.path.is_none() {
+        write!(f, "no copy=FILE was named")?;
+    } else {
+        let kind = Kind(copy.found);
+        write!(f, "{copy} {kind}")?;
+    }
+    write!(
+        f,
+        ": the evidence file shows what the store holds alone, and nothing of what was filed there"
+    )
+}
+
+fn tell_few_originals<W: fmt::Write>(
+    copy: &Named<'_>,
+    gathered: Gathered,
+    f: &mut fmt::Formatter<W>,
+) -> fmt::Result {
+    let Gathered {
+        granules,
+        originals,
+    } = gathered;
+    if originals == 0 {
+        write!(
+            f,
+            "{copy} gave no original: it is older, has another header or other eras, or is altered there"
+        )
+    } else {
+        write!(
+            f,
+            "{copy} gave the originals of {originals} of {granules} granules: of the others it hasn't what was filed, being older or altered there"
+        )
+    }
+}
+
+fn tell_unrestored<W: fmt::Write>(
+    ending: &Ending<'_, '_>,
+    f: &mut fmt::Formatter<W>,
+) -> fmt::Result {
+    let unknown = Unknown(ending);
+    write!(f, "nothing was restored: {unknown}")
+}
+
+fn tell_more<W: fmt::Write>(
+    target: &Named<'_>,
+    source: &Named<'_>,
+    count: u64,
+    f: &mut fmt::Formatter<W>,
+) -> fmt::Result {
+    let transactions = Transactions(count);
+    write!(
+        f,
+        "{source} has {transactions} behind the sealed tiles: `examples/differ.py` says which of them {target} lacks; docs/OPERATING.md"
+    )
+}
+
+/// So many of them.
+#[derive(Clone, Copy)]
+struct Transactions(u64);
+
+impl fmt::Display for Transactions {
+    fn fmt<W: fmt::Write>(&self, f: &mut fmt::Formatter<W>) -> fmt::Result {
+        match self.0 {
+            1 => write!(f, "1 transaction"),
+            count => write!(f, "{count} transactions"),
+        }
+    }
+}
+
+fn tell_unordered<W: fmt::Write>(target: &Named<'_>, f: &mut fmt::Formatter<W>) -> fmt::Result {
+    write!(
+        f,
+        "numbers or moments of {target} don't ascend, as where some were lost, or moved behind the sealed tiles: `examples/look.py` says where"
+    )
+}
+
+fn tell_lost<W: fmt::Write>(ending: &Ending<'_, '_>, f: &mut fmt::Formatter<W>) -> fmt::Result {
+    let store = &ending.store;
+    let copy = &ending.copy;
+    let target = &ending.target;
+    match ending.heard.lost {
+        1 => write!(f, "1 granule is lost")?,
+        lost => write!(f, "{lost} granules are lost")?,
+    }
+    write!(
+        f,
+        ": what is filed of that time is neither what {store} has nor what {copy} has, and {target} has no row of it. Validate a copy of {target} before anybody goes on with it; docs/OPERATING.md"
+    )
+}

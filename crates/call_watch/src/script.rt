@@ -1,0 +1,117 @@
+//! The lines of an input as they are read, noted for when their replies come.
+
+use crate::lines::is_blank;
+use crate::noted::Noted;
+use crate::shared::Shared;
+use std::alloc::Global;
+
+/// As many bytes are kept of a line's front: enough for a session's name, `over` and a moment.
+const FRONT: usize = 24;
+
+/// As many bytes are kept of its end: enough for `as of` and a moment.
+const TAIL: usize = 32;
+
+/// Spaces in a row count as one in a line's front.
+#[derive(Drop)]
+pub(crate) struct Script {
+    alloc: Global,
+    front: [u8; FRONT],
+    length: usize,
+    /// The last bytes of those that an earlier piece has of this line.
+    tail: Vec<u8>,
+    /// So many lines before this one have a reply, and so many ended.
+    replied: u64,
+    ended: u64,
+}
+
+impl Script {
+    pub(crate) fn new(alloc: Global) -> Script {
+        Script {
+            alloc,
+            front: [0; FRONT],
+            length: 0,
+            tail: Vec::new(alloc),
+            replied: 0,
+            ended: 0,
+        }
+    }
+
+    /// Takes what was read, and notes each line that ends in it. All lines before them have their replies.
+    pub(crate) fn take(&mut self, piece: &[u8], shared: &Shared) {
+        let mut noted = shared.noted.take().unwrap_or(Vec::new(self.alloc));
+        noted.clear();
+        shared.first_noted.set(self.replied);
+        let mut begin = 0;
+        for (place, byte) in piece.iter().enumerate() {
+            if *byte == b'\n' {
+                self.end_line(last_of(piece, begin, place), &mut noted, shared);
+                begin = place.saturating_add(1);
+            } else if *byte != b' ' || !self.is_behind_space() {
+                self.keep(*byte);
+            }
+        }
+        self.keep_tail(last_of(piece, begin, piece.len()), shared);
+        shared.noted.set(Some(noted));
+    }
+
+    fn is_behind_space(&self) -> bool {
+        match self.length.checked_sub(1) {
+            Some(last) => self.front.get(last) == Some(&b' '),
+            None => false,
+        }
+    }
+
+    fn keep(&mut self, byte: u8) {
+        if let Some(kept) = self.front.get_mut(self.length) {
+            *kept = byte;
+            self.length = self.length.saturating_add(1);
+        }
+    }
+
+    /// Adds these last bytes of a piece to the end of a line. Where they are all that is kept, none before them is.
+    fn keep_tail(&mut self, bytes: &[u8], shared: &Shared) {
+        let kept = if bytes.len() < TAIL { TAIL } else { 0 };
+        let many = self.tail.len().saturating_sub(kept);
+        self.tail.drain(..many);
+        if self.tail.extend_from_slice(bytes).is_err() {
+            shared.is_lost.set(true);
+        }
+    }
+
+    /// The line is whole, behind these last bytes of it.
+    fn end_line(&mut self, bytes: &[u8], noted: &mut Vec<Noted>, shared: &Shared) {
+        if !self.tail.is_empty() {
+            self.keep_tail(bytes, shared);
+        }
+        let front = self.front.get(..self.length).unwrap_or(&[]);
+        if !is_blank(front) {
+            let line = if self.tail.is_empty() {
+                Noted::of(front, bytes)
+            } else {
+                Noted::of(front, self.tail.as_slice())
+            };
+            if noted.push(line).is_err() {
+                shared.is_lost.set(true);
+            }
+            self.replied = self.replied.saturating_add(1);
+        }
+        self.ended = self.ended.saturating_add(1);
+        self.length = 0;
+        self.tail.clear();
+    }
+
+    /// Nothing more is read. A line that has no end by then is whole.
+    pub(crate) fn end(&mut self, shared: &Shared) {
+        let front = self.front.get(..self.length).unwrap_or(&[]);
+        if !is_blank(front) {
+            shared.unended.set(Some(self.ended.saturating_add(1)));
+            self.take(b"\n".as_slice(), shared);
+        }
+    }
+}
+
+/// The last bytes of these.
+fn last_of(piece: &[u8], begin: usize, end: usize) -> &[u8] {
+    let from = end.saturating_sub(TAIL).max(begin);
+    piece.get(from..end).unwrap_or(&[])
+}
