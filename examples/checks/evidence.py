@@ -106,8 +106,24 @@ def as_a_user(folder):
         if length and (found := script("verify.py", call, *words, target)) != taken:
             raise Wrong(f"verify.py {call} over a file that is there says {found}")
     examined_by_users(folder)
+    lost_though_filed_empty(folder)
     targets_that_are_none(folder)
     print("evidence: verify.py makes the evidence and the restored stores of the worked files, and says what the program says of them")
+
+
+def lost_though_filed_empty(folder):
+    """A row that was planted where nothing was filed loses its granule, and the target is what was filed. A leaf that was altered in the book
+    loses one of a store that is clean.
+    """
+    fields, ended = number(7, 8) + number(int(time.time()) - 600, 8) + number(60, 4) + b"\3\3", b"\2" + number(480, 8)
+    rows = [of_length(60 * at, 60, at + 1) for at in range(4)]
+    whole, planted = laid(fields, [*rows, ended]), laid(fields, [*rows, of_length(300, 60, 99), ended])
+    book, leaf = filed(folder, whole), list(verify.plan(whole, 1))[1]["node 0 2"]
+    for store, by, granule, of_store, of_target in ((planted, book, 5, "altered", "clean"), (whole, book.replace(leaf, bytes(32)), 2, "clean", "altered")):
+        text, _, content = carried_out(folder, "restore", store, b"", by, 7, "a store with empty granules")
+        found = [validated(folder, it, by, 7).split()[0] for it in (store, content)]
+        if text != f"restored 7 lost 1\nlost granules {granule} to {granule}\n" or found != [of_store, of_target] or (content == whole) != (of_target == "clean"):
+            raise Wrong(f"of a store with empty granules restore says {text!r}, and validate {found}")
 
 
 def targets_that_are_none(folder):
@@ -214,9 +230,9 @@ def by_fields(front, width, k, algorithms, eras=(), entries=()):
     return b"DRAGEVD1" + fields + number(len(eras), 4) + spelled + number(len(entries), 4) + shown
 
 
-def of_length(moment, length):
-    """A transaction of so many bytes, which puts a row with a null key."""
-    front = b"\1" + number(1, 4) + number(moment, 8) + number(1, 2) + b"\2\1t\2" + b"\0\3"
+def of_length(moment, length, at=1):
+    """The transaction of this number, of so many bytes, which puts a row with a null key."""
+    front = b"\1" + number(at, 4) + number(moment, 8) + number(1, 2) + b"\2\1t\2" + b"\0\3"
     return front + number(length - len(front) - 2, 2) + bytes(length - len(front) - 2)
 
 
