@@ -218,7 +218,7 @@ def tampered(folder):
     rows = [transaction(at + 2, moment, row(9, at)) for at, moment in enumerate((60, 120, 90))]
     for name, payloads in (
         ("longer", items), ("planted", [*items, last]), ("planted_in", [*items[:7], early, *items[7:]]), ("planted_late", [*items[:7], late, *items[7:]]),
-        ("planted_twice", [*items, transaction(5, 301, row(9, 9))]), ("swapped", [items[1], items[0], *items[2:]]), ("doubled", [*items, items[3]]),
+        ("planted_twice", [*items, transaction(5, 301, row(9, 9))]), ("moved", [*items[:-1], transaction(5, 500, row(3, 3)), items[-1]]), ("swapped", [items[1], items[0], *items[2:]]), ("doubled", [*items, items[3]]),
         ("early", [*items[:3], transaction(4, 120, row(2, 7))]), ("falls", begin + rows), ("misfits", [*begin, rows[0], transaction(3, 120, put("t", b"\0"))]),
     ):
         (folder / name).write_bytes(made.laid(verify.header_of(WORKED.read_bytes())[0], payloads))
@@ -265,6 +265,7 @@ def files(folder):
 # the words, the status, and what has to be said
 SAYS = [
     ("look.py", (WORKED, BOOK, "7"), 0, ("1 tile, before 1970-01-01 00:08:00 UTC", "t, 8 rows: k int, v int", "the one that was filed")),
+    ("look.py", ("moved", BOOK, "7"), 0, ("moments fall    1 item of a moment before that of an earlier one", "numbers         2 transactions whose number doesn't follow that of the one before", "1 tile, before 1970-01-01 00:08:00 UTC, moment 480")),
     ("look.py", (WORKED, BOOK, "8"), 3, ("has the id 7, and not 8",)),
     ("look.py", ("hidden",), 0, ("14 bytes: a crash leaves such bytes",)),
     ("look.py", (ALTERED, BOOK, "7"), 0, ("the one that was filed", "compared        the header alone")),
