@@ -682,6 +682,7 @@ def tell_why(line, book, id, files, read):
     """Says on standard error why such a call has this answer, where it made or confirmed nothing."""
     book, first, target, found = plain(book), plain(files[0]), plain(files[-1]), " ".join(line.split(" ")[:2])
     nothing = nothing_under(id, read[0]) if found in ("unsealed", "other header") else None
+    lacks = "a digest that was filed with the others: compare it with its copies" if files[1:] else f"the digest of a granule that {first} shows: that isn't sealed, or its era has no tree, or the book was cut or altered"
     fail = [f"{plain(file)} {what_fails(content, id, read[0])}" for file, content in zip(files, read[1:]) if found in ("fault HeaderLost", "header altered")]
     said = {
         "fault AlreadyThere": f"{target} is there, and stays as it is: name another file",
@@ -691,7 +692,7 @@ def tell_why(line, book, id, files, read):
         "fault InputLimit": f"{first} is longer than an evidence file can be",
         "fault Full": "nothing was made: what is restored is longer than a store can be",
         "fault NotSealedSo": f"nothing was made: a tile that is filed in {book} has no tree",
-        "fault SealMissing": f"{book} lacks a digest that was filed with the others: compare it with its copies",
+        "fault SealMissing": f"{book} lacks {lacks}",
         "fault NotaryInconsistent": f"{book} contradicts itself: compare it with its copies",
         "unsealed": f"nothing was made: {book} {nothing}",
         "other header": f"nothing was compared: {book} {nothing}" if nothing else f"{first} is evidence of another id than {id}, or of another header or other eras than {book} has under it",

@@ -140,12 +140,13 @@ def targets_that_are_none(folder):
 def examined_by_users(folder):
     """The file of the altered store and its copy, whole and otherwise."""
     script("verify.py", "evidence", BOOK, "7", ALTERED, WORKED, folder / "file")
-    whole = (folder / "file").read_bytes()
+    whole, behind = (folder / "file").read_bytes(), by_fields(*FIELDS, (), [(8, ())])
     for content, id, status, text in (
         (whole, "7", 0, "granule 5 not as notarized shown 1 original 1 as notarized\nexamined 1 confirmed 1\n"),
         (whole[:-1], "7", 23, "fault NotEvidence\n"),
         (whole, "8", 1, "other header\n"),
         (whole + b"\0", "7", 23, "fault NotEvidence\n"),
+        (behind, "7", 11, "fault SealMissing node 0 8\n"),
         (b"", "7", 23, "fault NotEvidence\n"),
         (bytes(67_108_863), "7", 23, "fault NotEvidence\n"),
         (bytes(67_108_864), "7", 17, "fault InputLimit\n"),
@@ -155,8 +156,11 @@ def examined_by_users(folder):
         found = tuple(said), dragoon_of(folder / "file", f"notary={folder / 'book'}", "examine", id)
         if found != ((status, text),) * 2 or bool(told) != bool(status):
             raise Wrong(f"of {len(content)} bytes under the id {id} verify.py and the program say {found}")
-    (folder / "file").write_bytes(whole)
-    for book, id, why in (("/dev/null", "7", "nothing was compared: /dev/null is empty\n"), (BOOK, "8", "has nothing that was filed under the id 8\n")):
+    for content, book, id, why in (
+        (whole, "/dev/null", "7", "nothing was compared: /dev/null is empty\n"), (whole, BOOK, "8", "has nothing that was filed under the id 8\n"),
+        (behind, BOOK, "7", "file shows: that isn't sealed, or its era has no tree, or the book was cut or altered\n"),
+    ):
+        (folder / "file").write_bytes(content)
         if not (told := script("verify.py", "examine", book, id, folder / "file")[2]).endswith(why):
             raise Wrong(f"verify.py examine by {book} under the id {id} says {told}")
 
