@@ -5,7 +5,7 @@ from collections import Counter
 import verify
 from verify import number
 from .laid import laid_out
-from .notary import Fault, Notary, digests, is_altered, leaf, not_filed, rows, shown
+from .notary import Fault, Notary, digests, is_altered, leaf, not_filed, rows, shown, shown_of_copy
 
 
 def restore(store, copy, book, id):
@@ -32,7 +32,7 @@ def restore(store, copy, book, id):
 
 
 def told(lines, store, copy, target, book, id):
-    """What a store that was restored lacks, and where it isn't what was filed, in sentences. Each file is its name and its content."""
+    """What a store that was restored lacks, and where it or its sources aren't what was filed, in sentences. Each file is its name and its content."""
     notary = Notary(book, id)
     if not notary.passes(store.content):
         yield f"what isn't sealed was taken from {copy.name}, and nothing from {store.name}: that {verify.what_fails(store.content, id, book)}"
@@ -43,9 +43,10 @@ def told(lines, store, copy, target, book, id):
         lacks = sum((Counter(since(source.content, moment)) - Counter(since(target.content, moment))).values())
         if lacks:
             yield f"{source.name} has {lacks} transaction{'s' * (lacks > 1)} behind the sealed tiles that {target.name} lacks"
-    found = shown(target.content, notary.batches, id)
-    if is_altered(found) and lines[0].endswith(" lost 0"):
-        yield not_filed(target.name, found)
+    is_whole = lines[0].endswith(" lost 0")
+    found = [(target.name, shown(target.content, notary.batches, id))]
+    found += [(it.name, shown_of_copy(it.content, notary.batches, id)) for it in (store, copy) if not is_whole and notary.passes(it.content)]
+    yield from [not_filed(name, it) for name, it in found if it.doubt or is_whole and is_altered(it)][:1]
 
 
 def since(content, moment):
