@@ -21,7 +21,7 @@ writes such a file to TARGET, and `restore` a new store, of what STORE and COPY 
 only once it is whole, and one of more than one byte is left as it is. They print `evidence N`, or `restored K lost M` and the granules that
 are lost; or `unsealed`, or `header altered N` with status 1. Where a call has no answer, the line is `fault NAME`, and the status is that of
 NAME in docs/COMMANDS.md. Standard error says why nothing was made. It also says which originals COPY didn't give, and what isn't sealed that
-TARGET lacks. It says, too, where STORE, COPY or TARGET
+TARGET lacks. Where numbers stand twice or moments fall behind the sealed tiles of TARGET, it says so. It says, too, where STORE, COPY or TARGET
 isn't what was filed by other digests.
 Of `restore` HeaderLost is 24: neither store passes. An empty book is one without batches.
 """

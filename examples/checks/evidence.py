@@ -60,10 +60,11 @@ def as_a_user(folder):
     """The script itself, and the program on the same files: what they print, and how they end."""
     (folder / "book").write_bytes(BOOK.read_bytes())
     (folder / "other").write_bytes(made.changed(WORKED.read_bytes(), 261, 1))
-    nothing, longer, other_header, of_root, of_leaf, of_header = pathlib.Path("/dev/null"), *(folder / it for it in ("longer", "header", "of_root", "of_leaf", "of_header"))
+    nothing, longer, moved, other_header, of_root, of_leaf, of_header = pathlib.Path("/dev/null"), *(folder / it for it in ("longer", "moved", "header", "of_root", "of_leaf", "of_header"))
     fields, items = verify.header_of(WORKED.read_bytes())[0], [it for _, it in verify.records(WORKED.read_bytes(), *verify.STORE)]
     more = laid(fields, [*items, of_length(480, 60, 10)])
     longer.write_bytes(more)
+    moved.write_bytes(laid(fields, [*items, of_length(500, 60, 5), of_length(490, 60, 10)]))
     other_header.write_bytes(made.changed(more, 24, 1))
     planned = [next(it for it in list(verify.plan(of.read_bytes(), 1))[1:]) for of in (WORKED, ALTERED)]
     for path, name in ((of_root, "node 3 0"), (of_leaf, "node 0 5")):
@@ -89,6 +90,7 @@ def as_a_user(folder):
         ("restore", (BOOK, "7", WORKED, longer), 0, "restored 8 lost 0\n", 445, (f"longer {lacks}",)),
         ("restore", (BOOK, "7", other_header, WORKED), 0, "restored 8 lost 0\n", 445, ("what isn't sealed was taken from ", f"header {lacks}")),
         ("restore", (BOOK, "7", WORKED, other_header), 0, "restored 8 lost 0\n", 445, ("nothing was taken from ", f"header {lacks}")),
+        ("restore", (BOOK, "7", moved, WORKED), 0, "restored 8 lost 0\n", 575, ("transactions whose number 5 stands twice: ", "moments fall at 1 transaction: no honest writer stores such\n")),
         ("restore", (of_leaf, "7", WORKED, nothing), 0, "restored 7 lost 1\nlost granules 5 to 5\n", 403, (f"worked.store isn't what was filed, or the book isn't: altered 1 from 0; {altered}",)),
         ("restore", (of_leaf, "7", ALTERED, WORKED), 0, "restored 8 lost 0\n", 445, (f"isn't what was filed, or the book isn't: altered 1 from 0; {altered}",)),
         ("restore", (BOOK, "7", nothing, nothing), 24, "fault HeaderLost\n", None, ("nothing was made",)),

@@ -32,7 +32,9 @@ def restore(store, copy, book, id):
 
 
 def told(lines, store, copy, target, book, id):
-    """What a store that was restored lacks, and where it or its sources aren't what was filed, in sentences. Each file is its name and its content."""
+    """What a store that was restored lacks, what in it no honest writer stores, and where it or its sources aren't what was filed, in sentences. Each
+    file is its name and its content.
+    """
     notary = Notary(book, id)
     if not notary.passes(store.content):
         yield f"what isn't sealed was taken from {copy.name}, and nothing from {store.name}: that {verify.what_fails(store.content, id, book)}"
@@ -43,10 +45,23 @@ def told(lines, store, copy, target, book, id):
         lacks = sum((Counter(since(source.content, moment)) - Counter(since(target.content, moment))).values())
         if lacks:
             yield f"{source.name} has {lacks} transaction{'s' * (lacks > 1)} behind the sealed tiles that {target.name} lacks"
+    yield from moved(target, moment)
     is_whole = lines[0].endswith(" lost 0")
     found = [(target.name, shown(target.content, notary.batches, id))]
     found += [(it.name, shown_of_copy(it.content, notary.batches, id)) for it in (store, copy) if not is_whole and notary.passes(it.content)]
     yield from [not_filed(name, it) for name, it in found if it.doubt or is_whole and is_altered(it)][:1]
+
+
+def moved(target, moment):
+    """What shows that transactions were moved behind the sealed tiles, which end at this moment, in sentences."""
+    behind, numbers = since(target.content, moment), Counter(spelled[1:5] for spelled in since(target.content, 0))
+    twice = sorted({int.from_bytes(it[1:5], "big") for it in behind if numbers[it[1:5]] > 1})
+    falls = sum(after[5:13] < before[5:13] for before, after in zip(behind, behind[1:]))
+    if twice:
+        named = f"number{'s' * (len(twice) > 1)} {', '.join(map(str, twice[:9]))}" + (f" and {len(twice) - 9} more" if twice[9:] else "")
+        yield f"behind the sealed tiles {target.name} has transactions whose {named} stand{'s' * (len(twice) == 1)} twice: they were moved or planted, or the store went on where granules were lost"
+    if falls:
+        yield f"behind the sealed tiles of {target.name} moments fall at {falls} transaction{'s' * (falls > 1)}: no honest writer stores such"
 
 
 def since(content, moment):
