@@ -227,5 +227,6 @@ def what_next_by(report):
         "See what differs from the last clean copy: `examples/differ.py STORE COPY`.",
         *(["Hold the span of the first change against logins, changes of the machine and restores."] if report.first else []),
         *([by_tree] if report.verdict == "altered" and report.algorithm != "a3d" else []),
-        "Go on in a new store, under a new id, as the successor of the last clean copy. Nothing is written over that copy.",
+        "Go on in a new store, which `restore` makes of this one and a copy: `Restoring` in docs/OPERATING.md has the steps.",
+        "Only without a copy that passes, open one under a new id, as the successor of the last clean copy. Nothing is written over that copy.",
     ]
