@@ -6,7 +6,7 @@ import verify
 from . import moments, report as reports, script
 from .book import CLEAN
 from .notary import contradiction, shown
-from .script import ALTERED, Refused
+from .script import ALTERED, UNTOLD, Refused
 
 # said above what a report names, where the book contradicts itself
 DOUBTED = "What follows is named by digests of this book that don't fit one another."
@@ -35,9 +35,9 @@ def verdict(report, asked, book):
     if odd:
         return Verdict("bad", "The book contradicts itself", f"By {reports.algorithm_of(report)} the program says `{report.verdict}`. {odd}", by_verify, odd, ALTERED)
     if by_verify and kind_of(by_verify) != report.verdict:
-        return Verdict("bad", "No verdict", f"The program says `{report.verdict}`, and verify.py `{by_verify}`. One of them is wrong.", by_verify, odd, status)
+        return Verdict("bad", "No verdict", f"The program says `{report.verdict}`, and verify.py `{by_verify}`. One of them is wrong.", by_verify, odd, status or UNTOLD)
     if report.verdict == "clean" and (what := hidden_in(asked, book)):
-        return Verdict("open", "No verdict", f"Bytes stand behind the records of {what}, and were compared with nothing. Up to there: {said}", by_verify, odd, status)
+        return Verdict("open", "No verdict", f"Bytes stand behind the records of {what}, and were compared with nothing. Up to there: {said}", by_verify, odd, UNTOLD)
     return Verdict("good" if title == "Clean" else "open" if report.verdict == "clean" else COLOUR[report.verdict], title, said, by_verify, odd, status)
 
 
