@@ -77,7 +77,7 @@ def as_a_user(folder):
         ("evidence", (BOOK, "7", ALTERED, other_header), 0, "evidence 1\n", 88, ("header gave no original: it has another header or other eras than were filed",)),
         ("evidence", (BOOK, "7", ALTERED, BOOK), 0, "evidence 1\n", 88, ("worked.book gave no original: it is no store: it is a notary's book",)),
         ("evidence", (BOOK, "7", ALTERED, nothing), 0, "evidence 1\n", 88, ()),
-        ("evidence", (BOOK, "7", WORKED, nothing), 0, "evidence 0\n", 38, ("shows no granule: by the tree no sealed one of ",)),
+        ("evidence", (BOOK, "7", WORKED, nothing), 0, "evidence 0\n", 38, ("shows no granule: the search of the trees found none of ",)),
         ("evidence", (BOOK, "7", WORKED, ALTERED), 0, "evidence 0\n", 38, ("shows no granule", "altered.store isn't what was filed: altered 1 from 0. Are the two swapped?")),
         ("evidence", (of_root, "7", ALTERED, WORKED), 0, "evidence 0\n", 38, ("shows no granule", f"altered.store isn't what was filed, or the book isn't: altered 1 from 0; {altered}")),
         ("evidence", (of_header, "7", WORKED, WORKED), 1, "header altered 1\n", None, ("nothing was made", "the chain up to tile 0 begins with this header, and doesn't differ. Either the book was altered,")),

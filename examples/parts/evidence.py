@@ -137,7 +137,7 @@ def told(lines, store, copy, target, book, id):
     entries = Reader(target.content).evidence().entries
     apart = [str(it.granule) for it in entries if it.second is None]
     if not entries:
-        yield f"{target.name} shows no granule: by the tree no sealed one of {store.name} is altered"
+        yield f"{target.name} shows no granule: the search of the trees found none of {store.name} that differs"
         batches = verify.batches_of(book, id)
         found, of_copy = shown(store.content, batches, id), shown_of_copy(copy.content, batches, id)
         if is_altered(found):
