@@ -208,6 +208,17 @@ def sees_what_is_done(folder):
                 raise Wrong(f"a drain leaves {left} changes in the outbox that it took")
 
 
+def hears_refusals(folder):
+    """What the program says of refusals that a drain expects is no news, of whatever kinds these are. What it says of another one is."""
+    replaced, ahead = (attached(folder, name, (1, 2), then="replace into t values (1, 3)") for name in ("replaced", "ahead"))
+    drains(*replaced, 3)
+    with open(ahead[1], "r+b") as out:
+        # the second in the header's front, at which the store begins
+        out.seek(17)
+        out.write((1 << 39).to_bytes(8, "big"))
+    stops(*ahead, "dragoon: the refusals by kind: NoTable 1, ClockBack 1\n")
+
+
 # what is attached, and why not
 NOT_ATTACHED = [
     (["--utf8", "t.nmae", "t"], "name text", "--utf8 t.nmae is no column of t"), (["--utf8", "T.name", "t"], "name text", "--utf8 T.name is no column of t"),
@@ -362,6 +373,7 @@ def main(words):
                 raise Wrong(f"a drain where nothing is wrong ends with {status}: {said}{told}")
         files_by_hand_first(folder)
         sees_what_is_done(folder)
+        hears_refusals(folder)
         attaches_anew(folder)
         refuses_strangers(folder)
         stops_at_text(folder)

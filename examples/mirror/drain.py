@@ -52,8 +52,10 @@ CHANGES, WEIGHT = 255, 32_000
 # `replace` puts a row at a key that has one, and a trigger of the shop may change a row that is told only then. For each word of a
 # statement the refusal that says so, and the word that stores it then
 OTHERWISE = {"insert": ("refused RowExists", "update"), "update": ("refused NoRow", "insert"), "delete": ("refused NoRow", None)}
-# at the end the program names the first line that it refused: these are refused where nothing is wrong, and their replies are read
-EXPECTED = rb"dragoon: .* (is a refusal, that|are refusals, the first one) to line [0-9]+, `(get mirrored 0`: NoTable|s0 insert .*: RowExists|s0 (update|delete) .*: NoRow)"
+# at the end the program names the first line that it refused, and counts the refusals where they are of several kinds: of these each reply is
+# read, and they come where nothing is wrong, too
+FIRST = r".* (is a refusal, that|are refusals, the first one) to line [0-9]+, `(get mirrored 0`: NoTable|s0 insert .*: RowExists|s0 (update|delete) .*: NoRow)"
+EXPECTED = rf"dragoon: ({FIRST}|the refusals by kind: ((NoTable|NoRow|RowExists) [0-9]+(, |$))+$)".encode()
 VALUE = r"(-?[0-9]+|x'[0-9a-fA-F]*'|'(?:[^']|'')*')"
 SHOWN = 3
 ANEW = "Begin with a new store: attach.py --anew attaches the tables for it"
