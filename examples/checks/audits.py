@@ -136,9 +136,9 @@ class Served:
         if ended != status or alarm not in told or self.socket.exists() or "Traceback" in told:
             raise Wrong(f"serve ends with {ended} in place of {status}, and tells {told}")
 
-    def stop(self, status=0, by=signal.SIGTERM):
+    def stop(self, status=0, by=signal.SIGTERM, told=""):
         self.process.send_signal(by)
-        self.ends(status, "")
+        self.ends(status, told)
 
     def is_alarm(self, alarm, status, text):
         call = [sys.executable, OPERATE / "check_dragoon", alarm, self.folder / "w.conf", "--days", "1"]
@@ -147,17 +147,23 @@ class Served:
             raise Wrong(f"check_dragoon {alarm} ends with {done.returncode}: {done.stdout}")
 
 
-def says(client, lines, wanted):
-    """What a connection is replied to these lines."""
+def replied(client, lines, is_whole):
+    """What a connection is replied to these lines, until that is whole."""
     client.sendall(lines.encode())
-    said = b""
-    while said.count(b"\n") < wanted.count("\n"):
+    said = ""
+    while not is_whole(said):
         piece = client.recv(65_536)
         if not piece:
             break
-        said += piece
-    if said.decode() != wanted:
-        raise Wrong(f"to {lines!r} is replied {said.decode()!r} and not {wanted!r}")
+        said += piece.decode()
+    return said
+
+
+def says(client, lines, wanted):
+    """A connection is replied this to these lines."""
+    said = replied(client, lines, lambda said: said.count("\n") >= wanted.count("\n"))
+    if said != wanted:
+        raise Wrong(f"to {lines!r} is replied {said!r} and not {wanted!r}")
 
 
 REPLIES = [
@@ -199,9 +205,36 @@ def replies(made, folder):
         stdout=subprocess.PIPE, stderr=subprocess.STDOUT, text=True)
     if busy.returncode != 70 or "another job of this store runs" not in busy.stdout:
         raise Wrong(f"a job beside serve ends with {busy.returncode}: {busy.stdout}")
-    served.stop()
+    # what is refused are lines that came, and no others
+    served.stop(told="the refusals by kind: Syntax 3, NotScripted 1, NoSpan 1, NoTable 1, Conflict 1\n")
     if dragoon(f"store={folder}/store", "run", "7", lines="get t 500\nget t 1299\n") != (0, "none\nrow 1299 0\n"):
         raise Wrong("a line without an end is carried out, or another one is lost")
+
+
+# how many validations come before, what is changed of the store, what is asked, the first line of the report, and how its last one ends
+REPORTS = [
+    (0, altered(10), "mono", "report mono id 7 tiles 9 altered", " XXXXXXXXX"), (0, altered(10), "tiled", "report tiled id 7 tiles 9 altered", " X........"),
+    (0, altered(280), "a3d era 0", "report a3d id 7 era 0 tiles 9 altered", " ........X"),
+    (0, lambda store: put(store, 30, b"\1"), "a3d", "report a3d id 7 tiles 9 header altered", "every granule of tiles 0 to 8"),
+    (60, altered(10), "a3d", "report a3d id 7 tiles 9 altered", "diagram left out"),
+]
+
+
+def reports(made, folder):
+    """Each report of an altered store comes whole, and the reply to the next line behind it. Nothing is refused for that."""
+    served = Served(made, folder, "3600", "3600")
+    client, store = served.connect(), folder / "store"
+    whole = store.read_bytes()
+    for marks, change, algorithm, first, last in REPORTS:
+        says(client, marks * "validate\n", marks * "clean 9\n")
+        change(store)
+        lines = replied(client, f"analyse {algorithm}\nget t 2\n", lambda said: said.endswith("row 2 0\n")).splitlines()
+        if lines[0] != first or not lines[-2].endswith(last):
+            raise Wrong(f"analyse {algorithm} of a store that is altered is replied {lines}")
+        store.write_bytes(whole)
+    served.stop()
+    if "refus" in (told := (folder / "told").read_text()):
+        raise Wrong(f"serve tells of refusals where no line that came was refused: {told}")
 
 
 def alterations(made, folder):
@@ -333,7 +366,7 @@ def main(words):
         fill(folder / "made")
         for number, row in enumerate(CHANGES):
             try_change(folder / "made", folder / str(number), *row)
-        for number, tried in enumerate((replies, alterations, books, ends, lost)):
+        for number, tried in enumerate((replies, reports, alterations, books, ends, lost)):
             tried(folder / "made", folder / f"w{number}")
     print(f"audits: {len(CHANGES)} changes of an open store are told, and a run that is kept open serves, files, audits and ends as it has to")
 
