@@ -24,9 +24,12 @@ What the language can't hold is refused with its row and column, and so is a row
 is empty or stands there twice, and a name that is none. Nothing is written then, and the status is 1. Row 1 is the heading, and goes into no
 table: a file without one wants one. Where it looks like a row, or --names stands for it, standard error says so.
 
-FILE is in UTF-8; `-` is standard input. After a crash give the statements again: what is there is refused (RowExists, and TableExists of
-the `create`), and the rest goes in. Each other refusal among the replies is of a row that didn't go in. TableExists the first time says that the
-table was there before: then the rows went in by place, whatever their heading says. --like STORE is for that.
+FILE is in UTF-8; `-` is standard input. Where its last row has no line end it may have been cut off, and standard error says so. Bytes 0x00, as a
+crash may leave of a file, are refused but in columns of kind utf8.
+
+After a crash give the statements again: what is there is refused (RowExists, and TableExists of the `create`), and the rest goes in. Each other
+refusal among the replies is of a row that didn't go in. TableExists the first time says that the table was there before: then the rows went in by
+place, whatever their heading says. --like STORE is for that.
 """
 import argparse
 import csv
@@ -44,6 +47,7 @@ NAME = re.compile(r"[a-z_][a-z0-9_]{0,31}")
 BARRED = re.compile(r"[\x00-\x1f\x7f]")
 KINDS = {"int": "int", "text": "text", "bool": "bool", "bytes": "bytes", "utf8": "bytes"}
 TXN_LIMIT, OPERATIONS, LINE_LIMIT, INPUT_LIMIT = 32_768, 256, 65_536, 67_108_864
+ZEROS = "bytes 0x00, as a crash may leave of a file: look for a whole one"
 
 
 # a number with a fraction, which may have signs between its digits
@@ -67,6 +71,11 @@ LOOKS = (
 
 class Refused(Exception):
     """What can't become a statement, and where it stands."""
+
+
+def tell(said):
+    """Says a sentence on standard error. What it shows of the file steers no terminal."""
+    script.tell(script.plain(said))
 
 
 def number_of(field):
@@ -146,14 +155,13 @@ def is_a_row(heading, columns):
 
 def note_heading(heading, columns, options):
     """Says what becomes of row 1 where it may be a row, and of the fields where they go by place."""
-    row = "".join(letter if letter.isprintable() else "?" for letter in ",".join(heading)[:60])
-    shown = f"row 1, `{row}`, is taken as the heading, and goes into no table"
+    shown = f"row 1, `{','.join(heading)[:60]}`, is taken as the heading, and goes into no table"
     if is_a_row(heading, columns):
-        print(f"csv_in: {shown}. It looks like a row: a file without a heading wants one in front", file=sys.stderr)
+        tell(f"{shown}. It looks like a row: a file without a heading wants one in front")
     elif options.names:
-        print(f"csv_in: {shown}", file=sys.stderr)
+        tell(shown)
     if options.add:
-        print(f"csv_in: the fields go by place, so the columns of {options.table} have to be {', '.join(name for name, *_ in columns)}, in this order", file=sys.stderr)
+        tell(f"the fields go by place, so the columns of {options.table} have to be {', '.join(name for name, *_ in columns)}, in this order")
 
 
 def note_looks(columns, rows):
@@ -161,14 +169,13 @@ def note_looks(columns, rows):
     for name, at, kind in columns:
         said = [row[at] for _, row in rows if row[at]]
         if kind == "text" and said and (note := looks(name, said)):
-            print(f"csv_in: column {name}: {note}", file=sys.stderr)
+            tell(f"column {name}: {note}")
 
 
-def read(file, delimiter):
+def read(text, delimiter):
     """The heading, and the rows with their numbers. Empty lines are passed over."""
-    text = file.read()
     if text[:2] == "\0\0":
-        raise Refused("it begins with bytes 0x00, as a crash may leave of a file: look for a whole one")
+        raise Refused(f"it begins with {ZEROS}")
     if text[:2] in ("\udcff\udcfe", "\udcfe\udcff") or "\0" in text[:2]:
         raise Refused("this is UTF-16: `iconv -f UTF-16 -t UTF-8` makes UTF-8 of it")
     if found := re.match("sep=(.)[\r\n]", text):
@@ -181,7 +188,8 @@ def read(file, delimiter):
                 table.append((number, row))
     except csv.Error as fault:
         if "unexpected end" in str(fault):
-            raise Refused(f"row {number + 1}, which begins in line {begin + 1}: a quote in it is never closed") from None
+            why = f"it ends with {ZEROS}" if text[-1] == "\0" else "a quote in it is never closed"
+            raise Refused(f"row {number + 1}, which begins in line {begin + 1}: {why}") from None
         raise Refused(f"line {rows.line_num}: {fault}") from None
     if not table:
         raise Refused("there is no heading")
@@ -201,7 +209,7 @@ def columns_like(options):
         for operation in transaction.operations:
             if isinstance(operation, store.Create) and operation.table == options.table:
                 return dict(operation.columns)
-    raise Refused(f"{script.plain(options.like)} has no table {options.table}")
+    raise Refused(f"{options.like} has no table {options.table}")
 
 
 def as_stored(names, options):
@@ -221,6 +229,9 @@ def columns_of(heading, rows, options):
     """The columns in the table's order: name, place in a row, kind."""
     names = options.names.split(",") if options.names else heading
     kinds = dict(options.kind)
+    for number, row in [(1, heading), *rows]:
+        if any("\0" in field and kinds.get(name) != "utf8" for name, field in zip(names, row)):
+            raise Refused(f"row {number}: it has {ZEROS}")
     if len(names) != len(heading):
         raise Refused(f"there are {len(names)} names for {len(heading)} columns")
     for name in names:
@@ -283,10 +294,13 @@ def in_transactions(lines, session, rows):
 
 
 def statements(file, options):
-    heading, rows = read(file, options.delimiter)
+    text = file.read()
+    heading, rows = read(text, options.delimiter)
     columns = columns_of(heading, rows, options)
+    if text[-1] not in "\r\n":
+        tell("the last row has no line end: if the file was cut off, look at it")
     if not rows and not options.add and not options.like:
-        print("csv_in: there is no row, so each column without --kind NAME=KIND becomes text, the key too", file=sys.stderr)
+        tell("there is no row, so each column without --kind NAME=KIND becomes text, the key too")
     note_heading(heading, columns, options)
     note_looks([column for column in columns if column[0] not in dict(options.kind) and not options.like], rows)
     if not options.add and not options.like:
@@ -297,7 +311,7 @@ def statements(file, options):
     else:
         yield from in_transactions(lines, options.session, options.rows)
     if not options.add and not options.like and [name for name, *_ in columns] != (options.names.split(",") if options.names else heading):
-        print(f"csv_in: the table's columns are {', '.join(name for name, *_ in columns)}, in this order: csv_out.py takes them so", file=sys.stderr)
+        tell(f"the table's columns are {', '.join(name for name, *_ in columns)}, in this order: csv_out.py takes them so")
 
 
 def words():
@@ -360,7 +374,7 @@ def main():
             raise Refused("longer than the input of a run can be: give the file in parts, the later ones with --add")
         put(text)
     except (OSError, Refused) as fault:
-        print(f"csv_in: {fault.filename}: {fault.strerror}" if isinstance(fault, OSError) else f"csv_in: {fault}", file=sys.stderr)
+        tell(f"{fault.filename}: {fault.strerror}" if isinstance(fault, OSError) else fault)
         return 1
     return 0
 

@@ -86,6 +86,8 @@ REFUSED = [  # options, heading, rows, and what is said
     ([], "1,Ada", ["2,Bob"], "row 1, column 1: no name, or one that stands there twice (where row 1 is a heading, --names c_1,ada would do; where it is a row, put"),
     ([], "sep=;", ["a;b", "1;x"], "row 1: `sep=;` is a word for Excel alone: take this line out, and say --delimiter ';'"),
     ([], "\0\0\0", ["\0"], "it begins with bytes 0x00, as a crash"),
+    ([], "a,b\x1b[2J", ["1,x"], "row 1, column b\\u{1b}[2J: no name"),
+    ([], "a,b", ["1,5", "2,6\x1b[31mX"], "column b: it stays text, since 1 of 2 fields are no whole numbers, as `6\\u{1b}[31mX`"),
     ([], "a;b", ["1;x"], "row 1: this is one column with ';' in its name: --delimiter ';' cuts there"),
     ([], "a\tb", ["1\tx"], "row 1: this is one column with tab in its name: --delimiter tab cuts there"),
     (["--delimiter", ";"], "a,b", ["1,x"], "row 1: this is one column with ',' in its name"),
@@ -104,9 +106,16 @@ NOTED = [
 ROW, LIKE = "csv_in: row 1, `{}`, is taken as the heading, and goes into no table", ". It looks like a row: a file without a heading wants one in front"
 HEADINGS = [  # options, the file, and what is said
     ([], "id,n\n1,x\n", ""), ([], "a,true\n1,false\n", ROW.format("a,true") + LIKE), (["--names", "a,b"], "1,Ada\n2,Bob\n", ROW.format("1,Ada") + LIKE),
-    (["--names", "a,b"], "2026-12-31,x\n?,y\n", ROW.format("2026-12-31,x") + LIKE), (["--names", "a,b"], "#,N\x1b\n1,x\n", ROW.format("#,N?")),
+    (["--names", "a,b"], "2026-12-31,x\n?,y\n", ROW.format("2026-12-31,x") + LIKE), (["--names", "a,b"], "#,N\x1b\n1,x\n", ROW.format("#,N\\u{1b}")),
     (["--add", "--key", "n"], "id,n\n1,x\n", "csv_in: the fields go by place, so the columns of t have to be n, id, in this order"),
     (["--names", "a,b"], "金額1,b\n1,x\n", ROW.format("金額1,b")), (["--key", "n"], "id,n\n1,x\n", "csv_in: the table's columns are n, id, in this order: csv_out.py takes them so"),
+]
+# a file that was cut off, or that a crash left zeros in; and what is said alone. Where its last row has no line end the rows go in
+CUT, ZEROS = "the last row has no line end: if the file was cut off, look at it", "bytes 0x00, as a crash may leave of a file: look for a whole one"
+CUT_OFF = [
+    ("a,b\n1,100\n2,25", CUT), ("a,b\r1,100\r2,25\r", ""), ("a,b\n1,x\n\0\0\0\0", f"row 3: it has {ZEROS}"), ("a,b\n1,5\n2,\0\0\0\0", f"row 3: it has {ZEROS}"),
+    ("a,b\n1,x\n2,\0\0\0\0003,y\n", f"row 3: it has {ZEROS}"), ("a,b\0\0", f"row 1: it has {ZEROS}"),
+    ('a,b\n1,x\n2,"y\0\0', f"row 3, which begins in line 3: it ends with {ZEROS}"),
 ]
 NO_REPLIES = (
     "", "row 1\n", "row 1\nrows 2\n", "row 1 2\nrows 1\n", "rows 0\nrows 0\n", "version 1 - row 1\nrows 1\n", "none\n",
@@ -135,6 +144,10 @@ def refusals(folder):
     for options, text, wanted in HEADINGS:
         status, _, told = script("csv_in.py", *options, "t", "-", lines=text)
         if status or told.partition("\n")[0] != wanted:
+            raise Wrong(f"of {text!r} is said {told}, and not {wanted}")
+    for text, wanted in CUT_OFF:
+        status, _, told = script("csv_in.py", "t", "-", lines=text)
+        if (status, told) != (int(wanted not in ("", CUT)), f"csv_in: {wanted}\n" if wanted else ""):
             raise Wrong(f"of {text!r} is said {told}, and not {wanted}")
     if script("csv_in.py", "--kind", "b=int", "t", "-", lines="a,b\n1,007\n2,+5\n3,-0\n")[1] != "create t a int b int\ninsert t 1 7\ninsert t 2 5\ninsert t 3 0\n":
         raise Wrong("007 and +5 aren't taken for ints")
