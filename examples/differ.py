@@ -218,7 +218,9 @@ def main(given):
         front = ["the copy is the same as the store, byte by byte"]
     if given.book:
         book = content_of(given.book)
-        if behind := verify.is_book(book) and verify.behind_ends(book, verify.BOOK)[0]:
+        if said := verify.is_book(book) and verify.open_ends(book, verify.BOOK)[0]:
+            tell(f"{plain(given.book)} {said} (docs/NOTARY.md)")
+        elif behind := verify.is_book(book) and verify.behind_ends(book, verify.BOOK)[0]:
             tell(f"behind the end of {plain(given.book)} stand {hidden(behind)}. What is filed there isn't compared")
         is_bad, said = copy_line(other, book, given.book, given.zone)
         front.append(said)

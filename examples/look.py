@@ -5,7 +5,7 @@
 
 Of the store: its id, granules, chains and eras, its first second and its last moment, its tables with their columns and rows, and what
 room is left. Where operations fit no table, moments fall, or the numbers of transactions don't follow one another, it says so. Of the book: up to which moment the store is filed, what stands behind that, and its last mark. Of both: the bytes that
-stand behind the gate that ends them. Dates are those of ZONE, as Europe/Zurich, or else of UTC. With --json it is one object, in
+stand behind the gate that ends them, or that this gate is open. Dates are those of ZONE, as Europe/Zurich, or else of UTC. With --json it is one object, in
 which all times are numbers.
 
 It reads the two files as docs/FORMATS.md says, opens neither for writing, and compares no digest but that of the header: `validate`
@@ -51,7 +51,7 @@ def of_store(store):
         "tables": {name: {"rows": len(tables.keys[name]), "columns": dict(columns)} for name, columns in sorted(tables.columns.items())},
         "bytes_left": max(0, LIMIT - 1 - store.gate()), "granules_left": max(0, GRANULES - 1 - last // store.width),
         "full_second": store.epoch + GRANULES * store.width, "behind_the_end": store.behind_ends()[0],
-        "behind_segments": store.behind_ends()[1],
+        "behind_segments": store.behind_ends()[1], "open_end": store.open_ends()[0], "open_end_of_segment": store.open_ends()[1],
     }
 
 
@@ -68,7 +68,7 @@ def of_book(book, store, id):
         "header_is_filed": bool(header) and header == verify.digest(b"\x05", store.fields),
         "transactions_behind": len(behind), "bytes_of_them": sum(behind), "marks": len(marks),
         "last_mark": dict(marks[-1]._asdict(), says=said(marks[-1])) if marks else None,
-        "other_ids": [it for it in book.ids() if it != id], "without_record": None if book.filings else nothing_of(book), "behind_the_end": max(0, len(book.content) - book.gate() - 1),
+        "other_ids": [it for it in book.ids() if it != id], "without_record": None if book.filings else nothing_of(book), "behind_the_end": max(0, len(book.content) - book.gate() - 1), "open_end": book.open_end(),
     }
 
 
@@ -77,6 +77,12 @@ def of_book(book, store, id):
 
 def rows(pairs):
     return "".join(f"{name:16}{value}\n" for name, value in pairs)
+
+
+def behind_end(it):
+    if it["open_end"]:
+        return f"it {it['open_end']} (docs/NOTARY.md)"
+    return hidden(it["behind_the_end"]) if it["behind_the_end"] else "nothing"
 
 
 def store_lines(it, date):
@@ -103,7 +109,9 @@ def store_lines(it, date):
         yield "no effect", f"policies that begin no era: {it['policies_without_effect']:,}; stored over an older book, or by another hand"
     granules, is_past = counted(it["granules_left"], "granule"), "; this clock is past that" if it["full_second"] <= time.time() else ""
     yield "room left", f"{counted(it['bytes_left'], 'byte')}; {granules} behind the last moment, until {date(it['full_second'])}{is_past}"
-    yield "behind its end", hidden(it["behind_the_end"]) if it["behind_the_end"] else "nothing"
+    yield "behind its end", behind_end(it)
+    if it["open_end_of_segment"]:
+        yield "in segments", f"it {it['open_end_of_segment']} (docs/NOTARY.md)"
     if it["behind_segments"]:
         yield "in segments", f"behind the records of earlier ones {hidden(it['behind_segments'], verify.WHY_WITHIN)}"
     for name, table in it["tables"].items():
@@ -129,7 +137,7 @@ def book_lines(it, store, date):
     yield "not yet filed", f"{counted(it['transactions_behind'], 'transaction')}, {counted(it['bytes_of_them'], 'byte')}"
     mark = it["last_mark"]
     yield "marks", f"{it['marks']:,}" + (f"; the last one at {date(mark['moment'])}: {mark['says']}" if mark else "")
-    yield "behind its end", hidden(it["behind_the_end"]) if it["behind_the_end"] else "nothing"
+    yield "behind its end", behind_end(it)
 
 
 def words():

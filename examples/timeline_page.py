@@ -172,6 +172,8 @@ class Page:
         behind, odd = self.store.behind(), list(self.history.odd())
         if behind:
             state += f" More of it may stand hidden behind records: {counted(behind, 'byte')}."
+        if any(self.store.open_ends()):
+            state += " More of it may be gone: a record was cut off or altered."
         colour = "bad" if odd else "good" if is_there else "open"
         yield f'<div class="verdict {colour}"><b>{counted(len(versions), "version")}</b>{" ".join([state, *odd])}</div>'
         yield page.heading("Over time")
@@ -187,9 +189,9 @@ class Page:
 
     def files(self):
         yield "Store", f"{page.safe(self.given.store)}, {counted(len(self.store.content), 'byte')}, id {self.store.id}"
-        for name, behind in zip(("Behind its end", "Behind the records of earlier segments"), self.store.behind_ends()):
-            if behind:
-                yield name, hidden(behind)
+        for name, behind, said in zip(("Behind its end", "Behind the records of earlier segments"), self.store.behind_ends(), self.store.open_ends()):
+            if behind or said:
+                yield name, f"it {said} (docs/NOTARY.md)" if said else hidden(behind)
         yield "Book", page.safe(self.given.notary) if self.given.notary else "none was named"
         yield "Time", f"from the store's first second, {self.store.epoch}, to the last moment or filing"
         yield "Trust", page.with_code("The store is shown as it stands. Whether it is what was filed `validate` says.")

@@ -192,6 +192,21 @@ def behind_ends(content, kind):
     return len(behind) if any(behind) else 0, sum(len(content[gate + 1 : limit].rstrip(b"\0")) for gate, limit in segments)
 
 
+def open_end(content, gate, begin=0):
+    """How a file ends, in words, where the gate that ends its records is open; or None. No crash leaves that: the last gate of a range is closed,
+    and one is opened in front of a whole record alone. The bytes stand in the file from `begin` on."""
+    return f"ends at byte {begin + gate + 1} {WHY_OPEN}" if content[gate] == OPEN else None
+
+
+def open_ends(content, kind):
+    """The same of the file, and of the first such segment before the last one."""
+    if len(content) <= FIRST_GATE:
+        return None, None
+    *segments, (end, _) = ends_of(content, kind)
+    within = (open_end(content, gate) for gate, _ in segments)
+    return open_end(content, end), next((it.replace("ends", "ends a segment", 1) for it in within if it), None)
+
+
 def hidden(content, end):
     """How many bytes stand behind the end of a book that an append which was cut off doesn't leave. The program counts them so, too."""
     behind = memoryview(content)[end + 1 :]
@@ -208,13 +223,16 @@ def plain(text):
 # who leaves bytes behind the gate that ends a file, and behind those of earlier segments, which an append fills with zeros
 WHY_BEHIND = "a crash leaves such bytes, and so does whoever hides records"
 WHY_WITHIN = "no crash leaves such bytes there, and whoever hides records does"
+WHY_OPEN = "behind an open gate, and no whole record stands there: one was cut off or altered, which no crash does"
 
 
 def tell_hidden(name, content, kind):
-    """Says on standard error where bytes stand behind a gate that ends records."""
-    behind, within = behind_ends(content, kind)
+    """Says on standard error where bytes stand behind a gate that ends records, and where that gate is open."""
+    (behind, within), opened = behind_ends(content, kind), open_ends(content, kind)
     name = plain(name)
-    if behind:
+    for said in filter(None, opened):
+        print(f"verify: {name} {said}", file=sys.stderr)
+    if behind and not opened[0]:
         print(f"verify: {name} ends at byte {len(content) - behind}, and {behind} bytes stand behind it: {WHY_BEHIND}", file=sys.stderr)
     if within:
         print(f"verify: {within} bytes stand behind the records of earlier segments of {name}: {WHY_WITHIN}", file=sys.stderr)

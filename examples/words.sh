@@ -47,8 +47,8 @@ made_in() {
     return 1
 }
 
-# behind TOLD: what the program told of bytes that stand behind the end of a file. Then `clean` is no verdict.
-behind() { sed -n 's/^dragoon: \(.* bytes stand behind it\):.*/\1/p' <<<"$1" | paste -s -d ';'; }
+# behind TOLD: what the program told of bytes that stand behind the end of a file, or of a record that was cut off there. Then `clean` is no verdict.
+behind() { sed -n -E 's/^dragoon: (.*( bytes stand behind it| behind an open gate, and no whole record stands there)):.*/\1/p' <<<"$1" | paste -s -d ';'; }
 
 # in_format 1|2 OLD NEW: a store in this format, laid out by hand. OLD and NEW may be one file.
 in_format() { PYTHONDONTWRITEBYTECODE=1 PYTHONPATH=$(dirname "${BASH_SOURCE[0]}") python3 -m parts.laid "$@"; }

@@ -247,6 +247,7 @@ def files(folder):
     content = (folder / "in_segment").read_bytes()
     gates = [gate for *_, gate in made.verify.run(content, 65_536, 131_072, made.verify.Source.item, 32_768)]
     (folder / "in_segment").write_bytes(content[: gates[9]] + b"\0" + content[gates[9] + 1 :])
+    (folder / "open_in_segment").write_bytes(content[: gates[9] + 1] + bytes(131_072 - gates[9] - 1) + content[131_072:])
     tampered(folder)
     reported = dragoon(f"store={ALTERED}", f"notary={folder / 'book'}", "analyse", "7", "a3d")[1].splitlines(keepends=True)
     for name, lines in (("whole_report", reported), ("two_reports", reported * 2), ("early_report", reported[:-1]), ("earlier_report", reported[:3])):
@@ -255,7 +256,8 @@ def files(folder):
     for name, content in (("cut", worked[:65]), ("hides_all", worked[:64] + b"\xa6" + worked[65:]), ("policy", worked[:64] + policy + worked[64:]),
                           ("empty", b""), ("short", b"x\n"), ("zeros", bytes(500)), ("other_id", worked[:16] + b"\x08" + worked[17:]), ("wide", worked[:28] + b"\x3d" + worked[29:]),
                           ("closed", b"\0" + worked[1:]), ("turned", worked[:5] + b"o" + worked[6:]), ("text", b"this is a text, and no store\n" * 9), ("hidden", worked[:430] + b"\0" + worked[431:]),
-                          ("raised", worked[:440] + b"\xff" + worked[441:]), ("ahead", worked[:21] + b"\xee" + worked[22:]), ("shorter", worked[:430] + b"\0")):
+                          ("raised", worked[:440] + b"\xff" + worked[441:]), ("ahead", worked[:21] + b"\xee" + worked[22:]), ("shorter", worked[:430] + b"\0"),
+                          ("cut_off", worked[:431]), ("lost_pages", worked[:431] + bytes(14)), ("cut_book", BOOK.read_bytes()[:126])):
         (folder / name).write_bytes(content)
     book = BOOK.read_bytes()
     for name, place, byte in (("hides_filings", 64, b"\xa6"), ("other_kind", 130, b"\3"), ("other_digest", 160, b"\0"), ("other_front", 40, b"\1"), ("turned_book", 7, b"k")):
@@ -270,6 +272,16 @@ SAYS = [
     ("look.py", ("hidden",), 0, ("14 bytes: a crash leaves such bytes",)),
     ("look.py", (ALTERED, BOOK, "7"), 0, ("the one that was filed", "compared        the header alone")),
     ("look.py", ("cut", BOOK, "7"), 0, ("moment 480; the store ends BEFORE that",)),
+    *(("look.py", (store, "cut_book", "7"), 0, ("behind its end  it ends at byte 431 behind an open gate, and no whole record stands there: one was cut off or altered, which no crash does (docs/NOTARY.md)\n",
+                                                "behind its end  it ends at byte 126 behind an open gate, ")) for store in ("cut_off", "lost_pages")),
+    ("look.py", ("open_in_segment",), 0, ("behind its end  nothing\n", "in segments     it ends a segment at byte ", " behind an open gate, and no whole record stands there: ")),
+    *((name, ("cut_off", *words), status, (f"{name[:-3]}: ", "cut_off ends at byte 431 behind an open gate, and no whole record stands there: one was cut off or altered, which no crash does"))
+      for name, words, status in (("dump.py", (), 0), ("verify.py", (BOOK, "7"), 0), ("differ.py", (WORKED,), 1))),
+    ("dump.py", ("open_in_segment",), 1, ("dump: ", "open_in_segment ends a segment at byte ")),
+    *(("differ.py", ("--book", book, WORKED, WORKED), 0, (f"{book} ends at byte 126 behind an open gate, ",)) for book in ("cut_book", "other_kind")),
+    ("timeline_page.py", ("cut_off", "7", "t", "1"), 0, ("More of it may be gone: a record was cut off or altered.", "<dt>Behind its end</dt><dd>it ends at byte 431 behind an open gate, ")),
+    ("explain", ("cut_off", BOOK, "7"), 3, ("No verdict: ", "The store ends at byte 431 behind an open gate, ", "Store nothing and file nothing: the store ends at byte 431 behind an open gate, ", "Hold the store against its copies")),
+    ("report_page.py", (WORKED, "cut_book", "7"), 0, ("<b>No verdict</b>", "File nothing and validate nothing with this book: it ends at byte 126 behind an open gate, ", "Look for copies of the book first")),
     ("look.py", ("policy",), 0, ("era 1           from tile 0 on, granule 0: 4 granules to a tile; tile chains and the tree",)),
     ("look.py", ("wide", BOOK, "7"), 0, ("NOT the one that was filed",)),
     ("look.py", (WORKED, "empty", "7"), 0, ("nothing under this id; of the book: it is empty",)),
@@ -347,7 +359,7 @@ SAYS = [
     ("explain", (WORKED, "short", "7"), 0, ("Nothing was filed: ", "Of the book: its 2 bytes don't begin as those of a store or a book.")),
     ("explain", (WORKED, "empty", "7"), 0, ("Nothing was filed: ", "Of the book: it is empty.")),
     ("explain", (WORKED, "hides_filings", "7"), 0, ("Nothing was filed: ", "File nothing and validate nothing with this book: 848 bytes")),
-    ("explain", (WORKED, "other_kind", "7"), 3, ("No verdict: ", "File nothing and validate nothing with this book: 787 bytes")),
+    ("explain", (WORKED, "other_kind", "7"), 3, ("No verdict: ", "File nothing and validate nothing with this book: it ends at byte 126 behind an open gate, ")),
     ("explain", ("hidden", BOOK, "7"), 3, ("No verdict: ", "Store nothing and file nothing: bytes stand behind the store's end")),
     ("explain", ("in_segment", "empty", "7"), 0, ("Nothing was filed: ", "Store nothing and file nothing: bytes stand behind the records of a segment")),
     ("explain", ("other_id", BOOK, "7"), 1, ("its id is 8, and not 7",)),
@@ -497,7 +509,7 @@ def kept(folder):
         ((BOOK, ALTERED, "7"), 3, "no verdict", "store is no store: it is a notary's book"),
         ((WORKED, BOOK, "8"), 0, "unsealed", "store has the id 7, and not 8"),
         ((WORKED, folder / "hides_filings", "7"), 3, "no verdict: the notary's book evidence/book ends at byte 65, and 848 bytes stand behind it", "848 bytes stand behind it"),
-        ((ALTERED, folder / "other_kind", "7"), 3, "no verdict: the notary's book evidence/book ends at byte 126, and 787 bytes stand behind it", "787 bytes stand behind it"),
+        ((ALTERED, folder / "other_kind", "7"), 3, "no verdict: the notary's book evidence/book ends at byte 126 behind an open gate, and no whole record stands there", "evidence/book ends at byte 126 behind an open gate, "),
         ((ALTERED, BOOK, "7", WORKED, ALTERED), 1, "altered 1 from 0", "case: copy_2: the copy is the same as the store, byte by byte\ncase: copy_2: the copy ISN'T what was filed: altered 1 from 0\n"),
         ((ALTERED, BOOK, "7", WORKED, BOOK), 1, "altered 1 from 0", "case: evidence/copy_2 is no store: it is a notary's book, and shows nothing\n"),
         ((folder / "hidden", BOOK, "7"), 3, "no verdict: the store evidence/store ends at byte 431, and 14 bytes stand behind it", "14 bytes stand behind it"),

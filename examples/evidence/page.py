@@ -68,9 +68,9 @@ def read_examined(text, shown):
 
 
 def stands_hidden(content, kind):
-    """How many bytes stand behind the records of a file that an append which was cut off doesn't leave."""
+    """Whether bytes stand behind the records of a file that an append which was cut off doesn't leave, or an open gate ends records."""
     behind, within = verify.behind_ends(content, kind)
-    return within + (verify.hidden(content, verify.end_of(content, kind)) if behind else 0)
+    return within or behind and verify.hidden(content, verify.end_of(content, kind)) or any(verify.open_ends(content, kind))
 
 
 class Page:
@@ -95,7 +95,7 @@ class Page:
         self.evidence = file_of(contents["evidence"], "`evidence` in this folder")
         self.width, self.epoch, self.left = self.store.width, self.store.epoch, MOST_TRANSACTIONS
         self.odd = contradiction(shown(contents["store"], self.batches, self.id))
-        self.hidden = [name for name, content, kind in (("book", self.book, verify.BOOK), ("store", self.store.content, verify.STORE))
+        self.hidden = [name for name, content, kind in self.kinds()
                        if stands_hidden(content, kind) or any(it.startswith(f"dragoon: the {BY_PROGRAM[name]} ") and " bytes stand behind it" in it for it in self.told)]
         self.altered = [it for it in self.said or [] if not it.first]
         lists = [it for entry in self.shown.entries for it in (entry.first, entry.second or [])]
@@ -104,6 +104,9 @@ class Page:
 
     def text(self, name):
         return content_of(self.given / name).decode(errors="replace")
+
+    def kinds(self):
+        return ("book", self.book, verify.BOOK), ("store", self.store.content, verify.STORE)
 
     def date(self, second):
         return moments.date(second, self.zone)
@@ -132,8 +135,9 @@ class Page:
         return "good", "Not altered", said
 
     def behind(self):
-        """Where bytes stand hidden."""
-        return f"Behind the records of {' and '.join(f'the {it}' for it in self.hidden)} stand bytes as a crash leaves them, or whoever hides records. They were compared with nothing."
+        """Where bytes stand hidden, or an open gate ends records."""
+        ends = [f"The {name} {end}." for name, content, kind in self.kinds() for end in verify.open_ends(content, kind) if end]
+        return " ".join(ends) or f"Behind the records of {' and '.join(f'the {it}' for it in self.hidden)} stand bytes as a crash leaves them, or whoever hides records. They were compared with nothing."
 
     @functools.cached_property
     def is_all(self):

@@ -43,8 +43,9 @@ FEW = Left(1 << 25, 1 << 18, 1 << 12)
 Item = collections.namedtuple("Item", "moment digest")
 # how a store stands: `bytes` is up to the gate that ends it, `last` the digest of the last item of that segment, `behind` how many bytes stand behind
 # that gate, `rest` these bytes, and `records` how many whole records, at most 2. `gates` are those of that segment, by their places in the file, each
-# with the last item in front of it. Of another format than 2, and of no store, `bytes` is the length, and `last` says nothing
-Stand = collections.namedtuple("Stand", "id bytes last length behind rest records gates")
+# with the last item in front of it. `open` says in words that the gate is open. Of another format than 2, and of no store, `bytes` is the length, and
+# `last` says nothing
+Stand = collections.namedtuple("Stand", "id bytes last length behind rest records gates open")
 UNSAID, NONE = "-", Item(0, "none")
 Ended = collections.namedtuple("Ended", "status moment answer")
 Kept = collections.namedtuple("Kept", "id tiles end digest moment path", defaults=[None])
@@ -245,13 +246,14 @@ def stand_of(path, durable=False):
         with verify.opened(path) as file:
             head, length = file.read(65), os.fstat(file.fileno()).st_size
             header = verify.header_of(head)
-            stand = Stand(header and header[1], length, UNSAID, length, 0, b"", 0, {})
+            stand = Stand(header and header[1], length, UNSAID, length, 0, b"", 0, {}, None)
             if header and verify.LETTERS[head[1:9]] == 2:
                 begin = begin_of(length - 1)
                 content, gates = segment_of(file, begin)
                 end = max(gates) - begin
                 rest, records = content[end + 1 :], records_behind(content, end, verify.STORE)
-                stand = Stand(header[1], begin + end + 1, gates[begin + end].digest, length, len(rest) if any(rest) else 0, rest, records, gates)
+                opened = verify.open_end(content, end, begin)
+                stand = Stand(header[1], begin + end + 1, gates[begin + end].digest, length, len(rest) if any(rest) else 0, rest, records, gates, opened)
             if durable:
                 os.fsync(file.fileno())
             return stand
@@ -405,7 +407,8 @@ def hold(conf, durable=False):
     book, stays = settled(read, lambda it: it.hidden and (it.end, it.content[it.end :]))
     least, ends = sealed(conf, kept), f"{conf.book} ends at byte {book.end + 1}"
     if book.content[book.end] == OPEN:
-        raise Rewritten(f"{ends}, in a record that was cut or altered, and {book.hidden} bytes stand behind it: records may be hidden there (docs/NOTARY.md)")
+        behind = f", and {book.hidden} bytes stand behind it: records may be hidden there" if book.hidden else ""
+        raise Rewritten(f"{ends}, in a record that was cut or altered{behind} (docs/NOTARY.md)")
     if not stays:
         book = book._replace(hidden=0)
     if book.tiles < least:
@@ -532,15 +535,18 @@ def length_file(conf):
 
 
 def hold_store(conf, durable=False, unless_broken=False):
-    """How the store stands, held against what was kept of it; and that, or None. With `unless_broken` nothing is said of one that a filing finds
-    altered: that is another alarm, and nothing is filed."""
-    kept, stand = kept_in(length_file(conf), Length), stand_of(conf.store, durable)
-    if not kept or kept.id != conf.id or stand.id not in (None, conf.id):
-        # (of one of another id the program says so)
+    """How the store stands, held against what was kept of it; and that, or None. An open gate ends none. With `unless_broken` nothing is said of one
+    that a filing finds altered: that is another alarm, and nothing is filed."""
+    kept, (stand, stays) = kept_in(length_file(conf), Length), settled(lambda: stand_of(conf.store, durable), lambda it: it.open)
+    if stand.id not in (None, conf.id):
+        # (the program says so)
         return stand, kept
-    if why := lost_of(conf, kept, stand, unless_broken):
+    is_held = kept is not None and kept.id == conf.id
+    if is_held and (why := lost_of(conf, kept, stand, unless_broken)):
         raise Shorter(f"{conf.store} {why}. Look for the right one; where this one is to stay, remove {length_file(conf)}")
-    if moved := moved_from(kept.path, conf.store):
+    if stays and not (unless_broken and is_broken(conf)):
+        raise Shorter(f"{conf.store} {stand.open}. Store nothing and file nothing, and look for its copies (docs/OPERATING.md)")
+    if is_held and (moved := moved_from(kept.path, conf.store)):
         raise Wrong(f"STORE {moved}, remove {length_file(conf)}")
     return stand, kept
 
@@ -643,11 +649,12 @@ def status_of(process):
 
 def hear(conf, command, told):
     """Hands on what the program told on standard error, and keeps what it said of bytes behind the end of the store, and whether they still
-    stand there. Of a store that another process writes to it isn't kept."""
+    stand there; or of a record that was cut off there. Of a store that another process writes to it isn't kept."""
     print(told, end="", file=sys.stderr, flush=True)
-    behind = re.search("^dragoon: (the store .* bytes stand behind it):", told, re.MULTILINE)
+    behind = re.search("^dragoon: (the store .*( bytes stand behind it| behind an open gate, and no whole record stands there)):", told, re.MULTILINE)
     if behind and not re.search("^dragoon: the store .* is locked by another process", told, re.MULTILINE):
-        is_kept(conf, command, lambda: note(behind_file(conf), behind[1], STORED_OVER if command in ("notarize", "run") else ""))
+        is_over = command in ("notarize", "run") and behind[2] == " bytes stand behind it"
+        is_kept(conf, command, lambda: note(behind_file(conf), behind[1], STORED_OVER if is_over else ""))
 
 
 def note(file, words, over):

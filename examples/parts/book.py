@@ -20,6 +20,10 @@ class Book:
         """The place of the gate that ends the book."""
         return max(0, len(self.content) - 1) if is_empty(self.content) else verify.end_of(self.content, BOOK)
 
+    def open_end(self):
+        """How the book ends, in words, where an open gate ends it; or None."""
+        return None if is_empty(self.content) else verify.open_end(self.content, self.gate())
+
     def hidden(self):
         """How many bytes stand behind that gate, where no append that was cut off left them."""
         return 0 if is_empty(self.content) else verify.hidden(self.content, self.gate())

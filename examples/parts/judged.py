@@ -37,7 +37,7 @@ def verdict(report, asked, book):
     if by_verify and kind_of(by_verify) != report.verdict:
         return Verdict("bad", "No verdict", f"The program says `{report.verdict}`, and verify.py `{by_verify}`. One of them is wrong.", by_verify, odd, status or UNTOLD)
     if report.verdict == "clean" and (what := hidden_in(asked, book)):
-        return Verdict("open", "No verdict", f"Bytes stand behind the records of {what}, and were compared with nothing. Up to there: {said}", by_verify, odd, UNTOLD)
+        return Verdict("open", "No verdict", f"{what}. Up to there: {said}", by_verify, odd, UNTOLD)
     return Verdict("good" if title == "Clean" else "open" if report.verdict == "clean" else COLOUR[report.verdict], title, said, by_verify, odd, status)
 
 
@@ -54,9 +54,11 @@ def kind_of(line):
 
 
 def hidden_in(asked, book):
-    """Behind the records of which of the two files bytes stand, in words."""
+    """Which of the two files an open gate ends, or behind the records of which of them bytes stand, in words; or nothing."""
+    opened = [f"The store {it}" for it in reports.open_ends(asked.store)] + [f"The book {it}" for it in [book.open_end()] if it]
     in_store = re.search("^dragoon: the store .* bytes stand behind it:", asked.told, re.MULTILINE)
-    return " and of ".join(["the store"] * bool(in_store) + ["the book"] * bool(book.hidden()))
+    where = " and of ".join(["the store"] * bool(in_store) + ["the book"] * bool(book.hidden()))
+    return ". ".join(opened) or where and f"Bytes stand behind the records of {where}, and were compared with nothing"
 
 
 def earlier(report, book, zone):

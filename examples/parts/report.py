@@ -191,18 +191,30 @@ def what_next(report, book, asked):
     told, odd = asked.told, odd_moment(asked)
     if odd:
         yield f"File nothing, and hold the store against its copies: of its last moment, {odd}."
-    is_hidden = re.search("^dragoon: the store .* bytes stand behind it:", told, re.MULTILINE)
-    if is_hidden:
+    is_hidden, opened = re.search("^dragoon: the store .* bytes stand behind it:", told, re.MULTILINE), open_ends(asked.store)
+    for said in opened:
+        yield f"Store nothing and file nothing: the store {said}."
+    if is_hidden and not opened:
         is_within = " ends a segment at byte " in is_hidden[0]
         where = "behind the records of a segment, where no crash leaves any" if is_within else "behind the store's end, and the next record is written over them"
         yield f"Store nothing and file nothing: bytes stand {where}."
+    if is_hidden or opened:
         yield "Hold the store against its copies, and against what its writers were answered: `Bytes behind a store's end` in docs/OPERATING.md."
-    if behind := book.hidden():
+    behind, end = book.hidden(), book.open_end()
+    if end:
+        yield f"File nothing and validate nothing with this book: it {end}."
+    elif behind:
         yield f"File nothing and validate nothing with this book: {hidden(behind)}. They stand behind its end, and each call would write over them."
+    if behind or end:
         yield "Look for copies of the book first, and hold it against them: `Bytes behind the end` in docs/NOTARY.md has the steps."
-    if (is_hidden or behind or odd) and report.verdict in ("unsealed", "clean"):
+    if (is_hidden or opened or behind or end or odd) and report.verdict in ("unsealed", "clean"):
         return
     yield from what_next_by(report)
+
+
+def open_ends(store):
+    """How a store ends, and a segment of it, where an open gate ends records, in words."""
+    return [it for it in verify.open_ends(store, verify.STORE) if it] if verify.header_of(store) else []
 
 
 def odd_moment(asked):

@@ -129,6 +129,10 @@ class Store:
     def behind(self):
         return sum(self.behind_ends())
 
+    def open_ends(self):
+        """How the store ends, and a segment of it, where an open gate ends records, in words; or None."""
+        return verify.open_ends(self.content, RECORDS)
+
     def last_moment(self):
         return max((item.moment for item in self.items() if not isinstance(item, Policy)), default=0)
 
@@ -140,9 +144,11 @@ class Store:
         return f"it is ahead of this clock by {moments.length(ahead)}: the clock is behind, or an item was altered" if ahead > 60 else None
 
     def tell_hidden(self):
-        """Says on standard error where such bytes stand."""
-        behind, within = self.behind_ends()
-        if behind:
+        """Says on standard error where such bytes stand, and where an open gate ends records."""
+        (behind, within), opened = self.behind_ends(), self.open_ends()
+        for said in filter(None, opened):
+            tell(f"{plain(self.path)} {said} (docs/NOTARY.md)")
+        if behind and not opened[0]:
             tell(f"behind the end of {plain(self.path)} stand {hidden(behind)}")
         if within:
             tell(f"behind the records of earlier segments of {plain(self.path)} stand {hidden(within, verify.WHY_WITHIN)}")

@@ -1,10 +1,11 @@
 #!/usr/bin/env python3
-"""Says whether a store is an earlier one that grew: whether it holds all that the earlier one held, in front.
+"""Says whether a store is an earlier one that grew: whether it holds all that the earlier one held, in front, and no open gate ends it.
 
-    python3 examples/second_machine/grown.py EARLIER STORE
+    python3 examples/second_machine/grown.py [EARLIER] STORE
 
-A store in the other format grew where its items did: `migrate` writes all of them, in their order. It ends with 0 if so, with 1 if not,
-and says what isn't there. It ends with 3 if a file can't be read, or EARLIER is no store. It is written from docs/FORMATS.md, as verify.py is.
+Without EARLIER it looks at that gate alone. A store in the other format grew where its items did: `migrate` writes all of them, in their order. It
+ends with 0 if so, with 1 if not, and says what isn't there. It ends with 3 if a file can't be read, or EARLIER is no store. It is written from
+docs/FORMATS.md, as verify.py is.
 """
 import pathlib
 import sys
@@ -49,18 +50,24 @@ def missing(earlier, store):
     return None
 
 
+def cut_off(store):
+    """How a store ends, in words, where that is an open gate; or None."""
+    said = verify.header_of(store) and verify.open_end(store, gate_of(store))
+    return said and f"it {said}"
+
+
 def words():
     parser = words_of(__doc__)
-    parser.add_argument("earlier")
+    parser.add_argument("earlier", nargs="?")
     parser.add_argument("store")
     return parser.parse_args()
 
 
 def main(given):
-    earlier, store = content_of(given.earlier), content_of(given.store)
-    if verify.header_of(earlier) is None:
+    earlier, store = given.earlier and content_of(given.earlier), content_of(given.store)
+    if given.earlier and verify.header_of(earlier) is None:
         raise Refused(f"{plain(given.earlier)} is no store: {verify.what_is(earlier)}")
-    why = missing(earlier, store)
+    why = given.earlier and missing(earlier, store) or cut_off(store)
     return (f"{why}\n", 1) if why else ("", 0)
 
 
