@@ -29,7 +29,8 @@ OPEN = verify.OPEN
 KEYS = ("STORE", "BOOK", "ID", "ALG", "STATE")
 COMMANDS = ("notarize", "validate", "run", "analyse")
 
-Conf = collections.namedtuple("Conf", "name store book id alg state")
+# `path` is where the conf lies, if there is one
+Conf = collections.namedtuple("Conf", "name store book id alg state path", defaults=[None])
 # `last` is the clock's second of the last moment
 Header = collections.namedtuple("Header", "bytes_left granules_left full_at tile_seconds last")
 # `end` is the place of the gate that ends the records: all bytes in front of it stay as they are. `others` are the other ids that it has,
@@ -116,7 +117,7 @@ def read_conf(path):
         raise Wrong(f"{path}: BOOK={said['BOOK']} names several books, and a conf has one")
     if not os.path.isdir(said["STATE"]):
         raise Wrong(f"{path}: STATE={said['STATE']} is no folder")
-    return Conf(pathlib.Path(path).stem, said["STORE"], said["BOOK"], int(said["ID"]), said["ALG"], said["STATE"])
+    return Conf(pathlib.Path(path).stem, said["STORE"], said["BOOK"], int(said["ID"]), said["ALG"], said["STATE"], path)
 
 
 def wrong_line(line, said):
@@ -211,8 +212,8 @@ def last_moment(conf, length):
 
 @functools.lru_cache
 def successor(conf):
-    """The store in the same folder that goes on behind this one, or None. Its second transaction puts this one's id into the table `before`, and how
-    many transactions it had: one that was stored in since isn't closed."""
+    """The store in the same folder that goes on behind this one, or None. Its second transaction puts this one's id into the table `before`, how many
+    transactions it had, and its link: one that was stored in since isn't closed. Whether the link is its own `walk_back` says: that takes all of it."""
     folder, ending = os.path.dirname(conf.store), os.path.splitext(conf.store)[1]
     with contextlib.suppress(OSError):
         paths = (os.path.join(folder, name) for name in sorted(os.listdir(folder)) if name.endswith(ending))
@@ -223,14 +224,34 @@ def successor(conf):
 def goes_on(path, conf):
     """Whether the store at this path goes on behind the conf's one as that is."""
     with contextlib.suppress(Wrong, OSError):
-        row = stored.row_before(content_of(path, 4_096)[0])
-        return bool(row) and row[0] == str(conf.id) and isinstance(row[1], int) and row[1] >= last_number(conf)
+        id, count, link = stored.row_before(content_of(path, 4_096)[0]) or (None, None, None)
+        return id == str(conf.id) and last_number(conf) in (count, None) and isinstance(link, bytes) and len(link) == 32
     return False
 
 
+@functools.lru_cache
+def unwatched(conf):
+    """The store that goes on behind this one, where no conf beside this one names it; or None."""
+    path, folder = successor(conf), pathlib.Path(conf.path).parent
+    with contextlib.suppress(OSError):
+        names = [name for name in os.listdir(folder) if path and name.endswith(".conf")]
+        return None if any(names_store(folder / name, path) for name in names) else path
+    return path
+
+
+def names_store(conf_file, store):
+    """Whether this conf can be taken, and names that store."""
+    try:
+        return is_same(read_conf(conf_file).store, store)
+    except Wrong:
+        return False
+
+
 def last_number(conf):
-    """The number of the last transaction of a store of format 2, or 0."""
+    """The number of the last transaction of a store, or 0. Of one of format 1 it is None: that would take all of it."""
     with verify.opened(conf.store) as file:
+        if verify.LETTERS.get(file.read(9)[1:]) == 1:
+            return None
         length = os.fstat(file.fileno()).st_size
         for begin in range(begin_of(length - 1), -1, -verify.SEGMENT):
             content, gates = segment_of(file, begin)
