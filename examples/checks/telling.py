@@ -20,13 +20,13 @@ from program import DRAGOON, EXAMPLES, Wrong, count_of
 PROGRAM = str(pathlib.Path(DRAGOON).resolve()) if "/" in DRAGOON else DRAGOON
 STORE, BOOK = "store=worked.store", "notary=worked.book"
 WHOLE = "usage: dragoon [store=FILE] [copy=FILE] [notary=FILE,..] [target=FILE] COMMAND"
-OPEN = "the gate there is open, and no whole record stands behind it, which no crash leaves so"
+OPEN = "behind an open gate, and no whole record stands there: one was cut off or altered, which no crash does; docs/NOTARY.md"
 BEHIND = "a crash leaves such bytes, and so does whoever hides records; docs/NOTARY.md"
 KEEP = "isn't what was filed: keep it and the notary's book worked.book as they are, and copy them"
 ONLY = "the only reply is a refusal, that to line"
 REFUSED = "replies is a refusal, that to line"
 MARKED = "dragoon: the notary's book worked.book keeps this verdict as a mark, which the diagrams of later reports show"
-WENT_BACK = "dragoon: the clock says 20.., before the last filing, 36812-02-20 00:36:16 UTC: it was set back, or a scripted run filed that"
+WENT_BACK = "dragoon: the clock says 20.., before the last filing, 36812-02-20 00:36:16 UTC: it was set back, or a scripted run filed that, or the book was altered"
 GONE = "stood in memory, and is gone"
 QUORUM = "notary=a,b,c"
 ADDED = "differs from the others, and this call added to it: stop, and compare all of them; docs/NOTARY.md says why one does"
@@ -157,6 +157,12 @@ def three_ways():
     pathlib.Path("c").write_bytes(pathlib.Path("c").read_bytes()[:125] + b"\0")
 
 
+def older_book():
+    """The store has an era that begins behind its sealed tile, and the book has lost that tile."""
+    call([STORE, BOOK, "run", "7", "scripted"], "policy 3 ta\n")
+    pathlib.Path("worked.book").write_bytes(pathlib.Path("worked.book").read_bytes()[:125] + b"\0")
+
+
 def two_batches_with_one_index():
     put("worked.book", 125 + 5 + 9, (7).to_bytes(4, "big"))
 
@@ -178,7 +184,8 @@ NO_SUCH = "has no such header and eras filed under it. Name the right file, id a
 
 TURNED = "had no sealed tile under the id 7: the policy stands at tile 0, and no tile was compared. If tiles of the store worked.store are filed in another book, validate with that one: where it isn't clean, put back the copy from before; docs/OPERATING.md"
 
-UNSET = "dragoon: lines were stored before any `now M`, at the store's last moment, second 480, ..: without `scripted` a run goes by the clock"
+UNSET = "dragoon: no `now M` was carried out, so all was stored at the store's last moment, second 480, ..: without `scripted` a run goes by the clock"
+OLDER = "an era of the store worked.store begins at tile 1, and the notary's book worked.book had {} sealed: it was put back or cut, or is another one, or the era was put in. Stop, and look for copies; docs/NOTARY.md"
 SEEK = ". If this store was filed before, look for its book; docs/NOTARY.md"
 UNFED = "dragoon: the input had no statement, so nothing was carried out: if it came through a pipe, look at what should have written it"
 
@@ -216,13 +223,13 @@ ROWS = [
     ("records hidden in an earlier segment", hidden_within, [STORE, "link"], "", 0, None,
      ["dragoon: the store worked.store ends a segment at byte 445, and 6 bytes stand behind it: no crash leaves such bytes there, and whoever hides records does; docs/NOTARY.md"]),
     ("an open gate before a broken record", lambda: put("worked.store", 99, b"\x09"), [STORE, "link"], "", 0, None,
-     [f"dragoon: the store worked.store ends at byte 95, and 350 bytes stand behind it: {OPEN}; docs/NOTARY.md"]),
+     [f"dragoon: the store worked.store ends at byte 95 {OPEN}"]),
     ("a store cut at an open gate", lambda: os.truncate("worked.store", 431), [STORE, "link"], "", 0, None,
-     [f"dragoon: the store worked.store ends at byte 431, and 0 bytes stand behind it: {OPEN}; docs/NOTARY.md"]),
+     [f"dragoon: the store worked.store ends at byte 431 {OPEN}"]),
     ("a book cut at an open gate", lambda: os.truncate("worked.book", 126), [STORE, BOOK, "validate", "7"], "", 0, "clean 0\n",
-     [f"dragoon: the notary's book worked.book ends at byte 126, and 0 bytes stand behind it: {OPEN}; docs/NOTARY.md; this call wrote over the first of them", "dragoon: only the header was compared: .."]),
+     [f"dragoon: the notary's book worked.book ends at byte 126 {OPEN}", "dragoon: only the header was compared: .."]),
     ("a transaction that is lost within a segment", lost_within, [STORE, "link"], "", 0, None,
-     [f"dragoon: the store worked.store ends a segment at byte 389, and 0 bytes stand behind it: {OPEN}; docs/NOTARY.md",
+     [f"dragoon: the store worked.store ends a segment at byte 389 {OPEN}",
       "dragoon: the store worked.store has transaction 10 behind transaction 8: some were lost or altered, or put in; `examples/look.py` says more"]),
     ("what an append leaves that was cut off", lambda: put("worked.store", None, bytes.fromhex("0000002501000000")), [STORE, "link"], "", 0, None, []),
     ("more than an append can leave", lambda: put("worked.store", None, b"\1" * 33000), [STORE, "link"], "", 0, None,
@@ -264,11 +271,11 @@ ROWS = [
     ("a scripted run that sets no clock", new_store, ["store=new.store", "run", "7", "scripted"], "create t k int\n", 0, "ok 1\n",
      [UNSET.replace("480", "0")]),
     ("a scripted run ahead of the clock", new_store, ["store=new.store", "run", "7", "scripted"], "now 60000000\ncreate t k int\n", 0, "ok\nok 1\n",
-     ["dragoon: the last moment of the store new.store is second 60000000, 20.., and the clock says 20..: nothing is stored there by the clock until then. If that moment is wrong, go back to the copy from before"]),
+     ["dragoon: the last moment of the store new.store is second 60000000, 20.., and the clock says 20..: nothing is stored there by the clock until then. If that moment is wrong, hold the store against its copies; docs/OPERATING.md"]),
     ("a generated script ahead of the clock", new_store, ["store=new.store", "make", "7", "1", "9"], "", 0, None,
      [f"dragoon: no notary=FILE was named: what was filed {GONE}", "dragoon: only the header was compared: ..", "dragoon: the last moment of the store new.store is second 193, 20.., and .."]),
     ("a question of a moment to come", None, [STORE, "run", "7"], "get t 1 as of 5\nscan t as of 99999999999\n", 0, None,
-     ["dragoon: a line asks for second 99999999999, 51.., and the clock says 20..: it was answered by what is stored so far. Moments are seconds from the store's first one on"]),
+     ["dragoon: line 2 asks for second 99999999999, 51.., and the clock says 20..: it was answered by what is stored so far. Moments are seconds from the store's first one on"]),
     ("a last line without an end that stores", a_row_of_today, ["store=new.store", "run", "7"], "get t 1\n\ninsert t 9 1", 0, "row 1 0\nok 3\n",
      ["dragoon: line 3, the last one, has no end: was the input cut off within it?"]),
     ("one that is refused", None, [STORE, "run", "7"], "get t 1\ninsert t 1 1", 3, None,
@@ -278,6 +285,17 @@ ROWS = [
      ["dragoon: 4 of 5 replies are refusals, the first one to line 1, `create t k int`: TableExists, there is a table of this name already", "dragoon: the refusals by kind: NoTable 1, TableExists 1, RowExists 2"]),
     ("a session that goes on", a_row_of_today, ["store=new.store", "run", "7"], "s1 begin\ns1 insert t 1 1\ns1 insert t 9 1\ns1 commit\n", 3, "ok\nrefused RowExists\nok\nok 3\n",
      ["dragoon: 1 of 4 replies is a refusal, that to line 2, `s1 insert t 1 1`: RowExists, there is a row of this key already", "dragoon: s1 was committed without 1 line that was refused: it stored the others alone"]),
+    ("a session that stores nothing", a_row_of_today, ["store=new.store", "run", "7"], "s1 begin\ns1 insert t 1 1\ns1 get u 1\ns1 commit\n", 3, None,
+     ["dragoon: 2 of 4 replies are refusals, the first one to line 2, ..", "dragoon: the refusals by kind: NoTable 1, RowExists 1", "dragoon: s1 was committed without 1 line that was refused: it stored nothing"]),
+    ("a conflict behind another refusal", a_row_of_today, ["store=new.store", "run", "7"], "insert t 1 1\ns0 begin\ns0 insert t 9 9\ninsert t 9 9\ns0 commit\n", 3, None,
+     ["dragoon: 2 of 5 replies are refusals, the first one to line 1, ..", "dragoon: the refusals by kind: RowExists 1, Conflict 1", "dragoon: nothing of s0 is stored: its commit was a Conflict, so begin it anew"]),
+    ("a `now` that is refused", None, [STORE, "run", "7", "scripted"], "now 600\ninsert t 98 1\nnow 2O0\ninsert t 99 1\n", 3, None,
+     ["dragoon: lines were stored behind a `now` that was refused, at the moment from before it", "dragoon: 1 of 4 replies is a refusal, that to line 3, .."]),
+    ("a comment that hides lines", None, [STORE, "run", "7"], "# row\rget t 1\nget t 1\n", 0, "row 1 0\n",
+     ["dragoon: line 1 is a comment with bytes of zero or carriage returns in it: nothing that stands there was carried out"]),
+    ("one with zeros", None, [STORE, "run", "7"], "get t 1\r\n# so\r\n# a\0\0get t 1\n", 0, "row 1 0\n",
+     ["dragoon: line 3 is a comment with bytes of zero ..", ]),
+    ("a run of its clock alone", None, [STORE, "run", "7", "scripted"], "now 600\n", 0, "ok\n", [UNFED]),
     ("a run without a statement", None, [STORE, "run", "7"], "# none\n\n", 0, "", [UNFED]),
     ("a drill without an input", None, ["drill"], "", 0, "", [UNFED]),
     ("a run that finds nothing odd", None, [STORE, BOOK, "run", "7"], "validate\nanalyse mono\n", 0, "clean 1\nreport mono id 7 tiles 1 clean\n", []),
@@ -401,7 +419,7 @@ ROWS = [
      ["dragoon: notary 1 of 3 (a) differs ..", "dragoon: notary 2 of 3 (b) was missing; ..", "dragoon: notary 3 of 3 (c) was missing; ..", f"dragoon: {LOST.format(LOOK)}",
       "dragoon: nothing was compared: the quorum of 3 notaries had nothing that was filed under the id 7"]),
     ("notaries of whom none has a book", None, [STORE, QUORUM, "validate", "7"], "", 0, "unsealed\n",
-     [f"dragoon: notary {number} of 3 ({name}) was missing: nothing was compared" for number, name in ((1, "a"), (2, "b"), (3, "c"))]),
+     [f"dragoon: notary {number} of 3 ({name}) was missing: nothing was compared{seek}" for number, name, seek in ((1, "a", SEEK), (2, "b", ""), (3, "c", ""))]),
     ("an altered store of a quorum", three_books, ["store=altered.store", "notary=a,c", "validate", "7"], "", 1, "altered 1 from 0\n",
      ["dragoon: the store altered.store isn't what was filed: keep it and the quorum of 2 notaries as they are, and copy them; .."]),
     ("a path between commas that is empty", None, [STORE, "notary=a,,c", "validate", "7"], "", 2, "fault Usage\n",
@@ -413,14 +431,14 @@ ROWS = [
      ["dragoon: the store none is missing: make one by `init`, or name the right file", "dragoon: the notary's book none.book was missing"]),
     ("a filing of a store that is missing", None, ["store=none", "notary=none.book", "notarize", "7"], "", 4, "fault NotAStore\n",
      ["dragoon: the store none is missing: make one by `init`, or name the right file", "dragoon: the notary's book none.book was missing"]),
-    ("a session that isn't committed", None, [STORE, "run", "7", "scripted"], "s0 begin\ns0 insert t 9 9\n", 0, "ok\nok\n", [f"dragoon: no commit was carried out for what was begun as s0: {UNSTORED}"]),
+    ("a session that isn't committed", None, [STORE, "run", "7", "scripted"], "s0 begin\ns0 insert t 9 9\n", 0, "ok\nok\n", [f"dragoon: what was begun as s0 wasn't committed: {UNSTORED}"]),
     ("sessions of all kinds", None, [STORE, "run", "7", "scripted"],
      " s15  begin\r\ns1 begin\ns1 abort\ns2 begin\ns2 get t 9\ns3 begin\ns3 get t 9\ns3 insert t 9 9\ninsert t 9 9\ns3 commit\n # s4 begin\n# s5 begin\ns2 begin", 3, None,
-     [UNSET, "dragoon: .. replies are refusals, the first one to line 10, ..", "dragoon: the refusals by kind: Syntax 1, SessionOpen 1, Conflict 1", f"dragoon: no commit was carried out for what was begun as s2, s15: {UNSTORED}", "dragoon: line 13, the last one, has no end: was the input cut off within it?"]),
+     [UNSET, "dragoon: .. replies are refusals, the first one to line 10, ..", "dragoon: the refusals by kind: Syntax 1, SessionOpen 1, Conflict 1", f"dragoon: what was begun as s2, s15 wasn't committed: {UNSTORED}", "dragoon: line 13, the last one, has no end: was the input cut off within it?"]),
     ("a join of two kinds", None, [STORE, "run", "7", "scripted"], "create w k text\nover 1 to 2 join t w on k k\n", 3, None,
      [UNSET, f"dragoon: 1 of 2 {REFUSED} 2, `over 1 to 2 join t w on k k`: BadType 1, the two columns have different kinds, .."]),
     ("a commit that leaves its session", None, [STORE, "run", "7", "scripted"], "now 1099511627775\ns0 begin\ns0 insert t 9 9\ns0 commit\n", 3, None,
-     [f"dragoon: 1 of 4 {REFUSED} 4, `s0 commit`: TooLate, the clock is beyond what this store can tell, which ends at 1971-12-30 04:16:00 UTC: `now M` counts seconds from its first one on", f"dragoon: no commit was carried out for what was begun as s0: {UNSTORED}"]),
+     [f"dragoon: 1 of 4 {REFUSED} 4, `s0 commit`: TooLate, the clock is beyond what this store can tell, which ends at 1971-12-30 04:16:00 UTC: `now M` counts seconds from its first one on", f"dragoon: what was begun as s0 wasn't committed: {UNSTORED}"]),
     ("a commit that is repeated", None, [STORE, "run", "7", "scripted"], "now 1099511627775\ns0 begin\ns0 insert t 9 9\ns0 commit\nnow 600\ns0 commit\n", 3, None,
      [f"dragoon: 1 of 6 {REFUSED} 4, .."]),
     ("a run over a store of format 1", None, [OLD, "run", "7"], "get t 1\n", 20, "fault OldFormat\n", [f"dragoon: {IS_OLD}"]),
@@ -474,6 +492,9 @@ ROWS = [
      [f"dragoon: the notary's book in memory (no file was named) {TURNED}"]),
     ("a policy over another book, in a run", None, [STORE, "notary=none", "run", "7", "scripted"], "policy 1 a\n", 0, "era 1 from tile 0\n",
      [f"dragoon: the notary's book none was missing: nothing was compared{SEEK}", f"dragoon: the notary's book none {TURNED}"]),
+    ("a book that is older than an era", older_book, [STORE, BOOK, "validate", "7"], "", 0, "clean 0\n",
+     ["dragoon: only the header was compared: ..", f"dragoon: {OLDER.format(0)}"]),
+    ("a policy over one", older_book, [STORE, BOOK, "policy", "7", "2", "ta"], "", 0, None, ["dragoon: .. had no sealed tile under the id 7: ..", f"dragoon: {OLDER.format(0)}"]),
     ("a policy over an altered store", None, ["store=altered.store", BOOK, "policy", "7", "1", "a"], "", 10, "fault Broken\n",
      ["dragoon: the store altered.store isn't what was filed with the notary's book worked.book: keep both as they are, and `validate`; docs/OPERATING.md"]),
     ("a policy over format 1", None, [OLD, BOOK, "policy", "7", "1", "a"], "", 20, "fault OldFormat\n", [f"dragoon: {IS_OLD}"]),
@@ -530,25 +551,25 @@ ROWS = [
      ["dragoon: a sealed tile of the store new.store lacks the tree, by which altered granules are found for an evidence file: `analyse` it by `mono` or `tiled`"]),
     ("evidence without an id", None, [STORE, "evidence"], "", 2, "fault Usage\n", ["dragoon: `evidence` lacks a word: ID, ..", "  evidence ID ..", ".."]),
     ("one beside a copy that is altered, too", lambda: shutil.copy("altered.store", "other.store"), [ALTERED, "copy=other.store", BOOK, EVIDENCE, "evidence", "7"], "", 0, "evidence 1\n",
-     ["dragoon: the copy other.store gave no original: it is older, has another header or other eras, or is altered there"]),
+     ["dragoon: the copy other.store gave no original: it is older, has another header or other eras, or is altered there, or the book was"]),
     ("one of two granules, of which the copy has one", two_altered, [ALTERED, "copy=other.store", BOOK, EVIDENCE, "evidence", "7"], "", 0, "evidence 2\n",
      ["dragoon: the copy other.store gave the originals of 1 of 2 granules: of the others it hasn't what was filed, being older or altered there"]),
     ("a restoring", None, [ALTERED, "copy=worked.store", "target=new.store", BOOK, "restore", "7"], "", 0, "restored 8 lost 0\n", []),
     ("a restoring of what both have altered", lambda: shutil.copy("altered.store", "other.store"), [ALTERED, "copy=other.store", "target=new.store", BOOK, "restore", "7"], "", 0, ONE_LOST,
-     ["dragoon: 1 granule is lost: what is filed of that time is neither what the store altered.store has nor what the copy other.store has, and the target new.store has no row of it. Validate a copy of the target new.store .."]),
+     ["dragoon: 1 granule is lost: no digest confirms what the store altered.store or the copy other.store has there, and the target new.store has no row of that time. Validate copies of all of them .."]),
     ("a restoring without a copy", None, [ALTERED, "target=new.store", BOOK, "restore", "7"], "", 0, ONE_LOST,
-     ["dragoon: 1 granule is lost: .. nor what the copy in memory (no file was named) has, .."]),
+     ["dragoon: 1 granule is lost: .. or the copy in memory (no file was named) has there, .."]),
     ("a restoring of rows that aren't sealed", newer, ["store=new.store", "target=made.store", BOOK, "restore", "7"], "", 0, "restored 8 lost 0\n",
      ["dragoon: the target made.store has 1 transaction behind the sealed tiles, taken from the store new.store: no digest vouches for what isn't sealed"]),
     ("a restoring of a store with a bit of its header turned", newer_of_another_header, ["store=new.store", "copy=worked.store", "target=made.store", BOOK, "restore", "7"], "", 0, "restored 8 lost 0\n",
-     ["dragoon: nothing was taken from the store new.store: it has another header or other eras than were filed",
-      "dragoon: the store new.store has 1 transaction behind the sealed tiles: `examples/differ.py` says which of them the target made.store lacks; docs/OPERATING.md"]),
+     ["dragoon: nothing was taken from the store new.store: it doesn't have the header and the eras that were filed",
+      "dragoon: the store new.store has 1 transaction behind the sealed tiles: `examples/differ.py` says which of them the target made.store lacks, or has elsewhere; docs/OPERATING.md"]),
     ("a restoring of an older store", newer, [STORE, "copy=new.store", "target=made.store", BOOK, "restore", "7"], "", 0, "restored 8 lost 0\n",
      ["dragoon: the copy new.store has 1 transaction behind the sealed tiles: .."]),
     ("a restoring with a copy that doesn't pass", newer_of_another_header, [ALTERED, "copy=new.store", "target=made.store", BOOK, "restore", "7"], "", 0, ONE_LOST,
-     ["dragoon: 1 granule is lost: ..", "dragoon: nothing was taken from the copy new.store: it has another header or other eras than were filed"]),
+     ["dragoon: 1 granule is lost: ..", "dragoon: nothing was taken from the copy new.store: it doesn't have the header and the eras that were filed"]),
     ("a restoring of rows that were moved", moved, ["store=new.store", "copy=worked.store", "target=made.store", BOOK, "restore", "7"], "", 0, "restored 8 lost 0\n",
-     ["dragoon: the target made.store has 2 transactions behind the sealed tiles, ..", "dragoon: numbers or moments of the target made.store don't ascend, as where some were lost, or moved behind the sealed tiles: `examples/look.py` says where"]),
+     ["dragoon: the store new.store has a moment before that of the item before it, as no writer stores it: `examples/look.py` says where", "dragoon: the target made.store has 2 transactions behind the sealed tiles, ..", "dragoon: numbers or moments of the target made.store don't ascend, as where rows were moved, or a store went on behind lost granules: `examples/look.py` says where"]),
     ("a restoring into memory", None, [STORE, BOOK, "restore", "7"], "", 0, "restored 8 lost 0\n", [f"dragoon: no target=FILE was named: what was written {GONE}"]),
     ("a restoring into a store", None, [ALTERED, "target=worked.store", BOOK, "restore", "7"], "", 13, "fault AlreadyThere\n",
      ["dragoon: the target worked.store holds a store with the id 7, which begins at 1970-01-01 00:00:00 UTC, and stays as it is: name another file"]),
@@ -569,7 +590,7 @@ ROWS = [
 
 LINES = [
     ("no table", "get u 1\n", "NoTable, there is no table of this name", 1, "get u 1"),
-    ("behind lines that are carried out", "\n# so\nget t 1\n\nget u 1\r\n", "NoTable, there is no table of this name", 5, "get u 1\\r"),
+    ("behind lines that are carried out", "\n# so\nget t 1\n\nget u 1\r\n", "NoTable, there is no table of this name", 5, "get u 1"),
     ("capitals", "INSERT t 1 1\n", "Syntax, at column 1: words and names are in lower case", 1, "INSERT t 1 1"),
     ("a name in capitals", "get T 1\n", "Syntax, at column 5: words and names are in lower case", 1, "get T 1"),
     ("a semicolon", "insert t 9 9;\n", "Syntax, at column 12: no statement ends in `;`", 1, "insert t 9 9;"),

@@ -55,7 +55,9 @@ OTHERWISE = {"insert": ("refused RowExists", "update"), "update": ("refused NoRo
 # at the end the program names the first line that it refused, and counts the refusals where they are of several kinds: of these each reply is
 # read, and they come where nothing is wrong, too
 FIRST = r".* (is a refusal, that|are refusals, the first one) to line [0-9]+, `(get mirrored 0`: NoTable|s0 insert .*: RowExists|s0 (update|delete) .*: NoRow)"
-EXPECTED = rf"dragoon: ({FIRST}|the refusals by kind: ((NoTable|NoRow|RowExists) [0-9]+(, |$))+$)".encode()
+KINDS = "the refusals by kind: ((NoTable|NoRow|RowExists) [0-9]+(, |$))+$"
+WITHOUT = "s0 was committed without .* refused: "
+EXPECTED = f"dragoon: ({FIRST}|{KINDS}|{WITHOUT})".encode()
 VALUE = r"(-?[0-9]+|x'[0-9a-fA-F]*'|'(?:[^']|'')*')"
 SHOWN = 3
 ANEW = "Begin with a new store: attach.py --anew attaches the tables for it"

@@ -75,7 +75,7 @@ impl fmt::Display for Wanted {
             }
             Wanted::OfDrill => "init, crash, alter and cut are lines of a drill alone",
             Wanted::InSession => {
-                "in a session a line goes on with create, insert, update, delete, get, scan, history, over, begin, commit or abort"
+                "in a session a line goes on with create, insert, update, delete, get, scan, history, over, begin, commit or abort: all else stands outside"
             }
             Wanted::SessionName => "a line of a session begins with its name, s0 to s15",
             Wanted::Name =>

@@ -13,26 +13,28 @@ pub fn first_wrong(line: &[u8], is_drill: bool) -> Option<Wrong> {
     }
 }
 
-/// What an input is that is no plain text. In UTF-16 a zero stands before or behind each letter, and nowhere two in a row.
+/// What an input is that is no plain text. In UTF-16 a zero stands before or behind each letter.
 fn coding_of(line: &[u8]) -> Option<Wanted> {
     match line {
         [0xef, 0xbb, 0xbf, ..] => Some(Wanted::NoMark),
         [0xff, 0xfe, ..] | [0xfe, 0xff, ..] => Some(Wanted::NoUtf16),
-        _ if has_zeros(line) => Some(Wanted::NoZeros),
-        [0, _, 0, ..] | [0, _] | [_, 0, _, 0, ..] | [_, 0] => Some(Wanted::NoUtf16),
+        _ if is_wide(line) => Some(Wanted::NoUtf16),
+        _ if line.contains(&0) => Some(Wanted::NoZeros),
         _ if line.contains(&b'\r') => Some(Wanted::NoReturn),
         _ => None,
     }
 }
 
-/// Whether two bytes of zero stand there in a row, or nothing else.
-fn has_zeros(line: &[u8]) -> bool {
-    let behind = line.get(1..).unwrap_or(&[]);
-    line == [0].as_slice()
-        || line
-            .iter()
-            .zip(behind)
-            .any(|(byte, next)| *byte == 0 && *next == 0)
+/// Whether of its first bytes each other one is a zero.
+fn is_wide(line: &[u8]) -> bool {
+    match line {
+        [0] => true,
+        [first, second] => (*first == 0) != (*second == 0),
+        [first, second, third, ..] => {
+            (*first == 0) != (*second == 0) && (*first == 0) == (*third == 0)
+        }
+        _ => false,
+    }
 }
 
 /// Whether a line that is in the grammar joins two tables.

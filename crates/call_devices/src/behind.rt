@@ -47,7 +47,7 @@ fn is_left<S: Shape>(
     Ok(
         bytes == 0
             || is_cut_append::<S>(alloc, disk, gate, bytes)?
-            || is_zeros(alloc, disk, gate.saturating_add(1), bytes)?,
+            || is_zeros::<S>(alloc, disk, gate.saturating_add(1), bytes)?,
     )
 }
 
@@ -88,9 +88,19 @@ pub(crate) fn behind_segments(
     Ok(None)
 }
 
-/// Whether these bytes are the zeros with which a segment is left.
-fn is_zeros(alloc: Global, disk: &mut Peek, place: u64, bytes: u64) -> Result<bool, DiskFail> {
-    Ok(bytes <= SEGMENT && filled_at(alloc, disk, place, bytes)? == 0)
+/// Whether these bytes are zeros, no more than an append leaves that was cut off.
+fn is_zeros<S: Shape>(
+    alloc: Global,
+    disk: &mut Peek,
+    place: u64,
+    bytes: u64,
+) -> Result<bool, DiskFail> {
+    Ok(bytes <= most_of::<S>() && filled_at(alloc, disk, place, bytes)? == 0)
+}
+
+/// As many bytes has a record at most, with the gate behind it.
+fn most_of<S: Shape>() -> u64 {
+    u64::from(S::PAYLOAD) + 5
 }
 
 /// How many of these bytes of a segment stand up to the last one that is no zero.
@@ -114,10 +124,10 @@ fn is_cut_append<S: Shape>(
     gate: u64,
     bytes: u64,
 ) -> Result<bool, DiskFail> {
-    if bytes > u64::from(S::PAYLOAD) + 5 {
+    if bytes > most_of::<S>() {
         return Ok(false);
     }
-    let mut read = vec![in alloc; 0; 1 + bytes as usize]?;
+    let mut read = vec![in alloc; 0; bytes.saturating_add(1) as usize]?;
     let count = disk.read_at(gate, &mut read)?;
     match read.get(..count).and_then(|read| read.split_first()) {
         Some((0, behind)) => Ok(!begins_whole::<S>(behind)),

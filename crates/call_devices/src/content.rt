@@ -8,7 +8,7 @@ use disk_model::DiskFail;
 use history_model::Front;
 use policy_eras::Eras;
 use segment_file::{SegmentRecords, read_front};
-use std::alloc::Global;
+use std::alloc::{AllocError, Global};
 use std::fs::File;
 use std::rt::Files;
 use tuple_bytes::Header;
@@ -35,9 +35,8 @@ impl Stamp {
 pub struct Content {
     pub header: Header,
     pub eras: Eras,
-    /// How many of them have a moment that isn't before a given one, and a sum over the bytes of those.
-    pub behind: u64,
-    pub sum: u64,
+    /// A sum over the bytes of each that has a moment which isn't before a given one.
+    behind: Vec<u64>,
     /// Whether each has a higher number than the one before it, and no earlier moment.
     pub is_in_order: bool,
     last: Option<Stamp>,
@@ -69,8 +68,7 @@ impl Content {
         let mut content = Content {
             header,
             eras: Eras::new(alloc, &header)?,
-            behind: 0,
-            sum: 0,
+            behind: Vec::new(alloc),
             is_in_order: true,
             last: None,
         };
@@ -78,19 +76,16 @@ impl Content {
             if !records.advance(disk)? {
                 break;
             }
-            content.take(records.payload(), from);
+            content.take(records.payload(), from)?;
         }
         Ok(content)
     }
 
-    fn take(&mut self, payload: &[u8], from: u64) {
+    fn take(&mut self, payload: &[u8], from: u64) -> Result<(), AllocError> {
         self.eras.offer_payload(payload);
         if let Some(stamp) = Stamp::of(payload) {
             if stamp.moment >= from {
-                self.behind = self.behind.saturating_add(1);
-                for byte in payload {
-                    self.sum = self.sum.wrapping_mul(31).wrapping_add(u64::from(*byte));
-                }
+                self.behind.push(sum_of(payload))?;
             }
             if let Some(last) = self.last {
                 let follows = last.number < stamp.number && last.moment <= stamp.moment;
@@ -98,6 +93,21 @@ impl Content {
             }
             self.last = Some(stamp);
         }
+        Ok(())
+    }
+
+    /// How many transactions aren't before that moment.
+    pub fn behind(&self) -> u64 {
+        self.behind.len() as u64
+    }
+
+    /// Whether all of those stand in another store, too, at the front of its own.
+    pub fn continues_in(&self, other: &Content) -> bool {
+        other.behind.as_slice().starts_with(self.behind.as_slice())
+    }
+
+    pub fn has_all_eras_of(&self, other: &Content) -> bool {
+        self.eras.is(&other.eras)
     }
 
     /// Whether this store has the header of another, and the same eras before a granule.
@@ -117,4 +127,12 @@ impl Content {
         }
         true
     }
+}
+
+fn sum_of(bytes: &[u8]) -> u64 {
+    let mut sum: u64 = 0;
+    for byte in bytes {
+        sum = sum.wrapping_mul(31).wrapping_add(u64::from(*byte));
+    }
+    sum
 }

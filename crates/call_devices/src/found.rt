@@ -27,11 +27,15 @@ pub enum Found {
         turned: u32,
         /// The first transaction whose number isn't the next one.
         jump: Option<Jump>,
+        /// Whether a moment lies before that of the item before it.
+        falls: bool,
         behind: Option<Behind>,
     },
     Book {
         /// The second of the last batch.
         filed: Option<u64>,
+        /// How many batches are filed under the id of the call.
+        batches: u32,
         behind: Option<Behind>,
     },
     Other {

@@ -19,14 +19,19 @@ use std::rt::Files;
 use txn_journal::{Records, Shape, StoreShape, is_free};
 
 /// Looks at the file of this path. A file that is no plain one is left alone: to open a pipe may wait.
-pub fn look<R: Files<File = File>>(rt: &R, alloc: Global, path: Option<&str>) -> Found {
+pub fn look<R: Files<File = File>>(
+    rt: &R,
+    alloc: Global,
+    path: Option<&str>,
+    id: Option<u64>,
+) -> Found {
     let Some(path) = path else {
         return Found::Unused;
     };
     match fs::metadata(rt, path) {
         Err(error) if error.kind() == ErrorKind::NotFound => Found::Missing,
         Ok(about) if about.is_file() => match Peek::open(rt, path) {
-            Ok(mut file) => look_into(alloc, &mut file).unwrap_or(Found::Unread),
+            Ok(mut file) => look_into(alloc, &mut file, id).unwrap_or(Found::Unread),
             Err(_) => Found::Unread,
         },
         Ok(_) => Found::NoFile,
@@ -35,12 +40,12 @@ pub fn look<R: Files<File = File>>(rt: &R, alloc: Global, path: Option<&str>) ->
 }
 
 /// The length is taken first: what another process adds meanwhile is then not taken for bytes behind the end.
-fn look_into(alloc: Global, disk: &mut Peek) -> Result<Found, DiskFail> {
+fn look_into(alloc: Global, disk: &mut Peek, id: Option<u64>) -> Result<Found, DiskFail> {
     let length = disk.length()?;
     let mut head = [0; 64];
     disk.read_at(0, &mut head)?;
     if length > 64 && BookShape::head(&head) {
-        return book_in(alloc, disk, length);
+        return book_in(alloc, disk, length, id);
     }
     match read_front(disk)? {
         Some(front) => store_in(alloc, disk, length, front),
@@ -49,18 +54,33 @@ fn look_into(alloc: Global, disk: &mut Peek) -> Result<Found, DiskFail> {
 }
 
 /// Goes over all records: when the last batch of a book was filed, and what stands behind the last closed gate.
-fn book_in(alloc: Global, disk: &mut Peek, length: u64) -> Result<Found, DiskFail> {
+fn book_in(
+    alloc: Global,
+    disk: &mut Peek,
+    length: u64,
+    id: Option<u64>,
+) -> Result<Found, DiskFail> {
     let mut records = Records::<BookShape>::at_first(alloc)?;
     records.read_head(disk)?;
     let mut filed = None;
+    let mut batches: u32 = 0;
     for _ in 0..u64::MAX {
         if !records.advance(disk)? {
             break;
         }
-        filed = filed_at(records.payload()).or(filed);
+        if let Some(second) = filed_at(records.payload()) {
+            filed = Some(second);
+            if id_at(records.payload()) == id {
+                batches = batches.saturating_add(1);
+            }
+        }
     }
     let behind = behind_gate::<BookShape>(alloc, disk, records.place(), length)?;
-    Ok(Found::Book { filed, behind })
+    Ok(Found::Book {
+        filed,
+        batches,
+        behind,
+    })
 }
 
 /// Goes over all records of a store, in any of its segments: its eras, its last moment, and what stands behind the first closed gate that has
@@ -72,6 +92,7 @@ fn store_in(alloc: Global, disk: &mut Peek, length: u64, front: Front) -> Result
     let mut records = SegmentRecords::at_first(alloc, disk, format)?;
     let mut eras = Eras::new(alloc, &header)?;
     let mut last = 0;
+    let mut falls = false;
     let mut numbers = Numbers::new();
     let mut within = None;
     for _ in 0..u64::MAX {
@@ -84,7 +105,9 @@ fn store_in(alloc: Global, disk: &mut Peek, length: u64, front: Front) -> Result
             break;
         }
         eras.offer_payload(records.payload());
-        last = moment_of(records.payload()).unwrap_or(last);
+        let moment = moment_of(records.payload()).unwrap_or(last);
+        falls = falls || moment < last;
+        last = moment;
         numbers.take(records.payload());
     }
     let at_end = behind_gate::<StoreShape>(alloc, disk, records.place(), length)?;
@@ -95,6 +118,7 @@ fn store_in(alloc: Global, disk: &mut Peek, length: u64, front: Front) -> Result
         last,
         turned: last_turn(&eras),
         jump: numbers.jump,
+        falls,
         behind: within.or(at_end),
     })
 }
@@ -122,6 +146,12 @@ fn algorithms_in_all(eras: &Eras) -> u8 {
         algs &= eras.at(number).map_or(u8::MAX, |era| era.algs);
     }
     algs
+}
+
+/// The id under which a batch is filed.
+fn id_at(payload: &[u8]) -> Option<u64> {
+    let id = payload.get(1..)?.first_chunk::<8>()?;
+    Some(u64::from_be_bytes(*id))
 }
 
 /// The second of a batch: behind `01`, an id of eight bytes and an index of four.

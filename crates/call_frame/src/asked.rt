@@ -37,10 +37,10 @@ impl<'a> Asked<'a> {
         Ok(Asked {
             ask,
             call,
-            store: named_by(rt, Called::Store, store, ask.uses_store()),
-            copy: named_by(rt, Called::Copy, copy, ask.uses_copy()),
-            target: named_by(rt, Called::Target, target, ask.uses_target()),
-            books: books_of(rt, ask, path_behind("notary=", names))?,
+            store: named_by(rt, Called::Store, store, ask.uses_store(), None),
+            copy: named_by(rt, Called::Copy, copy, ask.uses_copy(), None),
+            target: named_by(rt, Called::Target, target, ask.uses_target(), None),
+            books: books_of(rt, ask, call, path_behind("notary=", names))?,
         })
     }
 }
@@ -58,31 +58,35 @@ fn named_by<'a, R: Files<File = File> + AllocGlobal>(
     called: Called,
     path: Option<&'a str>,
     is_used: bool,
+    id: Option<u64>,
 ) -> Named<'a> {
-    Named::new(called, path, look(rt, rt.alloc(), path.filter(|_| is_used)))
+    let found = look(rt, rt.alloc(), path.filter(|_| is_used), id);
+    Named::new(called, path, found)
 }
 
 /// A book for each path between the commas, of which there are at most nine, or one in memory where none is named.
 fn books_of<'a, R: Files<File = File> + AllocGlobal>(
     rt: &R,
     ask: Ask,
+    call: &[String],
     paths: Option<&'a str>,
 ) -> Result<Vec<Named<'a>>, AllocError>
     ensures some { IfOk result (λ books. 1 ≤ length books.items) }
     ensures few { IfOk result (λ books. length books.items ≤ 9) }
 {
+    let id = ask.named_id(call);
     let mut books = Vec::new(rt.alloc());
     if let Some(paths) = paths {
         let of = paths.split(',').count();
         for path in paths.split(',') {
             if books.len() < 9 {
                 let called = called_among(books.len(), of);
-                books.push(named_by(rt, called, Some(path), ask.uses_notary()))?;
+                books.push(named_by(rt, called, Some(path), ask.uses_notary(), id))?;
             }
         }
     }
     if books.is_empty() {
-        books.push(named_by(rt, Called::Book, None, false))?;
+        books.push(named_by(rt, Called::Book, None, false, None))?;
     }
     Ok(books)
 }

@@ -84,10 +84,10 @@ fn look_again<R: Files<File = File> + AllocGlobal>(
     target: &mut Named<'_>,
 ) {
     if ask == Ask::Restore && target.was_written {
-        target.later = look(rt, rt.alloc(), target.path);
+        target.later = look(rt, rt.alloc(), target.path, None);
     }
     if ask.sets_moments(call) && store.was_written {
-        store.later = look(rt, rt.alloc(), store.path);
+        store.later = look(rt, rt.alloc(), store.path, None);
     }
 }
 

@@ -34,6 +34,8 @@ enum Warning<'a> {
     Unsealed { source: &'a Named<'a>, count: u64 },
     /// This file has more of them, or others.
     More { source: &'a Named<'a>, count: u64 },
+    /// This file has other policies behind the sealed tiles.
+    Turns { source: &'a Named<'a> },
     /// Numbers or moments of what was restored don't ascend.
     Unordered,
     /// Granules are lost.
@@ -69,6 +71,7 @@ fn tell_restored<R: Eprint>(
     say(rt, ending, unsealed(ending, restored))?;
     say(rt, ending, more_of_store(ending, restored))?;
     say(rt, ending, more_of_copy(ending, restored))?;
+    say(rt, ending, turns(&ending.copy, restored.copy))?;
     say(rt, ending, unordered(restored))
 }
 
@@ -138,10 +141,23 @@ fn none_sealed<'a>(restored: &Restored) -> Option<Warning<'a>> {
     }
 }
 
+/// A file that was named and that doesn't pass, or is no store.
 fn untaken<'a>(named: &'a Named<'a>, source: Option<Source>) -> Option<Warning<'a>> {
-    match source {
-        Some(Source { passes: false, .. }) => Some(Warning::Untaken { source: named }),
-        _ => None,
+    let passes = source.is_some_and(|source| source.passes);
+    if passes || named.path.is_none() {
+        None
+    } else {
+        Some(Warning::Untaken { source: named })
+    }
+}
+
+/// Of a file that passes, the policies that no tile is sealed under.
+fn turns<'a>(named: &'a Named<'a>, source: Option<Source>) -> Option<Warning<'a>> {
+    let source = source?;
+    if source.passes && source.turns_otherwise {
+        Some(Warning::Turns { source: named })
+    } else {
+        None
     }
 }
 
@@ -212,7 +228,7 @@ impl fmt::Display for Told<'_> {
             ),
             Warning::Untaken { source } => write!(
                 f,
-                "nothing was taken from {source}: it has another header or other eras than were filed"
+                "nothing was taken from {source}: it doesn't have the header and the eras that were filed"
             ),
             Warning::Unsealed { source, count } => {
                 let target = &ending.target;
@@ -223,6 +239,13 @@ impl fmt::Display for Told<'_> {
                 )
             }
             Warning::More { source, count } => tell_more(&ending.target, source, count, f),
+            Warning::Turns { source } => {
+                let target = &ending.target;
+                write!(
+                    f,
+                    "{source} has other eras behind the sealed tiles than {target}: `examples/look.py` lists them"
+                )
+            }
             Warning::Unordered => tell_unordered(&ending.target, f),
             Warning::Lost => tell_lost(ending, f),
         }
@@ -245,7 +268,7 @@ fn tell_unfit<W: fmt::Write>(ending: &Ending<'_, '_>, f: &mut fmt::Formatter<W>)
     let notary = &ending.notaries;
     write!(
         f,
-        "`evidence` shows what isn't as notarized alone, and beside it what is: so the file was changed, or {notary} was"
+        "a file that `evidence` made shows altered granules alone, and no original that isn't as notarized: so this one was changed, or {notary} was"
     )
 }
 
@@ -285,7 +308,7 @@ fn tell_few_originals<W: fmt::Write>(
     if originals == 0 {
         write!(
             f,
-            "{copy} gave no original: it is older, has another header or other eras, or is altered there"
+            "{copy} gave no original: it is older, has another header or other eras, or is altered there, or the book was"
         )
     } else {
         write!(
@@ -312,7 +335,7 @@ fn tell_more<W: fmt::Write>(
     let transactions = Transactions(count);
     write!(
         f,
-        "{source} has {transactions} behind the sealed tiles: `examples/differ.py` says which of them {target} lacks; docs/OPERATING.md"
+        "{source} has {transactions} behind the sealed tiles: `examples/differ.py` says which of them {target} lacks, or has elsewhere; docs/OPERATING.md"
     )
 }
 
@@ -332,7 +355,7 @@ impl fmt::Display for Transactions {
 fn tell_unordered<W: fmt::Write>(target: &Named<'_>, f: &mut fmt::Formatter<W>) -> fmt::Result {
     write!(
         f,
-        "numbers or moments of {target} don't ascend, as where some were lost, or moved behind the sealed tiles: `examples/look.py` says where"
+        "numbers or moments of {target} don't ascend, as where rows were moved, or a store went on behind lost granules: `examples/look.py` says where"
     )
 }
 
@@ -346,6 +369,6 @@ fn tell_lost<W: fmt::Write>(ending: &Ending<'_, '_>, f: &mut fmt::Formatter<W>) 
     }
     write!(
         f,
-        ": what is filed of that time is neither what {store} has nor what {copy} has, and {target} has no row of it. Validate a copy of {target} before anybody goes on with it; docs/OPERATING.md"
+        ": no digest confirms what {store} or {copy} has there, and {target} has no row of that time. Validate copies of all of them before anybody goes on; docs/OPERATING.md"
     )
 }

@@ -102,7 +102,7 @@ fn tell_failed<W: fmt::Write>(
         Some(error) => {
             let hint = hint(device, error, ask);
             let next = if ask == Ask::Run {
-                "mend this, and give the lines that have no answer again"
+                "mend this. Then give the lines that have no answer again, and each session without a commit from its `begin`"
             } else {
                 "mend this and start again, what was answered is kept"
             };
@@ -209,7 +209,7 @@ fn tell_input_failed<W: fmt::Write>(
     let next = if ending.ask == Ask::Examine {
         "start again"
     } else {
-        "give the lines that have no answer again"
+        "give the lines that have no answer again, and each session without a commit from its `begin`"
     };
     write!(f, "the input: {error}; {next}")
 }

@@ -52,7 +52,7 @@ impl Missed {
         alloc: Global,
         path: Option<&str>,
     ) -> Known {
-        match (path, look(rt, alloc, path)) {
+        match (path, look(rt, alloc, path, None)) {
             (Some(path), Found::Book { .. }) => match Peek::open(rt, path) {
                 Ok(file) => self.known_in(Book::new(alloc, file)),
                 Err(_) => Known::Unasked,

@@ -24,8 +24,14 @@ enum Warning {
     Alarm,
     /// Sessions were begun and not committed.
     Open,
+    /// A comment hides what stands in it.
+    Hidden { line: u64 },
     /// A session was committed without lines that were refused.
     LeftOut { without: Without },
+    /// The commit of a session was a conflict.
+    Dropped { session: usize },
+    /// The call ended within the commit of a session.
+    Unknown { session: usize },
     /// The last line has no end.
     Unended { line: u64 },
 }
@@ -40,11 +46,14 @@ struct Told<'a> {
 /// Says each on a line of its own.
 pub(crate) fn tell_lines<R: Eprint>(rt: &R, ending: &Ending<'_, '_>) -> io::Result<()> {
     say(rt, ending, unfed(ending))?;
+    say(rt, ending, hidden(ending))?;
     say(rt, ending, made(ending))?;
     say(rt, ending, refused(ending))?;
     say(rt, ending, kinds(ending))?;
     say(rt, ending, alarm(ending))?;
     say(rt, ending, left_out(ending))?;
+    say(rt, ending, dropped(ending))?;
+    say(rt, ending, unknown(ending))?;
     say(rt, ending, open(ending))?;
     say(rt, ending, unended(ending))
 }
@@ -62,10 +71,18 @@ fn say<R: Eprint>(rt: &R, ending: &Ending<'_, '_>, warning: Option<Warning>) -> 
 /// Whatever fails in front of a pipe leaves no input.
 fn unfed(ending: &Ending<'_, '_>) -> Option<Warning> {
     let is_read = ending.ask == Ask::Run || ending.ask == Ask::Drill;
-    if is_read && ending.status == Status::Ok && ending.heard.replies == 0 {
+    if is_read && ending.status == Status::Ok && ending.heard.is_unfed() {
         Some(Warning::Unfed)
     } else {
         None
+    }
+}
+
+/// What stands in a comment behind bytes that no text has.
+fn hidden(ending: &Ending<'_, '_>) -> Option<Warning> {
+    match ending.heard.hiding() {
+        Some(line) => Some(Warning::Hidden { line }),
+        None => None,
     }
 }
 
@@ -118,9 +135,25 @@ fn left_out(ending: &Ending<'_, '_>) -> Option<Warning> {
     }
 }
 
-/// Whether the replies to all lines of a run's sessions were heard. One that the output didn't take may be that of a commit.
+/// Where the first refusal is another one.
+fn dropped(ending: &Ending<'_, '_>) -> Option<Warning> {
+    let is_first = ending.heard.first_refusal().starts_with("Conflict ");
+    match ending.heard.sessions().dropped {
+        Some(session) if is_known(ending) && !is_first => Some(Warning::Dropped { session }),
+        _ => None,
+    }
+}
+
+fn unknown(ending: &Ending<'_, '_>) -> Option<Warning> {
+    match ending.heard.sessions().unknown {
+        Some(session) if is_known(ending) => Some(Warning::Unknown { session }),
+        _ => None,
+    }
+}
+
+/// Whether all lines of a run's sessions were noted.
 fn is_known(ending: &Ending<'_, '_>) -> bool {
-    ending.ask == Ask::Run && ending.status != Status::WriteFault && !ending.heard.is_lost()
+    ending.ask == Ask::Run && !ending.heard.is_lost()
 }
 
 /// What a session keeps is stored by its commit alone.
@@ -160,7 +193,19 @@ impl fmt::Display for Told<'_> {
             }
             Warning::Alarm => tell_alarm(ending, f),
             Warning::Open => tell_open(ending, f),
+            Warning::Hidden { line } => write!(
+                f,
+                "line {line} is a comment with bytes of zero or carriage returns in it: nothing that stands there was carried out"
+            ),
             Warning::LeftOut { without } => tell_left_out(without, f),
+            Warning::Dropped { session } => write!(
+                f,
+                "nothing of s{session} is stored: its commit was a Conflict, so begin it anew"
+            ),
+            Warning::Unknown { session } => write!(
+                f,
+                "the call ended within the commit of s{session}: look whether that is stored before you begin it anew"
+            ),
             Warning::Unended { line } => write!(
                 f,
                 "line {line}, the last one, has no end: was the input cut off within it?"
@@ -191,15 +236,21 @@ fn tell_left_out<W: fmt::Write>(without: Without, f: &mut fmt::Formatter<W>) -> 
     let Without {
         session,
         lines,
+        is_stored,
         commits,
     } = without;
     let lines = Lines(lines);
+    let others = if is_stored {
+        "it stored the others alone"
+    } else {
+        "it stored nothing"
+    };
     write!(
         f,
-        "s{session} was committed without {lines} refused: it stored the others alone"
+        "s{session} was committed without {lines} refused: {others}"
     )?;
     if commits > 1 {
-        write!(f, ", and so it is with {commits} commits in all")?;
+        write!(f, ". {commits} commits in all left lines out")?;
     }
     Ok(())
 }
@@ -221,6 +272,6 @@ fn tell_open<W: fmt::Write>(ending: &Ending<'_, '_>, f: &mut fmt::Formatter<W>) 
     let sessions = ending.heard.sessions();
     write!(
         f,
-        "no commit was carried out for what was begun as {sessions}: nothing of it is stored"
+        "what was begun as {sessions} wasn't committed: nothing of it is stored"
     )
 }

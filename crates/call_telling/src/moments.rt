@@ -5,6 +5,7 @@ use crate::ending::Ending;
 use crate::named::Named;
 use asked_words::Ask;
 use call_devices::Found;
+use call_watch::Asked;
 use std::{fmt, io};
 
 /// One thing to say of a moment.
@@ -16,10 +17,12 @@ enum Warning<'a> {
     SpanBack,
     /// What a scripted run stored has the moment that the store's last one was.
     Unset { second: u64 },
+    /// What it stored behind a refused `now` has the moment from before.
+    Behind,
     /// The last moment of what was written is still to come.
     StoredAhead { written: &'a Named<'a>, second: u64 },
     /// A line asked for a moment that is still to come, and that is behind all that was stored.
-    AskedAhead { second: u64 },
+    AskedAhead { asked: Asked },
 }
 
 /// It, with what it is said of.
@@ -75,12 +78,14 @@ fn filed_in(book: &Named<'_>) -> Option<u64> {
     }
 }
 
-/// A scripted run has stored something before its lines set the clock.
+/// What a scripted run has stored at a moment that its lines didn't set.
 fn unset<'a>(ending: &Ending<'_, '_>) -> Option<Warning<'a>> {
     let second = ending.store.found.last()?;
     let is_scripted = ending.ask == Ask::Run && ending.ask.sets_moments(ending.call);
-    if is_scripted && ending.heard.is_stored_unset {
+    if is_scripted && ending.heard.is_stored_unset() {
         Some(Warning::Unset { second })
+    } else if is_scripted && ending.heard.is_stored_behind {
+        Some(Warning::Behind)
     } else {
         None
     }
@@ -114,15 +119,14 @@ fn stored_ahead<'a>(ending: &Ending<'_, '_>, written: &'a Named<'a>) -> Option<W
     }
 }
 
-/// In a run by the clock, which stores nothing ahead of it.
+/// Behind the last moment of the store, which a scripted run may have set ahead of the clock.
 fn asked_ahead<'a>(ending: &Ending<'_, '_>) -> Option<Warning<'a>> {
     let header = ending.store.found.header()?;
-    let last = ending.store.found.last()?;
-    let second = ending.heard.asked;
-    let is_ahead = second > last && header.epoch.saturating_add(second) > ending.now;
-    let is_by_clock = ending.ask == Ask::Run && ending.ask.uses_clock(ending.call);
-    if is_ahead && is_by_clock {
-        Some(Warning::AskedAhead { second })
+    let last = ending.store.later.last().or(ending.store.found.last())?;
+    let asked = ending.heard.asked;
+    let is_ahead = asked.moment > last && header.epoch.saturating_add(asked.moment) > ending.now;
+    if is_ahead && ending.ask == Ask::Run {
+        Some(Warning::AskedAhead { asked })
     } else {
         None
     }
@@ -138,10 +142,14 @@ impl fmt::Display for Told<'_> {
                 "the clock went back: a span of the report ends before it begins"
             ),
             Warning::Unset { second } => tell_unset(ending, second, f),
+            Warning::Behind => write!(
+                f,
+                "lines were stored behind a `now` that was refused, at the moment from before it"
+            ),
             Warning::StoredAhead { written, second } => {
                 tell_stored_ahead(ending, written, second, f)
             }
-            Warning::AskedAhead { second } => tell_asked_ahead(ending, second, f),
+            Warning::AskedAhead { asked } => tell_asked_ahead(ending, asked, f),
         }
     }
 }
@@ -161,7 +169,7 @@ fn tell_clock_behind<W: fmt::Write>(
     let filed = Date(filed);
     write!(
         f,
-        "the clock says {now}, before the last filing, {filed}: it was set back, or a scripted run filed that"
+        "the clock says {now}, before the last filing, {filed}: it was set back, or a scripted run filed that, or the book was altered"
     )
 }
 
@@ -173,7 +181,7 @@ fn tell_unset<W: fmt::Write>(
     let moment = moment_of(ending.store.found, second);
     write!(
         f,
-        "lines were stored before any `now M`, at the store's last moment, {moment}: without `scripted` a run goes by the clock"
+        "no `now M` was carried out, so all was stored at the store's last moment, {moment}: without `scripted` a run goes by the clock"
     )
 }
 
@@ -191,19 +199,20 @@ fn tell_stored_ahead<W: fmt::Write>(
     let now = Date(ending.now);
     write!(
         f,
-        "the last moment of {written} is {moment}, and the clock says {now}: nothing is stored there by the clock until then. If that moment is wrong, go back to the copy from before"
+        "the last moment of {written} is {moment}, and the clock says {now}: nothing is stored there by the clock until then. If that moment is wrong, hold the store against its copies; docs/OPERATING.md"
     )
 }
 
 fn tell_asked_ahead<W: fmt::Write>(
     ending: &Ending<'_, '_>,
-    second: u64,
+    asked: Asked,
     f: &mut fmt::Formatter<W>,
 ) -> fmt::Result {
-    let moment = moment_of(ending.store.found, second);
+    let Asked { moment, line } = asked;
+    let moment = moment_of(ending.store.found, moment);
     let now = Date(ending.now);
     write!(
         f,
-        "a line asks for {moment}, and the clock says {now}: it was answered by what is stored so far. Moments are seconds from the store's first one on"
+        "line {line} asks for {moment}, and the clock says {now}: it was answered by what is stored so far. Moments are seconds from the store's first one on"
     )
 }

@@ -27,6 +27,10 @@ enum Oddity<'a> {
         device: &'a Named<'a>,
         jump: Jump,
     },
+    /// A moment of it falls.
+    Falls {
+        device: &'a Named<'a>,
+    },
     /// It was missing, or empty.
     Nothing {
         device: &'a Named<'a>,
@@ -98,7 +102,15 @@ pub(crate) fn tell_oddities<R: Eprint>(rt: &R, ending: &Ending<'_, '_>) -> io::R
     for book in books {
         say(rt, &[behind_of(ending, book)])?;
     }
-    say(rt, &[jumps_in(&ending.store), jumps_in(&ending.copy)])?;
+    say(
+        rt,
+        &[
+            jumps_in(&ending.store),
+            falls_in(&ending.store),
+            jumps_in(&ending.copy),
+            falls_in(&ending.copy),
+        ],
+    )?;
     say(rt, &of_stores(ending))?;
     for book in books {
         say(rt, &of_book(ending, book))?;
@@ -196,6 +208,13 @@ fn jumps_in<'a>(device: &'a Named<'a>) -> Option<Oddity<'a>> {
             jump: Some(jump),
             ..
         } => Some(Oddity::Jumps { device, jump }),
+        _ => None,
+    }
+}
+
+fn falls_in<'a>(device: &'a Named<'a>) -> Option<Oddity<'a>> {
+    match device.found {
+        Found::Store { falls: true, .. } => Some(Oddity::Falls { device }),
         _ => None,
     }
 }
@@ -363,14 +382,17 @@ fn unused_books<'a>(ending: &'a Ending<'a, 'a>) -> Option<Oddity<'a>> {
     }
 }
 
-/// Whether it is as a new book is, but for marks.
+/// Whether it is as a new book is to the call, but for marks.
 fn has_no_batch(device: &Named<'_>) -> bool {
-    holds_nothing(device) || matches!(&device.found, Found::Book { filed: None, .. })
+    holds_nothing(device) || matches!(&device.found, Found::Book { batches: 0, .. })
 }
 
 /// Whether it has a batch.
 fn is_filed(device: &Named<'_>) -> bool {
-    matches!(&device.found, Found::Book { filed: Some(_), .. })
+    match device.found {
+        Found::Book { batches, .. } => batches > 0,
+        _ => false,
+    }
 }
 
 /// What more than half of the books say is then what new books say.
@@ -416,15 +438,19 @@ fn tell_behind<W: fmt::Write>(
     } else {
         ""
     };
-    let over = if device.was_written && !is_within {
+    let over = if device.was_written && !is_within && bytes > 0 {
         "; this call wrote over the first of them"
     } else {
         ""
     };
     let ends = if is_within { "ends a segment" } else { "ends" };
-    let why = if is_open {
-        "the gate there is open, and no whole record stands behind it, which no crash leaves so"
-    } else if is_within {
+    if is_open {
+        return write!(
+            f,
+            "{device} {ends} at byte {end} behind an open gate, and no whole record stands there: one was cut off or altered, which no crash does; docs/NOTARY.md{over}{left}"
+        );
+    }
+    let why = if is_within {
         "no crash leaves such bytes there, and whoever hides records does"
     } else {
         "a crash leaves such bytes, and so does whoever hides records"
@@ -453,12 +479,33 @@ fn tell_nothing<W: fmt::Write>(
     };
     let next = if is_among {
         "; docs/NOTARY.md says what to do"
-    } else if matches!(device.called, Called::Book) && is_uncompared {
+    } else if matches!(
+        device.called,
+        Called::Book | Called::Member { number: 1, .. }
+    ) && is_uncompared
+    {
         ". If this store was filed before, look for its book; docs/NOTARY.md"
     } else {
         ""
     };
     write!(f, "{device} {was}{uncompared}{made}{next}")
+}
+
+fn tell_jump<W: fmt::Write>(
+    device: &Named<'_>,
+    jump: Jump,
+    f: &mut fmt::Formatter<W>,
+) -> fmt::Result {
+    let Jump { from, to } = jump;
+    if from == 0 {
+        write!(f, "{device} begins with transaction {to}")?;
+    } else {
+        write!(f, "{device} has transaction {to} behind transaction {from}")?;
+    }
+    write!(
+        f,
+        ": some were lost or altered, or put in; `examples/look.py` says more"
+    )
 }
 
 fn tell_odd<W: fmt::Write>(device: &Named<'_>, ask: Ask, f: &mut fmt::Formatter<W>) -> fmt::Result {
@@ -484,13 +531,11 @@ impl fmt::Display for Oddity<'_> {
                 behind,
                 is_left_behind,
             } => tell_behind(device, behind, is_left_behind, f),
-            Oddity::Jumps { device, jump } => {
-                let Jump { from, to } = jump;
-                write!(
-                    f,
-                    "{device} has transaction {to} behind transaction {from}: some were lost or altered, or put in; `examples/look.py` says more"
-                )
-            }
+            Oddity::Jumps { device, jump } => tell_jump(device, jump, f),
+            Oddity::Falls { device } => write!(
+                f,
+                "{device} has a moment before that of the item before it, as no writer stores it: `examples/look.py` says where"
+            ),
             Oddity::Nothing {
                 device,
                 is_uncompared,

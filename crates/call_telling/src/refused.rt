@@ -18,7 +18,8 @@ pub(crate) fn tell_refused<W: fmt::Write>(
     match ending.refused {
         Some(line) => {
             let number = line.number;
-            let shown = ShownBytes(line.text.as_slice());
+            let text = line.text.as_slice();
+            let shown = ShownBytes(text.strip_suffix(b"\r".as_slice()).unwrap_or(text));
             write!(f, ", {which} to line {number}, `{shown}`: {refusal}, ")?;
             tell_why(ending, line, refusal, f)
         }
@@ -80,7 +81,15 @@ fn tell_meaning<W: fmt::Write>(
     means: &str,
     f: &mut fmt::Formatter<W>,
 ) -> fmt::Result {
-    write!(f, "{means}")?;
+    let is_scripted = ending.ask.sets_moments(ending.call);
+    if is_scripted && refusal.starts_with("ClockBack ") {
+        write!(
+            f,
+            "the moment that `now M` set is behind the store's last one"
+        )?;
+    } else {
+        write!(f, "{means}")?;
+    }
     let second = refusal
         .strip_prefix("ClockBack ")
         .and_then(|second| second.parse::<u64>().ok());
@@ -93,7 +102,7 @@ fn tell_meaning<W: fmt::Write>(
         (Some(second), _) => write!(f, ", second {second} from its first one on"),
         (None, Found::Store { header, .. }) if refusal == "TooLate" => {
             let end = end_of(header);
-            let next = if ending.ask.sets_moments(ending.call) {
+            let next = if is_scripted {
                 "`now M` counts seconds from its first one on"
             } else {
                 "go on with another one"

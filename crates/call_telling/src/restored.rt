@@ -12,8 +12,10 @@ pub(crate) struct Source {
     pub(crate) passes: bool,
     /// How many of its transactions aren't sealed.
     pub(crate) unsealed: u64,
-    /// Whether those are more than the new store has, or as many others.
+    /// Whether some of those aren't in the new store, or stand in other places there.
     pub(crate) has_others: bool,
+    /// Whether it has other eras behind the sealed tiles.
+    pub(crate) turns_otherwise: bool,
 }
 
 /// What was made of a store and its copy.
@@ -44,7 +46,7 @@ impl Restored {
         let target = Content::read(rt, alloc, target, from)?;
         Some(Restored {
             sealed,
-            unsealed: target.behind,
+            unsealed: target.behind(),
             is_in_order: target.is_in_order,
             store: source_at(rt, alloc, store, &target, sealed, from),
             copy: source_at(rt, alloc, copy, &target, sealed, from),
@@ -68,8 +70,8 @@ fn source_at<R: Files<File = File>>(
     let content = Content::read(rt, alloc, path, from)?;
     Some(Source {
         passes: content.begins_as(target, sealed),
-        unsealed: content.behind,
-        has_others: content.behind > target.behind
-            || content.behind == target.behind && content.sum != target.sum,
+        unsealed: content.behind(),
+        has_others: !content.continues_in(target),
+        turns_otherwise: !content.has_all_eras_of(target),
     })
 }

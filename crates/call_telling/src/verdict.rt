@@ -1,6 +1,7 @@
 //! What was compared and found, where output and status don't say it.
 
 use crate::ending::{Ending, Id, Unknown};
+use crate::named::Named;
 use crate::oddities::{has_store, holds_nothing};
 use asked_words::Ask;
 use call_devices::Found;
@@ -9,7 +10,7 @@ use std::{fmt, io};
 
 /// One thing to say of a verdict, or of what was compared.
 #[derive(Clone, Copy)]
-enum Warning {
+enum Warning<'a> {
     /// It stood in memory.
     Gone {
         word: &'static str,
@@ -23,10 +24,11 @@ enum Warning {
     First,
     /// An era was begun where no tile is filed.
     TurnedUncompared,
-    /// An era of the store begins at a tile, and the notary has fewer that are sealed.
+    /// An era of the store begins at a tile, and a book has fewer that are sealed.
     OlderBook {
         tile: u32,
-        sealed: u64,
+        book: &'a Named<'a>,
+        sealed: u32,
     },
     /// An audit came to no verdict.
     Auditing,
@@ -38,7 +40,7 @@ enum Warning {
 /// It, with what it is said of.
 #[derive(Clone, Copy)]
 struct Told<'a> {
-    warning: Warning,
+    warning: Warning<'a>,
     ending: &'a Ending<'a, 'a>,
 }
 
@@ -54,7 +56,7 @@ pub(crate) fn tell_verdict<R: Eprint>(rt: &R, ending: &Ending<'_, '_>) -> io::Re
     say(rt, ending, marked(ending))
 }
 
-fn say<R: Eprint>(rt: &R, ending: &Ending<'_, '_>, warning: Option<Warning>) -> io::Result<()> {
+fn say<R: Eprint>(rt: &R, ending: &Ending<'_, '_>, warning: Option<Warning<'_>>) -> io::Result<()> {
     match warning {
         Some(warning) => {
             let told = Told { warning, ending };
@@ -64,7 +66,7 @@ fn say<R: Eprint>(rt: &R, ending: &Ending<'_, '_>, warning: Option<Warning>) -> 
     }
 }
 
-fn gone(ending: &Ending<'_, '_>) -> Option<Warning> {
+fn gone<'a>(ending: &Ending<'_, '_>) -> Option<Warning<'a>> {
     let is_ok = ending.status == Status::Ok;
     if is_ok && ending.ask == Ask::Init && ending.store.path.is_none() {
         return Some(Warning::Gone {
@@ -89,7 +91,7 @@ fn gone(ending: &Ending<'_, '_>) -> Option<Warning> {
 }
 
 /// What the last verdict was of, where that is less than it may seem.
-fn compared(ending: &Ending<'_, '_>) -> Option<Warning> {
+fn compared<'a>(ending: &Ending<'_, '_>) -> Option<Warning<'a>> {
     if !ending.ask.gives_verdict() {
         return None;
     }
@@ -110,7 +112,7 @@ fn is_book_there(ending: &Ending<'_, '_>) -> bool {
 }
 
 /// Where the book is new, too, that is said of the book.
-fn first(ending: &Ending<'_, '_>) -> Option<Warning> {
+fn first<'a>(ending: &Ending<'_, '_>) -> Option<Warning<'a>> {
     if ending.has_begun
         && is_book_there(ending)
         && ending.ask.uses_notary()
@@ -123,7 +125,7 @@ fn first(ending: &Ending<'_, '_>) -> Option<Warning> {
 }
 
 /// An era was begun over a notary that had no tile of the store. A drill has a notary of its own.
-fn turned(ending: &Ending<'_, '_>) -> Option<Warning> {
+fn turned<'a>(ending: &Ending<'_, '_>) -> Option<Warning<'a>> {
     if ending.heard.is_turned_uncompared && ending.ask.uses_notary() {
         Some(Warning::TurnedUncompared)
     } else {
@@ -131,21 +133,33 @@ fn turned(ending: &Ending<'_, '_>) -> Option<Warning> {
     }
 }
 
-/// An era begins where the tiles end that were sealed then. A drill has a store and a notary of its own.
-fn older_book(ending: &Ending<'_, '_>) -> Option<Warning> {
+/// An era begins where the tiles end that were sealed then. The first book that has fewer is told.
+fn older_book<'a>(ending: &'a Ending<'a, 'a>) -> Option<Warning<'a>> {
     let Found::Store { turned: tile, .. } = ending.store.found else {
         return None;
     };
-    let sealed = ending.heard.sealed_tiles()?;
-    if sealed < u64::from(tile) && ending.ask.uses_notary() && has_store(ending) {
-        Some(Warning::OlderBook { tile, sealed })
-    } else {
-        None
+    if !ending.ask.uses_notary() || ending.notaries.are_in_memory() {
+        return None;
+    }
+    let book = ending
+        .notaries
+        .0
+        .iter()
+        .find(|book| sealed_in(book) < tile)?;
+    let sealed = sealed_in(book);
+    Some(Warning::OlderBook { tile, book, sealed })
+}
+
+/// The first batch is the header's, and each later one a tile's.
+fn sealed_in(book: &Named<'_>) -> u32 {
+    match book.found {
+        Found::Book { batches, .. } => batches.saturating_sub(1),
+        _ => 0,
     }
 }
 
 /// An audit is under way within one run alone.
-fn auditing(ending: &Ending<'_, '_>) -> Option<Warning> {
+fn auditing<'a>(ending: &Ending<'_, '_>) -> Option<Warning<'a>> {
     if ending.ask == Ask::Run && ending.heard.read_by_audit() != "" {
         Some(Warning::Auditing)
     } else {
@@ -153,7 +167,7 @@ fn auditing(ending: &Ending<'_, '_>) -> Option<Warning> {
     }
 }
 
-fn altered(ending: &Ending<'_, '_>) -> Option<Warning> {
+fn altered<'a>(ending: &Ending<'_, '_>) -> Option<Warning<'a>> {
     let said = ending.heard.altered.text();
     if said == "" || !ending.ask.gives_verdict() {
         None
@@ -165,7 +179,7 @@ fn altered(ending: &Ending<'_, '_>) -> Option<Warning> {
 }
 
 /// A verdict over what is no store of the id. A report and an evidence file leave no mark.
-fn marked(ending: &Ending<'_, '_>) -> Option<Warning> {
+fn marked<'a>(ending: &Ending<'_, '_>) -> Option<Warning<'a>> {
     let said = ending.heard.altered.text();
     if said == ""
         || said.starts_with("report ")
@@ -196,7 +210,9 @@ impl fmt::Display for Told<'_> {
                 f,
                 "only the header was compared: no tile is filed yet, and no row is compared before its tile is"
             ),
-            Warning::OlderBook { tile, sealed } => tell_older_book(ending, tile, sealed, f),
+            Warning::OlderBook { tile, book, sealed } => {
+                tell_older_book(&ending.store, tile, book, sealed, f)
+            }
             Warning::First => tell_first(ending, f),
             Warning::TurnedUncompared => tell_turned(ending, f),
             Warning::Auditing => tell_auditing(ending, f),
@@ -234,16 +250,15 @@ fn tell_first<W: fmt::Write>(ending: &Ending<'_, '_>, f: &mut fmt::Formatter<W>)
 }
 
 fn tell_older_book<W: fmt::Write>(
-    ending: &Ending<'_, '_>,
+    store: &Named<'_>,
     tile: u32,
-    sealed: u64,
+    book: &Named<'_>,
+    sealed: u32,
     f: &mut fmt::Formatter<W>,
 ) -> fmt::Result {
-    let store = &ending.store;
-    let notary = &ending.notaries;
     write!(
         f,
-        "an era of {store} begins at tile {tile}, and {notary} has {sealed} sealed: it was put back or cut, or is another one. Stop, and look for its copies; docs/NOTARY.md"
+        "an era of {store} begins at tile {tile}, and {book} had {sealed} sealed: it was put back or cut, or is another one, or the era was put in. Stop, and look for copies; docs/NOTARY.md"
     )
 }
 

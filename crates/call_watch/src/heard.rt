@@ -1,7 +1,7 @@
 //! What went to the output, as far as something is told of it at the end.
 
 use crate::kinds::Kinds;
-use crate::noted::{Noted, What, number};
+use crate::noted::{Noted, What, to_number};
 use crate::sessions::Sessions;
 use crate::shared::Shared;
 use std::str;
@@ -50,6 +50,13 @@ impl Front {
     }
 }
 
+/// A moment that a line asked for, and the number of that line.
+#[derive(Clone, Copy)]
+pub struct Asked {
+    pub moment: u64,
+    pub line: u64,
+}
+
 /// Each reply is written by calls of its own, which write all of it unless the output fails.
 #[derive(Drop)]
 pub struct Heard<'a> {
@@ -70,11 +77,14 @@ pub struct Heard<'a> {
     /// The last piece of an audit, where no verdict came behind it.
     piece: Front,
     sessions: Sessions,
-    /// Whether a line has set the clock, and whether one stored something before that.
-    is_now_set: bool,
-    pub is_stored_unset: bool,
+    /// How many lines have set the clock, and whether the last one of those was refused.
+    clocks: u64,
+    is_clock_refused: bool,
+    /// Whether a line stored something, and whether one did behind a `now` that was refused.
+    is_stored: bool,
+    pub is_stored_behind: bool,
     /// The latest moment that was asked for.
-    pub asked: u64,
+    pub asked: Asked,
     /// Whether the last reply is one to a line that is worth a look if it was cut off.
     is_last_telling: bool,
     /// Whether something was filed with the notary, or marked.
@@ -82,7 +92,6 @@ pub struct Heard<'a> {
     /// Whether an era was begun, and whether one at tile 0, so that no tile was held against what is filed.
     is_turned: bool,
     pub is_turned_uncompared: bool,
-    turned_at: Option<u64>,
     /// Whether an evidence file shows no granule, or what no honest one does.
     pub is_none_shown: bool,
     pub is_unfit: bool,
@@ -108,14 +117,15 @@ impl<'a> Heard<'a> {
             altered: Front::new(),
             piece: Front::new(),
             sessions: Sessions::new(),
-            is_now_set: false,
-            is_stored_unset: false,
-            asked: 0,
+            clocks: 0,
+            is_clock_refused: false,
+            is_stored: false,
+            is_stored_behind: false,
+            asked: Asked { moment: 0, line: 0 },
             is_last_telling: false,
             is_filed: false,
             is_turned: false,
             is_turned_uncompared: false,
-            turned_at: None,
             is_none_shown: false,
             is_unfit: false,
             kept: None,
@@ -148,17 +158,18 @@ impl<'a> Heard<'a> {
     /// A fault's line is no reply.
     fn begin_reply(&mut self, reply: &[u8]) {
         let front = Front::of(reply);
+        let text = front.text();
         let line = self.shared.line_of(self.replies);
-        if front.text().starts_with("fault ") {
+        if text.starts_with("fault ") {
             self.hear_fault(line);
             return;
         }
-        if let Some(refusal) = front.text().strip_prefix(REFUSED) {
+        if let Some(refusal) = text.strip_prefix(REFUSED) {
             self.hear_refusal(front, refusal);
         }
-        self.hear(front);
+        self.hear(front, text);
         if let Some(line) = line {
-            self.hear_line(line, front);
+            self.hear_line(line, text);
         }
         self.goes_back = self.goes_back || goes_back(reply);
         self.is_unfit = self.is_unfit || is_unfit(reply);
@@ -188,29 +199,51 @@ impl<'a> Heard<'a> {
             },
         ) = line
         {
-            self.sessions.forget(session);
+            self.sessions.end_within(session);
         }
     }
 
     /// What the reply says of its line.
-    fn hear_line(&mut self, line: Noted, reply: Front) {
-        let text = reply.text();
+    fn hear_line(&mut self, line: Noted, text: &str) {
         let refusal = text.strip_prefix(REFUSED);
         if let Some(session) = line.session {
             self.sessions.hear(session, line.what, text, refusal);
         }
-        if refusal.is_none() {
-            self.is_now_set = self.is_now_set || line.what == What::Clock;
-            self.asked = self.asked.max(line.asked.unwrap_or(0));
-        }
+        let is_clock = line.what == What::Clock;
         let is_stored = text.starts_with("ok ");
-        self.is_stored_unset = self.is_stored_unset || is_stored && !self.is_now_set;
-        self.is_last_telling = is_stored || refusal.is_some() || text.starts_with("era ");
+        if is_clock {
+            self.hear_clock(refusal.is_none());
+        } else if refusal.is_none() {
+            self.hear_asked(line);
+        }
+        self.is_stored = self.is_stored || is_stored;
+        self.is_stored_behind = self.is_stored_behind || is_stored && self.is_clock_refused;
+        self.is_last_telling = is_stored
+            || is_clock
+            || refusal.is_some()
+            || text.starts_with("era ");
+    }
+
+    fn hear_clock(&mut self, is_set: bool) {
+        self.is_clock_refused = !is_set;
+        if is_set {
+            self.clocks = self.clocks.saturating_add(1);
+        }
+    }
+
+    fn hear_asked(&mut self, line: Noted) {
+        if let Some(moment) = line.asked {
+            if moment > self.asked.moment {
+                self.asked = Asked {
+                    moment,
+                    line: line.number,
+                };
+            }
+        }
     }
 
     /// What the notary was given or asked by a line with this reply, and what it says of a store or an evidence file.
-    fn hear(&mut self, reply: Front) {
-        let text = reply.text();
+    fn hear(&mut self, reply: Front, text: &str) {
         self.is_filed = self.is_filed || text.starts_with("sealed ") || is_compared(text);
         self.is_none_shown = self.is_none_shown
             || text.starts_with("examined 0 ")
@@ -219,24 +252,19 @@ impl<'a> Heard<'a> {
         self.lost = second_number(text, "restored ").unwrap_or(self.lost);
         self.refused_of_made = second_number(text, "made ").unwrap_or(self.refused_of_made);
         self.hear_turn(text);
-        self.hear_piece(reply);
-        self.hear_verdict(reply);
+        self.hear_piece(reply, text);
+        self.hear_verdict(reply, text);
     }
 
     fn hear_turn(&mut self, text: &str) {
         if text.starts_with("era ") {
             self.is_turned = true;
             self.is_turned_uncompared = self.is_turned_uncompared || text.ends_with(" tile 0");
-            self.turned_at = text
-                .rsplit(' ')
-                .next()
-                .and_then(|tile| tile.parse::<u64>().ok());
         }
     }
 
     /// A verdict ends an audit.
-    fn hear_piece(&mut self, reply: Front) {
-        let text = reply.text();
+    fn hear_piece(&mut self, reply: Front, text: &str) {
         if text.starts_with(PIECE) {
             self.piece = reply;
         } else if is_of_validate(text) {
@@ -244,8 +272,7 @@ impl<'a> Heard<'a> {
         }
     }
 
-    fn hear_verdict(&mut self, reply: Front) {
-        let text = reply.text();
+    fn hear_verdict(&mut self, reply: Front, text: &str) {
         if text.starts_with("report ") || is_of_validate(text) {
             self.verdict = reply;
             if self.altered.length == 0 && says_altered(text) {
@@ -263,13 +290,6 @@ impl<'a> Heard<'a> {
         self.shared.is_lost.get()
     }
 
-    /// How many tiles were sealed by the last verdict, or as an era was begun.
-    pub fn sealed_tiles(&self) -> Option<u64> {
-        first_number(self.verdict.text(), "clean ")
-            .or(first_number(self.verdict.text(), "altered "))
-            .or(self.turned_at)
-    }
-
     /// How many granules are sealed of a store that was restored.
     pub fn sealed(&self) -> Option<u64> {
         Some(self.kept?.saturating_add(self.lost))
@@ -277,6 +297,27 @@ impl<'a> Heard<'a> {
 
     pub fn kinds(&self) -> &Kinds {
         &self.kinds
+    }
+
+    /// Whether lines stored something, and none set the clock.
+    pub fn is_stored_unset(&self) -> bool {
+        self.is_stored && self.clocks == 0
+    }
+
+    /// Whether no line was more than a setting of the clock.
+    pub fn is_unfed(&self) -> bool {
+        self.replies == self.clocks
+    }
+
+    /// The number of the first comment that hides something.
+    pub fn hiding(&self) -> Option<u64> {
+        self.shared.hiding.get()
+    }
+
+    /// The output took no reply to the line that is carried out.
+    pub(crate) fn fail(&mut self) {
+        let line = self.shared.line_of(self.replies);
+        self.hear_fault(line);
     }
 
     /// The number of the last line, where that has no end and was more than a question.
@@ -360,9 +401,9 @@ fn goes_back(reply: &[u8]) -> bool {
 
 fn is_backward(line: &[u8]) -> bool {
     let mut words = line.rsplit(|byte| *byte == b' ');
-    let until = words.next().and_then(number);
+    let until = words.next().and_then(to_number);
     let word = words.next();
-    let from = words.next().and_then(number);
+    let from = words.next().and_then(to_number);
     match (from, until) {
         (Some(from), Some(until)) => word == Some(b"to".as_slice()) && until < from,
         _ => false,

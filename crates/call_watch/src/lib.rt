@@ -34,7 +34,7 @@ mod sessions;
 mod shared;
 mod watched;
 
-pub use heard::{Front, Heard};
+pub use heard::{Asked, Front, Heard};
 pub use kinds::Kinds;
 pub use lines::{LONGEST, Refused, is_too_long};
 pub use progress::Progress;

@@ -11,6 +11,8 @@ pub(crate) enum What {
     Abort,
     /// `now M`.
     Clock,
+    /// What changes nothing.
+    Question,
     Other,
 }
 
@@ -19,13 +21,15 @@ pub(crate) enum What {
 pub(crate) struct Noted {
     pub(crate) session: Option<usize>,
     pub(crate) what: What,
+    /// Its number among all lines, counted from 1.
+    pub(crate) number: u64,
     /// The moment as of which it asks, or from which on.
     pub(crate) asked: Option<u64>,
 }
 
 impl Noted {
     /// Of the front of a line, with one space between its words, and its last bytes.
-    pub(crate) fn of(front: &[u8], tail: &[u8]) -> Noted {
+    pub(crate) fn of(number: u64, front: &[u8], tail: &[u8]) -> Noted {
         let front = front.strip_suffix(b"\r".as_slice()).unwrap_or(front);
         let mut words = front
             .split(|byte| *byte == b' ')
@@ -41,6 +45,7 @@ impl Noted {
         Noted {
             session,
             what: what_of(session, verb, next),
+            number,
             asked: asked_by(verb, next, tail),
         }
     }
@@ -52,14 +57,25 @@ fn what_of(session: Option<usize>, verb: &[u8], next: Option<&[u8]>) -> What {
         (Some(_), None) if verb == b"commit".as_slice() => What::Commit,
         (Some(_), None) if verb == b"abort".as_slice() => What::Abort,
         (None, Some(_)) if verb == b"now".as_slice() => What::Clock,
+        _ if is_question(verb) => What::Question,
         _ => What::Other,
     }
+}
+
+fn is_question(verb: &[u8]) -> bool {
+    [
+        b"get".as_slice(),
+        b"scan".as_slice(),
+        b"history".as_slice(),
+        b"over".as_slice(),
+    ]
+    .contains(&verb)
 }
 
 /// M of `as of M` at the end of a `get` or a `scan`, and A of `over A to B`.
 fn asked_by(verb: &[u8], next: Option<&[u8]>, tail: &[u8]) -> Option<u64> {
     if verb == b"over".as_slice() {
-        number(next?)
+        to_number(next?)
     } else if verb == b"get".as_slice() || verb == b"scan".as_slice() {
         as_of(tail)
     } else {
@@ -69,14 +85,19 @@ fn asked_by(verb: &[u8], next: Option<&[u8]>, tail: &[u8]) -> Option<u64> {
 
 fn as_of(tail: &[u8]) -> Option<u64> {
     let tail = tail.strip_suffix(b"\r".as_slice()).unwrap_or(tail);
-    let mut words = tail
-        .rsplit(|byte| *byte == b' ')
-        .filter(|word| !word.is_empty());
-    let moment = number(words.next()?)?;
-    let is_as_of = words.next() == Some(b"of".as_slice()) && words.next() == Some(b"as".as_slice());
-    if is_as_of { Some(moment) } else { None }
+    let digits = tail
+        .iter()
+        .rev()
+        .take_while(|byte| byte.is_ascii_digit())
+        .count();
+    let (front, digits) = tail.split_at_checked(tail.len().saturating_sub(digits))?;
+    if front.ends_with(b" as of ".as_slice()) {
+        to_number(digits)
+    } else {
+        None
+    }
 }
 
-pub(crate) fn number(digits: &[u8]) -> Option<u64> {
+pub(crate) fn to_number(digits: &[u8]) -> Option<u64> {
     str::from_utf8(digits).ok()?.parse::<u64>().ok()
 }

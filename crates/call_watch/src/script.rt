@@ -6,7 +6,7 @@ use crate::shared::Shared;
 use std::alloc::Global;
 
 /// As many bytes are kept of a line's front: enough for a session's name, `over` and a moment.
-const FRONT: usize = 24;
+const FRONT: usize = 32;
 
 /// As many bytes are kept of its end: enough for `as of` and a moment.
 const TAIL: usize = 32;
@@ -22,6 +22,8 @@ pub(crate) struct Script {
     /// So many lines before this one have a reply, and so many ended.
     replied: u64,
     ended: u64,
+    /// Whether this line has bytes that hide others, where it is a comment.
+    hides: bool,
 }
 
 impl Script {
@@ -33,6 +35,7 @@ impl Script {
             tail: Vec::new(alloc),
             replied: 0,
             ended: 0,
+            hides: false,
         }
     }
 
@@ -44,14 +47,24 @@ impl Script {
         let mut begin = 0;
         for (place, byte) in piece.iter().enumerate() {
             if *byte == b'\n' {
+                self.look_into(piece.get(begin..place).unwrap_or(&[]));
                 self.end_line(last_of(piece, begin, place), &mut noted, shared);
                 begin = place.saturating_add(1);
             } else if *byte != b' ' || !self.is_behind_space() {
                 self.keep(*byte);
             }
         }
+        self.look_into(piece.get(begin..).unwrap_or(&[]));
         self.keep_tail(last_of(piece, begin, piece.len()), shared);
         shared.noted.set(Some(noted));
+    }
+
+    /// Looks for what hides statements in these bytes of a comment: zeros of a crash, or ends of lines that are none.
+    fn look_into(&mut self, bytes: &[u8]) {
+        if self.front.first() == Some(&b'#') && self.length > 0 {
+            let bytes = bytes.strip_suffix(b"\r".as_slice()).unwrap_or(bytes);
+            self.hides = self.hides || bytes.iter().any(|byte| *byte == 0 || *byte == b'\r');
+        }
     }
 
     fn is_behind_space(&self) -> bool {
@@ -84,18 +97,23 @@ impl Script {
             self.keep_tail(bytes, shared);
         }
         let front = self.front.get(..self.length).unwrap_or(&[]);
+        let number = self.ended.saturating_add(1);
+        if self.hides && shared.hiding.get().is_none() {
+            shared.hiding.set(Some(number));
+        }
         if !is_blank(front) {
             let line = if self.tail.is_empty() {
-                Noted::of(front, bytes)
+                Noted::of(number, front, bytes)
             } else {
-                Noted::of(front, self.tail.as_slice())
+                Noted::of(number, front, self.tail.as_slice())
             };
             if noted.push(line).is_err() {
                 shared.is_lost.set(true);
             }
             self.replied = self.replied.saturating_add(1);
         }
-        self.ended = self.ended.saturating_add(1);
+        self.ended = number;
+        self.hides = false;
         self.length = 0;
         self.tail.clear();
     }
@@ -103,8 +121,11 @@ impl Script {
     /// Nothing more is read. A line that has no end by then is whole.
     pub(crate) fn end(&mut self, shared: &Shared) {
         let front = self.front.get(..self.length).unwrap_or(&[]);
-        if !is_blank(front) {
+        // (in UTF-16 a zero is left behind the last line feed)
+        if !is_blank(front) && front != [0].as_slice() {
             shared.unended.set(Some(self.ended.saturating_add(1)));
+        }
+        if !front.is_empty() {
             self.take(b"\n".as_slice(), shared);
         }
     }

@@ -19,11 +19,13 @@ const CLOSED: Session = Session {
     refused: 0,
 };
 
-/// The first of the commits that stored something, and not all that their sessions asked for.
+/// The first of the commits that didn't do all that their sessions asked for.
 #[derive(Clone, Copy)]
 pub struct Without {
     pub session: usize,
     pub lines: u64,
+    /// Whether it stored something.
+    pub is_stored: bool,
     /// How many such commits there are.
     pub commits: u64,
 }
@@ -33,6 +35,10 @@ pub struct Without {
 pub struct Sessions {
     all: [Session; SESSIONS],
     pub without: Option<Without>,
+    /// The first session whose commit was a conflict.
+    pub dropped: Option<usize>,
+    /// The session of a commit within which the call ended.
+    pub unknown: Option<usize>,
 }
 
 impl Sessions {
@@ -40,6 +46,8 @@ impl Sessions {
         Sessions {
             all: [CLOSED; SESSIONS],
             without: None,
+            dropped: None,
+            unknown: None,
         }
     }
 
@@ -53,11 +61,14 @@ impl Sessions {
             (What::Commit, None) => {
                 let lines = session.refused;
                 *session = CLOSED;
-                if lines > 0 && reply.starts_with("ok ") {
-                    self.note_without(number, lines);
+                if lines > 0 {
+                    self.note_without(number, lines, reply.starts_with("ok "));
                 }
             }
-            (What::Commit, Some(refusal)) if refusal.starts_with("Conflict ") => *session = CLOSED,
+            (What::Commit, Some(refusal)) if refusal.starts_with("Conflict ") => {
+                *session = CLOSED;
+                self.dropped = self.dropped.or(Some(number));
+            }
             (What::Abort, None) => *session = CLOSED,
             (What::Other, Some(_)) if session.is_open => {
                 session.refused = session.refused.saturating_add(1);
@@ -66,16 +77,18 @@ impl Sessions {
         }
     }
 
-    fn note_without(&mut self, session: usize, lines: u64) {
+    fn note_without(&mut self, session: usize, lines: u64, is_stored: bool) {
         let without = match self.without {
             Some(first) => Without {
                 session: first.session,
                 lines: first.lines,
+                is_stored: first.is_stored,
                 commits: first.commits.saturating_add(1),
             },
             None => Without {
                 session,
                 lines,
+                is_stored,
                 commits: 1,
             },
         };
@@ -83,9 +96,12 @@ impl Sessions {
     }
 
     /// The call ended within a commit of this session, so it isn't known whether that is stored.
-    pub(crate) fn forget(&mut self, number: usize) {
+    pub(crate) fn end_within(&mut self, number: usize) {
         if let Some(session) = self.all.get_mut(number) {
-            *session = CLOSED;
+            if session.is_open {
+                *session = CLOSED;
+                self.unknown = Some(number);
+            }
         }
     }
 

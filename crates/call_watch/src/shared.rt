@@ -16,6 +16,8 @@ pub struct Shared {
     pub(crate) first_noted: Cell<u64>,
     /// Whether memory was wanting for one of them.
     pub(crate) is_lost: Cell<bool>,
+    /// The number of the first comment that hides something, counted from 1.
+    pub(crate) hiding: Cell<Option<u64>>,
     /// The number of a last line that has no end, counted from 1.
     pub(crate) unended: Cell<Option<u64>>,
     pub ballot: Ballot,
@@ -30,6 +32,7 @@ impl Shared {
             noted: Cell::new(None),
             first_noted: Cell::new(0),
             is_lost: Cell::new(false),
+            hiding: Cell::new(None),
             unended: Cell::new(None),
             ballot: Ballot::new(notaries),
         }

@@ -204,8 +204,15 @@ impl<'a, O: Sink + Drop, R: Runtime> Sink for WatchedSink<'a, O, R> {
 
     fn write(&mut self, piece: &[u8]) -> Result<usize, StreamFail> {
         self.progress.clear_before_output();
-        let count = self.below.write(piece)?;
-        self.heard.take(piece, count);
-        Ok(count)
+        match self.below.write(piece) {
+            Ok(count) => {
+                self.heard.take(piece, count);
+                Ok(count)
+            }
+            Err(fail) => {
+                self.heard.fail();
+                Err(fail)
+            }
+        }
     }
 }
