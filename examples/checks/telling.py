@@ -291,6 +291,8 @@ ROWS = [
      ["dragoon: 2 of 5 replies are refusals, the first one to line 1, ..", "dragoon: the refusals by kind: RowExists 1, Conflict 1", "dragoon: nothing of s0 is stored: its commit was a Conflict, so begin it anew"]),
     ("a `now` that is refused", None, [STORE, "run", "7", "scripted"], "now 600\ninsert t 98 1\nnow 2O0\ninsert t 99 1\n", 3, None,
      ["dragoon: lines were stored behind a `now` that was refused, at the moment from before it", "dragoon: 1 of 4 replies is a refusal, that to line 3, .."]),
+    ("lines in front of the first `now`", None, [STORE, "run", "7", "scripted"], "insert t 98 1\nnow 600\ninsert t 99 1\n", 0, "ok 10\nok\nok 11\n",
+     ["dragoon: lines were stored in front of the first `now M`, at the store's last moment, second 480, 1970-01-01 00:08:00 UTC"]),
     ("a comment that hides lines", None, [STORE, "run", "7"], "# row\rget t 1\nget t 1\n", 0, "row 1 0\n",
      ["dragoon: line 1 is a comment with bytes of zero or carriage returns in it: nothing that stands there was carried out"]),
     ("one with zeros", None, [STORE, "run", "7"], "get t 1\r\n# so\r\n# a\0\0get t 1\n", 0, "row 1 0\n",

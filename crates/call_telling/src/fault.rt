@@ -443,7 +443,7 @@ fn tell_too_long<W: fmt::Write>(ending: &Ending<'_, '_>, f: &mut fmt::Formatter<
     } else {
         write!(
             f,
-            "the input is too long: give the lines that have no answer in another run"
+            "the input is too long: give the lines that have no answer in another run, and each session without a commit from its `begin`"
         )
     }
 }

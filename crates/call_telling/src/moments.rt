@@ -17,6 +17,8 @@ enum Warning<'a> {
     SpanBack,
     /// What a scripted run stored has the moment that the store's last one was.
     Unset { second: u64 },
+    /// So it is with what it stored in front of its first `now`.
+    Before { second: u64 },
     /// What it stored behind a refused `now` has the moment from before.
     Behind,
     /// The last moment of what was written is still to come.
@@ -84,6 +86,8 @@ fn unset<'a>(ending: &Ending<'_, '_>) -> Option<Warning<'a>> {
     let is_scripted = ending.ask == Ask::Run && ending.ask.sets_moments(ending.call);
     if is_scripted && ending.heard.is_stored_unset() {
         Some(Warning::Unset { second })
+    } else if is_scripted && ending.heard.is_stored_before && second > 0 {
+        Some(Warning::Before { second })
     } else if is_scripted && ending.heard.is_stored_behind {
         Some(Warning::Behind)
     } else {
@@ -142,6 +146,13 @@ impl fmt::Display for Told<'_> {
                 "the clock went back: a span of the report ends before it begins"
             ),
             Warning::Unset { second } => tell_unset(ending, second, f),
+            Warning::Before { second } => {
+                let moment = moment_of(ending.store.found, second);
+                write!(
+                    f,
+                    "lines were stored in front of the first `now M`, at the store's last moment, {moment}"
+                )
+            }
             Warning::Behind => write!(
                 f,
                 "lines were stored behind a `now` that was refused, at the moment from before it"

@@ -220,7 +220,8 @@ fn falls_in<'a>(device: &'a Named<'a>) -> Option<Oddity<'a>> {
 }
 
 fn nothing_in<'a>(ending: &'a Ending<'a, 'a>, device: &'a Named<'a>) -> Option<Oddity<'a>> {
-    if !holds_nothing(device) || is_told(ending, device) || !is_missed(ending, device) {
+    let is_told = is_told(ending, device) && !device.was_written;
+    if !holds_nothing(device) || is_told || !is_missed(ending, device) {
         return None;
     }
     let is_among = is_among_books(ending, device);

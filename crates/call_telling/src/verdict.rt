@@ -138,23 +138,24 @@ fn older_book<'a>(ending: &'a Ending<'a, 'a>) -> Option<Warning<'a>> {
     let Found::Store { turned: tile, .. } = ending.store.found else {
         return None;
     };
-    if !ending.ask.uses_notary() || ending.notaries.are_in_memory() {
+    if !ending.ask.uses_notary() || !ending.store.is_store_of(ending.id()) {
         return None;
     }
     let book = ending
         .notaries
         .0
         .iter()
-        .find(|book| sealed_in(book) < tile)?;
-    let sealed = sealed_in(book);
+        .find(|book| sealed_in(book).is_some_and(|sealed| sealed < tile))?;
+    let sealed = sealed_in(book)?;
     Some(Warning::OlderBook { tile, book, sealed })
 }
 
-/// The first batch is the header's, and each later one a tile's.
-fn sealed_in(book: &Named<'_>) -> u32 {
+/// Of a book that was read, or had nothing. The first batch is the header's, and each later one a tile's.
+fn sealed_in(book: &Named<'_>) -> Option<u32> {
     match book.found {
-        Found::Book { batches, .. } => batches.saturating_sub(1),
-        _ => 0,
+        Found::Book { batches, .. } => Some(batches.saturating_sub(1)),
+        Found::Missing | Found::Empty { .. } => Some(0),
+        _ => None,
     }
 }
 

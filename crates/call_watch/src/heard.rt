@@ -80,8 +80,10 @@ pub struct Heard<'a> {
     /// How many lines have set the clock, and whether the last one of those was refused.
     clocks: u64,
     is_clock_refused: bool,
-    /// Whether a line stored something, and whether one did behind a `now` that was refused.
+    /// Whether a line stored something, whether one did in front of all that set the clock, and whether one did behind a `now` that
+    /// was refused.
     is_stored: bool,
+    pub is_stored_before: bool,
     pub is_stored_behind: bool,
     /// The latest moment that was asked for.
     pub asked: Asked,
@@ -120,6 +122,7 @@ impl<'a> Heard<'a> {
             clocks: 0,
             is_clock_refused: false,
             is_stored: false,
+            is_stored_before: false,
             is_stored_behind: false,
             asked: Asked { moment: 0, line: 0 },
             is_last_telling: false,
@@ -217,6 +220,7 @@ impl<'a> Heard<'a> {
             self.hear_asked(line);
         }
         self.is_stored = self.is_stored || is_stored;
+        self.is_stored_before = self.is_stored_before || is_stored && self.clocks == 0;
         self.is_stored_behind = self.is_stored_behind || is_stored && self.is_clock_refused;
         self.is_last_telling = is_stored
             || is_clock
@@ -312,12 +316,6 @@ impl<'a> Heard<'a> {
     /// The number of the first comment that hides something.
     pub fn hiding(&self) -> Option<u64> {
         self.shared.hiding.get()
-    }
-
-    /// The output took no reply to the line that is carried out.
-    pub(crate) fn fail(&mut self) {
-        let line = self.shared.line_of(self.replies);
-        self.hear_fault(line);
     }
 
     /// The number of the last line, where that has no end and was more than a question.

@@ -210,7 +210,8 @@ impl<'a, O: Sink + Drop, R: Runtime> Sink for WatchedSink<'a, O, R> {
                 Ok(count)
             }
             Err(fail) => {
-                self.heard.fail();
+                // (what the reply says happened, whether it is out or not)
+                self.heard.take(piece, 0);
                 Err(fail)
             }
         }
