@@ -167,6 +167,7 @@ def says(client, lines, wanted):
 
 
 REPLIES = [
+    ("#\0\n# of another system\rinsert t 700 0\nget t 700\n", "none\n"),
     ("get t 1\n", "row 1 0\n"),
     ("\n# nothing\n   \r\nget t 400\n", "none\n"),
     ("scan t k < 2\nget t 1\n", "row 0 0\nrow 1 0\nrows 2\nrow 1 0\n"),
@@ -207,6 +208,9 @@ def replies(made, folder):
         raise Wrong(f"a job beside serve ends with {busy.returncode}: {busy.stdout}")
     # what is refused are lines that came, and no others
     served.stop(told="the refusals by kind: Syntax 3, NotScripted 1, NoSpan 1, NoTable 1, Conflict 1\n")
+    comments = [line for line in (folder / "told").read_text().splitlines() if " comment " in line]
+    if comments != ["<4>dragoon store=w line 1 of a connection is a comment with bytes of zero or carriage returns in it: nothing that stands there was carried out"]:
+        raise Wrong(f"serve tells otherwise of comments in which more may stand: {comments}")
     if dragoon(f"store={folder}/store", "run", "7", lines="get t 500\nget t 1299\n") != (0, "none\nrow 1299 0\n"):
         raise Wrong("a line without an end is carried out, or another one is lost")
 

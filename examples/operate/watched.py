@@ -484,9 +484,13 @@ def begin(conf, book, kept):
 
 
 def tell_believed(conf, what):
-    """One line on what was taken as it was found, with the level that the journal reads."""
-    said = verify.plain(f"store={conf.name} nothing was kept of {what} are believed: hold it against its copies")
-    print(f"<4>dragoon {said}", file=sys.stderr, flush=True)
+    """One line on what was taken as it was found."""
+    tell(conf, f"nothing was kept of {what} are believed: hold it against its copies")
+
+
+def tell(conf, said):
+    """One line that is no alarm, with the level that the journal reads."""
+    print(f"<4>dragoon {verify.plain(f'store={conf.name} {said}')}", file=sys.stderr, flush=True)
 
 
 def sealed(conf, kept):
