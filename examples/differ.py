@@ -221,7 +221,7 @@ def main(given):
         if said := verify.is_book(book) and verify.open_ends(book, verify.BOOK)[0]:
             tell(f"{plain(given.book)} {said} (docs/NOTARY.md)")
         elif behind := verify.is_book(book) and verify.behind_ends(book, verify.BOOK)[0]:
-            tell(f"behind the end of {plain(given.book)} stand {hidden(behind)}. What is filed there isn't compared")
+            tell(f"behind the end of {plain(given.book)} stand {hidden(behind, verify.why_behind(book, verify.BOOK))}. What is filed there isn't compared")
         is_bad, said = copy_line(other, book, given.book, given.zone)
         front.append(said)
     return "".join(line + "\n" for line in [*front, *lines, summary]), ALTERED if lines or is_bad else 0

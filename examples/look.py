@@ -50,7 +50,7 @@ def of_store(store):
         "falling_moments": counts["falls"], "gaps_in_numbers": counts["gaps"], "granules_with_transactions": len(granules),
         "tables": {name: {"rows": len(tables.keys[name]), "columns": dict(columns)} for name, columns in sorted(tables.columns.items())},
         "bytes_left": max(0, LIMIT - 1 - store.gate()), "granules_left": max(0, GRANULES - 1 - last // store.width),
-        "full_second": store.epoch + GRANULES * store.width, "behind_the_end": store.behind_ends()[0],
+        "full_second": store.epoch + GRANULES * store.width, "behind_the_end": store.behind_ends()[0], "why_behind": store.why_behind(),
         "behind_segments": store.behind_ends()[1], "open_end": store.open_ends()[0], "open_end_of_segment": store.open_ends()[1],
     }
 
@@ -68,7 +68,8 @@ def of_book(book, store, id):
         "header_is_filed": bool(header) and header == verify.digest(b"\x05", store.fields),
         "transactions_behind": len(behind), "bytes_of_them": sum(behind), "marks": len(marks),
         "last_mark": dict(marks[-1]._asdict(), says=said(marks[-1])) if marks else None,
-        "other_ids": [it for it in book.ids() if it != id], "without_record": None if book.filings else nothing_of(book), "behind_the_end": max(0, len(book.content) - book.gate() - 1), "open_end": book.open_end(),
+        "other_ids": [it for it in book.ids() if it != id], "without_record": None if book.filings else nothing_of(book), "behind_the_end": max(0, len(book.content) - book.gate() - 1), "why_behind": book.why_behind(),
+        "open_end": book.open_end(),
     }
 
 
@@ -82,7 +83,7 @@ def rows(pairs):
 def behind_end(it):
     if it["open_end"]:
         return f"it {it['open_end']} (docs/NOTARY.md)"
-    return hidden(it["behind_the_end"]) if it["behind_the_end"] else "nothing"
+    return hidden(it["behind_the_end"], it["why_behind"]) if it["behind_the_end"] else "nothing"
 
 
 def store_lines(it, date):

@@ -15,6 +15,7 @@ import sys
 from collections import namedtuple
 
 sys.dont_write_bytecode = True
+import verify
 from parts import moments, page
 from parts.book import CLEAN, Batch, Book, said
 from parts.script import Refused, counted, end, number, plain, words_of
@@ -189,9 +190,10 @@ class Page:
 
     def files(self):
         yield "Store", f"{page.safe(self.given.store)}, {counted(len(self.store.content), 'byte')}, id {self.store.id}"
-        for name, behind, said in zip(("Behind its end", "Behind the records of earlier segments"), self.store.behind_ends(), self.store.open_ends()):
+        places = ("Behind its end", self.store.why_behind()), ("Behind the records of earlier segments", verify.WHY_WITHIN)
+        for (name, why), behind, said in zip(places, self.store.behind_ends(), self.store.open_ends()):
             if behind or said:
-                yield name, f"it {said} (docs/NOTARY.md)" if said else hidden(behind)
+                yield name, f"it {said} (docs/NOTARY.md)" if said else hidden(behind, why)
         yield "Book", page.safe(self.given.notary) if self.given.notary else "none was named"
         yield "Time", f"from the store's first second, {self.store.epoch}, to the last moment or filing"
         yield "Trust", page.with_code("The store is shown as it stands. Whether it is what was filed `validate` says.")

@@ -46,7 +46,7 @@ Era = namedtuple("Era", "tile granule k algorithms")
 Batch = namedtuple("Batch", "id index moment count seals")
 Mark = namedtuple("Mark", "id moment tiles outcome bad")
 CLEAN, ALTERED, HEADER_ALTERED = range(3)
-MOST_SEALS, MOST_MARKS, LONGEST_RECORD = 16_777_216, 65_536, 262_149
+MOST_SEALS, MOST_MARKS = 16_777_216, 65_536
 # of each kind of name the lengths of its numbers, and how it is printed
 NAMES = [((), "header"), ((4,), "cum {}"), ((4, 1), "tile {} bit {}"), ((1, 4), "node {} {}"), ((4,), "era {}"), ((4, 1, 4), "node {} {} {}")]
 SPELLED = {"\0": "\\0", "\t": "\\t", "\n": "\\n", "\r": "\\r"}
@@ -143,21 +143,25 @@ def ranges(content, file_limit):
     return [(q * SEGMENT or FIRST_GATE, min(len(content), (q + 1) * SEGMENT)) for q in range(count)]
 
 
+def record_at(content, gate, limit, read, payload_limit):
+    """The record that stands whole behind a gate, whatever that gate is: what its payload spells, its bytes, and the gate behind it; or None."""
+    begin = gate + 5
+    place = begin + int.from_bytes(content[gate + 1 : begin], "big")
+    if place - begin > payload_limit or place >= limit:
+        return None
+    source = Source(content[begin:place])
+    try:
+        value = read(source)
+    except ValueError:
+        return None
+    return (value, source.content, place) if source.place == len(source.content) else None
+
+
 def run(content, place, limit, read, payload_limit):
-    """The longest prefix of valid records in a range: what each payload spells, its bytes, and the gate behind it."""
-    while content[place] == OPEN:
-        begin = place + 5
-        place = begin + int.from_bytes(content[place + 1 : begin], "big")
-        source = Source(content[begin:place])
-        if place - begin > payload_limit or place >= limit:
-            return
-        try:
-            value = read(source)
-        except ValueError:
-            return
-        if source.place < len(source.content):
-            return
-        yield value, source.content, place
+    """The longest prefix of valid records in a range."""
+    while content[place] == OPEN and (found := record_at(content, place, limit, read, payload_limit)):
+        yield found
+        place = found[-1]
 
 
 def records(content, read, payload_limit, file_limit):
@@ -173,23 +177,64 @@ BOOK = (Source.filing, 262_144, 2_147_483_648)
 
 def ends_of(content, kind):
     """Of each range the gate that ends its records, and the place that no gate of it reaches."""
-    read, payload_limit, file_limit = kind
-    for begin, limit in ranges(content, file_limit):
-        yield max([begin, *(gate for *_, gate in run(content, begin, limit, read, payload_limit))]), limit
+    return ((end_in(content, *it, kind), it[1]) for it in ranges(content, kind[2]))
+
+
+def end_in(content, begin, limit, kind):
+    """The place of the gate that ends the records of a range."""
+    return max([begin, *(gate for *_, gate in run(content, begin, limit, *kind[:2]))])
 
 
 def end_of(content, kind):
-    """The place of the gate that ends the file."""
-    return list(ends_of(content, kind))[-1][0]
+    """The place of the gate that ends the file. It goes by the last range alone."""
+    return end_in(content, *ranges(content, kind[2])[-1], kind)
+
+
+def append_of(kind):
+    """How many bytes an append writes behind a gate, at most: a length, a payload and the gate behind it."""
+    return kind[1] + 5
 
 
 def behind_ends(content, kind):
-    """How many bytes others than zeros alone stand behind the gate that ends the file, and behind those of earlier segments."""
+    """How many bytes stand behind the gate that ends the file, and behind those of earlier segments. Zeros count where they are more than an
+    append leaves. One goes on to the next segment only where its record, with the gate behind it, has no room."""
     if len(content) <= FIRST_GATE:
         return 0, 0
     *segments, (end, _) = ends_of(content, kind)
-    behind = content[end + 1 :]
-    return len(behind) if any(behind) else 0, sum(len(content[gate + 1 : limit].rstrip(b"\0")) for gate, limit in segments)
+    last, most = content[end + 1 :], append_of(kind)
+    within = (content[gate + 1 : limit] for gate, limit in segments)
+    return len(last) if any(last) or len(last) > most else 0, sum(len(it if len(it) >= most else it.rstrip(b"\0")) for it in within)
+
+
+def records_behind(content, end, kind):
+    """How many whole records stand behind the gate that ends a file, or a segment which ends with these bytes: 0, or 1 right behind it, as a crash may
+    leave one. It is 2 where no crash leaves the bytes so: a whole record stands anywhere else, the gate isn't 00, or they are more than one append writes."""
+    read, payload_limit, _ = kind
+    if len(content) - end - 1 > append_of(kind) or content[end] != 0 and any(content[end + 1 :]):
+        return 2
+    first = record_at(content, end, len(content), read, payload_limit)
+    if not first and is_front(content, end, read, payload_limit):
+        return 0
+    place = first[-1] if first else end + 1
+    if first and content[place] == OPEN:
+        return 2
+    while (place := content.find(OPEN, place)) >= 0:
+        if record_at(content, place, len(content), read, payload_limit):
+            return 2
+        place += 1
+    return 1 if first else 0
+
+
+def is_front(content, gate, read, payload_limit):
+    """Whether one payload stands behind a gate up to the last byte, or goes on behind that. What looks as a record within it may be a value of it."""
+    length, source = int.from_bytes(content[gate + 1 : gate + 5], "big"), Source(content[gate + 5 :])
+    if not len(source.content) <= length <= payload_limit:
+        return False
+    try:
+        read(source)
+    except ValueError:
+        return source.place > len(source.content)
+    return source.place == len(source.content)
 
 
 def open_end(content, gate, begin=0):
@@ -207,12 +252,9 @@ def open_ends(content, kind):
     return open_end(content, end), next((it.replace("ends", "ends a segment", 1) for it in within if it), None)
 
 
-def hidden(content, end):
-    """How many bytes stand behind the end of a book that an append which was cut off doesn't leave. The program counts them so, too."""
-    behind = memoryview(content)[end + 1 :]
-    length, payload = int.from_bytes(behind[:4], "big"), bytes(behind[4:])
-    is_piece = len(payload) <= length or payload[:1] not in (b"\1", b"\2")
-    return 0 if content[end] == 0 and len(behind) <= LONGEST_RECORD and is_piece else len(behind)
+def hidden(content, end, kind):
+    """How many bytes stand behind the gate that ends a file where they aren't zeros, or a piece of one record: an append that was cut off leaves these."""
+    return len(content) - end - 1 if content[end] != 0 or records_behind(content, end, kind) else 0
 
 
 def plain(text):
@@ -220,10 +262,22 @@ def plain(text):
     return "".join(it if it.isprintable() else SPELLED.get(it, f"\\u{{{ord(it):x}}}") for it in str(text))
 
 
+def hides(content, kind):
+    """How many bytes stand hidden behind the gate that ends the file, and behind those of earlier segments."""
+    behind, within = behind_ends(content, kind)
+    return behind and hidden(content, end_of(content, kind), kind), within
+
+
 # who leaves bytes behind the gate that ends a file, and behind those of earlier segments, which an append fills with zeros
 WHY_BEHIND = "a crash leaves such bytes, and so does whoever hides records"
+WHY_HIDDEN = "no crash leaves them so, and whoever hides records does"
 WHY_WITHIN = "no crash leaves such bytes there, and whoever hides records does"
 WHY_OPEN = "behind an open gate, and no whole record stands there: one was cut off or altered, which no crash does"
+
+
+def why_behind(content, kind):
+    """Who leaves the bytes behind the gate that ends this file."""
+    return WHY_HIDDEN if records_behind(content, end_of(content, kind), kind) > 1 else WHY_BEHIND
 
 
 def tell_hidden(name, content, kind):
@@ -233,7 +287,7 @@ def tell_hidden(name, content, kind):
     for said in filter(None, opened):
         print(f"verify: {name} {said}", file=sys.stderr)
     if behind and not opened[0]:
-        print(f"verify: {name} ends at byte {len(content) - behind}, and {behind} bytes stand behind it: {WHY_BEHIND}", file=sys.stderr)
+        print(f"verify: {name} ends at byte {len(content) - behind}, and {behind} bytes stand behind it: {why_behind(content, kind)}", file=sys.stderr)
     if within:
         print(f"verify: {within} bytes stand behind the records of earlier segments of {name}: {WHY_WITHIN}", file=sys.stderr)
 

@@ -6,7 +6,8 @@
 It is 100 times if no number is given. The book has its head, two batches and a mark. Each of its bits is turned, it is cut at each
 length, and put back as it was earlier, swapped, and gone on with. What it says then is read by verify.py: where that is another
 thing than before, an alarm has to be raised. Some of these are given to `job` itself, which may not touch the book. Where nothing was
-kept of the book, an alarm is raised for each byte that hides a record when it is turned, and the program says the same of some. Then
+kept of the book, an alarm is raised for each byte that hides a record when it is turned, and the program says the same of some. So it is where
+the first of several hidden records is broken, too. Then
 kill -9 ends a filing of many batches, at moments all along it: the job, the program, or both. No alarm may follow, and the next job
 files the rest.
 """
@@ -117,9 +118,22 @@ def without_past(folder, conf, book):
             raise Wrong(f"nothing kept, and byte {place} turned by {bit}: the alarm is {why}")
         if why:
             raised.add((place, bit))
+    for content in broken(book):
+        pathlib.Path(conf.book).write_bytes(content)
+        if "records may be hidden there" not in (why := str(alarm(conf))):
+            raise Wrong(f"nothing kept, and a record is closed and broken in front of another one: the alarm is {why}")
     with concurrent.futures.ThreadPoolExecutor(4) as at_once:
         list(at_once.map(lambda place: ask_of(folder, book, place % len(book), raised), ASKED))
     print(f"book: a bit turned, and nothing kept: {tried} tries, {len(raised)} alarms; of {len(ASKED)} the program says the same")
+
+
+def broken(book):
+    """The book, in which the gate of a record is closed that isn't the last one, and a bit of its length or kind is turned, or all of it is zeros."""
+    gates = [verify.FIRST_GATE, *(gate for *_, gate in verify.run(book, verify.FIRST_GATE, len(book), *verify.BOOK[:2]))]
+    for gate, behind in zip(gates, gates[1:-1]):
+        yield book[:gate] + bytes(behind - gate) + book[behind:]
+        for at, bit in itertools.product(range(gate + 1, gate + 6), range(8)):
+            yield book[:gate] + b"\0" + book[gate + 1 : at] + bytes([book[at] ^ 1 << bit]) + book[at + 1 :]
 
 
 def ask_of(folder, book, place, raised):

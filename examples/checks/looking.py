@@ -232,8 +232,23 @@ def row(key, value):
     return put("t", *(b"\x01" + struct.pack(">q", it) for it in (key, value)))
 
 
+def hiding(folder):
+    """Stores and books of which the first hidden record is broken, too, or of which zeros stand at the end; and what a crash leaves of a row that
+    has records in it."""
+    store, book, second = WORKED.read_bytes(), BOOK.read_bytes(), (EXAMPLES / "worked_2.store").read_bytes()
+    grown = store[:-1] + stored(10, 480, row(8, 8)) + stored(11, 480, row(9, 9)) + b"\0"
+    for name, content, place, length in (("two_turned", grown, 444, 42), ("two_turned_book", book, 64, 61)):
+        (folder / name).write_bytes(content[:place] + b"\0" + bytes([content[place + 1] ^ 64]) + content[place + 2 :])
+        (folder / f"{name}_zeros").write_bytes(content[:place] + bytes(length) + content[place + length :])
+    for name, length in (("zeros_behind", 131_072), ("segments_of_zeros", 196_609)):
+        (folder / name).write_bytes(second + bytes(length - len(second)))
+    cut = stored(10, 480, put("t", b"\x03" + struct.pack(">H", 9_999) + record(b"\2" + bytes(8)) * 99))
+    (folder / "crashed").write_bytes(second + cut[1:-9])
+
+
 def files(folder):
     """The worked files, and others that aren't what they should be."""
+    hiding(folder)
     worked = WORKED.read_bytes()
     shutil.copy(BOOK, folder / "book")
     os.mkfifo(folder / "pipe")
@@ -270,6 +285,20 @@ SAYS = [
     ("look.py", ("moved", BOOK, "7"), 0, ("moments fall    1 item of a moment before that of an earlier one", "numbers         2 transactions whose number doesn't follow that of the one before", "1 tile, before 1970-01-01 00:08:00 UTC, moment 480")),
     ("look.py", (WORKED, BOOK, "8"), 3, ("has the id 7, and not 8",)),
     ("look.py", ("hidden",), 0, ("14 bytes: a crash leaves such bytes",)),
+    *((name, (store, *words), status, says) for store in ("two_turned", "two_turned_zeros") for name, words, status, says in (
+        ("look.py", (), 0, ("behind its end  84 bytes: no crash leaves them so, and whoever hides records does",)),
+        ("verify.py", (BOOK, "7"), 0, ("ends at byte 445, and 84 bytes stand behind it: no crash leaves them so",)),
+        ("explain", (BOOK, "7"), 3, ("No verdict: ", "Store nothing and file nothing: bytes stand behind the store's end")),
+        ("timeline_page.py", ("7", "t", "1"), 0, ("84 bytes: no crash leaves them so",)))),
+    *((name, (WORKED, book, "7"), status, says) for book in ("two_turned_book", "two_turned_book_zeros") for name, status, says in (
+        ("look.py", 0, ("behind its end  848 bytes: no crash leaves them so",)),
+        ("verify.py", 0, ("ends at byte 65, and 848 bytes stand behind it: no crash leaves them so",)),
+        ("report_page.py", 0, ("File nothing and validate nothing with this book: 848 bytes: no crash leaves them so",)))),
+    ("look.py", ("zeros_behind",), 0, ("behind its end  65,535 bytes: no crash leaves them so", "in segments     behind the records of earlier ones 65,091 bytes")),
+    ("look.py", ("segments_of_zeros",), 0, ("behind its end  nothing\n", "in segments     behind the records of earlier ones 196,161 bytes")),
+    ("explain", ("segments_of_zeros", BOOK, "7"), 3, ("No verdict: ", "Store nothing and file nothing: bytes stand behind the records of a segment, where no crash leaves any")),
+    ("look.py", ("crashed",), 0, (" bytes: a crash leaves such bytes",)),
+    ("explain", ("crashed", BOOK, "7"), 0, ("Clean: ",)),
     ("look.py", (ALTERED, BOOK, "7"), 0, ("the one that was filed", "compared        the header alone")),
     ("look.py", ("cut", BOOK, "7"), 0, ("moment 480; the store ends BEFORE that",)),
     *(("look.py", (store, "cut_book", "7"), 0, ("behind its end  it ends at byte 431 behind an open gate, and no whole record stands there: one was cut off or altered, which no crash does (docs/NOTARY.md)\n",
@@ -301,7 +330,7 @@ SAYS = [
     ("dump.py", ("--granule", "5", "--to", "7", WORKED), 2, ("usage: dump.py",)),
     ("dump.py", ("--from", "300", "--to", "100", WORKED), 2, ("this ends before it begins",)),
     ("dump.py", ("--granule", "99", WORKED), 0, ("dump: nothing is written",)),
-    ("dump.py", ("hides_all",), 0, ("dump: behind the end of", "380 bytes: a crash", "dump: nothing is written")),
+    ("dump.py", ("hides_all",), 0, ("dump: behind the end of", "380 bytes: no crash leaves them so", "dump: nothing is written")),
     ("dump.py", ("closed",), 3, ("whose header's gate is closed",)),
     ("look.py", ("turned",), 3, ("is no store: it begins as a store, and one of its letters is damaged",)),
     ("look.py", (WORKED, "turned_book", "7"), 3, ("is no notary's book: it begins as a notary's book, whose front is cut or damaged",)),

@@ -69,8 +69,7 @@ def read_examined(text, shown):
 
 def stands_hidden(content, kind):
     """Whether bytes stand behind the records of a file that an append which was cut off doesn't leave, or an open gate ends records."""
-    behind, within = verify.behind_ends(content, kind)
-    return within or behind and verify.hidden(content, verify.end_of(content, kind)) or any(verify.open_ends(content, kind))
+    return any(verify.hides(content, kind)) or any(verify.open_ends(content, kind))
 
 
 class Page:

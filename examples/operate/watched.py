@@ -43,10 +43,10 @@ FEW = Left(1 << 25, 1 << 18, 1 << 12)
 # an item by its moment, and by the front of the SHA-256 of its bytes
 Item = collections.namedtuple("Item", "moment digest")
 # how a store stands: `bytes` is up to the gate that ends it, `last` the digest of the last item of that segment, `behind` how many bytes stand behind
-# that gate, `rest` these bytes, and `records` how many whole records, at most 2. `gates` are those of that segment, by their places in the file, each
-# with the last item in front of it. `open` says in words that the gate is open. Of another format than 2, and of no store, `bytes` is the length, and
-# `last` says nothing
-Stand = collections.namedtuple("Stand", "id bytes last length behind rest records gates open")
+# that gate, `rest` these bytes, and `records` how many whole records, as verify.py has it. `zeros` is how many bytes more than an append leaves end
+# the store, from its last record on. `gates` are those of that segment, by their places in the file, each with the last item in front of it. `open`
+# says in words that the gate is open. Of another format than 2, and of no store, `bytes` is the length, and `last` says nothing
+Stand = collections.namedtuple("Stand", "id bytes last length behind rest records zeros gates open")
 UNSAID, NONE = "-", Item(0, "none")
 Ended = collections.namedtuple("Ended", "status moment answer")
 Kept = collections.namedtuple("Kept", "id tiles end digest moment path", defaults=[None])
@@ -267,14 +267,15 @@ def stand_of(path, durable=False):
         with verify.opened(path) as file:
             head, length = file.read(65), os.fstat(file.fileno()).st_size
             header = verify.header_of(head)
-            stand = Stand(header and header[1], length, UNSAID, length, 0, b"", 0, {}, None)
+            stand = Stand(header and header[1], length, UNSAID, length, 0, b"", 0, 0, {}, None)
             if header and verify.LETTERS[head[1:9]] == 2:
                 begin = begin_of(length - 1)
                 content, gates = segment_of(file, begin)
                 end = max(gates) - begin
-                rest, records = content[end + 1 :], records_behind(content, end, verify.STORE)
-                opened = verify.open_end(content, end, begin)
-                stand = Stand(header[1], begin + end + 1, gates[begin + end].digest, length, len(rest) if any(rest) else 0, rest, records, gates, opened)
+                rest, records = content[end + 1 :], verify.records_behind(content, end, verify.STORE)
+                opened, behind = verify.open_end(content, end, begin), len(rest) if records or any(rest) else 0
+                zeros = 0 if end or any(rest) else zeros_before(file, begin)
+                stand = Stand(header[1], begin + end + 1, gates[begin + end].digest, length, behind, rest, records, zeros, gates, opened)
             if durable:
                 os.fsync(file.fileno())
             return stand
@@ -282,17 +283,17 @@ def stand_of(path, durable=False):
         raise Wrong(f"{path}: {error.strerror}") from error
 
 
-def records_behind(content, end, kind):
-    """How many whole records stand behind the gate that ends a file: 0, 1, or 2 for more. A crash leaves one at most, behind a gate 00."""
-    behind = content[end + 1 :]
-    if not any(behind):
-        return 0
-    if content[end] != 0:
-        return 2
-    # as if the gate were open
-    opened = bytes([OPEN]) + behind
-    gates = [opened[gate] for *_, gate in verify.run(opened, 0, len(opened), *kind[:2])]
-    return min(2, len(gates) + (gates[:1] == [OPEN]))
+def zeros_before(file, begin):
+    """How many zeros stand in front of a segment without a record, behind the last record of all; or 0 where an append leaves so many. It begins a
+    segment only where its record has no room in the one before."""
+    for first in range(begin - verify.SEGMENT, -1, -verify.SEGMENT):
+        content, gates = segment_of(file, first)
+        unused = content[max(gates) - first + 1 :]
+        if any(unused) or begin - max(gates) - 1 < verify.append_of(verify.STORE):
+            return 0
+        if len(gates) > 1 or not first:
+            return begin - max(gates) - 1
+    return 0
 
 
 def settled(read, behind):
@@ -340,7 +341,7 @@ def read_book(conf, content):
     except ValueError as why:
         raise Wrong(f"{conf.book} is no book: {why}") from why
     left = Left(max(0, verify.BOOK[2] - len(content)), verify.MOST_SEALS - seals, verify.MOST_MARKS - marks)
-    return Book(content, end, max(0, batches - 1), filed, mark, sorted(others), verify.hidden(content, end), left)
+    return Book(content, end, max(0, batches - 1), filed, mark, sorted(others), verify.hidden(content, end, verify.BOOK), left)
 
 
 def filed_elsewhere(book):
@@ -436,7 +437,7 @@ def hold(conf, durable=False):
         raise Rewritten(f"{conf.book} has {book.tiles} sealed tiles, and had {least} on {date(kept.moment)}")
     if book.hidden and not (kept and kept.end):
         raise Rewritten(f"{ends}, and {book.hidden} bytes stand behind it: records may be hidden there (docs/NOTARY.md)")
-    if book.hidden and records_behind(book.content, book.end, verify.BOOK) > 1:
+    if book.hidden and verify.records_behind(book.content, book.end, verify.BOOK) > 1:
         raise Rewritten(f"{ends}, and {book.hidden} bytes stand behind it, which no crash leaves so: records are hidden there (docs/NOTARY.md)")
     if kept and not kept.end:
         had = f"{kept.tiles} sealed tiles on {date(kept.moment)}"
@@ -602,15 +603,30 @@ def lost_of(conf, kept, stand, unless_broken):
 
 
 def hold_end(conf, stand, is_ours):
-    """Sees that a filing or a run writes over nothing behind the end of the store but what looks as a crash leaves it: a gate 00, and no record that
-    another one follows. One record is noted first."""
-    ends = f"the store {conf.store} ends at byte {stand.bytes}, and {stand.behind} bytes stand behind it"
-    if stand.records == 1:
-        if is_ours or not is_locked(conf.store):
-            note(behind_file(conf), ends, STORED_OVER)
-    elif not is_broken(conf):
-        why = "which no crash leaves so: nothing is written over them. Hold the store against its copies (docs/OPERATING.md)"
-        raise Wrong(f"{ends.removeprefix('the store ')}, {why}")
+    """Sees that a filing or a run writes over nothing behind the end of the store but what looks as a crash leaves it. One whole record is noted
+    first."""
+    if said := no_crash_leaves(conf, stand):
+        if not is_broken(conf):
+            raise Wrong(f"{said}: nothing is written over them. Hold the store against its copies (docs/OPERATING.md)")
+    elif is_ours or not is_locked(conf.store):
+        note(behind_file(conf), f"the store {conf.store} ends at byte {stand.bytes}, and {stand.behind} bytes stand behind it", STORED_OVER)
+
+
+def no_crash_leaves(conf, stand):
+    """Words on bytes at the end of the store that no crash leaves so, or None."""
+    if stand.records > 1:
+        return f"{conf.store} ends at byte {stand.bytes}, and {stand.behind} bytes stand behind it, which no crash leaves so"
+    if stand.zeros:
+        return f"{stand.zeros} zeros stand at the end of {conf.store}, in front of byte {stand.bytes}, which no crash leaves so"
+    return None
+
+
+def odd_end(conf):
+    """The same of the store as it stands now, where a second look finds them, too."""
+    with contextlib.suppress(Wrong):
+        stand, stays = settled(lambda: stand_of(conf.store), lambda it: no_crash_leaves(conf, it) and (it.bytes, it.rest))
+        return no_crash_leaves(conf, stand) if stays else None
+    return None
 
 
 def is_broken(conf):
@@ -719,7 +735,7 @@ def look_into_book(conf, is_ours):
 
 def look_into_store(conf, is_ours=False):
     """The look at the store before something is stored or filed."""
-    stand, stays = settled(lambda: hold_store(conf, unless_broken=True)[0], lambda it: it.records and (it.bytes, it.rest))
+    stand, stays = settled(lambda: hold_store(conf, unless_broken=True)[0], lambda it: (it.records or it.zeros) and (it.bytes, it.rest))
     if stays:
         hold_end(conf, stand, is_ours)
 
@@ -727,9 +743,15 @@ def look_into_store(conf, is_ours=False):
 def look_behind(conf, answer, is_well):
     """The look at both files behind a call, which keeps how they stand. How a store stands counts where the program took it."""
     try:
-        return look_at(conf, lambda: keep_behind(conf, answer), lambda: is_well and keep_length(conf))
+        return look_at(conf, lambda: keep_behind(conf, answer), lambda: is_well and (keep_length(conf), note_odd_end(conf)))
     except OSError as error:
         return CANNOT, f"{answer}, and that can't be kept: {error.filename}: {error.strerror}"
+
+
+def note_odd_end(conf):
+    """Notes what no crash leaves at the end of the store: the program doesn't tell of all of it."""
+    if not is_locked(conf.store) and (said := odd_end(conf)):
+        note(behind_file(conf), f"the store {said}", "")
 
 
 def look_at(conf, book, store):
@@ -879,7 +901,11 @@ def noted(file, what):
 
 
 def behind_store(conf):
-    return noted(behind_file(conf), conf.store)
+    """The same of the store. Nobody has to note what no crash leaves there, as long as it stands there."""
+    if said := noted(behind_file(conf), conf.store):
+        return f"{said}; hold the store against its copies, then remove {behind_file(conf)}"
+    said = odd_end(conf)
+    return said and f"{said}; hold the store against its copies"
 
 
 def behind_book(conf):

@@ -25,8 +25,12 @@ class Book:
         return None if is_empty(self.content) else verify.open_end(self.content, self.gate())
 
     def hidden(self):
-        """How many bytes stand behind that gate, where no append that was cut off left them."""
-        return 0 if is_empty(self.content) else verify.hidden(self.content, self.gate())
+        """How many bytes stand behind that gate, where they aren't what an append that was cut off leaves."""
+        return 0 if is_empty(self.content) else verify.hidden(self.content, self.gate(), BOOK)
+
+    def why_behind(self):
+        """Who leaves the bytes behind that gate."""
+        return verify.WHY_BEHIND if is_empty(self.content) else verify.why_behind(self.content, BOOK)
 
     def batches(self, id):
         return [it for it in self.filings if isinstance(it, Batch) and it.id == id]

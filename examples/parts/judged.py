@@ -56,8 +56,7 @@ def kind_of(line):
 def hidden_in(asked, book):
     """Which of the two files an open gate ends, or behind the records of which of them bytes stand, in words; or nothing."""
     opened = [f"The store {it}" for it in reports.open_ends(asked.store)] + [f"The book {it}" for it in [book.open_end()] if it]
-    in_store = re.search("^dragoon: the store .* bytes stand behind it:", asked.told, re.MULTILINE)
-    where = " and of ".join(["the store"] * bool(in_store) + ["the book"] * bool(book.hidden()))
+    where = " and of ".join(["the store"] * any(reports.hides(asked.store)) + ["the book"] * bool(book.hidden()))
     return ". ".join(opened) or where and f"Bytes stand behind the records of {where}, and were compared with nothing"
 
 

@@ -187,16 +187,16 @@ def cannot_say(report):
 
 
 def what_next(report, book, asked):
-    """What to do next, a sentence each; `asked` has what was asked and told. docs/OPERATING.md has the steps."""
-    told, odd = asked.told, odd_moment(asked)
+    """What to do next, a sentence each; `asked` has what was asked. docs/OPERATING.md has the steps."""
+    odd = odd_moment(asked)
     if odd:
         yield f"File nothing, and hold the store against its copies: of its last moment, {odd}."
-    is_hidden, opened = re.search("^dragoon: the store .* bytes stand behind it:", told, re.MULTILINE), open_ends(asked.store)
+    (behind, within), opened = hides(asked.store), open_ends(asked.store)
+    is_hidden = behind or within
     for said in opened:
         yield f"Store nothing and file nothing: the store {said}."
     if is_hidden and not opened:
-        is_within = " ends a segment at byte " in is_hidden[0]
-        where = "behind the records of a segment, where no crash leaves any" if is_within else "behind the store's end, and the next record is written over them"
+        where = "behind the store's end, and the next record is written over them" if behind else "behind the records of a segment, where no crash leaves any"
         yield f"Store nothing and file nothing: bytes stand {where}."
     if is_hidden or opened:
         yield "Hold the store against its copies, and against what its writers were answered: `Bytes behind a store's end` in docs/OPERATING.md."
@@ -204,12 +204,17 @@ def what_next(report, book, asked):
     if end:
         yield f"File nothing and validate nothing with this book: it {end}."
     elif behind:
-        yield f"File nothing and validate nothing with this book: {hidden(behind)}. They stand behind its end, and each call would write over them."
+        yield f"File nothing and validate nothing with this book: {hidden(behind, book.why_behind())}. They stand behind its end, and each call would write over them."
     if behind or end:
         yield "Look for copies of the book first, and hold it against them: `Bytes behind the end` in docs/NOTARY.md has the steps."
     if (is_hidden or opened or behind or end or odd) and report.verdict in ("unsealed", "clean"):
         return
     yield from what_next_by(report)
+
+
+def hides(store):
+    """How many bytes stand hidden behind the end of a store, and behind the records of its earlier segments."""
+    return verify.hides(store, verify.STORE) if verify.header_of(store) else (0, 0)
 
 
 def open_ends(store):

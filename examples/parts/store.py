@@ -129,6 +129,10 @@ class Store:
     def behind(self):
         return sum(self.behind_ends())
 
+    def why_behind(self):
+        """Who leaves the bytes behind that gate."""
+        return verify.why_behind(self.content, RECORDS)
+
     def open_ends(self):
         """How the store ends, and a segment of it, where an open gate ends records, in words; or None."""
         return verify.open_ends(self.content, RECORDS)
@@ -149,7 +153,7 @@ class Store:
         for said in filter(None, opened):
             tell(f"{plain(self.path)} {said} (docs/NOTARY.md)")
         if behind and not opened[0]:
-            tell(f"behind the end of {plain(self.path)} stand {hidden(behind)}")
+            tell(f"behind the end of {plain(self.path)} stand {hidden(behind, self.why_behind())}")
         if within:
             tell(f"behind the records of earlier segments of {plain(self.path)} stand {hidden(within, verify.WHY_WITHIN)}")
 

@@ -15,14 +15,6 @@ sys.path.insert(0, str(pathlib.Path(__file__).resolve().parent.parent))
 import verify
 from parts.script import Refused, content_of, end, plain, words_of
 
-READ, LONGEST, LIMIT = verify.STORE
-
-
-def gate_of(content):
-    """The place of the gate that ends a store. It goes by the last range alone."""
-    begin, limit = verify.ranges(content, LIMIT)[-1]
-    return max([begin, *(gate for *_, gate in verify.run(content, begin, limit, READ, LONGEST))])
-
 
 def named(payload, number):
     """An item of the earlier store, by the count of its transactions up to there: the number in an altered one may be altered."""
@@ -31,7 +23,7 @@ def named(payload, number):
 
 def missing(earlier, store):
     """What of the earlier one isn't there, in words; or None."""
-    gate = gate_of(earlier)
+    gate = verify.end_of(earlier, verify.STORE)
     if len(store) > gate and store.startswith(earlier[:gate]):
         return None
     header = verify.header_of(store)
@@ -52,7 +44,7 @@ def missing(earlier, store):
 
 def cut_off(store):
     """How a store ends, in words, where that is an open gate; or None."""
-    said = verify.header_of(store) and verify.open_end(store, gate_of(store))
+    said = verify.header_of(store) and verify.open_end(store, verify.end_of(store, verify.STORE))
     return said and f"it {said}"
 
 
