@@ -4,7 +4,7 @@
     python3 examples/look.py [--json] [--zone ZONE] STORE [BOOK ID]
 
 Of the store: its id, granules, chains and eras, its first second and its last moment, its tables with their columns and rows, and what
-room is left. Where operations fit no table, moments fall, or the numbers of transactions don't follow one another, it says so. Of the book: up to which moment the store is filed, what stands behind that, and its last mark. Of both: the bytes that
+room is left. Where operations fit no table, moments fall, or the numbers of transactions don't follow one another, it says so. Of the book: up to which moment the store is filed, what stands behind that, its last mark, and the last one that isn't clean where a clean one follows. Of both: the bytes that
 stand behind the gate that ends them, or that this gate is open. Dates are those of ZONE, as Europe/Zurich, or else of UTC. With --json it is one object, in
 which all times are numbers.
 
@@ -19,7 +19,7 @@ import time
 sys.dont_write_bytecode = True
 import verify
 from parts import moments
-from parts.book import Book, nothing_of, said
+from parts.book import Book, nothing_of, put_back, said
 from parts.script import Refused, counted, end, number, plain, words_of
 from parts.store import GRANULES, LIMIT, Frontier, Policy, Store, Tables, Transaction, chains, hidden
 
@@ -61,16 +61,21 @@ def of_book(book, store, id):
     tiles = max(0, len(batches) - 1)
     filed = store.end_of(tiles)
     behind = [len(item.payload) + 5 for item in store.transactions() if item.moment >= filed]
-    header = dict(batches[0].seals).get("header") if batches else None
+    header, found = dict(batches[0].seals).get("header") if batches else None, put_back(marks)
     return {
         "book": book.path, "bytes": len(book.content), "batches": len(batches), "tiles_filed": tiles, "filed_before_moment": filed,
         "last_filing": batches[-1].moment if batches else None,
         "header_is_filed": bool(header) and header == verify.digest(b"\x05", store.fields),
         "transactions_behind": len(behind), "bytes_of_them": sum(behind), "marks": len(marks),
-        "last_mark": dict(marks[-1]._asdict(), says=said(marks[-1])) if marks else None,
+        "last_mark": in_names(marks[-1]) if marks else None,
+        "put_back": [in_names(it) for it in found] if found and found[1] else None,
         "other_ids": [it for it in book.ids() if it != id], "without_record": None if book.filings else nothing_of(book), "behind_the_end": max(0, len(book.content) - book.gate() - 1), "why_behind": book.why_behind(),
         "open_end": book.open_end(),
     }
+
+
+def in_names(mark):
+    return dict(mark._asdict(), says=said(mark))
 
 
 # ---- as lines
@@ -138,6 +143,9 @@ def book_lines(it, store, date):
     yield "not yet filed", f"{counted(it['transactions_behind'], 'transaction')}, {counted(it['bytes_of_them'], 'byte')}"
     mark = it["last_mark"]
     yield "marks", f"{it['marks']:,}" + (f"; the last one at {date(mark['moment'])}: {mark['says']}" if mark else "")
+    if it["put_back"]:
+        bad, clean = it["put_back"]
+        yield "put back", f"{bad['says']}, at {date(bad['moment'])}, and clean at {date(clean['moment'])}: {verify.PUT_BACK} (docs/ANALYSIS.md)"
     yield "behind its end", behind_end(it)
 
 

@@ -162,6 +162,8 @@ class Page:
             yield self.diagram()
         if self.report.verdict != "unsealed":
             yield page.heading("What was filed and validated")
+            if before := judged.altered_before(self.report, self.book, self.given.zone):
+                yield f'<p class="note bad">{page.safe(before)}</p>'
             yield from self.events()
         yield page.heading("What this can't say")
         yield page.listed(reports.cannot_say(self.report))

@@ -11,8 +11,8 @@ first line is the verdict, as `validate` words it: `unsealed`, `clean N`, `alter
 number of sealed tiles, and P the first one with a digest that differs. Behind `altered` stands a line for each name: `NAME`
 where the digest differs, else `NAME is not filed`, or `NAME is not planned` of a tile behind the last granule. Where digests contradict
 one another, standard error says what follows: that the book was altered, or either of the two. `validate` compares fewer digests, and may
-say `clean` then. What else is filed is compared with nothing, and named there, too. With `--era E` it compares the tiles of that
-era alone, by their parts and nodes: the chain at a tile's end goes by all tiles before, too. N is the number of the era's sealed tiles
+say `clean` then. What else is filed is compared with nothing, and named there, too. So is the last mark that isn't clean, where the store
+is. With `--era E` it compares the tiles of that era alone, by their parts and nodes: the chain at a tile's end goes by all tiles before, too. N is the number of the era's sealed tiles
 then. It writes no file, and ends with 0 if nothing differs, 1 if something does, and 2 on other words. It ends with 3 if a file can't be
 read or is no book, the store has no era E, or that era's tiles have neither chains nor a tree.
 
@@ -272,6 +272,8 @@ def hides(content, kind):
 WHY_BEHIND = "a crash leaves such bytes, and so does whoever hides records"
 WHY_HIDDEN = "no crash leaves them so, and whoever hides records does"
 WHY_WITHIN = "no crash leaves such bytes there, and whoever hides records does"
+# what follows where a mark isn't clean and a later verdict is
+PUT_BACK = "rows were put back meanwhile, or the store was restored, or another file was validated"
 WHY_OPEN = "behind an open gate, and no whole record stands there: one was cut off or altered, which no crash does"
 
 
@@ -668,6 +670,20 @@ def tell_of_book(said, both):
         print(f"verify: the book has digests that nothing plans where they stand, and nothing was compared with them: {named}", file=sys.stderr)
 
 
+def tell_put_back(marks):
+    """Says on standard error that a validation found a store otherwise that is clean now."""
+    bad = [it for it in marks if it.outcome != CLEAN]
+    if bad:
+        print(f"verify: the validation at second {bad[-1].moment} said `{verdict_of(bad[-1])}`, and the store is clean now: {PUT_BACK}", file=sys.stderr)
+
+
+def verdict_of(mark):
+    """A mark as `validate` printed it."""
+    if mark.outcome == ALTERED:
+        return f"altered {mark.tiles} from {mark.bad}"
+    return f"clean {mark.tiles}" if mark.outcome == CLEAN else f"header altered {mark.tiles}"
+
+
 def tell_little(verdict, name, store, id, era=None):
     """Says on standard error where a verdict is of less than it may seem."""
     header = header_of(store)
@@ -807,6 +823,8 @@ def comparison(store_name, book_name, id, era):
     tell_hidden(book_name, book, BOOK)
     tell_little(lines[0], store_name, store, id, era)
     is_altered = "altered" in lines[0]
+    if era is None and lines[0].startswith("clean"):
+        tell_put_back(it for it, _ in records(book, *BOOK) if isinstance(it, Mark) and it.id == int(id))
     tell_of_book(doubt(store, batches, int(id), both) if is_altered else None, both)
     return lines, 1 if is_altered else 0
 

@@ -246,9 +246,20 @@ def hiding(folder):
     (folder / "crashed").write_bytes(second + cut[1:-9])
 
 
+def marked(folder):
+    """A book in which a mark says altered, and one in which a clean one stands behind that."""
+    shutil.copy(BOOK, folder / "marked")
+    shutil.copy(ALTERED, folder / "other")
+    dragoon(f"store={folder / 'other'}", f"notary={folder / 'marked'}", "validate", "7")
+    shutil.copy(folder / "marked", folder / "put_back")
+    shutil.copy(WORKED, folder / "other")
+    dragoon(f"store={folder / 'other'}", f"notary={folder / 'put_back'}", "validate", "7")
+
+
 def files(folder):
     """The worked files, and others that aren't what they should be."""
     hiding(folder)
+    marked(folder)
     worked = WORKED.read_bytes()
     shutil.copy(BOOK, folder / "book")
     os.mkfifo(folder / "pipe")
@@ -299,6 +310,12 @@ SAYS = [
     ("explain", ("segments_of_zeros", BOOK, "7"), 3, ("No verdict: ", "Store nothing and file nothing: bytes stand behind the records of a segment, where no crash leaves any")),
     ("look.py", ("crashed",), 0, (" bytes: a crash leaves such bytes",)),
     ("explain", ("crashed", BOOK, "7"), 0, ("Clean: ",)),
+    *(("explain", (WORKED, book, "7"), 0, ("Clean: ", " said otherwise: altered, and tile 0 the first bad one, of 1 tile.", says)) for book, says in (
+        ("marked", "So rows were put back meanwhile, or the store was restored"), ("put_back", "The first clean one behind it was at "))),
+    ("report_page.py", (WORKED, "put_back", "7"), 0, ("<b>Clean</b>", " said otherwise: altered, and tile 0 the first bad one, of 1 tile. The first clean one behind it was at ")),
+    ("look.py", (WORKED, "put_back", "7"), 0, ("put back        altered, and tile 0 the first bad one, of 1 tile, at ", ": rows were put back meanwhile, or the store was restored")),
+    ("look.py", (WORKED, "marked", "7"), 0, (": altered, and tile 0 the first bad one, of 1 tile\nbehind its end",)),
+    *(("verify.py", (WORKED, book, "7"), 0, ("clean 1\n", "verify: the validation at second ", " said `altered 1 from 0`, and the store is clean now: rows were put back meanwhile")) for book in ("marked", "put_back")),
     ("look.py", (ALTERED, BOOK, "7"), 0, ("the one that was filed", "compared        the header alone")),
     ("look.py", ("cut", BOOK, "7"), 0, ("moment 480; the store ends BEFORE that",)),
     *(("look.py", (store, "cut_book", "7"), 0, ("behind its end  it ends at byte 431 behind an open gate, and no whole record stands there: one was cut off or altered, which no crash does (docs/NOTARY.md)\n",

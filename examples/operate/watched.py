@@ -357,13 +357,6 @@ def elsewhere(conf, content):
         return ""
 
 
-def verdict(mark):
-    """A mark as `validate` printed it."""
-    if mark.outcome == CLEAN:
-        return f"clean {mark.tiles}"
-    return f"altered {mark.tiles} from {mark.bad}" if mark.outcome == ALTERED else f"header altered {mark.tiles}"
-
-
 # ---- what `job` keeps of the book
 
 

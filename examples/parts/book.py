@@ -52,6 +52,12 @@ def nothing_of(book):
     return what_is(book.content) if is_empty(book.content) else "it has no record yet"
 
 
+def put_back(marks):
+    """The last mark that isn't clean, and the first clean one behind it or None; or None where all are clean."""
+    at = max((at for at, it in enumerate(marks) if it.outcome != CLEAN), default=None)
+    return None if at is None else (marks[at], next(iter(marks[at + 1 :]), None))
+
+
 def said(mark):
     """What a validation found."""
     return ("clean", f"altered, and tile {mark.bad} the first bad one", "another header, or other eras")[mark.outcome] + ", of " + counted(mark.tiles, "tile")

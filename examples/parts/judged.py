@@ -4,7 +4,7 @@ from collections import namedtuple
 
 import verify
 from . import moments, report as reports, script
-from .book import CLEAN
+from .book import CLEAN, put_back, said
 from .notary import contradiction, shown
 from .script import ALTERED, UNTOLD, Refused
 
@@ -27,7 +27,7 @@ def ask_report(given):
 
 def verdict(report, asked, book):
     """The verdict. It is green only where tiles were compared, verify.py says the same, and nothing stands hidden."""
-    title, said = reports.verdict(report, asked.store, book)
+    title, of_it = reports.verdict(report, asked.store, book)
     batches = [it.seals for it in book.batches(report.id)]
     found = shown(asked.store, batches, report.id)
     by_verify, odd = found.verdict if report.era is None else of_verify(report, asked.store, batches), contradiction(found)
@@ -37,8 +37,8 @@ def verdict(report, asked, book):
     if by_verify and kind_of(by_verify) != report.verdict:
         return Verdict("bad", "No verdict", f"The program says `{report.verdict}`, and verify.py `{by_verify}`. One of them is wrong.", by_verify, odd, status or UNTOLD)
     if report.verdict == "clean" and (what := hidden_in(asked, book)):
-        return Verdict("open", "No verdict", f"{what}. Up to there: {said}", by_verify, odd, UNTOLD)
-    return Verdict("good" if title == "Clean" else "open" if report.verdict == "clean" else COLOUR[report.verdict], title, said, by_verify, odd, status)
+        return Verdict("open", "No verdict", f"{what}. Up to there: {of_it}", by_verify, odd, UNTOLD)
+    return Verdict("good" if title == "Clean" else "open" if report.verdict == "clean" else COLOUR[report.verdict], title, of_it, by_verify, odd, status)
 
 
 def of_verify(report, store, batches):
@@ -73,6 +73,16 @@ def earlier(report, book, zone):
         return None
     return f"A validation at {moments.date(bad.moment, zone)} found a store that was altered, and a later one a clean store. " \
         f"So another file was validated in between, or it was put back. It may have changed from {moments.date(since, zone)} on (second {since})."
+
+
+def altered_before(report, book, zone):
+    """What it says of a clean store that a mark says otherwise, in sentences; or None. A verdict of one era says nothing of the others."""
+    found = put_back(book.marks(report.id)) if report.verdict == "clean" and report.era is None else None
+    if not found:
+        return None
+    bad, clean = found
+    since = f" The first clean one behind it was at {moments.date(clean.moment, zone)}." if clean else ""
+    return f"The validation at {moments.date(bad.moment, zone)} said otherwise: {said(bad)}.{since} So {verify.PUT_BACK}."
 
 
 def changed(found):
