@@ -33,8 +33,8 @@ mod wording;
 
 pub use ask::Ask;
 pub use nearest::tell_usage;
-pub use refusal::{REFUSALS, kind_name, kind_of, meaning, meaning_in_join};
+pub use refusal::{REFUSALS, kind_name, kind_of, meaning, meaning_in_join, meaning_of_past};
 pub use shown::{Shown, ShownBytes};
 pub use tokens::session_of;
 pub use wanted::{Wanted, Wrong};
-pub use wording::{first_wrong, is_join};
+pub use wording::{first_wrong, is_join, is_of_past};

@@ -10,6 +10,15 @@ pub fn meaning_in_join(refusal: &str) -> &'static str {
     found_in(MEANINGS_IN_JOINS.as_slice(), refusal).unwrap_or(meaning(refusal))
 }
 
+/// The same of what is asked as of a moment.
+pub fn meaning_of_past(refusal: &str) -> &'static str {
+    if name_of(refusal) == "NoTable" {
+        "there was no table of this name at that moment, or there never was"
+    } else {
+        meaning(refusal)
+    }
+}
+
 fn found_in(meanings: &[(&str, &'static str)], refusal: &str) -> Option<&'static str> {
     let name = name_of(refusal);
     meanings.iter().find_map(|(known, words)| if *known == name { Some(*words) } else { None })

@@ -133,7 +133,7 @@ impl Token<'_> {
             }
         } else if self.bytes.last() == Some(&b';') {
             Wanted::NoSemicolon
-        } else if quotes == 0 && self.bytes.iter().any(|byte| byte.is_ascii_uppercase()) {
+        } else if quotes == 0 && has_capitals(self.bytes) {
             Wanted::LowerCase
         } else if quotes > 0 && str::from_utf8(self.bytes).is_err() {
             Wanted::Utf8
@@ -144,6 +144,12 @@ impl Token<'_> {
         };
         Wrong { column, wanted }
     }
+}
+
+/// A number has none, whatever stands in it.
+fn has_capitals(token: &[u8]) -> bool {
+    let is_number = token.first().is_some_and(|byte| byte.is_ascii_digit());
+    !is_number && token.iter().any(|byte| byte.is_ascii_uppercase())
 }
 
 /// How many letters begin in the first bytes, so many: in UTF-8 those that go on with a letter begin with the bits 10.

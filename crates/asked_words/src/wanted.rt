@@ -14,6 +14,8 @@ pub struct Wrong {
 pub enum Wanted {
     NoMark,
     NoUtf16,
+    NoArchive,
+    NoDevice,
     NoZeros,
     NoReturn,
     NoSemicolon,
@@ -50,8 +52,11 @@ impl fmt::Display for Wanted {
         let text = match self {
             Wanted::NoMark => "a byte order mark stands there: save the file without one",
             Wanted::NoUtf16 => "the input is in UTF-16: save it as UTF-8",
+            Wanted::NoArchive => "the input is compressed: unpack it first",
+            Wanted::NoDevice =>
+                "the input is a store or a notary's book: those are named by store= and notary=",
             Wanted::NoZeros =>
-                "bytes of zero stand in the line, as a crash leaves them in a file: write that anew",
+                "bytes of zero stand in the line: a crash leaves them in a text, and other files have them",
             Wanted::NoReturn =>
                 "a carriage return stands in the line, and each line ends in a line feed",
             Wanted::NoSemicolon => "no statement ends in `;`",

@@ -18,6 +18,11 @@ fn coding_of(line: &[u8]) -> Option<Wanted> {
     match line {
         [0xef, 0xbb, 0xbf, ..] => Some(Wanted::NoMark),
         [0xff, 0xfe, ..] | [0xfe, 0xff, ..] => Some(Wanted::NoUtf16),
+        [0x1f, 0x8b, ..] | [0x28, 0xb5, 0x2f, 0xfd, ..] | [b'P', b'K', 3, 4, ..] => {
+            Some(Wanted::NoArchive)
+        }
+        [0xfd, b'7', b'z', b'X', b'Z', ..] | [b'B', b'Z', b'h', ..] => Some(Wanted::NoArchive),
+        [_, b'D', b'R', b'A', b'G', ..] => Some(Wanted::NoDevice),
         _ if is_wide(line) => Some(Wanted::NoUtf16),
         _ if line.contains(&0) => Some(Wanted::NoZeros),
         _ if line.contains(&b'\r') => Some(Wanted::NoReturn),
@@ -28,13 +33,22 @@ fn coding_of(line: &[u8]) -> Option<Wanted> {
 /// Whether of its first bytes each other one is a zero.
 fn is_wide(line: &[u8]) -> bool {
     match line {
-        [0] => true,
         [first, second] => (*first == 0) != (*second == 0),
         [first, second, third, ..] => {
             (*first == 0) != (*second == 0) && (*first == 0) == (*third == 0)
         }
         _ => false,
     }
+}
+
+/// Whether a line that is in the grammar ends in `as of M`.
+pub fn is_of_past(line: &[u8]) -> bool {
+    let line = line.strip_suffix(b"\r".as_slice()).unwrap_or(line);
+    let mut words = line
+        .rsplit(|byte| *byte == b' ')
+        .filter(|word| !word.is_empty());
+    words.next();
+    words.next() == Some(b"of".as_slice()) && words.next() == Some(b"as".as_slice())
 }
 
 /// Whether a line that is in the grammar joins two tables.
