@@ -35,6 +35,7 @@ pub struct Ballot {
     said: Cell<[Option<Said>; MOST]>,
     odd: Cell<[Odd; MOST]>,
     has_begun: Cell<bool>,
+    filings: Cell<u64>,
 }
 
 impl Ballot {
@@ -44,12 +45,19 @@ impl Ballot {
             said: Cell::new([None; MOST]),
             odd: Cell::new([Odd::No; MOST]),
             has_begun: Cell::new(false),
+            filings: Cell::new(0),
         }
     }
 
-    /// A member filed the first batch of an id.
-    pub(crate) fn begin(&self) {
-        self.has_begun.set(true);
+    /// A member filed the batch of this index.
+    pub(crate) fn file(&self, index: u32) {
+        self.has_begun.set(self.has_begun.get() || index == 0);
+        self.filings.set(self.filings.get().saturating_add(1));
+    }
+
+    /// How many batches were filed so far, by each member.
+    pub fn filings(&self) -> u64 {
+        self.filings.get()
     }
 
     pub fn has_begun(&self) -> bool {

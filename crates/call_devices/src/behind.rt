@@ -3,18 +3,32 @@
 use crate::peek::Peek;
 use disk_model::{Disk, DiskFail};
 use std::alloc::Global;
-use txn_journal::Shape;
+use txn_journal::{Shape, StoreShape};
 
 /// What stands behind a gate that ends records, where an append that was cut off doesn't leave it so.
-#[derive(Clone, Copy)]
+#[derive(Clone, Copy, PartialEq, Eq)]
 pub struct Behind {
     /// So many bytes has the file up to that gate, and with it.
     pub end: u64,
     pub bytes: u64,
-    /// Whether records of a later segment stand behind them.
+    /// Whether a later segment stands behind them.
     pub is_within: bool,
-    /// Whether the gate is open, as only one in front of a whole record is. Then there may be no such bytes.
-    pub is_open: bool,
+    pub what: Remains,
+}
+
+/// What it is.
+#[derive(Clone, Copy, PartialEq, Eq)]
+pub enum Remains {
+    /// No more than an append that was cut off leaves.
+    Bytes,
+    /// More than that.
+    Many,
+    /// The gate is open, as only one in front of a whole record is. There may be no bytes.
+    OpenGate,
+    /// The gate is neither open nor closed. There may be no bytes.
+    TurnedGate,
+    /// Zeros, and more than that; or to the end of a segment, where the next record had room.
+    Zeros,
 }
 
 pub(crate) fn behind_gate<S: Shape>(
@@ -25,39 +39,32 @@ pub(crate) fn behind_gate<S: Shape>(
 ) -> Result<Option<Behind>, DiskFail> {
     let end = gate.saturating_add(1);
     let bytes = length.saturating_sub(end);
-    let is_open = is_open_at(disk, gate)?;
-    if !is_open && is_left::<S>(alloc, disk, gate, bytes)? {
-        return Ok(None);
-    }
-    Ok(Some(Behind {
+    let what = match gate_at(disk, gate)? {
+        Some(what) => Some(what),
+        None if bytes == 0 || is_zeros::<S>(alloc, disk, end, bytes)? => None,
+        None => remains_of::<S>(alloc, disk, end, bytes)?,
+    };
+    Ok(what.map(|what| Behind {
         end,
         bytes,
         is_within: false,
-        is_open,
+        what,
     }))
-}
-
-/// Whether so many bytes are nothing, or what a crash or a segment leaves behind a closed gate.
-fn is_left<S: Shape>(
-    alloc: Global,
-    disk: &mut Peek,
-    gate: u64,
-    bytes: u64,
-) -> Result<bool, DiskFail> {
-    Ok(
-        bytes == 0
-            || is_cut_append::<S>(alloc, disk, gate, bytes)?
-            || is_zeros::<S>(alloc, disk, gate.saturating_add(1), bytes)?,
-    )
 }
 
 /// The value of an open gate.
 const OPEN: u8 = 0xA7;
 
-fn is_open_at(disk: &mut Peek, gate: u64) -> Result<bool, DiskFail> {
+/// What is odd about a gate that ends records, and is there. It should be closed, which is 0.
+fn gate_at(disk: &mut Peek, gate: u64) -> Result<Option<Remains>, DiskFail> {
     let mut byte = [0];
     let count = disk.read_at(gate, &mut byte)?;
-    Ok(count > 0 && byte == [OPEN])
+    Ok(match byte {
+        _ if count == 0 => None,
+        [0] => None,
+        [OPEN] => Some(Remains::OpenGate),
+        _ => Some(Remains::TurnedGate),
+    })
 }
 
 /// As many bytes as a segment has.
@@ -73,19 +80,29 @@ pub(crate) fn behind_segments(
     let mut end = gate.saturating_add(1);
     for segment in gate / SEGMENT..place / SEGMENT {
         let next = segment.saturating_add(1).saturating_mul(SEGMENT);
-        let bytes = filled_at(alloc, disk, end, next.saturating_sub(end))?;
-        let is_open = is_open_at(disk, end.saturating_sub(1))?;
-        if is_open || bytes > 0 {
-            return Ok(Some(Behind {
-                end,
-                bytes,
-                is_within: true,
-                is_open,
-            }));
+        let room = next.saturating_sub(end);
+        let bytes = filled_at(alloc, disk, end, room)?;
+        if let Some(what) = gate_at(disk, end.saturating_sub(1))? {
+            return Ok(Some(within(end, bytes, what)));
+        }
+        if bytes > 0 {
+            return Ok(Some(within(end, bytes, Remains::Many)));
+        }
+        if room > most_of::<StoreShape>() {
+            return Ok(Some(within(end, room, Remains::Zeros)));
         }
         end = next.saturating_add(1);
     }
     Ok(None)
+}
+
+fn within(end: u64, bytes: u64, what: Remains) -> Behind {
+    Behind {
+        end,
+        bytes,
+        is_within: true,
+        what,
+    }
 }
 
 /// Whether these bytes are zeros, no more than an append leaves that was cut off.
@@ -96,6 +113,18 @@ fn is_zeros<S: Shape>(
     bytes: u64,
 ) -> Result<bool, DiskFail> {
     Ok(bytes <= most_of::<S>() && filled_at(alloc, disk, place, bytes)? == 0)
+}
+
+/// Whether all of these bytes are zeros.
+fn are_zeros(alloc: Global, disk: &mut Peek, place: u64, bytes: u64) -> Result<bool, DiskFail> {
+    for piece in 0..bytes.div_ceil(SEGMENT) {
+        let done = piece.saturating_mul(SEGMENT);
+        let from = place.saturating_add(done);
+        if filled_at(alloc, disk, from, bytes.saturating_sub(done))? > 0 {
+            return Ok(false);
+        }
+    }
+    Ok(true)
 }
 
 /// As many bytes has a record at most, with the gate behind it.
@@ -116,35 +145,57 @@ fn filled_at(alloc: Global, disk: &mut Peek, place: u64, bytes: u64) -> Result<u
     Ok(count)
 }
 
-/// Whether an append that was cut off leaves such bytes behind a gate. It does so behind a closed gate as
-/// it is written, and they are no more than one record. A whole one is no sign of that: a hidden one looks the same.
-fn is_cut_append<S: Shape>(
+/// What these bytes are, behind a closed gate. An append that was cut off leaves a piece of one record there, which is nothing odd, or a
+/// whole one: that is no sign of a crash, since a hidden one looks the same.
+fn remains_of<S: Shape>(
     alloc: Global,
     disk: &mut Peek,
-    gate: u64,
+    place: u64,
     bytes: u64,
-) -> Result<bool, DiskFail> {
+) -> Result<Option<Remains>, DiskFail> {
     if bytes > most_of::<S>() {
-        return Ok(false);
+        let is_zero = are_zeros(alloc, disk, place, bytes)?;
+        return Ok(Some(if is_zero {
+            Remains::Zeros
+        } else {
+            Remains::Many
+        }));
     }
-    let mut read = vec![in alloc; 0; bytes.saturating_add(1) as usize]?;
-    let count = disk.read_at(gate, &mut read)?;
-    match read.get(..count).and_then(|read| read.split_first()) {
-        Some((0, behind)) => Ok(!begins_whole::<S>(behind)),
-        _ => Ok(false),
-    }
+    let mut read = vec![in alloc; 0; bytes as usize]?;
+    let count = disk.read_at(place, &mut read)?;
+    let read = read.get(..count).unwrap_or(&[]);
+    let first = whole_in_front::<S>(read);
+    let behind = read.get(first.unwrap_or(0)..).unwrap_or(&[]);
+    Ok(if holds_whole::<S>(behind) {
+        Some(Remains::Many)
+    } else {
+        first.map(|_| Remains::Bytes)
+    })
 }
 
-/// Whether a length, a payload of the shape and one byte more stand at the front.
-fn begins_whole<S: Shape>(bytes: &[u8]) -> bool {
-    match bytes.split_first_chunk::<4>() {
-        Some((length, rest)) => {
-            let length = u32::from_be_bytes(*length) as usize;
-            match rest.get(..length) {
-                Some(payload) => rest.len() > length && S::accepts(payload),
-                None => false,
-            }
+/// Whether a whole record stands behind an open gate among these bytes. One that begins with `01` counts behind any byte: the others
+/// are so short that a piece of a record may look like one.
+fn holds_whole<S: Shape>(bytes: &[u8]) -> bool {
+    let mut gate = 0;
+    for (place, byte) in bytes.iter().enumerate() {
+        let record = bytes.get(place..).unwrap_or(&[]);
+        let may_begin = gate == OPEN || record.get(4) == Some(&1);
+        if may_begin && whole_in_front::<S>(record).is_some() {
+            return true;
         }
-        None => false,
+        gate = *byte;
+    }
+    false
+}
+
+/// How many bytes have a length and a payload of the shape at the front, where one byte more stands there.
+fn whole_in_front<S: Shape>(bytes: &[u8]) -> Option<usize> {
+    let (length, rest) = bytes.split_first_chunk::<4>()?;
+    let length = u32::from_be_bytes(*length) as usize;
+    let payload = rest.get(..length)?;
+    if rest.len() > length && S::accepts(payload) {
+        Some(length.saturating_add(4))
+    } else {
+        None
     }
 }

@@ -2,6 +2,7 @@
 
 ghost use Rattle.tuple_bytes.specs.Spelling.{FitsHeader};
 
+use crate::granules::Granules;
 use crate::item::{moment_of, number_of};
 use crate::peek::Peek;
 use disk_model::DiskFail;
@@ -35,8 +36,11 @@ impl Stamp {
 pub struct Content {
     pub header: Header,
     pub eras: Eras,
-    /// A sum over the bytes of each that has a moment which isn't before a given one.
-    behind: Vec<u64>,
+    /// The bytes of those that have a moment which isn't before a given one, each behind its length, and how many these are.
+    behind: Vec<u8>,
+    count: u64,
+    /// Those before that moment.
+    before: Granules,
     /// Whether each has a higher number than the one before it, and no earlier moment.
     pub is_in_order: bool,
     last: Option<Stamp>,
@@ -69,6 +73,8 @@ impl Content {
             header,
             eras: Eras::new(alloc, &header)?,
             behind: Vec::new(alloc),
+            count: 0,
+            before: Granules::new(alloc),
             is_in_order: true,
             last: None,
         };
@@ -78,14 +84,38 @@ impl Content {
             }
             content.take(records.payload(), from)?;
         }
-        Ok(content)
+        let Content {
+            header,
+            eras,
+            behind,
+            count,
+            before,
+            is_in_order,
+            last,
+        } = content;
+        Ok(Content {
+            header,
+            eras,
+            behind,
+            count,
+            before: before.in_order(alloc)?,
+            is_in_order,
+            last,
+        })
     }
 
     fn take(&mut self, payload: &[u8], from: u64) -> Result<(), AllocError> {
         self.eras.offer_payload(payload);
         if let Some(stamp) = Stamp::of(payload) {
             if stamp.moment >= from {
-                self.behind.push(sum_of(payload))?;
+                let length = payload.len() as u64;
+                self.behind.extend_from_slice(&length.to_be_bytes())?;
+                self.behind.extend_from_slice(payload)?;
+                self.count = self.count.saturating_add(1);
+            } else {
+                let width = u64::from(self.header.width);
+                let granule = stamp.moment.checked_div(width).unwrap_or(0);
+                self.before.add(granule, payload)?;
             }
             if let Some(last) = self.last {
                 let follows = last.number < stamp.number && last.moment <= stamp.moment;
@@ -98,7 +128,12 @@ impl Content {
 
     /// How many transactions aren't before that moment.
     pub fn behind(&self) -> u64 {
-        self.behind.len() as u64
+        self.count
+    }
+
+    /// In how many granules before that moment another store has other transactions.
+    pub fn differing(&self, other: &Content) -> u64 {
+        self.before.differing(&other.before)
     }
 
     /// Whether all of those stand in another store, too, at the front of its own.
@@ -117,6 +152,13 @@ impl Content {
             && other.has_eras_of(self, granule)
     }
 
+    /// Whether this store has the header of another, and the first of its eras alone.
+    pub fn is_before(&self, other: &Content) -> bool {
+        self.header == other.header
+            && self.eras.count() < other.eras.count()
+            && other.has_eras_of(self, u64::MAX)
+    }
+
     fn has_eras_of(&self, other: &Content, granule: u64) -> bool {
         for number in 0..other.eras.count() {
             let theirs = other.eras.at(number);
@@ -127,12 +169,4 @@ impl Content {
         }
         true
     }
-}
-
-fn sum_of(bytes: &[u8]) -> u64 {
-    let mut sum: u64 = 0;
-    for byte in bytes {
-        sum = sum.wrapping_mul(31).wrapping_add(u64::from(*byte));
-    }
-    sum
 }

@@ -1,7 +1,8 @@
 //! What a file is, by a look at it.
 
 use crate::behind::Behind;
-use crate::item::Jump;
+use crate::entries::{Entries, Filed};
+use crate::items::Summary;
 use history_model::Format;
 use tuple_bytes::Header;
 
@@ -21,21 +22,16 @@ pub enum Found {
         /// The algorithms that each of its eras has.
         in_all: u8,
         format: Format,
-        /// The moment of its last item.
-        last: u64,
         /// The tile at which its last era begins, which was the number of its sealed tiles then.
         turned: u32,
-        /// The first transaction whose number isn't the next one.
-        jump: Option<Jump>,
-        /// Whether a moment lies before that of the item before it.
-        falls: bool,
+        items: Summary,
+        /// Behind the records of the first segment but the last that has such, and of how many of them there are.
+        within: Option<Behind>,
+        segments: u32,
         behind: Option<Behind>,
     },
     Book {
-        /// The second of the last batch.
-        filed: Option<u64>,
-        /// How many batches are filed under the id of the call.
-        batches: u32,
+        entries: Entries,
         behind: Option<Behind>,
     },
     Other {
@@ -59,7 +55,56 @@ impl Found {
     /// The moment of a store's last item.
     pub fn last(self) -> Option<u64> {
         match self {
-            Found::Store { last, .. } => Some(last),
+            Found::Store { items, .. } => Some(items.last),
+            _ => None,
+        }
+    }
+
+    /// Whether something stands behind its records, as an append of another call that is under way leaves it for a moment.
+    pub fn has_behind(self) -> bool {
+        self.within().is_some() || self.behind().is_some()
+    }
+
+    /// Whether the same stands behind its records as another look has found.
+    pub fn ends_as(self, other: Found) -> bool {
+        self.within() == other.within() && self.behind() == other.behind()
+    }
+
+    /// What stands behind the records of a segment but the last.
+    fn within(self) -> Option<Behind> {
+        match self {
+            Found::Store { within, .. } => within,
+            _ => None,
+        }
+    }
+
+    /// What stands behind all records.
+    pub fn behind(self) -> Option<Behind> {
+        match self {
+            Found::Store { behind, .. } | Found::Book { behind, .. } => behind,
+            _ => None,
+        }
+    }
+
+    /// Which entries of a book are of this store, under this id.
+    pub fn filed_under(self, id: Option<u64>) -> Filed {
+        match self {
+            Found::Store { header, items, .. } if items.eras == 1 && id == Some(header.id) => {
+                let granules = 1u64.checked_shl(u32::from(header.k)).unwrap_or(0);
+                Filed {
+                    id,
+                    epoch: header.epoch,
+                    tile: granules.saturating_mul(u64::from(header.width)),
+                }
+            }
+            _ => Filed::under(id),
+        }
+    }
+
+    /// What a book says.
+    pub fn entries(self) -> Option<Entries> {
+        match self {
+            Found::Book { entries, .. } => Some(entries),
             _ => None,
         }
     }

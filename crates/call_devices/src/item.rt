@@ -19,6 +19,15 @@ pub(crate) fn moment_of(payload: &[u8]) -> Option<u64> {
     Some(u64::from_be_bytes(*moment.first_chunk::<8>()?))
 }
 
+/// That of a Frontier.
+pub(crate) fn frontier_of(payload: &[u8]) -> Option<u64> {
+    moment_of(payload).filter(|_| payload.first() == Some(&2))
+}
+
+pub(crate) fn is_policy(payload: &[u8]) -> bool {
+    payload.first() == Some(&3)
+}
+
 /// The number of a transaction, and that of the one behind it.
 #[derive(Clone, Copy)]
 pub struct Jump {

@@ -7,8 +7,10 @@
 //! | a file that is missing, which the first change makes | `unmade` |
 //! | the notaries of a call, each with its book | `members` |
 //! | which of them failed, or differed from most | `ballot` |
-//! | what a file is, by reading it alone | `looking`, `found`, with `peek`, `item` and `behind` |
-//! | what a store holds, for which it is held against another | `content` |
+//! | what a file is, by reading it alone | `looking`, `found`, with `peek` and `behind` |
+//! | what a store says by its items, and a book by its batches and marks | `items` over `item`, `entries` over `entry` |
+//! | which file stands at a path, and how the last change left it | `stamp` |
+//! | what a store holds, for which it is held against another | `content`, with `granules` |
 //! | how failures are counted | `faults` |
 //!
 //! | The layer above may rely on | Clause |
@@ -21,7 +23,7 @@
 //! changes nothing. Where it fails nothing is known of the file.
 //!
 //! ```text
-//! let found = look(rt, alloc, Some(path));
+//! let found = look(rt, alloc, Some(path), Filed::under(None));
 //! let device = Device::named(rt, Some(path))?;
 //! let notary = quorum_of(alloc, disks, &ballot)?;
 //! ```
@@ -31,21 +33,30 @@ mod ballot;
 mod behind;
 mod content;
 mod device;
+mod entries;
+mod entry;
 mod faults;
 mod found;
+mod granules;
 mod item;
+mod items;
 mod looking;
 mod members;
 mod peek;
+mod stamp;
 mod unmade;
 
 pub use ballot::{Ballot, Odd};
-pub use behind::Behind;
+pub use behind::{Behind, Remains};
 pub use content::Content;
 pub use device::Device;
+pub use entries::{Early, Entries, Fall, Filed, Over};
+pub use entry::Marked;
 pub use found::{Found, Letters};
 pub use item::Jump;
+pub use items::{Summary, Unwritten};
 pub use looking::look;
 pub use members::{Member, quorum_of};
 pub use peek::Peek;
+pub use stamp::Stamp;
 pub use unmade::Unmade;

@@ -40,7 +40,7 @@ impl<R: Files<File = File> + Drop> Unmade<R> {
     /// Why the last call that failed did so, where one did.
     pub(crate) fn error(&self) -> Option<io::Error> {
         if self.is_taken {
-            Some(ErrorKind::WouldBlock.into())
+            Some(ErrorKind::AlreadyExists.into())
         } else {
             self.file.error()
         }
