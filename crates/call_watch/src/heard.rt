@@ -1,8 +1,9 @@
 //! What went to the output, as far as something is told of it at the end.
 
+use crate::filed::{Back, Moments};
 use crate::kinds::Kinds;
 use crate::noted::{Noted, What, to_number};
-use crate::sessions::Sessions;
+use crate::sessions::{At, Sessions};
 use crate::shared::Shared;
 use std::str;
 
@@ -11,6 +12,9 @@ const FRONT: usize = 80;
 
 /// How the reply of a piece of an audit begins, behind which some items are left.
 const PIECE: &str = "auditing ";
+
+/// How the line of a fault begins.
+const FAULT: &str = "fault ";
 
 /// How the reply to a line that is refused begins.
 const REFUSED: &str = "refused ";
@@ -50,11 +54,54 @@ impl Front {
     }
 }
 
-/// A moment that a line asked for, and the number of that line.
+/// A moment that a line asked for, or has set, and the number of that line.
 #[derive(Clone, Copy)]
 pub struct Asked {
     pub moment: u64,
     pub line: u64,
+}
+
+/// What lines did at a moment that they take from the last `now`.
+#[derive(Clone, Copy)]
+pub struct Dated {
+    /// The first of them.
+    pub line: u64,
+    /// The moment, where a line has set it.
+    pub moment: Option<u64>,
+    pub done: Done,
+}
+
+/// What a line did that has a moment.
+#[derive(Clone, Copy)]
+pub struct Done {
+    pub is_stored: bool,
+    pub is_filed: bool,
+    /// Whether a verdict was marked.
+    pub is_marked: bool,
+}
+
+impl Done {
+    /// By the reply to it, and whether something was filed meanwhile: `sealed N` alone doesn't say so.
+    fn by(reply: &str, is_filed: bool) -> Done {
+        Done {
+            is_stored: reply.starts_with("ok "),
+            is_filed,
+            is_marked: is_compared(reply),
+        }
+    }
+
+    fn and(self, other: Done) -> Done {
+        Done {
+            is_stored: self.is_stored || other.is_stored,
+            is_filed: self.is_filed || other.is_filed,
+            is_marked: self.is_marked || other.is_marked,
+        }
+    }
+
+    /// Whether the notary keeps its moment.
+    fn is_of_notary(self) -> bool {
+        self.is_filed || self.is_marked
+    }
 }
 
 /// Each reply is written by calls of its own, which write all of it unless the output fails.
@@ -69,6 +116,8 @@ pub struct Heard<'a> {
     kinds: Kinds,
     /// The first refusal that says that store and book don't go together.
     alarm: Front,
+    /// What the line of a fault says.
+    fault: Front,
     /// How many lines of a generated script were refused, with what came behind it.
     pub refused_of_made: u64,
     /// The last verdict of `validate` or `analyse`, and the first one that says altered.
@@ -77,14 +126,19 @@ pub struct Heard<'a> {
     /// The last piece of an audit, where no verdict came behind it.
     piece: Front,
     sessions: Sessions,
-    /// How many lines have set the clock, and whether the last one of those was refused.
+    /// How many lines have set the clock, the last moment that was set, and whether a line behind that was refused which would have.
     clocks: u64,
+    clock: Option<u64>,
     is_clock_refused: bool,
-    /// Whether a line stored something, whether one did in front of all that set the clock, and whether one did behind a `now` that
-    /// was refused.
-    is_stored: bool,
-    pub is_stored_before: bool,
-    pub is_stored_behind: bool,
+    /// What lines did in front of all that set the clock, and what they did behind a `now` that was refused.
+    pub before: Option<Dated>,
+    pub behind: Option<Dated>,
+    /// At which moments lines filed and marked, and the first one that went back. A mark comes behind filings, too.
+    pub filed: Moments,
+    pub marked: Moments,
+    pub back: Option<Back>,
+    /// How many batches were filed so far.
+    filings: u64,
     /// The latest moment that was asked for.
     pub asked: Asked,
     /// Whether the last reply is one to a line that is worth a look if it was cut off.
@@ -94,9 +148,13 @@ pub struct Heard<'a> {
     /// Whether an era was begun, and whether one at tile 0, so that no tile was held against what is filed.
     is_turned: bool,
     pub is_turned_uncompared: bool,
+    /// How many granules an evidence file has that was made.
+    pub gathered: u64,
     /// Whether an evidence file shows no granule, or what no honest one does.
     pub is_none_shown: bool,
     pub is_unfit: bool,
+    /// Whether one isn't of what is filed.
+    pub is_other: bool,
     /// How many granules a restoring has kept and lost.
     kept: Option<u64>,
     pub lost: u64,
@@ -114,23 +172,30 @@ impl<'a> Heard<'a> {
             first_refusal: Front::new(),
             kinds: Kinds::new(),
             alarm: Front::new(),
+            fault: Front::new(),
             refused_of_made: 0,
             verdict: Front::new(),
             altered: Front::new(),
             piece: Front::new(),
             sessions: Sessions::new(),
             clocks: 0,
+            clock: None,
             is_clock_refused: false,
-            is_stored: false,
-            is_stored_before: false,
-            is_stored_behind: false,
+            before: None,
+            behind: None,
+            filed: Moments::new(),
+            marked: Moments::new(),
+            back: None,
+            filings: 0,
             asked: Asked { moment: 0, line: 0 },
             is_last_telling: false,
             is_filed: false,
             is_turned: false,
             is_turned_uncompared: false,
+            gathered: 0,
             is_none_shown: false,
             is_unfit: false,
+            is_other: false,
             kept: None,
             lost: 0,
             goes_back: false,
@@ -163,7 +228,8 @@ impl<'a> Heard<'a> {
         let front = Front::of(reply);
         let text = front.text();
         let line = self.shared.line_of(self.replies);
-        if text.starts_with("fault ") {
+        if text.starts_with(FAULT) {
+            self.fault = front;
             self.hear_fault(line);
             return;
         }
@@ -198,11 +264,12 @@ impl<'a> Heard<'a> {
             Noted {
                 session: Some(session),
                 what: What::Commit,
+                number: line,
                 ..
             },
         ) = line
         {
-            self.sessions.end_within(session);
+            self.sessions.end_within(At { session, line });
         }
     }
 
@@ -210,33 +277,41 @@ impl<'a> Heard<'a> {
     fn hear_line(&mut self, line: Noted, text: &str) {
         let refusal = text.strip_prefix(REFUSED);
         if let Some(session) = line.session {
-            self.sessions.hear(session, line.what, text, refusal);
+            let at = At {
+                session,
+                line: line.number,
+            };
+            self.sessions.hear(at, line.what, text, refusal);
         }
         let is_clock = line.what == What::Clock;
-        let is_stored = text.starts_with("ok ");
+        let filings = self.shared.ballot.filings();
+        let done = Done::by(text, filings > self.filings);
+        self.filings = filings;
+        if line.session.is_none() && done.is_stored {
+            self.sessions.hear_stored();
+        }
         if is_clock {
-            self.hear_clock(refusal.is_none());
+            self.hear_clock(line, refusal.is_none());
         } else if refusal.is_none() {
             self.hear_asked(line);
+            self.hear_done(line, done);
         }
-        self.is_stored = self.is_stored || is_stored;
-        self.is_stored_before = self.is_stored_before || is_stored && self.clocks == 0;
-        self.is_stored_behind = self.is_stored_behind || is_stored && self.is_clock_refused;
-        self.is_last_telling = is_stored
+        self.is_last_telling = done.is_stored
             || is_clock
             || refusal.is_some()
             || text.starts_with("era ");
     }
 
-    fn hear_clock(&mut self, is_set: bool) {
+    fn hear_clock(&mut self, line: Noted, is_set: bool) {
         self.is_clock_refused = !is_set;
         if is_set {
             self.clocks = self.clocks.saturating_add(1);
+            self.clock = line.moment;
         }
     }
 
     fn hear_asked(&mut self, line: Noted) {
-        if let Some(moment) = line.asked {
+        if let Some(moment) = line.moment {
             if moment > self.asked.moment {
                 self.asked = Asked {
                     moment,
@@ -246,12 +321,42 @@ impl<'a> Heard<'a> {
         }
     }
 
+    /// A line may have done something at the moment of the clock.
+    fn hear_done(&mut self, line: Noted, done: Done) {
+        if !done.is_stored && !done.is_of_notary() {
+            return;
+        }
+        let dated = Dated {
+            line: line.number,
+            moment: self.clock,
+            done,
+        };
+        // (a filing goes by the store's last moment where none is set)
+        if self.clocks == 0 && (done.is_stored || done.is_marked || self.before.is_some()) {
+            self.before = Some(dated.behind(self.before));
+        }
+        if self.is_clock_refused {
+            self.behind = Some(dated.behind(self.behind));
+        }
+        if done.is_filed {
+            self.back = self.back.or(self.filed.back_from(line.number, self.clock));
+            self.filed.take(line.number, self.clock);
+        }
+        if done.is_marked {
+            self.back = self.back.or(self.filed.back_from(line.number, self.clock));
+            self.back = self.back.or(self.marked.back_from(line.number, self.clock));
+            self.marked.take(line.number, self.clock);
+        }
+    }
+
     /// What the notary was given or asked by a line with this reply, and what it says of a store or an evidence file.
     fn hear(&mut self, reply: Front, text: &str) {
         self.is_filed = self.is_filed || text.starts_with("sealed ") || is_compared(text);
+        self.gathered = first_number(text, "evidence ").unwrap_or(self.gathered);
         self.is_none_shown = self.is_none_shown
             || text.starts_with("examined 0 ")
             || text == "evidence 0";
+        self.is_other = self.is_other || text == "other header";
         self.kept = first_number(text, "restored ").or(self.kept);
         self.lost = second_number(text, "restored ").unwrap_or(self.lost);
         self.refused_of_made = second_number(text, "made ").unwrap_or(self.refused_of_made);
@@ -303,9 +408,14 @@ impl<'a> Heard<'a> {
         &self.kinds
     }
 
-    /// Whether lines stored something, and none set the clock.
-    pub fn is_stored_unset(&self) -> bool {
-        self.is_stored && self.clocks == 0
+    /// Whether no line set the clock.
+    pub fn is_unset(&self) -> bool {
+        self.clocks == 0
+    }
+
+    /// Whether none could, and one would have.
+    pub fn is_clock_refused(&self) -> bool {
+        self.clocks == 0 && self.is_clock_refused
     }
 
     /// Whether no line was more than a setting of the clock.
@@ -335,6 +445,11 @@ impl<'a> Heard<'a> {
         self.alarm.text().strip_prefix(REFUSED).unwrap_or("")
     }
 
+    /// The name of the fault with which the call ends, and what stands behind that.
+    pub fn fault(&self) -> &str {
+        self.fault.text().strip_prefix(FAULT).unwrap_or("")
+    }
+
     /// Whether the last verdict compared nothing.
     pub fn is_unsealed(&self) -> bool {
         self.verdict.text().ends_with("unsealed")
@@ -347,7 +462,21 @@ impl<'a> Heard<'a> {
 
     /// Whether the notary was given or asked something.
     pub fn uses_notary(&self) -> bool {
-        self.is_filed || self.is_turned || self.verdict.length > 0
+        self.is_filed || self.is_turned || self.verdict.length > 0 || self.alarm.length > 0
+    }
+}
+
+impl Dated {
+    /// Behind what was done before.
+    fn behind(self, before: Option<Dated>) -> Dated {
+        match before {
+            Some(first) => Dated {
+                line: first.line,
+                moment: first.moment,
+                done: first.done.and(self.done),
+            },
+            None => self,
+        }
     }
 }
 

@@ -4,10 +4,12 @@
 //! |---|---|
 //! | how far it is, on a line of its own at a terminal | `progress`, moved by `watched` |
 //! | which reply was refused first, what was filed, and what the verdict was | `heard` |
+//! | at which moments lines filed and marked | `filed` |
 //! | to which line of the input that refusal came | `lines` |
 //! | how many refusals of each kind came | `kinds` |
 //! | which sessions were begun, and which are left without a commit | `sessions` |
 //! | what each line of the input says of these and of moments | `script`, `noted` |
+//! | whether a file stays at its path, and is changed by the call alone | `place` |
 //! | what these know of one another | `shared` |
 //!
 //! | The layer above may rely on | Clause |
@@ -24,20 +26,24 @@
 //! ```
 #![tactic(auto)]
 
+mod filed;
 mod heard;
 mod kinds;
 mod lines;
 mod noted;
+mod place;
 mod progress;
 mod script;
 mod sessions;
 mod shared;
 mod watched;
 
-pub use heard::{Asked, Front, Heard};
+pub use filed::{Back, Moments};
+pub use heard::{Asked, Dated, Done, Front, Heard};
 pub use kinds::Kinds;
 pub use lines::{LONGEST, Refused, is_too_long};
+pub use place::{Before, Left};
 pub use progress::Progress;
-pub use sessions::{Sessions, Without};
+pub use sessions::{At, Listed, Sessions, Unused, Without};
 pub use shared::Shared;
 pub use watched::{WatchedDisk, WatchedSink, WatchedSource};

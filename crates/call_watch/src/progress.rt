@@ -65,6 +65,11 @@ impl<'a, R: Runtime> Progress<'a, R> {
         }
     }
 
+    /// How often the input was read.
+    pub(crate) fn reads(&self) -> u64 {
+        self.shared.reads.get()
+    }
+
     /// Says how a person gives the input, where that is a terminal.
     pub(crate) fn ask(&self, takes_lines: bool) {
         let how = if takes_lines {

@@ -5,11 +5,11 @@ use crate::noted::Noted;
 use crate::shared::Shared;
 use std::alloc::Global;
 
-/// As many bytes are kept of a line's front: enough for a session's name, `over` and a moment.
-const FRONT: usize = 32;
+/// As many bytes are kept of a line's front: enough for a session's name, `over` and a moment, also with zeros in front of it.
+const FRONT: usize = 128;
 
-/// As many bytes are kept of its end: enough for `as of` and a moment.
-const TAIL: usize = 32;
+/// As many bytes are kept of its end: enough for `as of` and such a moment.
+const TAIL: usize = 128;
 
 /// Spaces in a row count as one in a line's front.
 #[derive(Drop)]
@@ -22,8 +22,9 @@ pub(crate) struct Script {
     /// So many lines before this one have a reply, and so many ended.
     replied: u64,
     ended: u64,
-    /// Whether this line has bytes that hide others, where it is a comment.
+    /// Whether this line has bytes that hide others, where it is a comment, and whether it ends in a carriage return so far.
     hides: bool,
+    ends_in_return: bool,
 }
 
 impl Script {
@@ -36,6 +37,7 @@ impl Script {
             replied: 0,
             ended: 0,
             hides: false,
+            ends_in_return: false,
         }
     }
 
@@ -62,8 +64,11 @@ impl Script {
     /// Looks for what hides statements in these bytes of a comment: zeros of a crash, or ends of lines that are none.
     fn look_into(&mut self, bytes: &[u8]) {
         if self.front.first() == Some(&b'#') && self.length > 0 {
+            let was_return = self.ends_in_return && !bytes.is_empty();
+            self.ends_in_return = bytes.ends_with(b"\r".as_slice());
             let bytes = bytes.strip_suffix(b"\r".as_slice()).unwrap_or(bytes);
-            self.hides = self.hides || bytes.iter().any(|byte| *byte == 0 || *byte == b'\r');
+            let is_odd = bytes.iter().any(|byte| *byte == 0 || *byte == b'\r');
+            self.hides = self.hides || was_return || is_odd;
         }
     }
 
@@ -114,6 +119,7 @@ impl Script {
         }
         self.ended = number;
         self.hides = false;
+        self.ends_in_return = false;
         self.length = 0;
         self.tail.clear();
     }

@@ -9,6 +9,8 @@ use std::cell::Cell;
 pub struct Shared {
     /// Whether a line of progress stands on the terminal.
     pub(crate) is_shown: Cell<bool>,
+    /// How often the input was read.
+    pub(crate) reads: Cell<u64>,
     /// Which reply was the first refusal, counted from 0.
     pub(crate) first_refused: Cell<Option<u64>>,
     /// The lines that were read last, and which reply comes to the first of them.
@@ -28,6 +30,7 @@ impl Shared {
     pub fn new(notaries: usize) -> Shared {
         Shared {
             is_shown: Cell::new(false),
+            reads: Cell::new(0),
             first_refused: Cell::new(None),
             noted: Cell::new(None),
             first_noted: Cell::new(0),

@@ -2,36 +2,65 @@
 
 use crate::heard::Heard;
 use crate::lines::Lines;
+use crate::place::{Before, Left, Place};
 use crate::progress::{Progress, Step};
 use crate::script::Script;
 use crate::shared::Shared;
+use call_devices::Found;
 use disk_model::{Disk, DiskFail};
 use outside_io::{Sink, Source, StreamFail};
-use std::alloc::Global;
-use std::rt::Runtime;
+use std::alloc::{AllocError, Global};
+use std::fs::File;
+use std::rt::{Files, Runtime};
 
-/// A disk that shows how much was read of it, and written.
+/// A disk that shows how much was read of it, and written, and sees how its file is left to it.
 #[derive(Drop)]
-pub struct WatchedDisk<'a, D: Drop, R: Runtime> {
+pub struct WatchedDisk<'a, D: Drop, R: Runtime + Files<File = File>> {
     below: D,
     progress: Progress<'a, R>,
+    place: Place<R>,
     /// What its length was, where it was asked.
     length: u64,
     written: u64,
 }
 
-impl<'a, D: Disk + Drop, R: Runtime> WatchedDisk<'a, D, R> {
-    pub fn new(below: D, progress: Progress<'a, R>) -> Self {
-        WatchedDisk {
+impl<'a, D: Disk + Drop, R: Runtime + Files<File = File> + AllocGlobal> WatchedDisk<'a, D, R> {
+    /// Over the device of this path, or of none.
+    pub fn new(
+        rt: &R,
+        below: D,
+        progress: Progress<'a, R>,
+        path: Option<&str>,
+        before: Before,
+    ) -> Result<Self, AllocError> {
+        Ok(WatchedDisk {
             below,
             progress,
+            place: Place::new(rt, path, before)?,
             length: 0,
             written: 0,
-        }
+        })
     }
+}
 
+impl<'a, D: Disk + Drop, R: Runtime + Files<File = File>> WatchedDisk<'a, D, R> {
     pub fn is_written(&self) -> bool {
         self.written > 0
+    }
+
+    /// What was found in its file once it was open, where that may not be what was found before.
+    pub fn found(&self) -> Option<Found> {
+        self.place.found
+    }
+
+    /// Whether the call has asked it.
+    pub fn is_asked(&self) -> bool {
+        self.place.is_asked()
+    }
+
+    /// How its file was left to it until now.
+    pub fn left(&self) -> Left {
+        self.place.left()
     }
 
     /// Takes the line of progress away, and gives the disk below.
@@ -41,7 +70,7 @@ impl<'a, D: Disk + Drop, R: Runtime> WatchedDisk<'a, D, R> {
     }
 }
 
-impl<'a, D: Disk + Drop, R: Runtime> Disk for WatchedDisk<'a, D, R> {
+impl<'a, D: Disk + Drop, R: Runtime + Files<File = File>> Disk for WatchedDisk<'a, D, R> {
     ghost state = { λ d. D.state d.below };
 
     ghost takes_memory = { D.takes_memory };
@@ -57,6 +86,7 @@ impl<'a, D: Disk + Drop, R: Runtime> Disk for WatchedDisk<'a, D, R> {
     fn length(&mut self) -> Result<u64, DiskFail> {
         let length = self.below.length()?;
         self.length = length;
+        self.place.is_open();
         Ok(length)
     }
 
@@ -65,7 +95,9 @@ impl<'a, D: Disk + Drop, R: Runtime> Disk for WatchedDisk<'a, D, R> {
             bytes: place,
             length: self.length,
         });
-        self.below.read_at(place, into)
+        let count = self.below.read_at(place, into)?;
+        self.place.is_open();
+        Ok(count)
     }
 
     fn write_at(&mut self, place: u64, bytes: &[u8]) -> Result<(), DiskFail> {
@@ -73,11 +105,18 @@ impl<'a, D: Disk + Drop, R: Runtime> Disk for WatchedDisk<'a, D, R> {
         self.progress.show(Step::Written {
             bytes: self.written,
         });
-        self.below.write_at(place, bytes)
+        self.place.begin_change(self.progress.reads());
+        self.below.write_at(place, bytes)?;
+        self.place
+            .is_written(place.saturating_add(bytes.len() as u64));
+        Ok(())
     }
 
     fn cut(&mut self, length: u64) -> Result<(), DiskFail> {
-        self.below.cut(length)
+        self.place.begin_change(self.progress.reads());
+        self.below.cut(length)?;
+        self.place.is_cut(length);
+        Ok(())
     }
 
     fn sync(&mut self) -> Result<(), DiskFail> {
@@ -138,6 +177,9 @@ impl<'a, I: Source + Drop, R: Runtime> Source for WatchedSource<'a, I, R> {
     ghost state = { λ s. I.state s.below };
 
     fn read(&mut self, into: &mut [u8]) -> Result<usize, StreamFail> {
+        self.shared
+            .reads
+            .set(self.shared.reads.get().saturating_add(1));
         if self.is_asked {
             self.progress.ask(self.takes_lines);
             self.is_asked = false;
