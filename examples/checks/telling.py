@@ -21,12 +21,15 @@ PROGRAM = str(pathlib.Path(DRAGOON).resolve()) if "/" in DRAGOON else DRAGOON
 STORE, BOOK = "store=worked.store", "notary=worked.book"
 WHOLE = "usage: dragoon [store=FILE] [copy=FILE] [notary=FILE,..] [target=FILE] COMMAND"
 OPEN = "behind an open gate, and no whole record stands there: one was cut off or altered, which no crash does; docs/NOTARY.md"
+TURNED_GATE = "its gate is neither open nor closed, so it was altered, which no crash does; docs/NOTARY.md"
+NO_CRASH = "no crash leaves them so, and whoever hides records does; docs/NOTARY.md"
+DIFFERING = "dragoon: 1 sealed granule of the store altered.store isn't as the target new.store has it: what was filed there comes from"
 BEHIND = "a crash leaves such bytes, and so does whoever hides records; docs/NOTARY.md"
 KEEP = "isn't what was filed: keep it and the notary's book worked.book as they are, and copy them"
 ONLY = "the only reply is a refusal, that to line"
 REFUSED = "replies is a refusal, that to line"
 MARKED = "dragoon: the notary's book worked.book keeps this verdict as a mark, which the diagrams of later reports show"
-WENT_BACK = "dragoon: the clock says 20.., before the last filing, 36812-02-20 00:36:16 UTC: it was set back, or a scripted run filed that, or the book was altered"
+WENT_BACK = "dragoon: the clock says 20.., before the last filing in the notary's book worked.book, 36812-02-20 00:36:16 UTC: it was set back, or a scripted run filed that, or the book was altered"
 GONE = "stood in memory, and is gone"
 QUORUM = "notary=a,b,c"
 ADDED = "differs from the others, and this call added to it: stop, and compare all of them; docs/NOTARY.md says why one does"
@@ -65,6 +68,12 @@ def hidden_within():
     file.write_bytes((content + b"hidden").ljust(65_536, b"\0") + content[last:])
 
 
+def marked_and_zeroed():
+    """A mark stands behind the batch of the tile, which is zeroed, and its gates with it but the last."""
+    call([STORE, BOOK, "validate", "7"], "")
+    put("worked.book", 125, bytes(787))
+
+
 def lost_within():
     """The first segment ends at the open gate of transaction 9, and transaction 10 stands in the next one."""
     file = pathlib.Path("worked.store")
@@ -76,6 +85,17 @@ def new_store():
     call(["store=new.store", "init", "7", "60", "3", "ta"], "")
 
 
+def new_and_filed():
+    new_store()
+    call(["store=new.store", "notary=new.book", "notarize", "7"], "")
+
+
+def before_a_policy():
+    """The worked store has an era more than its copy, and a tile of it is sealed."""
+    shutil.copy("worked.store", "new.store")
+    call([STORE, BOOK, "run", "7", "scripted"], "policy 3 ta\nnow 960\nnotarize\n")
+
+
 def store_8():
     call(["store=new.store", "init", "8", "60", "3", "ta"], "")
 
@@ -83,6 +103,61 @@ def store_8():
 def a_row_of_today():
     new_store()
     call(["store=new.store", "run", "7"], "create t k int v int\ninsert t 1 0\n")
+
+
+def tiles():
+    """A store of 2001 with three tiles of a minute, each ended by a row and filed, and a copy of it from before the last."""
+    call(["store=new.store", "init", "7", "60", "0", "m"], "")
+    put("new.store", 17, (10**9).to_bytes(8, "big"))
+    for tile in (1, 2, 3):
+        shutil.copy("new.store", "older.store")
+        lines = "create t k int\n" if tile == 1 else ""
+        call(["store=new.store", "notary=new.book", "run", "7", "scripted"], f"{lines}now {tile * 60}\ninsert t {tile}\nnotarize\n")
+
+
+def payloads_of(name):
+    content, place, payloads = pathlib.Path(name).read_bytes(), 64, []
+    while content[place] == 0xA7:
+        length = int.from_bytes(content[place + 1 : place + 5], "big")
+        payloads.append(content[place + 5 : place + 5 + length])
+        place += 5 + length
+    return payloads
+
+
+def holding(name, payloads):
+    """The file with these records in the place of its own."""
+    records = b"".join(b"\xa7" + len(it).to_bytes(4, "big") + it for it in payloads)
+    pathlib.Path(name).write_bytes(pathlib.Path(name).read_bytes()[:64] + records + b"\0")
+
+
+def a_batch_taken_out():
+    """Tile 1 has none, and the index of the one behind it is one less."""
+    tiles()
+    header, first, _, third = payloads_of("new.book")
+    holding("new.book", [header, first, third[:9] + (2).to_bytes(4, "big") + third[13:]])
+
+
+def the_last_batch_taken_out():
+    tiles()
+    call(["store=new.store", "notary=new.book", "validate", "7"], "")
+    *batches, _, mark = payloads_of("new.book")
+    holding("new.book", [*batches, mark])
+
+
+def seconds_that_fall():
+    tiles()
+    header, first, *others = payloads_of("new.book")
+    holding("new.book", [header, first[:13] + (10**9 + 600).to_bytes(8, "big") + first[21:], *others])
+
+
+def altered_between():
+    """The book has a mark that says altered, and then a clean one."""
+    for store in (ALTERED, STORE):
+        call([store, BOOK, "validate", "7"], "")
+
+
+def items_put_in(*payloads):
+    holding("worked.store", [*payloads_of("worked.store"), *(bytes.fromhex(it) for it in payloads)])
 
 
 def no_tree():
@@ -185,8 +260,13 @@ NO_SUCH = "has no such header and eras filed under it. Name the right file, id a
 TURNED = "had no sealed tile under the id 7: the policy stands at tile 0, and no tile was compared. If tiles of the store worked.store are filed in another book, validate with that one: where it isn't clean, put back the copy from before; docs/OPERATING.md"
 
 UNSET = "dragoon: no `now M` was carried out, so all was stored at the store's last moment, second 480, ..: without `scripted` a run goes by the clock"
-OLDER = "an era of the store worked.store begins at tile 1, and the notary's book worked.book had {} sealed: it was put back or cut, or is another one, or the era was put in. Stop, and look for copies; docs/NOTARY.md"
+OLDER = "an era of the store worked.store begins at tile 1, and the notary's book worked.book had {} sealed. The book was put back or cut, or is another one, or the era was put in: stop, and look for copies; docs/NOTARY.md"
 SEEK = ". If this store was filed before, look for its book; docs/NOTARY.md"
+PUT_BACK = "dragoon: the store worked.store has a Frontier at the end of tile 0, and the notary's book worked.book had 0 sealed. It is filed in another book, too, or a filing was cut off. Else this one was put back or cut, or the Frontier was put in, or the header altered: look for copies; docs/NOTARY.md"
+MOVED = "dragoon: another file stands at the path of the store new.store than this call had open, or none: it was moved, removed or put back meanwhile. Keep both, and compare them; docs/OPERATING.md"
+CHANGED = "dragoon: the store new.store was changed by somebody else while this call had it open: copy it, validate the copy, and look who did that; docs/OPERATING.md"
+DROPPED = "is stored: the commit was a Conflict, so begin anew what was asked for there"
+SHOWN = "dragoon: the store altered.store isn't what was filed: 1 granule differs. Keep it and the notary's book worked.book as they are, and copy them; docs/OPERATING.md"
 UNFED = "dragoon: the input had no statement, so nothing was carried out: if it came through a pipe, look at what should have written it"
 
 # what, what is done before, the words, the input, the status, the output, and what is told line by line; .. stands for anything
@@ -210,30 +290,62 @@ ROWS = [
     ("nothing odd", None, [STORE, BOOK, "validate", "7"], "", 0, "clean 1\n", []),
     ("an altered store", None, ["store=altered.store", BOOK, "validate", "7"], "", 1, "altered 1 from 0\n",
      [f"dragoon: the store altered.store {KEEP}; `analyse` says which granules, and since when; docs/OPERATING.md"]),
+    ("one that was put back behind its verdict", lambda: call(["store=altered.store", BOOK, "validate", "7"], ""), [STORE, BOOK, "validate", "7"], "", 0, "clean 1\n",
+     ["dragoon: the store worked.store is clean, and the last mark in the notary's book worked.book, of 20.., says altered: what differed was put back meanwhile, or that was another file; docs/ANALYSIS.md"]),
+    ("one that isn't compared behind an altered verdict", lambda: call(["store=altered.store", BOOK, "validate", "7"], ""), [STORE, BOOK, "run", "7"], "get t 1\n", 0, "row 1 0\n",
+     ["dragoon: the last mark in the notary's book worked.book, of 20.., says altered: keep the store worked.store and the book as they are, and copy them; docs/OPERATING.md"]),
+    ("an analysis that finds nothing behind it", lambda: call(["store=altered.store", BOOK, "validate", "7"], ""), [STORE, BOOK, "analyse", "7", "mono"], "", 0, None,
+     ["dragoon: nothing was found here, and the last mark in the notary's book worked.book, of 20.., says altered: `validate` says whether the store worked.store still is. If so, the book may be; docs/ANALYSIS.md"]),
+    ("a report behind a clean mark behind an altered one", altered_between, [ALTERED, BOOK, "analyse", "7", "mono"], "", 1, None,
+     [f"dragoon: the store altered.store {KEEP}; ..", "dragoon: a mark in the notary's book worked.book, of 20.., says altered, and a later one clean: the change may be older than the report's span; docs/ANALYSIS.md"]),
+    ("a book without the batch of a tile", a_batch_taken_out, ["store=new.store", "notary=new.book", "validate", "7"], "", 11, "fault SealMissing cum 1\n",
+     ["dragoon: the notary's book new.book lacks a digest of the store new.store: ..", "dragoon: batch 2 of the notary's book new.book lacks the chain of tile 1: batches were taken out, or this one was altered. File nothing, and look for copies of the book; docs/NOTARY.md"]),
+    ("a book without the batch of the last tile", the_last_batch_taken_out, ["store=new.store", "notary=new.book", "validate", "7"], "", 0, "clean 2\n",
+     ["dragoon: a mark in the notary's book new.book, of 20.., counts 3 as sealed, and the batches in front of it 2: batches were taken out, or the mark was altered, or the book missed filings beside others. Look for copies of it; docs/NOTARY.md"]),
+    ("a store that is older than its book", tiles, ["store=older.store", "notary=new.book", "policy", "7", "0", "m"], "", 0, "era 1 from tile 3\n",
+     ["dragoon: the last moment of the store older.store was before the end of tile 2, which the notary's book new.book has sealed: rows or a Frontier were taken out, or the header was altered, or it is an older copy or another store. Look for copies, and store nothing in it; docs/NOTARY.md"]),
+    ("a book whose seconds fall", seconds_that_fall, ["store=new.store", "notary=new.book", "validate", "7"], "", 0, "clean 3\n",
+     ["dragoon: the notary's book new.book has an entry of 2001-09-09 01:48:40 UTC behind one of 2001-09-09 01:56:40 UTC: the clock went back, a scripted run filed or marked that, or the book was altered. The spans of a report go by these moments"]),
+    ("a policy, a Frontier and a row that no writer stores", lambda: items_put_in("03 00000009 00000001 03 03", "02 00000000000001e1"), [STORE, "link"], "", 0, None,
+     ["dragoon: the store worked.store has a policy that begins no era: that or the header was altered, or it was put in, or asked for with a book that had lost tiles; `examples/look.py` lists it"]),
+    ("a Frontier of an odd moment", lambda: items_put_in("02 00000000000001e1"), [STORE, "link"], "", 0, None,
+     ["dragoon: the store worked.store has a Frontier of a moment that no writer gives it: that, an era or the header was altered, or it was put in; `examples/look.py` lists it"]),
+    ("a mark of a moment to come", tiles, ["store=new.store", "notary=new.book", "run", "7", "scripted"], "now 60000000000\nvalidate\n", 0, "ok\nclean 3\n",
+     ["dragoon: line 2 filed or marked at second 60000000000, 3.., and the clock says 20..: the book keeps that moment, and spans of reports go by it"]),
+    ("a mark of a moment before the last filing", None, [STORE, BOOK, "run", "7", "scripted"], "now 470\nvalidate\n", 0, "ok\nclean 1\n",
+     ["dragoon: line 2 filed or marked at second 470, 1970-01-01 00:07:50 UTC, and the book had an entry of 1970-01-01 00:08:00 UTC: spans of reports go by these moments, and may run backwards"]),
     ("an altered store, analysed", None, ["store=altered.store", BOOK, "analyse", "7", "mono"], "", 1, None,
      [f"dragoon: the store altered.store {KEEP}; docs/ANALYSIS.md says how to read the report"]),
     ("an altered header", lambda: put("worked.store", 30, b"\x01"), [STORE, BOOK, "validate", "7"], "", 1, "header altered 1\n",
      ["dragoon: the store worked.store doesn't begin as the store that was filed, or has other eras. If the notary's book worked.book is its own and no other store's, keep both as they are, .."]),
     ("a gate of the book that was turned", lambda: put("worked.book", 125, b"\xa6"), [STORE, BOOK, "validate", "7"], "", 0, "clean 0\n",
-     [f"dragoon: the notary's book worked.book ends at byte 126, and 787 bytes stand behind it: {BEHIND}; this call wrote over the first of them", "dragoon: only the header was compared: .."]),
+     [f"dragoon: the notary's book worked.book ends at byte 126, and 787 bytes stand behind it: {TURNED_GATE}; this call wrote over the first of them", "dragoon: only the header was compared: ..", PUT_BACK]),
     ("a gate of the book that was closed", lambda: put("worked.book", 125, b"\x00"), [STORE, BOOK, "validate", "7"], "", 0, "clean 0\n",
-     [f"dragoon: the notary's book worked.book ends at byte 126, and 787 bytes stand behind it: {BEHIND}; this call wrote over the first of them", "dragoon: only the header was compared: .."]),
+     [f"dragoon: the notary's book worked.book ends at byte 126, and 787 bytes stand behind it: {BEHIND}; this call wrote over the first of them", "dragoon: only the header was compared: ..", PUT_BACK]),
     ("a gate of the store that was turned, and hidden records", lambda: put("worked.store", 94, b"\xa6"), [STORE, "link"], "", 0, None,
-     [f"dragoon: the store worked.store ends at byte 95, and 350 bytes stand behind it: {BEHIND}"]),
+     [f"dragoon: the store worked.store ends at byte 95, and 350 bytes stand behind it: {TURNED_GATE}"]),
     ("records hidden in an earlier segment", hidden_within, [STORE, "link"], "", 0, None,
-     ["dragoon: the store worked.store ends a segment at byte 445, and 6 bytes stand behind it: no crash leaves such bytes there, and whoever hides records does; docs/NOTARY.md"]),
+     [f"dragoon: the store worked.store ends a segment at byte 445, and 6 bytes stand behind it: {NO_CRASH}"]),
     ("an open gate before a broken record", lambda: put("worked.store", 99, b"\x09"), [STORE, "link"], "", 0, None,
      [f"dragoon: the store worked.store ends at byte 95 {OPEN}"]),
     ("a store cut at an open gate", lambda: os.truncate("worked.store", 431), [STORE, "link"], "", 0, None,
      [f"dragoon: the store worked.store ends at byte 431 {OPEN}"]),
     ("a book cut at an open gate", lambda: os.truncate("worked.book", 126), [STORE, BOOK, "validate", "7"], "", 0, "clean 0\n",
-     [f"dragoon: the notary's book worked.book ends at byte 126 {OPEN}", "dragoon: only the header was compared: .."]),
+     [f"dragoon: the notary's book worked.book ends at byte 126 {OPEN}; this call wrote over the gate", "dragoon: only the header was compared: ..", PUT_BACK]),
     ("a transaction that is lost within a segment", lost_within, [STORE, "link"], "", 0, None,
      [f"dragoon: the store worked.store ends a segment at byte 389 {OPEN}",
       "dragoon: the store worked.store has transaction 10 behind transaction 8: some were lost or altered, or put in; `examples/look.py` says more"]),
     ("what an append leaves that was cut off", lambda: put("worked.store", None, bytes.fromhex("0000002501000000")), [STORE, "link"], "", 0, None, []),
+    ("records behind a piece of one", lambda: (put("worked.store", 94, b"\0"), put("worked.store", 95, b"\xff")), [STORE, "link"], "", 0, None,
+     [f"dragoon: the store worked.store ends at byte 95, and 350 bytes stand behind it: {NO_CRASH}"]),
+    ("a gate that is neither open nor closed", lambda: put("worked.store", 444, b"\x55"), [STORE, "link"], "", 0, None,
+     [f"dragoon: the store worked.store ends at byte 445: {TURNED_GATE}"]),
+    ("a book of a mark behind a zeroed batch", marked_and_zeroed, [STORE, BOOK, "validate", "7"], "", 0, "clean 0\n",
+     [f"dragoon: the notary's book worked.book ends at byte 126, and 818 bytes stand behind it: {NO_CRASH}; this call wrote over the first of them", "dragoon: only the header was compared: ..", PUT_BACK]),
+    ("segments of zeros", lambda: os.truncate("worked.store", 3 * 65_536 + 1), [STORE, "link"], "", 0, None,
+     ["dragoon: the store worked.store ends a segment at byte 445, and 65091 bytes stand behind it: all are zero, and no crash leaves so many; whoever lengthens a file or overwrites it does; docs/NOTARY.md"]),
     ("more than an append can leave", lambda: put("worked.store", None, b"\1" * 33000), [STORE, "link"], "", 0, None,
-     [f"dragoon: the store worked.store ends at byte 445, and 33000 bytes stand behind it: {BEHIND}"]),
+     [f"dragoon: the store worked.store ends at byte 445, and 33000 bytes stand behind it: {NO_CRASH}"]),
     ("a filing without a book", new_store, ["store=new.store", "notarize", "7"], "", 0, "sealed 0\n",
      [f"dragoon: no notary=FILE was named: what was filed {GONE}"]),
     ("a store without a file", None, ["init", "7", "60", "3", "ta"], "", 0, "ready 7\n",
@@ -284,15 +396,23 @@ ROWS = [
     ("refusals of several kinds", a_row_of_today, ["store=new.store", "run", "7"], "create t k int\ninsert t 1 1\nget t 1\nget u 1\ninsert t 1 2\n", 3, None,
      ["dragoon: 4 of 5 replies are refusals, the first one to line 1, `create t k int`: TableExists, there is a table of this name already", "dragoon: the refusals by kind: NoTable 1, TableExists 1, RowExists 2"]),
     ("a session that goes on", a_row_of_today, ["store=new.store", "run", "7"], "s1 begin\ns1 insert t 1 1\ns1 insert t 9 1\ns1 commit\n", 3, "ok\nrefused RowExists\nok\nok 3\n",
-     ["dragoon: 1 of 4 replies is a refusal, that to line 2, `s1 insert t 1 1`: RowExists, there is a row of this key already", "dragoon: s1 was committed without 1 line that was refused: it stored the others alone"]),
+     ["dragoon: 1 of 4 replies is a refusal, that to line 2, `s1 insert t 1 1`: RowExists, there is a row of this key already", "dragoon: s1 was committed (line 4) without 1 line that was refused: it stored the others alone"]),
     ("a session that stores nothing", a_row_of_today, ["store=new.store", "run", "7"], "s1 begin\ns1 insert t 1 1\ns1 get u 1\ns1 commit\n", 3, None,
-     ["dragoon: 2 of 4 replies are refusals, the first one to line 2, ..", "dragoon: the refusals by kind: NoTable 1, RowExists 1", "dragoon: s1 was committed without 1 line that was refused: it stored nothing"]),
+     ["dragoon: 2 of 4 replies are refusals, the first one to line 2, ..", "dragoon: the refusals by kind: NoTable 1, RowExists 1", "dragoon: s1 was committed (line 4) without 1 line that was refused: it stored nothing"]),
+    ("lines of a session without its name", a_row_of_today, ["store=new.store", "run", "7"], "s3 begin\ninsert t 9 9\ns3 commit\ns0 begin\ns0 get t 9\ninsert t 8 8\ns0 commit\ns1 begin\ns1 abort\n", 0, None,
+     ["dragoon: s3 ended (line 3) without a line of its own, and 1 line of no session was stored meanwhile: each line of a session begins with its name, as `s3 insert`"]),
     ("a conflict behind another refusal", a_row_of_today, ["store=new.store", "run", "7"], "insert t 1 1\ns0 begin\ns0 insert t 9 9\ninsert t 9 9\ns0 commit\n", 3, None,
-     ["dragoon: 2 of 5 replies are refusals, the first one to line 1, ..", "dragoon: the refusals by kind: RowExists 1, Conflict 1", "dragoon: nothing of s0 is stored: its commit was a Conflict, so begin it anew"]),
+     ["dragoon: 2 of 5 replies are refusals, the first one to line 1, ..", "dragoon: the refusals by kind: RowExists 1, Conflict 1", f"dragoon: nothing of s0 (line 5) {DROPPED}"]),
+    ("two conflicts", a_row_of_today, ["store=new.store", "run", "7"], "s0 begin\ns3 begin\ns0 insert t 9 9\ns3 insert t 9 9\ninsert t 9 9\ns0 commit\ns3 commit\n", 3, None,
+     ["dragoon: 2 of 7 replies are refusals, the first one to line 6, ..", f"dragoon: nothing of s0 (line 6), s3 (line 7) {DROPPED}"]),
     ("a `now` that is refused", None, [STORE, "run", "7", "scripted"], "now 600\ninsert t 98 1\nnow 2O0\ninsert t 99 1\n", 3, None,
-     ["dragoon: lines were stored behind a `now` that was refused, at the moment from before it", "dragoon: 1 of 4 replies is a refusal, that to line 3, .."]),
+     ["dragoon: something was stored behind a `now` that was refused, first by line 4: at the moment from before it, second 600, 1970-01-01 00:10:00 UTC", "dragoon: 1 of 4 replies is a refusal, that to line 3, .."]),
+    ("a `now` without `scripted`", a_row_of_today, ["store=new.store", "run", "7"], "now 600\ninsert t 99 1\n", 3, "refused NotScripted\nok 3\n",
+     ["dragoon: something was stored behind a `now` that was refused, first by line 2: by the clock. For moments of your own the words are `run ID scripted`", f"dragoon: 1 of 2 {REFUSED} 1, `now 600`: NotScripted, .."]),
+    ("a verdict in front of the first `now`", None, [STORE, BOOK, "run", "7", "scripted"], "validate\nnow 600\nnotarize\n", 0, "clean 1\nok\nsealed 1\n",
+     ["dragoon: something was marked in front of the first `now M` that was carried out, first by line 1: at the store's last moment, second 480, 1970-01-01 00:08:00 UTC"]),
     ("lines in front of the first `now`", None, [STORE, "run", "7", "scripted"], "insert t 98 1\nnow 600\ninsert t 99 1\n", 0, "ok 10\nok\nok 11\n",
-     ["dragoon: lines were stored in front of the first `now M`, at the store's last moment, second 480, 1970-01-01 00:08:00 UTC"]),
+     ["dragoon: something was stored in front of the first `now M` that was carried out, first by line 1: at the store's last moment, second 480, 1970-01-01 00:08:00 UTC"]),
     ("a comment that hides lines", None, [STORE, "run", "7"], "# row\rget t 1\nget t 1\n", 0, "row 1 0\n",
      ["dragoon: line 1 is a comment with bytes of zero or carriage returns in it: nothing that stands there was carried out"]),
     ("one with zeros", None, [STORE, "run", "7"], "get t 1\r\n# so\r\n# a\0\0get t 1\n", 0, "row 1 0\n",
@@ -313,7 +433,7 @@ ROWS = [
     ("a run that finds the store altered", None, ["store=altered.store", BOOK, "run", "7"], "validate\nanalyse mono\n", 0, None,
      [f"dragoon: the store altered.store {KEEP}; `analyse` says which granules, and since when; docs/OPERATING.md"]),
     ("a run whose report runs back", later_book, ["store=altered.store", BOOK, "run", "7", "scripted"], "analyse mono\n", 0, None,
-     [f"dragoon: the store altered.store {KEEP}; docs/ANALYSIS.md says how to read the report", "dragoon: the clock went back: a span of the report ends before it begins"]),
+     [f"dragoon: the store altered.store {KEEP}; docs/ANALYSIS.md says how to read the report", "dragoon: a span of the report ends before it begins: the clock went back, or the book was altered"]),
     ("a run by the clock whose report runs back", later_book, ["store=altered.store", BOOK, "run", "7"], "analyse mono\n", 0, None,
      [f"dragoon: the store altered.store {KEEP}; docs/ANALYSIS.md says how to read the report", WENT_BACK]),
     ("a validation of a store that is missing", None, ["store=none", BOOK, "validate", "7"], "", 1, "header altered 1\n",
@@ -324,7 +444,7 @@ ROWS = [
      ["dragoon: the store none is missing: name the right file", HAS_TILE]),
     ("a filing of one, and of three books one has it", lambda: shutil.copy("worked.book", "c"), ["store=none", QUORUM, "notarize", "7"], "", 4, "fault NotAStore\n",
      ["dragoon: the store none is missing: name the right file", "dragoon: notary 1 of 3 (a) was missing; ..", "dragoon: notary 2 of 3 (b) was missing; ..", f"dragoon: notary 3 of 3 (c) has 1 tile {KNOWN}", f"dragoon: {LOST.format(LOOK)}"]),
-    ("a store made anew, and its book has its header", lambda: (new_store(), call(["store=new.store", "notary=new.book", "notarize", "7"], "")), ["store=none", "notary=new.book", "init", "7", "60", "3", "ta"], "", 0, "ready 7\n",
+    ("a store made anew, and its book has its header", new_and_filed, ["store=none", "notary=new.book", "init", "7", "60", "3", "ta"], "", 0, "ready 7\n",
      [f"dragoon: the notary's book new.book has the header {KNOWN}", "dragoon: the notary's book new.book isn't used by this command"]),
     ("a store made beside a book that hasn't it", None, ["store=none", BOOK, "init", "8", "60", "3", "ta"], "", 0, "ready 8\n",
      ["dragoon: the notary's book worked.book isn't used by this command"]),
@@ -397,17 +517,19 @@ ROWS = [
     ("a notary that is behind the others", three_books, [STORE, QUORUM, "validate", "7"], "", 0, "clean 1\n",
      [f"dragoon: notary 2 of 3 (b) {ADDED}"]),
     ("a notary whose book is missing", a_book_missing, [STORE, QUORUM, "validate", "7"], "", 0, "clean 1\n",
-     ["dragoon: notary 2 of 3 (b) was missing, and it was made anew; docs/NOTARY.md says what to do"]),
+     ["dragoon: notary 2 of 3 (b) was missing; docs/NOTARY.md says what to do"]),
     ("a notary whose book is none", a_book_that_is_none, [STORE, QUORUM, "analyse", "7", "mono"], "", 0, None,
      ["dragoon: notary 2 of 3 (b) holds a store with the id 7, which begins at 1970-01-01 00:00:00 UTC; it stays as it is: name the right file, or look for copies of the book (docs/OPERATING.md)"]),
     ("a notary that is named twice", three_books, [STORE, "notary=a,c,c", "validate", "7"], "", 0, "clean 1\n",
      ["dragoon: notary 3 of 3 (c) is locked by another process, or named twice in one call"]),
     ("a run that a notary differs in", three_books, [STORE, QUORUM, "run", "7"], "validate\nvalidate\nanalyse a3d\n", 0, None,
      [f"dragoon: notary 2 of 3 (b) {ADDED}"]),
+    ("a run with a store as its book", None, [STORE, "notary=altered.store", "run", "7"], "get t 1\n", 0, "row 1 0\n",
+     ["dragoon: the notary's book altered.store holds a store with the id 7, which begins at 1970-01-01 00:00:00 UTC"]),
     ("a run that asks no notary", three_books, [STORE, QUORUM, "run", "7"], "get t 1\n", 0, "row 1 0\n", []),
     ("notaries that all say the same", three_books, [STORE, "notary=a,c", "validate", "7"], "", 0, "clean 1\n", []),
     ("two notaries that differ", three_books, [STORE, "notary=a,b", "validate", "7"], "", 6, "fault NotaryFault\n",
-     ["dragoon: the quorum of 2 notaries has no answer that more than half of them gave: mend what is named next, and start again; what was answered is kept",
+     ["dragoon: the quorum of 2 notaries has no answer that more than half of them gave: mend what is named next; what was answered is kept. Then start again",
       f"dragoon: notary 1 of 2 (a) {DIFFERS}", f"dragoon: notary 2 of 2 (b) {DIFFERS}"]),
     ("two notaries of whom one lost its book", lambda: shutil.copy("worked.book", "a"), [STORE, "notary=a,b", "validate", "7"], "", 6, "fault NotaryFault\n",
      ["dragoon: the quorum of 2 notaries has no answer that ..", "dragoon: notary 2 of 2 (b) was missing; docs/NOTARY.md says what to do"]),
@@ -433,14 +555,14 @@ ROWS = [
      ["dragoon: the store none is missing: make one by `init`, or name the right file", "dragoon: the notary's book none.book was missing"]),
     ("a filing of a store that is missing", None, ["store=none", "notary=none.book", "notarize", "7"], "", 4, "fault NotAStore\n",
      ["dragoon: the store none is missing: make one by `init`, or name the right file", "dragoon: the notary's book none.book was missing"]),
-    ("a session that isn't committed", None, [STORE, "run", "7", "scripted"], "s0 begin\ns0 insert t 9 9\n", 0, "ok\nok\n", [f"dragoon: what was begun as s0 wasn't committed: {UNSTORED}"]),
+    ("a session that isn't committed", None, [STORE, "run", "7", "scripted"], "s0 begin\ns0 insert t 9 9\n", 0, "ok\nok\n", [f"dragoon: what was begun as s0 (line 1) wasn't committed: {UNSTORED}"]),
     ("sessions of all kinds", None, [STORE, "run", "7", "scripted"],
      " s15  begin\r\ns1 begin\ns1 abort\ns2 begin\ns2 get t 9\ns3 begin\ns3 get t 9\ns3 insert t 9 9\ninsert t 9 9\ns3 commit\n # s4 begin\n# s5 begin\ns2 begin", 3, None,
-     [UNSET, "dragoon: .. replies are refusals, the first one to line 10, ..", "dragoon: the refusals by kind: Syntax 1, SessionOpen 1, Conflict 1", f"dragoon: what was begun as s2, s15 wasn't committed: {UNSTORED}", "dragoon: line 13, the last one, has no end: was the input cut off within it?"]),
+     [UNSET, "dragoon: .. replies are refusals, the first one to line 10, ..", "dragoon: the refusals by kind: Syntax 1, SessionOpen 1, Conflict 1", f"dragoon: what was begun as s2 (line 4), s15 (line 1) wasn't committed: {UNSTORED}", "dragoon: line 13, the last one, has no end: was the input cut off within it?"]),
     ("a join of two kinds", None, [STORE, "run", "7", "scripted"], "create w k text\nover 1 to 2 join t w on k k\n", 3, None,
      [UNSET, f"dragoon: 1 of 2 {REFUSED} 2, `over 1 to 2 join t w on k k`: BadType 1, the two columns have different kinds, .."]),
     ("a commit that leaves its session", None, [STORE, "run", "7", "scripted"], "now 1099511627775\ns0 begin\ns0 insert t 9 9\ns0 commit\n", 3, None,
-     [f"dragoon: 1 of 4 {REFUSED} 4, `s0 commit`: TooLate, the clock is beyond what this store can tell, which ends at 1971-12-30 04:16:00 UTC: `now M` counts seconds from its first one on", f"dragoon: what was begun as s0 wasn't committed: {UNSTORED}"]),
+     [f"dragoon: 1 of 4 {REFUSED} 4, `s0 commit`: TooLate, the clock is beyond what this store can tell, which ends at 1971-12-30 04:16:00 UTC: `now M` counts seconds from its first one on", f"dragoon: what was begun as s0 (line 2) wasn't committed: {UNSTORED}"]),
     ("a commit that is repeated", None, [STORE, "run", "7", "scripted"], "now 1099511627775\ns0 begin\ns0 insert t 9 9\ns0 commit\nnow 600\ns0 commit\n", 3, None,
      [f"dragoon: 1 of 6 {REFUSED} 4, .."]),
     ("a run over a store of format 1", None, [OLD, "run", "7"], "get t 1\n", 20, "fault OldFormat\n", [f"dragoon: {IS_OLD}"]),
@@ -453,7 +575,7 @@ ROWS = [
     ("a migration into a store", None, [OLD, "target=worked.store", "migrate", "7"], "", 13, "fault AlreadyThere\n",
      ["dragoon: the target worked.store holds a store with the id 7, which begins at 1970-01-01 00:00:00 UTC, and stays as it is: name another file"]),
     ("a migration into the store itself", None, [OLD, "target=old.store", "migrate", "7"], "", 5, "fault DiskFault\n",
-     ["dragoon: the target old.store is locked by another process, or named twice in one call: start again when it is free"]),
+     ["dragoon: the target old.store is named twice in one call: each device has a file of its own. Then start again"]),
     ("a migration of another id", None, [OLD, "target=new.store", "migrate", "8"], "", 4, "fault NotAStore\n", [f"dragoon: {OLD_ID}"]),
     ("another id and a book that is missing", None, [STORE, "notary=none", "validate", "8"], "", 0, "unsealed\n",
      [OTHER_ID, f"dragoon: the notary's book none was missing: nothing was compared{SEEK}"]),
@@ -531,17 +653,19 @@ ROWS = [
     ("no evidence", None, [BOOK, "examine", "7"], "", 23, "fault NotEvidence\n",
      ["dragoon: the input is empty, and is to be an evidence file, as in dragoon notary=FILE examine ID <EVIDENCE"]),
     ("an examination without an id", None, [BOOK, "examine"], "", 2, "fault Usage\n", ["dragoon: `examine` lacks a word: ID, ..", "  examine ID ..", ".."]),
-    ("an evidence file that is made", None, [ALTERED, COPY, BOOK, EVIDENCE, "evidence", "7"], "", 0, "evidence 1\n", []),
-    ("one without a copy", None, [ALTERED, BOOK, EVIDENCE, "evidence", "7"], "", 0, "evidence 1\n", [f"dragoon: no copy=FILE was named: {ALONE}"]),
+    ("an evidence file that is made", None, [ALTERED, COPY, BOOK, EVIDENCE, "evidence", "7"], "", 0, "evidence 1\n", [SHOWN]),
+    ("one without a copy", None, [ALTERED, BOOK, EVIDENCE, "evidence", "7"], "", 0, "evidence 1\n", [SHOWN, f"dragoon: no copy=FILE was named: {ALONE}"]),
     ("one beside a copy that is missing", None, [ALTERED, "copy=none", BOOK, EVIDENCE, "evidence", "7"], "", 0, "evidence 1\n",
-     [f"dragoon: the copy none is missing: {ALONE}"]),
+     [SHOWN, f"dragoon: the copy none is missing: {ALONE}"]),
     ("one beside a copy that is a text", lambda: pathlib.Path("text").write_bytes(b"hello"), [ALTERED, "copy=text", BOOK, EVIDENCE, "evidence", "7"], "", 0, "evidence 1\n",
-     [f"dragoon: the copy text holds 5 bytes, neither a store nor a notary's book: {ALONE}"]),
+     [SHOWN, f"dragoon: the copy text holds 5 bytes, neither a store nor a notary's book: {ALONE}"]),
     ("one beside another store", store_8, [ALTERED, "copy=new.store", BOOK, EVIDENCE, "evidence", "7"], "", 0, "evidence 1\n",
-     [f"dragoon: the copy new.store holds a store with the id 8, which begins at 20..: {ALONE}"]),
+     [SHOWN, f"dragoon: the copy new.store holds a store with the id 8, which begins at 20..: {ALONE}"]),
     ("one of a store that is not altered", None, [STORE, BOOK, EVIDENCE, "evidence", "7"], "", 0, "evidence 0\n",
      ["dragoon: the search of the trees found no granule of the store worked.store that differs, and other digests weren't asked: the evidence file shows none"]),
-    ("one into memory", None, [ALTERED, COPY, BOOK, "evidence", "7"], "", 0, "evidence 1\n", [f"dragoon: no target=FILE was named: what was written {GONE}"]),
+    ("one over no sealed tile", new_and_filed, ["store=new.store", "notary=new.book", EVIDENCE, "evidence", "7"], "", 0, "evidence 0\n",
+     ["dragoon: no tile is filed yet: the header alone was compared, and the evidence file shows no granule"]),
+    ("one into memory", None, [ALTERED, COPY, BOOK, "evidence", "7"], "", 0, "evidence 1\n", [f"dragoon: no target=FILE was named: what was written {GONE}", SHOWN]),
     ("one over a file that is there", None, [ALTERED, COPY, BOOK, "target=old.store", "evidence", "7"], "", 13, "fault AlreadyThere\n",
      ["dragoon: the target old.store holds a store of the first format with the id 7, which begins at 1970-01-01 00:00:00 UTC, and stays as it is: name another file"]),
     ("evidence where nothing is filed", None, [STORE, COPY, BOOK, EVIDENCE, "evidence", "8"], "", 0, "unsealed\n",
@@ -553,14 +677,16 @@ ROWS = [
      ["dragoon: a sealed tile of the store new.store lacks the tree, by which altered granules are found for an evidence file: `analyse` it by `mono` or `tiled`"]),
     ("evidence without an id", None, [STORE, "evidence"], "", 2, "fault Usage\n", ["dragoon: `evidence` lacks a word: ID, ..", "  evidence ID ..", ".."]),
     ("one beside a copy that is altered, too", lambda: shutil.copy("altered.store", "other.store"), [ALTERED, "copy=other.store", BOOK, EVIDENCE, "evidence", "7"], "", 0, "evidence 1\n",
-     ["dragoon: the copy other.store gave no original: it is older, has another header or other eras, or is altered there, or the book was"]),
+     [SHOWN, "dragoon: the copy other.store gave no original: it is older, has another header or other eras, or is altered there, or the book was"]),
     ("one of two granules, of which the copy has one", two_altered, [ALTERED, "copy=other.store", BOOK, EVIDENCE, "evidence", "7"], "", 0, "evidence 2\n",
-     ["dragoon: the copy other.store gave the originals of 1 of 2 granules: of the others it hasn't what was filed, being older or altered there"]),
-    ("a restoring", None, [ALTERED, "copy=worked.store", "target=new.store", BOOK, "restore", "7"], "", 0, "restored 8 lost 0\n", []),
+     [SHOWN.replace("1 granule differs", "2 granules differ"), "dragoon: the copy other.store gave the originals of 1 of 2 granules: of the others it hasn't what was filed: it is older or altered there, or the book was"]),
+    ("a restoring", None, [ALTERED, "copy=worked.store", "target=new.store", BOOK, "restore", "7"], "", 0, "restored 8 lost 0\n", [f"{DIFFERING} the copy worked.store"]),
+    ("a restoring without a store", None, ["copy=worked.store", "target=new.store", BOOK, "restore", "7"], "", 0, "restored 8 lost 0\n",
+     ["dragoon: no store=FILE was named: what isn't sealed is the copy's alone"]),
     ("a restoring of what both have altered", lambda: shutil.copy("altered.store", "other.store"), [ALTERED, "copy=other.store", "target=new.store", BOOK, "restore", "7"], "", 0, ONE_LOST,
-     ["dragoon: 1 granule is lost: no digest confirms what the store altered.store or the copy other.store has there, and the target new.store has no row of that time. Validate copies of all of them .."]),
+     ["dragoon: 1 granule is lost: no digest confirms what the store altered.store or the copy other.store has there, and the target new.store has no row of that time. Validate copies of all of them ..", f"{DIFFERING} the copy other.store, or is lost", "dragoon: 1 sealed granule of the copy other.store isn't as the target new.store has it: it is older or altered there"]),
     ("a restoring without a copy", None, [ALTERED, "target=new.store", BOOK, "restore", "7"], "", 0, ONE_LOST,
-     ["dragoon: 1 granule is lost: .. or the copy in memory (no file was named) has there, .."]),
+     ["dragoon: 1 granule is lost: .. or the copy in memory (no file was named) has there, ..", DIFFERING.replace("comes from", "is lost")]),
     ("a restoring of rows that aren't sealed", newer, ["store=new.store", "target=made.store", BOOK, "restore", "7"], "", 0, "restored 8 lost 0\n",
      ["dragoon: the target made.store has 1 transaction behind the sealed tiles, taken from the store new.store: no digest vouches for what isn't sealed"]),
     ("a restoring of a store with a bit of its header turned", newer_of_another_header, ["store=new.store", "copy=worked.store", "target=made.store", BOOK, "restore", "7"], "", 0, "restored 8 lost 0\n",
@@ -569,9 +695,11 @@ ROWS = [
     ("a restoring of an older store", newer, [STORE, "copy=new.store", "target=made.store", BOOK, "restore", "7"], "", 0, "restored 8 lost 0\n",
      ["dragoon: the copy new.store has 1 transaction behind the sealed tiles: .."]),
     ("a restoring with a copy that doesn't pass", newer_of_another_header, [ALTERED, "copy=new.store", "target=made.store", BOOK, "restore", "7"], "", 0, ONE_LOST,
-     ["dragoon: 1 granule is lost: ..", "dragoon: nothing was taken from the copy new.store: it doesn't have the header and the eras that were filed"]),
+     ["dragoon: 1 granule is lost: ..", "dragoon: nothing was taken from the copy new.store: it doesn't have the header and the eras that were filed", DIFFERING.replace("new.store", "made.store").replace("comes from", "is lost")]),
+    ("a restoring with a copy from before a policy", before_a_policy, [STORE, "copy=new.store", "target=made.store", BOOK, "restore", "7"], "", 0, "restored 16 lost 0\n",
+     ["dragoon: nothing was taken from the copy new.store: it lacks an era that was filed, so it is older, or that was taken out or hidden"]),
     ("a restoring of rows that were moved", moved, ["store=new.store", "copy=worked.store", "target=made.store", BOOK, "restore", "7"], "", 0, "restored 8 lost 0\n",
-     ["dragoon: the store new.store has a moment before that of the item before it, as no writer stores it: `examples/look.py` says where", "dragoon: the target made.store has 2 transactions behind the sealed tiles, ..", "dragoon: numbers or moments of the target made.store don't ascend, as where rows were moved, or a store went on behind lost granules: `examples/look.py` says where"]),
+     ["dragoon: the store new.store has a moment before that of the item before it, as no writer stores it: `examples/look.py` says where", DIFFERING.replace("altered.store", "new.store").replace("target new.store", "target made.store") + " the copy worked.store", "dragoon: the target made.store has 2 transactions behind the sealed tiles, ..", "dragoon: numbers or moments of the target made.store don't ascend, as where rows were moved, or a store went on behind lost granules: `examples/look.py` says where"]),
     ("a restoring into memory", None, [STORE, BOOK, "restore", "7"], "", 0, "restored 8 lost 0\n", [f"dragoon: no target=FILE was named: what was written {GONE}"]),
     ("a restoring into a store", None, [ALTERED, "target=worked.store", BOOK, "restore", "7"], "", 13, "fault AlreadyThere\n",
      ["dragoon: the target worked.store holds a store with the id 7, which begins at 1970-01-01 00:00:00 UTC, and stays as it is: name another file"]),
@@ -585,7 +713,7 @@ ROWS = [
     ("a command in capitals", None, ["VALIDATE", "7"], "", 2, "fault Usage\n", ["dragoon: `VALIDATE` is no command: is `validate` meant?", ".."]),
     ("an empty word", None, [""], "", 2, "fault Usage\n", ["dragoon: an empty word is no command: those are link, .."]),
     ("a migration of a store with bytes behind its end", lambda: put("old.store", None, b"\1" * 33000), [OLD, "target=new.store", "migrate", "7"], "", 0, "migrated 9\n",
-     [f"dragoon: the store old.store ends at byte 445, and 33000 bytes stand behind it: {BEHIND}; they aren't in the target"]),
+     [f"dragoon: the store old.store ends at byte 445, and 33000 bytes stand behind it: {NO_CRASH}; what stands there isn't in the target"]),
     ("a path with an escape code", None, ["store=a\x1b[2Jb", "link"], "", 4, "fault NotAStore\n",
      ["dragoon: the store a\\u{1b}[2Jb is missing: make one by `init`, or name the right file"]),
 ]
@@ -598,7 +726,10 @@ LINES = [
     ("a semicolon", "insert t 9 9;\n", "Syntax, at column 12: no statement ends in `;`", 1, "insert t 9 9;"),
     ("a byte order mark", "\ufeffget t 1\n", "Syntax, at column 1: a byte order mark stands there: save the file without one", 1, ".."),
     ("UTF-16", "\udcff\udcfeg\0e\0t\0\n", "Syntax, at column 1: the input is in UTF-16: save it as UTF-8", 1, "(bytes that are no text)"),
-    ("zeros", "\0\0\0\n", "Syntax, at column 1: bytes of zero stand in the line, as a crash leaves them in a file: write that anew", 1, "\\0\\0\\0"),
+    ("zeros", "\0\0\0\n", "Syntax, at column 1: bytes of zero stand in the line: a crash leaves them in a text, and other files have them", 1, "\\0\\0\\0"),
+    ("a packed file", "\x1f\udc8b\x08\n", "Syntax, at column 1: the input is compressed: unpack it first", 1, "(bytes that are no text)"),
+    ("a date for a moment", "now 2026-11-30T12:00\n", "Syntax, at column 5: a moment, in digits, has to stand there", 1, "now 2026-11-30T12:00"),
+    ("a table of a later day", "get u 1 as of 9\n", "NoTable, there was no table of this name at that moment, or there never was", 1, "get u 1 as of 9"),
     ("a tab", "get\tt 1\n", "Syntax, at column 4: a tab stands there, and only spaces separate words", 1, "get\\tt 1"),
     ("no statement", "select t\n", "Syntax, at column 1: a line begins with create, .. or the name of a session, s0 to s15", 1, "select t"),
     ("a text that isn't ended", "insert t 9 'a\n", "Syntax, at column 12: a text begins there and isn't ended by `'`; ..", 1, "insert t 9 'a"),
@@ -700,6 +831,25 @@ def try_terminal():
         os.chdir("/")
 
 
+def try_left():
+    """A run whose store somebody moves away, writes into or puts back, between two of its lines."""
+    for done, lines, wanted in ((lambda: os.rename("new.store", "moved.store"), b"insert t 2 2\n", MOVED),
+                                (lambda: put("new.store", 30, b"\x01"), b"get t 2\n", CHANGED),
+                                (lambda: os.truncate("new.store", 65), b"insert t 2 2\n", CHANGED)):
+        with tempfile.TemporaryDirectory() as folder:
+            os.chdir(folder)
+            a_row_of_today()
+            running = subprocess.Popen([PROGRAM, "store=new.store", "run", "7"], stdin=subprocess.PIPE, stdout=subprocess.PIPE, stderr=subprocess.PIPE)
+            running.stdin.write(lines.replace(b"t 2", b"t 3"))
+            running.stdin.flush()
+            running.stdout.readline()
+            done()
+            output, told = running.communicate(lines)
+            if running.returncode or not fits([wanted], told.decode().splitlines()):
+                raise Wrong(f"a store that isn't left alone: {output}, {told}")
+            os.chdir("/")
+
+
 def try_account():
     """Another account may read the store alone, and make no file beside it. (It may not reach the folder of ./dragoon.)"""
     if os.geteuid() or pathlib.Path(PROGRAM).read_bytes().startswith(b"#!"):
@@ -712,10 +862,10 @@ def try_account():
         os.chmod(folder + "/program", 0o755)
         os.chdir(folder)
         asking = "Asking opens a file for writing, too: examples/on_copy asks over a copy"
-        for name in ("worked.store", "none"):
+        for name, words in (("worked.store", asking), ("none", "the store none is missing, and none can be made there: ")):
             done = subprocess.run(["./program", f"store={name}", "link"], stdout=subprocess.PIPE, stderr=subprocess.PIPE, **nobody)
             told = done.stderr.decode()
-            if done.returncode != 5 or done.stdout != b"fault DiskFault\n" or asking not in told:
+            if done.returncode != 5 or done.stdout != b"fault DiskFault\n" or words not in told:
                 raise Wrong(f"{name} of another account: {done}")
         os.chdir("/")
 
@@ -728,11 +878,12 @@ def main():
         for row in LINES:
             try_line(*row)
         try_terminal()
+        try_left()
         try_account()
     except Wrong as wrong:
         print(f"telling.py: WRONG: {wrong}")
         return 1
-    print(f"telling.py: {len(ROWS) + len(LINES) + 3} calls, each with the status, the output and the words that it has to have")
+    print(f"telling.py: {len(ROWS) + len(LINES) + 6} calls, each with the status, the output and the words that it has to have")
     return 0
 
 

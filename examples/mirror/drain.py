@@ -56,7 +56,7 @@ OTHERWISE = {"insert": ("refused RowExists", "update"), "update": ("refused NoRo
 # read, and they come where nothing is wrong, too
 FIRST = r".* (is a refusal, that|are refusals, the first one) to line [0-9]+, `(get mirrored 0`: NoTable|s0 insert .*: RowExists|s0 (update|delete) .*: NoRow)"
 KINDS = "the refusals by kind: ((NoTable|NoRow|RowExists) [0-9]+(, |$))+$"
-WITHOUT = "s0 was committed without .* refused: "
+WITHOUT = r"s0 was committed \(line [0-9]+\) without .* refused: "
 EXPECTED = f"dragoon: ({FIRST}|{KINDS}|{WITHOUT})".encode()
 VALUE = r"(-?[0-9]+|x'[0-9a-fA-F]*'|'(?:[^']|'')*')"
 SHOWN = 3

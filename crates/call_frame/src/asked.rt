@@ -3,7 +3,7 @@
 ghost use Rattle.std.specs.Prelude.{◌≤◌, IfOk, length};
 
 use asked_words::Ask;
-use call_devices::look;
+use call_devices::{Filed, Stamp, look};
 use call_telling::{Called, Named};
 use std::alloc::AllocError;
 use std::fs::File;
@@ -19,6 +19,8 @@ pub struct Asked<'a> {
     pub copy: Named<'a>,
     pub target: Named<'a>,
     pub books: Vec<Named<'a>>,
+    /// Whose entries of a book count.
+    pub filed: Filed,
     ghost some: { 1 ≤ length books.items },
     ghost few: { length books.items ≤ 9 },
 }
@@ -34,13 +36,17 @@ impl<'a> Asked<'a> {
         let store = path_behind("store=", names);
         let copy = path_behind("copy=", names);
         let target = path_behind("target=", names);
+        let none = Filed::under(None);
+        let store = named_by(rt, Called::Store, store, ask.uses_store(), none);
+        let filed = store.found.filed_under(ask.named_id(call));
         Ok(Asked {
             ask,
             call,
-            store: named_by(rt, Called::Store, store, ask.uses_store(), None),
-            copy: named_by(rt, Called::Copy, copy, ask.uses_copy(), None),
-            target: named_by(rt, Called::Target, target, ask.uses_target(), None),
-            books: books_of(rt, ask, call, path_behind("notary=", names))?,
+            store,
+            copy: named_by(rt, Called::Copy, copy, ask.uses_copy(), none),
+            target: named_by(rt, Called::Target, target, ask.uses_target(), none),
+            books: books_of(rt, ask, filed, path_behind("notary=", names))?,
+            filed,
         })
     }
 }
@@ -58,35 +64,35 @@ fn named_by<'a, R: Files<File = File> + AllocGlobal>(
     called: Called,
     path: Option<&'a str>,
     is_used: bool,
-    id: Option<u64>,
+    filed: Filed,
 ) -> Named<'a> {
-    let found = look(rt, rt.alloc(), path.filter(|_| is_used), id);
-    Named::new(called, path, found)
+    let stamp = path.and_then(|path| Stamp::at(rt, path));
+    let found = look(rt, rt.alloc(), path.filter(|_| is_used), filed);
+    Named::new(called, path, stamp, found)
 }
 
 /// A book for each path between the commas, of which there are at most nine, or one in memory where none is named.
 fn books_of<'a, R: Files<File = File> + AllocGlobal>(
     rt: &R,
     ask: Ask,
-    call: &[String],
+    filed: Filed,
     paths: Option<&'a str>,
 ) -> Result<Vec<Named<'a>>, AllocError>
     ensures some { IfOk result (λ books. 1 ≤ length books.items) }
     ensures few { IfOk result (λ books. length books.items ≤ 9) }
 {
-    let id = ask.named_id(call);
     let mut books = Vec::new(rt.alloc());
     if let Some(paths) = paths {
         let of = paths.split(',').count();
         for path in paths.split(',') {
             if books.len() < 9 {
                 let called = called_among(books.len(), of);
-                books.push(named_by(rt, called, Some(path), ask.uses_notary(), id))?;
+                books.push(named_by(rt, called, Some(path), ask.uses_notary(), filed))?;
             }
         }
     }
     if books.is_empty() {
-        books.push(named_by(rt, Called::Book, None, false, None))?;
+        books.push(named_by(rt, Called::Book, None, false, filed))?;
     }
     Ok(books)
 }

@@ -4,9 +4,9 @@ ghost use Rattle.std.specs.Prelude.{◌≡◌, IfOk, length};
 
 use crate::asked::Asked;
 use asked_words::Ask;
-use call_devices::{Device, Found, Member, quorum_of};
+use call_devices::{Device, Filed, Found, Member, quorum_of};
 use call_telling::{Called, Named};
-use call_watch::{Heard, Progress, Shared, WatchedDisk, WatchedSink, WatchedSource};
+use call_watch::{Before, Heard, Progress, Shared, WatchedDisk, WatchedSink, WatchedSource};
 use notary_book::Book;
 use notary_quorum::Quorum;
 use outside_io::{StdSink, StdSource, SystemClock};
@@ -50,9 +50,9 @@ impl<'a, R: Runtime + Files<File = File> + AllocGlobal + Drop> Devices<'a, R> {
         let clock = SystemClock::new(rt.clone()?);
         let input = input_of(rt, shared, ask, terminals)?;
         let out = output_of(rt, shared, terminals)?;
-        let store = disk_of(rt, shared, ask, &asked.store, terminals)?;
-        let copy = disk_of(rt, shared, ask, &asked.copy, terminals)?;
-        let target = disk_of(rt, shared, ask, &asked.target, terminals)?;
+        let store = disk_of(rt, shared, ask, &asked.store, asked.filed, terminals)?;
+        let copy = disk_of(rt, shared, ask, &asked.copy, asked.filed, terminals)?;
+        let target = disk_of(rt, shared, ask, &asked.target, asked.filed, terminals)?;
         Ok(Devices {
             store,
             copy,
@@ -71,7 +71,14 @@ pub fn notary_of<'a, R: Runtime + Files<File = File> + AllocGlobal + Drop>(
     asked: &Asked<'_>,
     terminals: Terminals,
 ) -> Result<CallNotary<'a, R>, AllocError> {
-    let disks = disks_of(rt, shared, asked.ask, asked.books.as_slice(), terminals)?;
+    let disks = disks_of(
+        rt,
+        shared,
+        asked.ask,
+        asked.books.as_slice(),
+        asked.filed,
+        terminals,
+    )?;
     quorum_of(rt.alloc(), disks, &shared.ballot)
 }
 
@@ -110,6 +117,7 @@ fn disk_of<'a, R: Runtime + Files<File = File> + AllocGlobal + Drop>(
     shared: &'a Shared,
     ask: Ask,
     device: &Named<'_>,
+    filed: Filed,
     terminals: Terminals,
 ) -> Result<CallDisk<'a, R>, AllocError> {
     let name = match device.called {
@@ -119,7 +127,18 @@ fn disk_of<'a, R: Runtime + Files<File = File> + AllocGlobal + Drop>(
         Called::Book | Called::Member { .. } => "notary's book",
     };
     let progress = Progress::new(rt, shared, name, terminals.error)?;
-    Ok(WatchedDisk::new(device_of(rt, ask, device)?, progress))
+    let before = Before {
+        stamp: device.stamp,
+        found: device.found,
+        filed,
+    };
+    WatchedDisk::new(
+        rt,
+        device_of(rt, ask, device)?,
+        progress,
+        device.path,
+        before,
+    )
 }
 
 fn disks_of<'a, R: Runtime + Files<File = File> + AllocGlobal + Drop>(
@@ -127,13 +146,14 @@ fn disks_of<'a, R: Runtime + Files<File = File> + AllocGlobal + Drop>(
     shared: &'a Shared,
     ask: Ask,
     books: &[Named<'_>],
+    filed: Filed,
     terminals: Terminals,
 ) -> Result<Vec<CallDisk<'a, R>>, AllocError>
     ensures each { IfOk result (λ disks. length disks.items ≡ length books.now) }
 {
     let mut disks = Vec::new(rt.alloc());
     for book in books {
-        disks.push(disk_of(rt, shared, ask, book, terminals)?)?;
+        disks.push(disk_of(rt, shared, ask, book, filed, terminals)?)?;
     }
     Ok(disks)
 }

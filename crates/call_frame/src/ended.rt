@@ -3,7 +3,7 @@
 use crate::asked::Asked;
 use crate::devices::{CallDisk, CallNotary, Devices};
 use asked_words::Ask;
-use call_devices::look;
+use call_devices::{Filed, Found, look};
 use call_telling::{Ending, Gathered, Known, Missed, Named, Notaries, Restored, tell};
 use call_watch::{Heard, Shared};
 use line_runs::Status;
@@ -27,6 +27,7 @@ pub fn tell_end<'a, R: Runtime + Files<File = File> + AllocGlobal + Drop>(
         copy: mut named_copy,
         target: mut named_target,
         books: mut named_books,
+        filed,
     } = asked;
     let Devices {
         store,
@@ -36,12 +37,15 @@ pub fn tell_end<'a, R: Runtime + Files<File = File> + AllocGlobal + Drop>(
         mut input,
         out,
     } = devices;
-    learn(&mut named_store, &store);
-    learn(&mut named_copy, &copy);
-    learn(&mut named_target, &target);
+    learn(rt, &mut named_store, &store, filed);
+    learn(rt, &mut named_copy, &copy, filed);
+    learn(rt, &mut named_target, &target, filed);
     let missed = Missed::of(ask, call, status, named_store.found);
     look_again(rt, ask, call, &mut named_store, &mut named_target);
-    learn_books(rt, &mut named_books, notary, shared, missed);
+    learn_books(rt, &mut named_books, notary, shared, missed, filed);
+    if ask == Ask::Run && !ask.sets_moments(call) && out.heard.replies > 1 {
+        look_at_books(rt, &mut named_books, filed);
+    }
     let restored = restored_by(rt, &out.heard, &named_store, &named_copy, &named_target);
     let ending = Ending {
         ask,
@@ -66,13 +70,43 @@ pub fn tell_end<'a, R: Runtime + Files<File = File> + AllocGlobal + Drop>(
 
 /// What a device tells of the call.
 fn learn<R: Runtime + Files<File = File> + AllocGlobal + Drop>(
+    rt: &R,
     named: &mut Named<'_>,
     disk: &CallDisk<'_, R>,
+    filed: Filed,
 ) {
     let below = disk.below();
     named.error = below.error();
     named.was_made = below.was_made();
-    named.was_written = disk.is_written();
+    named.was_written = disk.is_written() && !is_in_memory(named);
+    named.left = disk.left();
+    named.found = found_by(rt, named, disk, filed);
+}
+
+/// Whether a command that only asks had an empty device in the place of a missing file, and made none.
+fn is_in_memory(named: &Named<'_>) -> bool {
+    let was_missing = named.path.is_some() && matches!(&named.found, Found::Missing);
+    was_missing && !named.was_made && named.error.is_none()
+}
+
+/// What was found under the lock counts, where the look before it may have been wrong. Of a file that the call hasn't asked nothing is told
+/// where another look finds another end: an append of another call is under way there.
+fn found_by<R: Runtime + Files<File = File> + AllocGlobal + Drop>(
+    rt: &R,
+    named: &Named<'_>,
+    disk: &CallDisk<'_, R>,
+    filed: Filed,
+) -> Found {
+    let found = disk.found().unwrap_or(named.found);
+    if disk.is_asked() || !found.has_behind() {
+        return found;
+    }
+    let again = look(rt, rt.alloc(), named.path, filed);
+    if again.ends_as(found) {
+        found
+    } else {
+        Found::Unused
+    }
 }
 
 /// What a restoring has made, and a store that has got moments which no clock gave.
@@ -84,10 +118,23 @@ fn look_again<R: Files<File = File> + AllocGlobal>(
     target: &mut Named<'_>,
 ) {
     if ask == Ask::Restore && target.was_written {
-        target.later = look(rt, rt.alloc(), target.path, None);
+        target.later = look(rt, rt.alloc(), target.path, Filed::under(None));
     }
     if ask.sets_moments(call) && store.was_written {
-        store.later = look(rt, rt.alloc(), store.path, None);
+        store.later = look(rt, rt.alloc(), store.path, Filed::under(None));
+    }
+}
+
+/// What the lines of a run by the clock have added to books: that may have gone back meanwhile.
+fn look_at_books<R: Files<File = File> + AllocGlobal>(
+    rt: &R,
+    books: &mut [Named<'_>],
+    filed: Filed,
+) {
+    for book in books.iter_mut() {
+        if book.was_written {
+            book.later = look(rt, rt.alloc(), book.path, filed);
+        }
     }
 }
 
@@ -131,14 +178,27 @@ fn learn_books<'a, R: Runtime + Files<File = File> + AllocGlobal + Drop>(
     notary: CallNotary<'a, R>,
     shared: &Shared,
     missed: Option<Missed>,
+    filed: Filed,
 ) {
-    for (place, (named, member)) in books.iter_mut().zip(notary.into_members()).enumerate() {
-        let disk = member.into_below().into_disk();
-        learn(named, &disk);
-        named.odd = shared.ballot.odd(place);
-        named.known = match missed {
-            Some(missed) => missed.known_by(rt, rt.alloc(), named.path),
-            None => Known::Unasked,
-        };
+    let mut place = 0;
+    for member in notary.into_members() {
+        if let Some(named) = books.get_mut(place) {
+            let disk = member.into_below().into_disk();
+            learn(rt, named, &disk, filed);
+            named.odd = shared.ballot.odd(place);
+            named.known = known_by(rt, named, missed);
+        }
+        place = place.saturating_add(1);
+    }
+}
+
+fn known_by<R: Files<File = File> + AllocGlobal>(
+    rt: &R,
+    named: &Named<'_>,
+    missed: Option<Missed>,
+) -> Known {
+    match missed {
+        Some(missed) => missed.known_by(rt, rt.alloc(), named.path),
+        None => Known::Unasked,
     }
 }

@@ -1,12 +1,14 @@
 //! What an evidence file shows, and what a restoring took from which file, where the output doesn't say it.
 
-use crate::ending::{Ending, Id, Unknown};
+use crate::books::sealed_in;
+use crate::ending::{Ending, Id, Unknown, is_answered};
 use crate::gathered::Gathered;
 use crate::kind::Kind;
 use crate::named::Named;
+use crate::oddities::holds_nothing;
 use crate::restored::{Restored, Source};
+use crate::said::{Told, say};
 use asked_words::Ask;
-use line_runs::Status;
 use std::{fmt, io};
 
 /// One thing to say of what was made of a store and its copy.
@@ -23,30 +25,47 @@ enum Warning<'a> {
     /// The copy isn't a store of the id, so an evidence file shows nothing of it.
     ShownAlone,
     /// The copy gave what was filed of fewer granules than an evidence file shows.
-    FewOriginals { gathered: Gathered },
+    FewOriginals {
+        gathered: Gathered,
+    },
     /// Nothing is filed under the id of a store that was to be restored.
     Unrestored,
     /// No tile of it is filed.
     NoneSealed,
-    /// This file doesn't pass.
-    Untaken { source: &'a Named<'a> },
+    /// No tile is filed that an evidence file could show.
+    NoneFiled,
+    /// This file doesn't pass, and may be from before an era that was filed.
+    Untaken {
+        source: &'a Named<'a>,
+        is_before: bool,
+    },
+    /// In so many sealed granules the store isn't what was filed.
+    Differing {
+        count: u64,
+        is_of_copy: bool,
+    },
+    /// In so many the copy isn't.
+    DifferingCopy {
+        count: u64,
+    },
     /// So many transactions that aren't sealed were taken from this file.
-    Unsealed { source: &'a Named<'a>, count: u64 },
+    Unsealed {
+        source: &'a Named<'a>,
+        count: u64,
+    },
     /// This file has more of them, or others.
-    More { source: &'a Named<'a>, count: u64 },
+    More {
+        source: &'a Named<'a>,
+        count: u64,
+    },
     /// This file has other policies behind the sealed tiles.
-    Turns { source: &'a Named<'a> },
+    Turns {
+        source: &'a Named<'a>,
+    },
     /// Numbers or moments of what was restored don't ascend.
     Unordered,
     /// Granules are lost.
     Lost,
-}
-
-/// It, with what it is said of.
-#[derive(Clone, Copy)]
-struct Told<'a> {
-    warning: Warning<'a>,
-    ending: &'a Ending<'a, 'a>,
 }
 
 /// Says each on a line of its own.
@@ -68,6 +87,8 @@ fn tell_restored<R: Eprint>(
     say(rt, ending, none_sealed(restored))?;
     say(rt, ending, untaken(&ending.store, restored.store))?;
     say(rt, ending, untaken(&ending.copy, restored.copy))?;
+    say(rt, ending, differing(restored))?;
+    say(rt, ending, differing_copy(restored))?;
     say(rt, ending, unsealed(ending, restored))?;
     say(rt, ending, more_of_store(ending, restored))?;
     say(rt, ending, more_of_copy(ending, restored))?;
@@ -75,39 +96,45 @@ fn tell_restored<R: Eprint>(
     say(rt, ending, unordered(restored))
 }
 
-fn say<R: Eprint>(rt: &R, ending: &Ending<'_, '_>, warning: Option<Warning<'_>>) -> io::Result<()> {
-    match warning {
-        Some(warning) => {
-            let told = Told { warning, ending };
-            eprintln!(rt; "dragoon: {told}")
-        }
-        None => Ok(()),
-    }
-}
-
 /// What there is to say of an evidence file.
 fn examined<'a>(ending: &Ending<'_, '_>) -> Option<Warning<'a>> {
     if ending.ask != Ask::Examine {
         return None;
     }
-    match ending.status {
-        Status::Altered => Some(Warning::Unexamined),
-        Status::Ok if ending.heard.is_none_shown => Some(Warning::NoneShown),
-        Status::Ok if ending.heard.is_unfit => Some(Warning::Unfit),
-        _ => None,
+    let heard = ending.heard;
+    if heard.is_other {
+        Some(Warning::Unexamined)
+    } else if heard.is_none_shown && is_answered(ending) {
+        Some(Warning::NoneShown)
+    } else if heard.is_unfit && is_answered(ending) {
+        Some(Warning::Unfit)
+    } else {
+        None
     }
 }
 
 /// What an evidence file that was made doesn't show.
 fn gathered<'a>(ending: &Ending<'_, '_>) -> Option<Warning<'a>> {
-    if ending.ask != Ask::Evidence || ending.status != Status::Ok || !ending.target.was_written {
+    if ending.ask != Ask::Evidence || !is_answered(ending) || !ending.target.was_written {
         None
     } else if ending.heard.is_none_shown {
-        Some(Warning::NoneAltered)
+        Some(none_altered(ending))
     } else if ending.copy.is_store_of(ending.id()) {
         few_originals(ending)
     } else {
         Some(Warning::ShownAlone)
+    }
+}
+
+fn none_altered<'a>(ending: &Ending<'_, '_>) -> Warning<'a> {
+    let books = ending.notaries.0.as_slice();
+    if books
+        .iter()
+        .any(|book| sealed_in(book).is_some_and(|sealed| sealed > 0))
+    {
+        Warning::NoneAltered
+    } else {
+        Warning::NoneFiled
     }
 }
 
@@ -122,7 +149,7 @@ fn few_originals<'a>(ending: &Ending<'_, '_>) -> Option<Warning<'a>> {
 
 /// What there is to say of a store that was restored, or wasn't, by the output alone.
 fn unrestored<'a>(ending: &Ending<'_, '_>) -> Option<Warning<'a>> {
-    if ending.ask != Ask::Restore || ending.status != Status::Ok {
+    if ending.ask != Ask::Restore || !is_answered(ending) {
         None
     } else if ending.heard.is_unsealed() {
         Some(Warning::Unrestored)
@@ -144,10 +171,13 @@ fn none_sealed<'a>(restored: &Restored) -> Option<Warning<'a>> {
 /// A file that was named and that doesn't pass, or is no store.
 fn untaken<'a>(named: &'a Named<'a>, source: Option<Source>) -> Option<Warning<'a>> {
     let passes = source.is_some_and(|source| source.passes);
-    if passes || named.path.is_none() {
+    if passes || named.path.is_none() || holds_nothing(named) {
         None
     } else {
-        Some(Warning::Untaken { source: named })
+        Some(Warning::Untaken {
+            source: named,
+            is_before: source.is_some_and(|source| source.is_before),
+        })
     }
 }
 
@@ -158,6 +188,27 @@ fn turns<'a>(named: &'a Named<'a>, source: Option<Source>) -> Option<Warning<'a>
         Some(Warning::Turns { source: named })
     } else {
         None
+    }
+}
+
+/// A copy that differs is older or altered, and gave nothing there.
+fn differing<'a>(restored: &Restored) -> Option<Warning<'a>> {
+    let store = restored.store.filter(|store| store.passes)?;
+    match store.differing {
+        0 => None,
+        count => Some(Warning::Differing {
+            count,
+            is_of_copy: restored.copy.is_some_and(|copy| copy.passes),
+        }),
+    }
+}
+
+/// One who keeps it should know.
+fn differing_copy<'a>(restored: &Restored) -> Option<Warning<'a>> {
+    let copy = restored.copy.filter(|copy| copy.passes)?;
+    match copy.differing {
+        0 => None,
+        count => Some(Warning::DifferingCopy { count }),
     }
 }
 
@@ -208,7 +259,7 @@ fn unordered<'a>(restored: &Restored) -> Option<Warning<'a>> {
     }
 }
 
-impl fmt::Display for Told<'_> {
+impl fmt::Display for Told<'_, Warning<'_>> {
     fn fmt<W: fmt::Write>(&self, f: &mut fmt::Formatter<W>) -> fmt::Result {
         let ending = self.ending;
         match self.warning {
@@ -226,10 +277,28 @@ impl fmt::Display for Told<'_> {
                 f,
                 "no tile is filed yet: the header alone was compared, and all rows were taken as they stand"
             ),
-            Warning::Untaken { source } => write!(
+            Warning::NoneFiled => write!(
+                f,
+                "no tile is filed yet: the header alone was compared, and the evidence file shows no granule"
+            ),
+            Warning::Untaken {
+                source,
+                is_before: true,
+            } => write!(
+                f,
+                "nothing was taken from {source}: it lacks an era that was filed, so it is older, or that was taken out or hidden"
+            ),
+            Warning::Untaken { source, .. } => write!(
                 f,
                 "nothing was taken from {source}: it doesn't have the header and the eras that were filed"
             ),
+            Warning::Differing { count, is_of_copy } => {
+                tell_differing(ending, count, is_of_copy, f)
+            }
+            Warning::DifferingCopy { count } => {
+                tell_granules(&ending.copy, &ending.target, count, f)?;
+                write!(f, ": it is older or altered there")
+            }
             Warning::Unsealed { source, count } => {
                 let target = &ending.target;
                 let transactions = Transactions(count);
@@ -313,7 +382,7 @@ fn tell_few_originals<W: fmt::Write>(
     } else {
         write!(
             f,
-            "{copy} gave the originals of {originals} of {granules} granules: of the others it hasn't what was filed, being older or altered there"
+            "{copy} gave the originals of {originals} of {granules} granules: of the others it hasn't what was filed: it is older or altered there, or the book was"
         )
     }
 }
@@ -324,6 +393,40 @@ fn tell_unrestored<W: fmt::Write>(
 ) -> fmt::Result {
     let unknown = Unknown(ending);
     write!(f, "nothing was restored: {unknown}")
+}
+
+fn tell_granules<W: fmt::Write>(
+    source: &Named<'_>,
+    target: &Named<'_>,
+    count: u64,
+    f: &mut fmt::Formatter<W>,
+) -> fmt::Result {
+    match count {
+        1 => write!(f, "1 sealed granule of {source} isn't as {target} has it"),
+        count => write!(
+            f,
+            "{count} sealed granules of {source} aren't as {target} has them"
+        ),
+    }
+}
+
+fn tell_differing<W: fmt::Write>(
+    ending: &Ending<'_, '_>,
+    count: u64,
+    is_of_copy: bool,
+    f: &mut fmt::Formatter<W>,
+) -> fmt::Result {
+    let store = &ending.store;
+    let copy = &ending.copy;
+    let target = &ending.target;
+    tell_granules(store, target, count, f)?;
+    if is_of_copy && ending.heard.lost > 0 {
+        write!(f, ": what was filed there comes from {copy}, or is lost")
+    } else if is_of_copy {
+        write!(f, ": what was filed there comes from {copy}")
+    } else {
+        write!(f, ": what was filed there is lost")
+    }
 }
 
 fn tell_more<W: fmt::Write>(

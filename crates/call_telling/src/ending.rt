@@ -117,6 +117,11 @@ pub(crate) fn is_done(ending: &Ending<'_, '_>) -> bool {
     )
 }
 
+/// Whether it was, but that perhaps the output didn't take what it says.
+pub(crate) fn is_answered(ending: &Ending<'_, '_>) -> bool {
+    matches!(&ending.status, Status::Ok | Status::WriteFault)
+}
+
 impl fmt::Display for OtherId<'_> {
     fn fmt<W: fmt::Write>(&self, f: &mut fmt::Formatter<W>) -> fmt::Result {
         let OtherId { store, id, asked } = *self;

@@ -3,8 +3,8 @@
 use crate::date::{Date, Moment, end_of};
 use crate::ending::Ending;
 use crate::kind::{Analyses, Kind, is_front};
-use crate::named::{Called, Named, Notaries};
-use asked_words::Ask;
+use crate::named::{Called, Named};
+use asked_words::{Ask, meaning};
 use call_devices::{Found, Letters};
 use line_runs::Status;
 use std::io::ErrorKind;
@@ -16,7 +16,7 @@ impl fmt::Display for Ending<'_, '_> {
         let notary = &self.notaries;
         match self.status {
             Status::DiskFault => tell_disk_failed(self, f),
-            Status::NotaryFault => tell_notaries_failed(notary, self.ask, f),
+            Status::NotaryFault => tell_notaries_failed(self, f),
             Status::ReadFault => tell_input_failed(self, f),
             Status::WriteFault => tell_output_failed(self, f),
             Status::NotAStore => tell_other(self, f),
@@ -67,27 +67,34 @@ fn tell_disk_failed<W: fmt::Write>(
     f: &mut fmt::Formatter<W>,
 ) -> fmt::Result {
     if ending.target.error.is_some() {
-        tell_failed(&ending.target, ending.ask, f)
+        tell_failed(&ending.target, ending, f)
     } else if ending.copy.error.is_some() {
-        tell_failed(&ending.copy, ending.ask, f)
+        tell_failed(&ending.copy, ending, f)
     } else {
-        tell_failed(&ending.store, ending.ask, f)
+        tell_failed(&ending.store, ending, f)
     }
 }
 
 // Of a device that failed, and of a call that this ended.
 fn tell_failed<W: fmt::Write>(
     device: &Named<'_>,
-    ask: Ask,
+    ending: &Ending<'_, '_>,
     f: &mut fmt::Formatter<W>,
 ) -> fmt::Result {
+    let next = Next::of(ending);
     match device.error {
-        Some(error) if error.kind() == ErrorKind::WouldBlock => write!(
-            f,
-            "{device} {LOCKED}: start again when it is free"
-        ),
+        Some(error) if error.kind() == ErrorKind::WouldBlock => {
+            if is_named_twice(ending, device) {
+                write!(f, "{device} {TWICE}. Then {next}")
+            } else {
+                write!(f, "{device} {LOCKED}: when it is free, {next}")
+            }
+        }
+        Some(error) if error.kind() == ErrorKind::AlreadyExists => {
+            write!(f, "{device} {TAKEN}: {next}")
+        }
         Some(_) if matches!(device.found, Found::NoFile) => {
-            write!(f, "{device} is no plain file: name one")
+            write!(f, "{device} is no plain file: name one, and {next}")
         }
         Some(_) if device.path.is_some_and(|path| path.is_empty()) => {
             write!(
@@ -95,24 +102,82 @@ fn tell_failed<W: fmt::Write>(
                 "{device} can't be opened: the path of a file stands behind `=`"
             )
         }
+        Some(error) if matches!(device.found, Found::Missing) && !device.was_written => write!(
+            f,
+            "{device} {UNMADE}: {error}; name the right file, and {next}"
+        ),
         Some(error) if matches!(device.called, Called::Target) && device.was_written => write!(
             f,
             "{device}: {error}; what stands there may be cut off: remove it, mend this and start again"
         ),
         Some(error) => {
-            let hint = hint(device, error, ask);
-            let next = if ask == Ask::Run {
-                "mend this. Then give the lines that have no answer again, and each session without a commit from its `begin`"
+            let hint = hint(device, error, ending.ask);
+            if ending.ask == Ask::Run {
+                write!(f, "{device}: {error}; mend this. Then {next}{hint}")
             } else {
-                "mend this and start again, what was answered is kept"
-            };
-            write!(f, "{device}: {error}; {next}{hint}")
+                write!(
+                    f,
+                    "{device}: {error}; mend this and start again, what was answered is kept{hint}"
+                )
+            }
         }
         None => tell_no_book(device, f),
     }
 }
 
+/// What to do once the cause is mended.
+#[derive(Clone, Copy)]
+struct Next {
+    takes_lines: bool,
+    /// Whether its lines set the clock.
+    is_scripted: bool,
+}
+
+impl Next {
+    fn of(ending: &Ending<'_, '_>) -> Next {
+        Next {
+            takes_lines: ending.ask.takes_lines(),
+            is_scripted: ending.ask.sets_moments(ending.call),
+        }
+    }
+}
+
+impl fmt::Display for Next {
+    fn fmt<W: fmt::Write>(&self, f: &mut fmt::Formatter<W>) -> fmt::Result {
+        if !self.takes_lines {
+            return write!(f, "start again");
+        }
+        write!(
+            f,
+            "give the lines that have no answer again, and each session without a commit from its `begin`"
+        )?;
+        if self.is_scripted {
+            write!(f, ", behind the last `now M` before them, if there is one")?;
+        }
+        Ok(())
+    }
+}
+
 const LOCKED: &str = "is locked by another process, or named twice in one call";
+
+const TWICE: &str = "is named twice in one call: each device has a file of its own";
+
+/// Whether two devices of the call have this path.
+fn is_named_twice(ending: &Ending<'_, '_>, device: &Named<'_>) -> bool {
+    let files = [ending.store.path, ending.copy.path, ending.target.path];
+    let files = files.iter().filter(|path| **path == device.path).count();
+    let books = ending
+        .notaries
+        .0
+        .iter()
+        .filter(|book| book.path == device.path)
+        .count();
+    files.saturating_add(books) > 1
+}
+
+const UNMADE: &str = "is missing, and none can be made there";
+
+const TAKEN: &str = "was missing at first, and somebody has made one meanwhile";
 
 // Of a notary that failed, whatever the others did.
 pub(crate) fn tell_member_failed<W: fmt::Write>(
@@ -122,6 +187,10 @@ pub(crate) fn tell_member_failed<W: fmt::Write>(
 ) -> fmt::Result {
     match device.error {
         Some(error) if error.kind() == ErrorKind::WouldBlock => write!(f, "{device} {LOCKED}"),
+        Some(error) if error.kind() == ErrorKind::AlreadyExists => write!(f, "{device} {TAKEN}"),
+        Some(error) if matches!(device.found, Found::Missing) && !device.was_written => {
+            write!(f, "{device} {UNMADE}: {error}")
+        }
         Some(_) if matches!(device.found, Found::NoFile) => write!(f, "{device} is no plain file"),
         Some(error) => {
             let hint = hint(device, error, ask);
@@ -133,15 +202,16 @@ pub(crate) fn tell_member_failed<W: fmt::Write>(
 
 // Of notaries that failed the call.
 fn tell_notaries_failed<W: fmt::Write>(
-    notaries: &Notaries<'_>,
-    ask: Ask,
+    ending: &Ending<'_, '_>,
     f: &mut fmt::Formatter<W>,
 ) -> fmt::Result {
+    let notaries = &ending.notaries;
+    let next = Next::of(ending);
     match notaries.0.as_slice() {
-        [only] => tell_failed(only, ask, f),
+        [only] => tell_failed(only, ending, f),
         _ => write!(
             f,
-            "{notaries} has no answer that more than half of them gave: mend what is named next, and start again; what was answered is kept"
+            "{notaries} has no answer that more than half of them gave: mend what is named next; what was answered is kept. Then {next}"
         ),
     }
 }
@@ -206,12 +276,13 @@ fn tell_input_failed<W: fmt::Write>(
     f: &mut fmt::Formatter<W>,
 ) -> fmt::Result {
     let error = reason(ending.input);
-    let next = if ending.ask == Ask::Examine {
-        "start again"
+    let closed = if error.kind() == ErrorKind::IsADirectory {
+        " (a closed input looks so, too)"
     } else {
-        "give the lines that have no answer again, and each session without a commit from its `begin`"
+        ""
     };
-    write!(f, "the input: {error}; {next}")
+    let next = Next::of(ending);
+    write!(f, "the input: {error}{closed}; {next}")
 }
 
 // Of an output that failed.
@@ -223,7 +294,39 @@ fn tell_output_failed<W: fmt::Write>(
     write!(
         f,
         "the output: {error}; what was stored stays, so look before you start again"
-    )
+    )?;
+    let fault = ending.heard.fault();
+    if fault != "" {
+        write!(f, ". It didn't take the fault {fault}: ")?;
+        tell_named(ending, fault, f)?;
+    }
+    Ok(())
+}
+
+// Of a fault by its name, where that isn't the status.
+fn tell_named<W: fmt::Write>(
+    ending: &Ending<'_, '_>,
+    fault: &str,
+    f: &mut fmt::Formatter<W>,
+) -> fmt::Result {
+    match fault.split(' ').next().unwrap_or(fault) {
+        "DiskFault" => tell_disk_failed(ending, f),
+        "NotaryFault" => tell_notaries_failed(ending, f),
+        "NotAStore" => tell_other(ending, f),
+        "AlreadyThere" => tell_already_there(ending, f),
+        "HeaderLost" => tell_lost_header(ending, f),
+        "SealMissing" => tell_seal_missing(ending, f),
+        "TooLate" => tell_too_late(&ending.store, f),
+        "Full" => tell_full(ending, f),
+        "NotSealedSo" => tell_not_sealed_so(ending, f),
+        "NotEvidence" => tell_no_evidence(ending, f),
+        "InputLimit" => tell_too_long(ending, f),
+        "OldFormat" => write!(f, "{IS_OLD}"),
+        _ => {
+            let means = meaning(fault);
+            write!(f, "{means}")
+        }
+    }
 }
 
 // The system's own words.
@@ -441,9 +544,7 @@ fn tell_too_long<W: fmt::Write>(ending: &Ending<'_, '_>, f: &mut fmt::Formatter<
             "the input is no evidence file: those have fewer than 67,108,864 bytes"
         )
     } else {
-        write!(
-            f,
-            "the input is too long: give the lines that have no answer in another run, and each session without a commit from its `begin`"
-        )
+        let next = Next::of(ending);
+        write!(f, "the input is too long: in another run {next}")
     }
 }

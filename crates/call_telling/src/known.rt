@@ -1,7 +1,7 @@
 //! What a book says of an id where no store of it stood, so that the call didn't come to ask the notary.
 
 use asked_words::Ask;
-use call_devices::{Found, Peek, look};
+use call_devices::{Filed, Found, Peek, look};
 use line_runs::Status;
 use notary_book::Book;
 use notary_link::{Notary, NotaryFail};
@@ -52,7 +52,7 @@ impl Missed {
         alloc: Global,
         path: Option<&str>,
     ) -> Known {
-        match (path, look(rt, alloc, path, None)) {
+        match (path, look(rt, alloc, path, Filed::under(None))) {
             (Some(path), Found::Book { .. }) => match Peek::open(rt, path) {
                 Ok(file) => self.known_in(Book::new(alloc, file)),
                 Err(_) => Known::Unasked,

@@ -3,13 +3,16 @@
 //! | Told | Module |
 //! |---|---|
 //! | why the call ended with a fault, which file that is about, and what to do next | `fault` |
-//! | what is odd about the files, each oddity by itself | `oddities` |
+//! | what is odd about what stands in the files, and how they were left to the call | `contents` |
+//! | what a book says that doesn't go together with the store, the clock or itself | `books` |
+//! | what else is odd about them, each oddity by itself | `oddities` |
 //! | what was compared and found, where output and status don't say it | `verdict` |
 //! | what an evidence file shows, and what a restoring took from which file | `copies` |
 //! | what is odd about moments and the clock | `moments` |
 //! | what became of the lines of the input | `lines`, with `refused` |
 //! | what a book says of an id of which no store was found | `known` |
 //! | what an evidence file has that was made, and what a restoring took from which file | `gathered`, `restored` |
+//! | how one thing is said | `said` |
 //! | what a device is called, what its file is, moments as dates of the calendar | `named`, `kind`, `date` |
 //!
 //! All of it is made from an [`Ending`] (`ending`): how the call ended, with what its devices tell. Some files are read once
@@ -24,6 +27,8 @@
 //! ```
 #![tactic(auto)]
 
+mod books;
+mod contents;
 mod copies;
 mod date;
 mod ending;
@@ -37,6 +42,7 @@ mod named;
 mod oddities;
 mod refused;
 mod restored;
+mod said;
 mod telling;
 mod verdict;
 

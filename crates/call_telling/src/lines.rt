@@ -2,8 +2,9 @@
 
 use crate::ending::Ending;
 use crate::refused::tell_refused;
+use crate::said::{Told, say};
 use asked_words::{Ask, meaning};
-use call_watch::Without;
+use call_watch::{At, Unused, Without};
 use line_runs::Status;
 use std::{fmt, io};
 
@@ -28,19 +29,14 @@ enum Warning {
     Hidden { line: u64 },
     /// A session was committed without lines that were refused.
     LeftOut { without: Without },
-    /// The commit of a session was a conflict.
-    Dropped { session: usize },
+    /// A session ended without a line of its own.
+    Unused { unused: Unused },
+    /// The last commits of sessions were conflicts.
+    Dropped,
     /// The call ended within the commit of a session.
-    Unknown { session: usize },
+    Unknown { at: At },
     /// The last line has no end.
     Unended { line: u64 },
-}
-
-/// It, with what it is said of.
-#[derive(Clone, Copy)]
-struct Told<'a> {
-    warning: Warning,
-    ending: &'a Ending<'a, 'a>,
 }
 
 /// Says each on a line of its own.
@@ -52,20 +48,11 @@ pub(crate) fn tell_lines<R: Eprint>(rt: &R, ending: &Ending<'_, '_>) -> io::Resu
     say(rt, ending, kinds(ending))?;
     say(rt, ending, alarm(ending))?;
     say(rt, ending, left_out(ending))?;
+    say(rt, ending, unused(ending))?;
     say(rt, ending, dropped(ending))?;
     say(rt, ending, unknown(ending))?;
     say(rt, ending, open(ending))?;
     say(rt, ending, unended(ending))
-}
-
-fn say<R: Eprint>(rt: &R, ending: &Ending<'_, '_>, warning: Option<Warning>) -> io::Result<()> {
-    match warning {
-        Some(warning) => {
-            let told = Told { warning, ending };
-            eprintln!(rt; "dragoon: {told}")
-        }
-        None => Ok(()),
-    }
 }
 
 /// Whatever fails in front of a pipe leaves no input.
@@ -135,18 +122,29 @@ fn left_out(ending: &Ending<'_, '_>) -> Option<Warning> {
     }
 }
 
-/// Where the first refusal is another one.
-fn dropped(ending: &Ending<'_, '_>) -> Option<Warning> {
-    let is_first = ending.heard.first_refusal().starts_with("Conflict ");
-    match ending.heard.sessions().dropped {
-        Some(session) if is_known(ending) && !is_first => Some(Warning::Dropped { session }),
+/// Whoever forgets its name in front of lines has them carried out at once.
+fn unused(ending: &Ending<'_, '_>) -> Option<Warning> {
+    match ending.heard.sessions().unused {
+        Some(unused) if is_known(ending) => Some(Warning::Unused { unused }),
         _ => None,
+    }
+}
+
+/// Where that isn't the first refusal alone.
+fn dropped(ending: &Ending<'_, '_>) -> Option<Warning> {
+    let dropped = ending.heard.sessions().dropped();
+    let first = ending.refused.map(|line| line.number);
+    let is_told = dropped.count() == 1 && dropped.line() == first;
+    if is_known(ending) && dropped.count() > 0 && !is_told {
+        Some(Warning::Dropped)
+    } else {
+        None
     }
 }
 
 fn unknown(ending: &Ending<'_, '_>) -> Option<Warning> {
     match ending.heard.sessions().unknown {
-        Some(session) if is_known(ending) => Some(Warning::Unknown { session }),
+        Some(at) if is_known(ending) => Some(Warning::Unknown { at }),
         _ => None,
     }
 }
@@ -158,7 +156,7 @@ fn is_known(ending: &Ending<'_, '_>) -> bool {
 
 /// What a session keeps is stored by its commit alone.
 fn open(ending: &Ending<'_, '_>) -> Option<Warning> {
-    if is_known(ending) && ending.heard.sessions().is_any_open() {
+    if is_known(ending) && ending.heard.sessions().open().count() > 0 {
         Some(Warning::Open)
     } else {
         None
@@ -173,7 +171,7 @@ fn unended(ending: &Ending<'_, '_>) -> Option<Warning> {
     }
 }
 
-impl fmt::Display for Told<'_> {
+impl fmt::Display for Told<'_, Warning> {
     fn fmt<W: fmt::Write>(&self, f: &mut fmt::Formatter<W>) -> fmt::Result {
         let ending = self.ending;
         match self.warning {
@@ -198,13 +196,13 @@ impl fmt::Display for Told<'_> {
                 "line {line} is a comment with bytes of zero or carriage returns in it: nothing that stands there was carried out"
             ),
             Warning::LeftOut { without } => tell_left_out(without, f),
-            Warning::Dropped { session } => write!(
+            Warning::Unused { unused } => tell_unused(unused, f),
+            Warning::Dropped => tell_dropped(ending, f),
+            Warning::Unknown {
+                at: At { session, line },
+            } => write!(
                 f,
-                "nothing of s{session} is stored: its commit was a Conflict, so begin it anew"
-            ),
-            Warning::Unknown { session } => write!(
-                f,
-                "the call ended within the commit of s{session}: look whether that is stored before you begin it anew"
+                "the call ended within the commit of s{session} (line {line}): look whether that is stored before you begin it anew"
             ),
             Warning::Unended { line } => write!(
                 f,
@@ -234,7 +232,7 @@ fn tell_alarm<W: fmt::Write>(ending: &Ending<'_, '_>, f: &mut fmt::Formatter<W>)
 
 fn tell_left_out<W: fmt::Write>(without: Without, f: &mut fmt::Formatter<W>) -> fmt::Result {
     let Without {
-        session,
+        at: At { session, line },
         lines,
         is_stored,
         commits,
@@ -247,12 +245,28 @@ fn tell_left_out<W: fmt::Write>(without: Without, f: &mut fmt::Formatter<W>) -> 
     };
     write!(
         f,
-        "s{session} was committed without {lines} refused: {others}"
+        "s{session} was committed (line {line}) without {lines} refused: {others}"
     )?;
     if commits > 1 {
         write!(f, ". {commits} commits in all left lines out")?;
     }
     Ok(())
+}
+
+fn tell_unused<W: fmt::Write>(unused: Unused, f: &mut fmt::Formatter<W>) -> fmt::Result {
+    let At { session, line } = unused.at;
+    write!(
+        f,
+        "s{session} ended (line {line}) without a line of its own, and "
+    )?;
+    match unused.lines {
+        1 => write!(f, "1 line of no session was stored meanwhile")?,
+        lines => write!(f, "{lines} lines of no session were stored meanwhile")?,
+    }
+    write!(
+        f,
+        ": each line of a session begins with its name, as `s{session} insert`"
+    )
 }
 
 /// So many of a session.
@@ -268,8 +282,16 @@ impl fmt::Display for Lines {
     }
 }
 
+fn tell_dropped<W: fmt::Write>(ending: &Ending<'_, '_>, f: &mut fmt::Formatter<W>) -> fmt::Result {
+    let sessions = ending.heard.sessions().dropped();
+    write!(
+        f,
+        "nothing of {sessions} is stored: the commit was a Conflict, so begin anew what was asked for there"
+    )
+}
+
 fn tell_open<W: fmt::Write>(ending: &Ending<'_, '_>, f: &mut fmt::Formatter<W>) -> fmt::Result {
-    let sessions = ending.heard.sessions();
+    let sessions = ending.heard.sessions().open();
     write!(
         f,
         "what was begun as {sessions} wasn't committed: nothing of it is stored"

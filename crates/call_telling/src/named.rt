@@ -2,7 +2,8 @@
 
 use crate::known::Known;
 use asked_words::Shown;
-use call_devices::{Found, Odd};
+use call_devices::{Found, Odd, Stamp};
+use call_watch::Left;
 use std::{fmt, io};
 
 /// What a device is called.
@@ -26,6 +27,8 @@ pub struct Named<'a> {
     pub path: Option<&'a str>,
     /// What was found there before the call.
     pub found: Found,
+    /// What stood at its path before that.
+    pub stamp: Option<Stamp>,
     /// What stands there behind it, where that is looked at.
     pub later: Found,
     /// Why its last call that failed did so.
@@ -33,6 +36,8 @@ pub struct Named<'a> {
     /// Whether it was missing, and was made.
     pub was_made: bool,
     pub was_written: bool,
+    /// How its file was left to the call.
+    pub left: Left,
     /// How a notary stood out among others.
     pub odd: Odd,
     /// What its book says of an id without a store.
@@ -40,15 +45,22 @@ pub struct Named<'a> {
 }
 
 impl<'a> Named<'a> {
-    pub fn new(called: Called, path: Option<&'a str>, found: Found) -> Named<'a> {
+    pub fn new(
+        called: Called,
+        path: Option<&'a str>,
+        stamp: Option<Stamp>,
+        found: Found,
+    ) -> Named<'a> {
         Named {
             called,
             path,
             found,
+            stamp,
             later: Found::Unused,
             error: None,
             was_made: false,
             was_written: false,
+            left: Left::Alone,
             odd: Odd::No,
             known: Known::Unasked,
         }

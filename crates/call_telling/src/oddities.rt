@@ -1,4 +1,4 @@
-//! What is odd about the files of a call. Each oddity is told by itself, however the call ended and whatever the other files
+//! What is odd about the files of a call, but for what stands in them. Each oddity is told by itself, however the call ended and whatever the other files
 //! are: only what the line of a fault says of its own file isn't said again.
 
 use crate::ending::{Ending, Knows, OtherId, is_done};
@@ -7,7 +7,7 @@ use crate::kind::{Kind, Was};
 use crate::known::Known;
 use crate::named::{Called, Named, Notaries};
 use asked_words::Ask;
-use call_devices::{Behind, Found, Jump, Odd};
+use call_devices::{Found, Odd};
 use history_model::Format;
 use line_runs::Status;
 use std::{fmt, io};
@@ -15,22 +15,6 @@ use std::{fmt, io};
 /// One thing to say of a file, or of all books.
 #[derive(Clone, Copy)]
 enum Oddity<'a> {
-    /// Bytes stand behind a closed gate that ends records.
-    Behind {
-        device: &'a Named<'a>,
-        behind: Behind,
-        /// Whether all before them was written to another file.
-        is_left_behind: bool,
-    },
-    /// A transaction's number isn't the one behind that of the one before it.
-    Jumps {
-        device: &'a Named<'a>,
-        jump: Jump,
-    },
-    /// A moment of it falls.
-    Falls {
-        device: &'a Named<'a>,
-    },
     /// It was missing, or empty.
     Nothing {
         device: &'a Named<'a>,
@@ -87,30 +71,13 @@ enum Oddity<'a> {
     Unnamed {
         is_uncompared: bool,
     },
+    /// None was, and another was made of its copy.
+    OfCopyAlone,
 }
 
 /// Says each on a line of its own.
 pub(crate) fn tell_oddities<R: Eprint>(rt: &R, ending: &Ending<'_, '_>) -> io::Result<()> {
     let books = ending.notaries.0.as_slice();
-    say(
-        rt,
-        &[
-            behind_of(ending, &ending.store),
-            behind_of(ending, &ending.copy),
-        ],
-    )?;
-    for book in books {
-        say(rt, &[behind_of(ending, book)])?;
-    }
-    say(
-        rt,
-        &[
-            jumps_in(&ending.store),
-            falls_in(&ending.store),
-            jumps_in(&ending.copy),
-            falls_in(&ending.copy),
-        ],
-    )?;
     say(rt, &of_stores(ending))?;
     for book in books {
         say(rt, &of_book(ending, book))?;
@@ -179,44 +146,14 @@ fn is_told(ending: &Ending<'_, '_>, device: &Named<'_>) -> bool {
 /// Whether it made the calls of a notary that the words speak of. A run that ended before its first line might have made some.
 fn uses_notary(ending: &Ending<'_, '_>) -> bool {
     let heard = ending.heard;
-    let is_cut_short = heard.replies == 0 && !is_done(ending);
+    let is_cut_short = heard.replies == 0 && !is_done(ending)
+        || ending.status == Status::NotaryFault;
     ending.ask.uses_notary() && (ending.ask != Ask::Run || heard.uses_notary() || is_cut_short)
 }
 
 /// Whether it was missing, or empty.
 pub(crate) fn holds_nothing(device: &Named<'_>) -> bool {
     matches!(&device.found, Found::Missing | Found::Empty { .. })
-}
-
-fn behind_of<'a>(ending: &'a Ending<'a, 'a>, device: &'a Named<'a>) -> Option<Oddity<'a>> {
-    let behind = match device.found {
-        Found::Store { behind, .. } | Found::Book { behind, .. } => behind?,
-        _ => return None,
-    };
-    Some(Oddity::Behind {
-        device,
-        behind,
-        is_left_behind: ending.ask == Ask::Migrate
-            && ending.status == Status::Ok
-            && matches!(device.called, Called::Store | Called::Copy),
-    })
-}
-
-fn jumps_in<'a>(device: &'a Named<'a>) -> Option<Oddity<'a>> {
-    match device.found {
-        Found::Store {
-            jump: Some(jump),
-            ..
-        } => Some(Oddity::Jumps { device, jump }),
-        _ => None,
-    }
-}
-
-fn falls_in<'a>(device: &'a Named<'a>) -> Option<Oddity<'a>> {
-    match device.found {
-        Found::Store { falls: true, .. } => Some(Oddity::Falls { device }),
-        _ => None,
-    }
 }
 
 fn nothing_in<'a>(ending: &'a Ending<'a, 'a>, device: &'a Named<'a>) -> Option<Oddity<'a>> {
@@ -228,7 +165,8 @@ fn nothing_in<'a>(ending: &'a Ending<'a, 'a>, device: &'a Named<'a>) -> Option<O
     Some(Oddity::Nothing {
         device,
         is_uncompared: !is_among && is_uncompared(ending, device),
-        is_written: device.was_made || ending.heard.is_filed && is_begun(device),
+        is_written: device.error.is_none()
+            && (device.was_made || ending.heard.is_filed && is_begun(device)),
         is_among,
     })
 }
@@ -278,8 +216,9 @@ fn is_later_compared(ending: &Ending<'_, '_>) -> bool {
         && !heard.is_unsealed()
 }
 
+/// A notary that failed or differs tells so what its file is.
 fn strange_in<'a>(ending: &'a Ending<'a, 'a>, device: &'a Named<'a>) -> Option<Oddity<'a>> {
-    if is_strange(device) && is_asked(ending, device) && !is_told(ending, device) {
+    if is_strange(device) && device.odd == Odd::No && !is_told(ending, device) {
         Some(Oddity::Strange { device })
     } else {
         None
@@ -293,14 +232,6 @@ fn is_strange(device: &Named<'_>) -> bool {
         Found::Book { .. } => !matches!(device.called, Called::Book | Called::Member { .. }),
         Found::Other { .. } | Found::NoFile | Found::Unread => true,
         Found::Unused | Found::Missing | Found::Empty { .. } => false,
-    }
-}
-
-/// Of a book, whether its notary was asked. One that failed tells so what its file is.
-fn is_asked(ending: &Ending<'_, '_>, device: &Named<'_>) -> bool {
-    match device.called {
-        Called::Book | Called::Member { .. } => uses_notary(ending) && device.odd == Odd::No,
-        Called::Store | Called::Copy | Called::Target => true,
     }
 }
 
@@ -385,15 +316,19 @@ fn unused_books<'a>(ending: &'a Ending<'a, 'a>) -> Option<Oddity<'a>> {
 
 /// Whether it is as a new book is to the call, but for marks.
 fn has_no_batch(device: &Named<'_>) -> bool {
-    holds_nothing(device) || matches!(&device.found, Found::Book { batches: 0, .. })
+    holds_nothing(device)
+        || device
+            .found
+            .entries()
+            .is_some_and(|entries| entries.batches == 0)
 }
 
 /// Whether it has a batch.
-fn is_filed(device: &Named<'_>) -> bool {
-    match device.found {
-        Found::Book { batches, .. } => batches > 0,
-        _ => false,
-    }
+pub(crate) fn is_filed(device: &Named<'_>) -> bool {
+    device
+        .found
+        .entries()
+        .is_some_and(|entries| entries.batches > 0)
 }
 
 /// What more than half of the books say is then what new books say.
@@ -417,49 +352,11 @@ fn unnamed<'a>(ending: &'a Ending<'a, 'a>) -> Option<Oddity<'a>> {
     {
         let is_uncompared = is_done(ending);
         Some(Oddity::Unnamed { is_uncompared })
+    } else if ending.store.path.is_none() && ending.ask == Ask::Restore {
+        Some(Oddity::OfCopyAlone)
     } else {
         None
     }
-}
-
-fn tell_behind<W: fmt::Write>(
-    device: &Named<'_>,
-    behind: Behind,
-    is_left_behind: bool,
-    f: &mut fmt::Formatter<W>,
-) -> fmt::Result {
-    let Behind {
-        end,
-        bytes,
-        is_within,
-        is_open,
-    } = behind;
-    let left = if is_left_behind {
-        "; they aren't in the target"
-    } else {
-        ""
-    };
-    let over = if device.was_written && !is_within && bytes > 0 {
-        "; this call wrote over the first of them"
-    } else {
-        ""
-    };
-    let ends = if is_within { "ends a segment" } else { "ends" };
-    if is_open {
-        return write!(
-            f,
-            "{device} {ends} at byte {end} behind an open gate, and no whole record stands there: one was cut off or altered, which no crash does; docs/NOTARY.md{over}{left}"
-        );
-    }
-    let why = if is_within {
-        "no crash leaves such bytes there, and whoever hides records does"
-    } else {
-        "a crash leaves such bytes, and so does whoever hides records"
-    };
-    write!(
-        f,
-        "{device} {ends} at byte {end}, and {bytes} bytes stand behind it: {why}; docs/NOTARY.md{over}{left}"
-    )
 }
 
 const UNCOMPARED: &str = ": nothing was compared";
@@ -492,23 +389,6 @@ fn tell_nothing<W: fmt::Write>(
     write!(f, "{device} {was}{uncompared}{made}{next}")
 }
 
-fn tell_jump<W: fmt::Write>(
-    device: &Named<'_>,
-    jump: Jump,
-    f: &mut fmt::Formatter<W>,
-) -> fmt::Result {
-    let Jump { from, to } = jump;
-    if from == 0 {
-        write!(f, "{device} begins with transaction {to}")?;
-    } else {
-        write!(f, "{device} has transaction {to} behind transaction {from}")?;
-    }
-    write!(
-        f,
-        ": some were lost or altered, or put in; `examples/look.py` says more"
-    )
-}
-
 fn tell_odd<W: fmt::Write>(device: &Named<'_>, ask: Ask, f: &mut fmt::Formatter<W>) -> fmt::Result {
     match device.odd {
         Odd::Failed => tell_member_failed(device, ask, f),
@@ -527,16 +407,6 @@ fn tell_odd<W: fmt::Write>(device: &Named<'_>, ask: Ask, f: &mut fmt::Formatter<
 impl fmt::Display for Oddity<'_> {
     fn fmt<W: fmt::Write>(&self, f: &mut fmt::Formatter<W>) -> fmt::Result {
         match *self {
-            Oddity::Behind {
-                device,
-                behind,
-                is_left_behind,
-            } => tell_behind(device, behind, is_left_behind, f),
-            Oddity::Jumps { device, jump } => tell_jump(device, jump, f),
-            Oddity::Falls { device } => write!(
-                f,
-                "{device} has a moment before that of the item before it, as no writer stores it: `examples/look.py` says where"
-            ),
             Oddity::Nothing {
                 device,
                 is_uncompared,
@@ -582,6 +452,10 @@ impl fmt::Display for Oddity<'_> {
                 let uncompared = if is_uncompared { UNCOMPARED } else { "" };
                 write!(f, "no store=FILE was named{uncompared}")
             }
+            Oddity::OfCopyAlone => write!(
+                f,
+                "no store=FILE was named: what isn't sealed is the copy's alone"
+            ),
         }
     }
 }

@@ -3,7 +3,9 @@
 use crate::date::{Moment, end_of};
 use crate::ending::Ending;
 use crate::kind::Analyses;
-use asked_words::{Ask, ShownBytes, first_wrong, is_join, meaning, meaning_in_join};
+use asked_words::{
+    Ask, ShownBytes, first_wrong, is_join, is_of_past, meaning, meaning_in_join, meaning_of_past,
+};
 use call_devices::Found;
 use call_watch::{Heard, LONGEST, Refused, is_too_long};
 use std::fmt;
@@ -68,6 +70,8 @@ fn tell_why<W: fmt::Write>(
     }
     let means = if is_join(text) {
         meaning_in_join(refusal)
+    } else if is_of_past(text) {
+        meaning_of_past(refusal)
     } else {
         meaning(refusal)
     };
@@ -105,7 +109,7 @@ fn tell_meaning<W: fmt::Write>(
             let next = if is_scripted {
                 "`now M` counts seconds from its first one on"
             } else {
-                "go on with another one"
+                "file the tiles that have ended by a scripted run, and go on with another one"
             };
             write!(f, ", which ends at {end}: {next}")
         }

@@ -10,6 +10,10 @@ use std::rt::Files;
 pub(crate) struct Source {
     /// Whether it has the header and the eras that were filed, which the new store has. Else nothing was taken from it.
     pub(crate) passes: bool,
+    /// Whether it lacks eras, and is else as the new store.
+    pub(crate) is_before: bool,
+    /// In how many sealed granules it has other transactions than the new store.
+    pub(crate) differing: u64,
     /// How many of its transactions aren't sealed.
     pub(crate) unsealed: u64,
     /// Whether some of those aren't in the new store, or stand in other places there.
@@ -70,6 +74,8 @@ fn source_at<R: Files<File = File>>(
     let content = Content::read(rt, alloc, path, from)?;
     Some(Source {
         passes: content.begins_as(target, sealed),
+        is_before: content.is_before(target),
+        differing: content.differing(target),
         unsealed: content.behind(),
         has_others: !content.continues_in(target),
         turns_otherwise: !content.has_all_eras_of(target),

@@ -1,6 +1,8 @@
 //! What is said on standard error at the end: beside a fault line what happened to which file and what to do next, and
 //! else what the output and the status alone don't say.
 
+use crate::books::tell_books;
+use crate::contents::tell_contents;
 use crate::copies::tell_copies;
 use crate::ending::Ending;
 use crate::lines::tell_lines;
@@ -23,8 +25,10 @@ pub fn tell<R: Eprint + AllocGlobal>(rt: &R, ending: &Ending<'_, '_>) -> io::Res
         Status::Ok | Status::Altered | Status::Refused => {}
         _ => eprintln!(rt; "dragoon: {ending}")?,
     }
+    tell_contents(rt, ending)?;
     tell_oddities(rt, ending)?;
     tell_verdict(rt, ending)?;
+    tell_books(rt, ending)?;
     tell_copies(rt, ending)?;
     tell_moments(rt, ending)?;
     tell_lines(rt, ending)

@@ -1,16 +1,15 @@
 //! What was compared and found, where output and status don't say it.
 
-use crate::ending::{Ending, Id, Unknown};
+use crate::ending::{Ending, Id, Unknown, is_answered};
 use crate::named::Named;
 use crate::oddities::{has_store, holds_nothing};
+use crate::said::{Told, say};
 use asked_words::Ask;
-use call_devices::Found;
-use line_runs::Status;
 use std::{fmt, io};
 
 /// One thing to say of a verdict, or of what was compared.
 #[derive(Clone, Copy)]
-enum Warning<'a> {
+enum Warning {
     /// It stood in memory.
     Gone {
         word: &'static str,
@@ -24,24 +23,15 @@ enum Warning<'a> {
     First,
     /// An era was begun where no tile is filed.
     TurnedUncompared,
-    /// An era of the store begins at a tile, and a book has fewer that are sealed.
-    OlderBook {
-        tile: u32,
-        book: &'a Named<'a>,
-        sealed: u32,
-    },
     /// An audit came to no verdict.
     Auditing,
     Altered,
+    /// An evidence file was made, which shows so many granules.
+    Shown {
+        granules: u64,
+    },
     /// The notary has marked a verdict over no store of the id.
     Marked,
-}
-
-/// It, with what it is said of.
-#[derive(Clone, Copy)]
-struct Told<'a> {
-    warning: Warning<'a>,
-    ending: &'a Ending<'a, 'a>,
 }
 
 /// Says each on a line of its own.
@@ -50,24 +40,13 @@ pub(crate) fn tell_verdict<R: Eprint>(rt: &R, ending: &Ending<'_, '_>) -> io::Re
     say(rt, ending, compared(ending))?;
     say(rt, ending, first(ending))?;
     say(rt, ending, turned(ending))?;
-    say(rt, ending, older_book(ending))?;
     say(rt, ending, auditing(ending))?;
     say(rt, ending, altered(ending))?;
     say(rt, ending, marked(ending))
 }
 
-fn say<R: Eprint>(rt: &R, ending: &Ending<'_, '_>, warning: Option<Warning<'_>>) -> io::Result<()> {
-    match warning {
-        Some(warning) => {
-            let told = Told { warning, ending };
-            eprintln!(rt; "dragoon: {told}")
-        }
-        None => Ok(()),
-    }
-}
-
-fn gone<'a>(ending: &Ending<'_, '_>) -> Option<Warning<'a>> {
-    let is_ok = ending.status == Status::Ok;
+fn gone(ending: &Ending<'_, '_>) -> Option<Warning> {
+    let is_ok = is_answered(ending);
     if is_ok && ending.ask == Ask::Init && ending.store.path.is_none() {
         return Some(Warning::Gone {
             word: "store=FILE",
@@ -91,7 +70,7 @@ fn gone<'a>(ending: &Ending<'_, '_>) -> Option<Warning<'a>> {
 }
 
 /// What the last verdict was of, where that is less than it may seem.
-fn compared<'a>(ending: &Ending<'_, '_>) -> Option<Warning<'a>> {
+fn compared(ending: &Ending<'_, '_>) -> Option<Warning> {
     if !ending.ask.gives_verdict() {
         return None;
     }
@@ -112,7 +91,7 @@ fn is_book_there(ending: &Ending<'_, '_>) -> bool {
 }
 
 /// Where the book is new, too, that is said of the book.
-fn first<'a>(ending: &Ending<'_, '_>) -> Option<Warning<'a>> {
+fn first(ending: &Ending<'_, '_>) -> Option<Warning> {
     if ending.has_begun
         && is_book_there(ending)
         && ending.ask.uses_notary()
@@ -125,7 +104,7 @@ fn first<'a>(ending: &Ending<'_, '_>) -> Option<Warning<'a>> {
 }
 
 /// An era was begun over a notary that had no tile of the store. A drill has a notary of its own.
-fn turned<'a>(ending: &Ending<'_, '_>) -> Option<Warning<'a>> {
+fn turned(ending: &Ending<'_, '_>) -> Option<Warning> {
     if ending.heard.is_turned_uncompared && ending.ask.uses_notary() {
         Some(Warning::TurnedUncompared)
     } else {
@@ -133,34 +112,8 @@ fn turned<'a>(ending: &Ending<'_, '_>) -> Option<Warning<'a>> {
     }
 }
 
-/// An era begins where the tiles end that were sealed then. The first book that has fewer is told.
-fn older_book<'a>(ending: &'a Ending<'a, 'a>) -> Option<Warning<'a>> {
-    let Found::Store { turned: tile, .. } = ending.store.found else {
-        return None;
-    };
-    if !ending.ask.uses_notary() || !ending.store.is_store_of(ending.id()) {
-        return None;
-    }
-    let book = ending
-        .notaries
-        .0
-        .iter()
-        .find(|book| sealed_in(book).is_some_and(|sealed| sealed < tile))?;
-    let sealed = sealed_in(book)?;
-    Some(Warning::OlderBook { tile, book, sealed })
-}
-
-/// Of a book that was read, or had nothing. The first batch is the header's, and each later one a tile's.
-fn sealed_in(book: &Named<'_>) -> Option<u32> {
-    match book.found {
-        Found::Book { batches, .. } => Some(batches.saturating_sub(1)),
-        Found::Missing | Found::Empty { .. } => Some(0),
-        _ => None,
-    }
-}
-
 /// An audit is under way within one run alone.
-fn auditing<'a>(ending: &Ending<'_, '_>) -> Option<Warning<'a>> {
+fn auditing(ending: &Ending<'_, '_>) -> Option<Warning> {
     if ending.ask == Ask::Run && ending.heard.read_by_audit() != "" {
         Some(Warning::Auditing)
     } else {
@@ -168,23 +121,26 @@ fn auditing<'a>(ending: &Ending<'_, '_>) -> Option<Warning<'a>> {
     }
 }
 
-fn altered<'a>(ending: &Ending<'_, '_>) -> Option<Warning<'a>> {
-    let said = ending.heard.altered.text();
-    if said == "" || !ending.ask.gives_verdict() {
-        None
-    } else if has_store(ending) {
+fn altered(ending: &Ending<'_, '_>) -> Option<Warning> {
+    let granules = ending.heard.gathered;
+    if ending.ask == Ask::Evidence && granules > 0 && is_answered(ending) {
+        Some(Warning::Shown { granules })
+    } else if says_altered(ending) && has_store(ending) {
         Some(Warning::Altered)
     } else {
         None
     }
 }
 
+pub(crate) fn says_altered(ending: &Ending<'_, '_>) -> bool {
+    ending.heard.altered.text() != "" && ending.ask.gives_verdict()
+}
+
 /// A verdict over what is no store of the id. A report and an evidence file leave no mark.
-fn marked<'a>(ending: &Ending<'_, '_>) -> Option<Warning<'a>> {
+fn marked(ending: &Ending<'_, '_>) -> Option<Warning> {
     let said = ending.heard.altered.text();
-    if said == ""
+    if !says_altered(ending)
         || said.starts_with("report ")
-        || !ending.ask.gives_verdict()
         || ending.ask == Ask::Evidence
         || ending.store.is_store_of(ending.id())
     {
@@ -194,7 +150,7 @@ fn marked<'a>(ending: &Ending<'_, '_>) -> Option<Warning<'a>> {
     }
 }
 
-impl fmt::Display for Told<'_> {
+impl fmt::Display for Told<'_, Warning> {
     fn fmt<W: fmt::Write>(&self, f: &mut fmt::Formatter<W>) -> fmt::Result {
         let ending = self.ending;
         match self.warning {
@@ -211,13 +167,11 @@ impl fmt::Display for Told<'_> {
                 f,
                 "only the header was compared: no tile is filed yet, and no row is compared before its tile is"
             ),
-            Warning::OlderBook { tile, book, sealed } => {
-                tell_older_book(&ending.store, tile, book, sealed, f)
-            }
             Warning::First => tell_first(ending, f),
             Warning::TurnedUncompared => tell_turned(ending, f),
             Warning::Auditing => tell_auditing(ending, f),
             Warning::Altered => tell_altered(ending, f),
+            Warning::Shown { granules } => tell_shown(ending, granules, f),
             Warning::Marked => tell_marked(ending, f),
         }
     }
@@ -250,24 +204,16 @@ fn tell_first<W: fmt::Write>(ending: &Ending<'_, '_>, f: &mut fmt::Formatter<W>)
     )
 }
 
-fn tell_older_book<W: fmt::Write>(
-    store: &Named<'_>,
-    tile: u32,
-    book: &Named<'_>,
-    sealed: u32,
-    f: &mut fmt::Formatter<W>,
-) -> fmt::Result {
-    write!(
-        f,
-        "an era of {store} begins at tile {tile}, and {book} had {sealed} sealed: it was put back or cut, or is another one, or the era was put in. Stop, and look for copies; docs/NOTARY.md"
-    )
-}
-
 fn tell_auditing<W: fmt::Write>(ending: &Ending<'_, '_>, f: &mut fmt::Formatter<W>) -> fmt::Result {
     let read = ending.heard.read_by_audit();
+    let compared = if ending.heard.verdict.text() == "" || ending.heard.is_unsealed() {
+        "nothing was compared"
+    } else {
+        "the last verdict is of before it"
+    };
     write!(
         f,
-        "the audit has read {read} items and isn't at its end: nothing was compared, and the next run begins it anew"
+        "the audit has read {read} items and isn't at its end: {compared}, and the next run begins it anew"
     )
 }
 
@@ -290,6 +236,24 @@ fn tell_altered<W: fmt::Write>(ending: &Ending<'_, '_>, f: &mut fmt::Formatter<W
     write!(
         f,
         "{store} isn't what was filed: keep it and {notary} as they are, and copy them; docs/ANALYSIS.md says how to read the report"
+    )
+}
+
+fn tell_shown<W: fmt::Write>(
+    ending: &Ending<'_, '_>,
+    granules: u64,
+    f: &mut fmt::Formatter<W>,
+) -> fmt::Result {
+    let store = &ending.store;
+    let notary = &ending.notaries;
+    let differ = if granules == 1 {
+        "granule differs"
+    } else {
+        "granules differ"
+    };
+    write!(
+        f,
+        "{store} isn't what was filed: {granules} {differ}. Keep it and {notary} as they are, and copy them; docs/OPERATING.md"
     )
 }
 

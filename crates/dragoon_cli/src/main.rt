@@ -36,7 +36,12 @@ fn words_of<R: Runtime + AllocGlobal>(rt: &R) -> Result<Vec<String>, AllocError>
             Ok(words)
         }
         Err(fail) if fail.kind() == io::ErrorKind::OutOfMemory => Err(AllocError),
-        Err(_) => Ok(words),
+        Err(_) => {
+            let _ = eprintln!(rt;
+                "dragoon: a word of the call is no text in UTF-8, so no command was read"
+            );
+            Ok(words)
+        }
     }
 }
 
