@@ -24,8 +24,9 @@ What the language can't hold is refused with its row and column, and so is a row
 is empty or stands there twice, and a name that is none. Nothing is written then, and the status is 1. Row 1 is the heading, and goes into no
 table: a file without one wants one. Where it looks like a row, or --names stands for it, standard error says so.
 
-FILE is in UTF-8; `-` is standard input. Where its last row has no line end it may have been cut off, and standard error says so. Bytes 0x00, as a
-crash may leave of a file, are refused but in columns of kind utf8.
+FILE is in UTF-8; `-` is standard input. Where its last row has no line end it may have been cut off, and standard error says so. It names the
+first text that an earlier conversion may have spoiled, too. Bytes 0x00, as a crash may leave of a file, are refused but in columns of kind
+utf8, and so is a file that is none of text: a spreadsheet, an archive, a page.
 
 After a crash give the statements again: what is there is refused (RowExists, and TableExists of the `create`), and the rest goes in. Each other
 refusal among the replies is of a row that didn't go in. TableExists the first time says that the table was there before: then the rows went in by
@@ -48,6 +49,22 @@ BARRED = re.compile(r"[\x00-\x1f\x7f]")
 KINDS = {"int": "int", "text": "text", "bool": "bool", "bytes": "bytes", "utf8": "bytes"}
 TXN_LIMIT, OPERATIONS, LINE_LIMIT, INPUT_LIMIT = 32_768, 256, 65_536, 67_108_864
 ZEROS = "bytes 0x00, as a crash may leave of a file: look for a whole one"
+
+# how files begin that are no CSV, and what they are
+OTHER_FILES = (
+    ("PK\3\4", "a spreadsheet or another archive: save it as CSV, or unpack it"),
+    ("\udcd0\udccf\x11", "a spreadsheet: save it as CSV"),
+    ("\x1f\udc8b|BZh[0-9]|\udcfd7zXZ|[(]\udcb5/\udcfd", "compressed: unpack it first"),
+    ("%PDF-", "a PDF, and no CSV"),
+    (r"\s*<(!doctype|html|\?xml)\b", "a page of HTML or XML, and no CSV"),
+    (r"\s*[\[{]\s*[\[{\"]", "JSON, and no CSV"),
+)
+DEVICE = re.compile(".DRAG(OON|BOK)", re.DOTALL)
+# what an earlier conversion leaves in a text
+SPOILED = (
+    ("\ufffd", "U+FFFD: a conversion has lost a letter there"),
+    ("[\x80-\x9f]", "a letter of U+0080 to U+009F: `iconv -f LATIN1` makes these of a file from Windows, where -f CP1252 makes the right ones"),
+)
 
 
 # a number with a fraction, which may have signs between its digits
@@ -112,7 +129,7 @@ def value(field, kind, empty_text):
     try:
         content = field.encode()
     except UnicodeEncodeError:
-        raise Refused("isn't valid UTF-8 (of Latin letters, `iconv -f LATIN1 -t UTF-8` makes it)") from None
+        raise Refused("isn't valid UTF-8 (of a file from Windows, or of Latin letters, `iconv -f CP1252 -t UTF-8` makes it)") from None
     if kind == "utf8":
         return f"x'{content.hex()}'", 3 + len(content)
     if found := BARRED.search(field):
@@ -170,14 +187,55 @@ def note_looks(columns, rows):
         said = [row[at] for _, row in rows if row[at]]
         if kind == "text" and said and (note := looks(name, said)):
             tell(f"column {name}: {note}")
+        if rows and not said:
+            tell(f"column {name}: it is empty in every row, and becomes text: --kind {name}=KIND says otherwise, and a table's columns stay as they are")
 
 
-def read(text, delimiter):
-    """The heading, and the rows with their numbers. Empty lines are passed over."""
+def note_bytes(columns, options):
+    """Says which fields are taken as hexadecimal, since the store's column has bytes."""
+    for name, _, kind in columns:
+        if options.like and kind == "bytes" and name not in dict(options.kind):
+            tell(f"column {name} is of kind bytes in the store, so its fields are taken as hexadecimal: of texts say --kind {name}=utf8, and of what is hexadecimal --kind {name}=bytes")
+
+
+def is_twice_encoded(field):
+    """Whether it is UTF-8 that was read as Latin letters, and made to UTF-8 again."""
+    for encoding in ("cp1252", "latin1"):
+        try:
+            return field.encode(encoding).decode() != field
+        except UnicodeError:
+            pass
+    return False
+
+
+def note_spoiled(columns, rows):
+    """Says which text is the first that an earlier conversion may have spoiled."""
+    for number, row in rows:
+        for name, at, kind in columns:
+            why = next((why for pattern, why in SPOILED if re.search(pattern, row[at])), None)
+            if not why and not row[at].isascii() and is_twice_encoded(row[at]):
+                why = "UTF-8 that was taken for Latin letters, and made to UTF-8 again"
+            if why and kind in ("text", "utf8"):
+                tell(f"row {number}, column {name}: `{row[at][:40]}` has {why}")
+                return
+
+
+def hold_to_csv(text):
+    """Refuses a file that is none of text in UTF-8, by its front."""
+    if DEVICE.match(text):
+        raise Refused("this is a store or a notary's book, and no CSV: csv_out.py makes one of what a store answers")
     if text[:2] == "\0\0":
         raise Refused(f"it begins with {ZEROS}")
     if text[:2] in ("\udcff\udcfe", "\udcfe\udcff") or "\0" in text[:2]:
         raise Refused("this is UTF-16: `iconv -f UTF-16 -t UTF-8` makes UTF-8 of it")
+    for front, what in OTHER_FILES:
+        if re.match(front, text, re.IGNORECASE):
+            raise Refused(f"this is {what}")
+
+
+def read(text, delimiter):
+    """The heading, and the rows with their numbers. Empty lines are passed over."""
+    hold_to_csv(text)
     if found := re.match("sep=(.)[\r\n]", text):
         raise Refused(f"row 1: `sep={found[1]}` is a word for Excel alone: take this line out, and say --delimiter {'tab' if found[1] == chr(9) else repr(found[1])}")
     rows, table, number, begin = csv.reader(io.StringIO(text, newline=""), delimiter=delimiter, strict=True), [], 0, 0
@@ -302,6 +360,8 @@ def statements(file, options):
     if not rows and not options.add and not options.like:
         tell("there is no row, so each column without --kind NAME=KIND becomes text, the key too")
     note_heading(heading, columns, options)
+    note_spoiled(columns, rows)
+    note_bytes(columns, options)
     note_looks([column for column in columns if column[0] not in dict(options.kind) and not options.like], rows)
     if not options.add and not options.like:
         yield f"create {options.table} " + " ".join(f"{name} {KINDS[kind]}" for name, _, kind in columns)
@@ -332,6 +392,11 @@ def words():
             raise argparse.ArgumentTypeError(f"{word} isn't one sign that can stand between fields")
         return word
 
+    def rows(word):
+        if not re.fullmatch("[1-9][0-9]{0,3}", word) or int(word) > OPERATIONS:
+            raise argparse.ArgumentTypeError(f"{word} is no number from 1 to {OPERATIONS}")
+        return int(word)
+
     options = "[--names A,B,..] [--key NAME] [--kind NAME=KIND].. [--empty-text] [--add | --like STORE] [--session N [--rows N]]"
     parser = argparse.ArgumentParser(usage=f"csv_in.py {options} [--delimiter C] TABLE FILE", description=__doc__,
         formatter_class=argparse.RawDescriptionHelpFormatter)
@@ -343,7 +408,7 @@ def words():
     is_there.add_argument("--add", action="store_true")
     is_there.add_argument("--like", metavar="STORE")
     parser.add_argument("--session", type=int, choices=range(16), metavar="N")
-    parser.add_argument("--rows", type=int, choices=range(1, OPERATIONS + 1), metavar="N")
+    parser.add_argument("--rows", type=rows, metavar="N")
     parser.add_argument("--delimiter", type=delimiter, default=",")
     parser.add_argument("table", type=table)
     parser.add_argument("file")

@@ -8,6 +8,7 @@ isn't ASCII. They go in by transactions of many rows, and a tenth of them row by
 field, and goes in again as the same statements.
 """
 import csv
+import gzip
 import io
 import pathlib
 import random
@@ -15,7 +16,7 @@ import re
 import sys
 import tempfile
 
-from program import Wrong, count_of, dragoon, script
+from program import EXAMPLES, Wrong, count_of, dragoon, script
 
 TEXTS = (
     "", "plain", "it's", "''", 'say "no"', '"', "a,b", ",", ";", " both ends ", "Grüße", "漢字と仮名", "😀", "e\u0301",
@@ -101,6 +102,13 @@ NOTED = [
     ("10:30,23:59:59", "times of day"), ("007,12", "--kind b=int"), ("+5,7", "--kind b=int"), ("-0,1", "--kind b=int"), ("12345678901234567890,1", "wider than 64 bits"), ("9223372036854775808,007", "wider than 64 bits"), ("9223372036854775807,007", "--kind b=int"), ("1e5,2E-3", "an exponent"),
     ("1e5,2,1.5", "an exponent"), ("0x1F,0xff", "--kind b=bytes"), (" 5,6 ", "blanks"), ("5 %,6 %", "a unit"), ("$5,€ 6.50", "a unit"), ("5.00 EUR,6.50 EUR", "a unit"),
     ("1,2,n/a", "1 of 3 fields are no whole numbers, as `n/a`"), ("1,x,y", "2 of 3 fields are no whole numbers, as `x`"), ("TRUE,12.5,1e5", "of several forms, as `TRUE`"), ("TRUE,x", None), ("a,b", None), ("007x,8x", None), ("192.168.0.1,10.0.0.1", None), ("1.2.3,1.2.4", None), ("-,-", None), ("030 123456,040 98765", None),
+    ("M\ufffdller,x", "has lost a letter"), ("x,\x84Adler\x93", "-f CP1252"), ("MÃ¼ller,x", "taken for Latin letters"), ("Müller,5 €", None),
+]
+# files that are none of text in UTF-8
+NO_TEXT = [
+    *(("a,b\n1,x\n".encode(coding), "this is UTF-16") for coding in ("utf-16", "utf-16-le", "utf-16-be")),
+    (b"a,b\n1,x\n2,\xff\n", "row 3, column b: isn't valid UTF-8"), (b"PK\3\4\x14\0\0\0", "this is a spreadsheet"), (gzip.compress(b"a,b\n"), "this is compressed"),
+    ((EXAMPLES / "altered.store").read_bytes(), "this is a store"), (b'[{"a": 1}]\n', "this is JSON"), (b"<!DOCTYPE html>\n", "this is a page"),
 ]
 # what is said of a heading that may be a row, and of fields that go by place
 ROW, LIKE = "csv_in: row 1, `{}`, is taken as the heading, and goes into no table", ". It looks like a row: a file without a heading wants one in front"
@@ -128,13 +136,10 @@ def refusals(folder):
         status, out, told = script("csv_in.py", *options, "t", folder / "in.csv")
         if (status, out) != (1, "") or not told.startswith(f"csv_in: {wanted}"):
             raise Wrong(f"wanted {wanted}; csv_in ends with {status}, {len(out)} letters and {told}")
-    (folder / "in.csv").write_bytes(b"a,b\n1,x\n2,\xff\n")
-    if "row 3, column b: isn't valid UTF-8" not in script("csv_in.py", "t", folder / "in.csv")[2]:
-        raise Wrong("a field that isn't UTF-8 isn't refused")
-    for coding in ("utf-16", "utf-16-le", "utf-16-be"):
-        (folder / "in.csv").write_text("a,b\n1,x\n", encoding=coding)
-        if "this is UTF-16" not in script("csv_in.py", "t", folder / "in.csv")[2]:
-            raise Wrong(f"{coding} isn't named")
+    for content, wanted in NO_TEXT:
+        (folder / "in.csv").write_bytes(content)
+        if wanted not in script("csv_in.py", "t", folder / "in.csv")[2]:
+            raise Wrong(f"of {content[:20]!r} isn't said: {wanted}")
     for fields, wanted in NOTED:
         column = "".join(f"{number},{field}\n" for number, field in enumerate(re.findall('"[^"]*"|[^,]+', fields)))
         (folder / "in.csv").write_text(f"\ufeffa,b\n{column}")
@@ -155,6 +160,8 @@ def refusals(folder):
         raise Wrong("TRUE isn't taken for true")
     if script("csv_in.py", "t", "-", lines="a,b\n")[1:] != ("create t a text b text\n", "csv_in: there is no row, so each column without --kind NAME=KIND becomes text, the key too\n"):
         raise Wrong("a heading alone becomes text without a word")
+    if "column b: it is empty in every row" not in script("csv_in.py", "t", "-", lines="a,b\n1,\n")[2]:
+        raise Wrong("an empty column becomes text without a word")
     if script("csv_in.py", "--delimiter", "tab", "t", "-", lines="a\tb\n1\tx\n")[0]:
         raise Wrong("a tab isn't taken between fields")
     if script("csv_out.py", "a,b,a", lines="row 1 2 3\nrows 1\n") != (0, "a,b,a\r\n1,2,3\r\n", "csv_out: the heading has a twice\n"):
@@ -173,6 +180,8 @@ def like_a_store(folder):
     found = script(*like, "--kind", "hex=utf8", "t", "-", lines="city,id,hex,name\n7,1,A,true\n")
     if found != (0, "insert t 1 'true' '7' x'41'\n", ""):
         raise Wrong(f"a file like a table becomes {found}")
+    if "column hex is of kind bytes in the store" not in script(*like, "t", "-", lines="city,id,hex,name\n7,1,41,true\n")[2]:
+        raise Wrong("digits are taken as hexadecimal without a word")
     for words, lines, wanted in [
         (["t"], "city,id\nBonn,1\n", "the columns of t are id, name, city, hex in the store, and city, id in the file"), (["u"], "id\n1\n", "no table u"),
         (["--kind", "id=text", "t"], "city,id,name,hex\nBonn,1,Max,\n", "column id is of kind int in the store"), (["t"], "city,id,name,hex\nBonn,x,Max,\n", "row 2, column id: isn't a number"),
