@@ -166,7 +166,7 @@ DONE = [
     ("drop trigger mirror_t_rename", 1, 1, "triggers are gone: mirror_t_rename. What"),
     ("drop table t; create table t (id integer primary key, v int)", 1, 1, f"triggers are gone: {ALL}. What"),
     ("drop trigger mirror_limits", 1, 1, "triggers are gone: mirror_limits. What"),
-    ("delete from t; drop table t", 0, 3, ""), ("alter table t rename to u; alter table u rename v to w; update u set w = 4", 0, 3, ""),
+    ("delete from t; drop table t", 0, 3, ""), ("alter table t rename to u; alter table u rename v to w; update u set w = 4", 0, 3, "t has columns under other names than the store: w (there v)\n"),
     ("drop table t", 1, 1, "t, which the database has under no name, differs from the store's by 2 rows: `row 1 2` in the store alone; `row 2 2` in the"),
     ("create table u as select * from t; drop table t", 1, 1, "under no name"),
     ("alter table t rename to u; drop trigger mirror_t_delete", 1, 1, "triggers are gone: mirror_t_delete. What"),
@@ -222,6 +222,7 @@ def hears_refusals(folder):
 # what is attached, and why not
 NOT_ATTACHED = [
     (["--utf8", "t.nmae", "t"], "name text", "--utf8 t.nmae is no column of t"), (["--utf8", "T.name", "t"], "name text", "--utf8 T.name is no column of t"),
+    (["mirror_outbox"], "name text", "mirror_outbox is the mirror's own table"),
     (["t"], "id text primary key collate nocase", "the key t.id is compared by NOCASE"), (["t"], "id primary key", "the key t.id has no type"),
 ]
 
@@ -251,6 +252,9 @@ def attaches_anew(folder):
         raise Wrong(f"attach --anew ends with {status}: {told}")
     drains(shop, store, 4)
     drains(shop, store, 0)
+    sqlite3.connect(shop).execute("create table other (id integer primary key)")
+    if (told := script("mirror/attach.py", "--anew", shop, "other")[2]) != "attach: t was attached, and isn't any more: name it with the others, if its changes are to go into the new store\n":
+        raise Wrong(f"attach --anew of another table says {told}")
     for words in (["--notary", ""], ["--notary", "a,,b"], ["--changes", "0"], ["--note", "a"]):
         if (told := script("mirror/drain.py", *words, shop, store, "7"))[:2] != (2, ""):
             raise Wrong(f"a drain with {words} ends with {told}")

@@ -18,7 +18,8 @@ another column than the key is unique, `replace` takes rows away without telling
 Standard error names such a table.
 
 With --anew all that an earlier attach.py made is taken away first, in the same transaction. It is for a new store: the old one takes no
-change any more. What waited in the outbox is in no store then, and standard error says how much that was.
+change any more. What waited in the outbox is in no store then, and standard error says how much that was. It names each table that was
+attached and isn't named now.
 """
 import os
 import re
@@ -107,6 +108,8 @@ def columns_in(db, table):
 
 def columns_of(db, table, utf8):
     """The columns of a table that can be mirrored: name, kind, and the only types that its values may have, or None. The key comes first."""
+    if table in TABLES:
+        raise Refused(f"{table} is the mirror's own table")
     columns = columns_in(db, table)
     if not NAME.fullmatch(table) or table == "mirrored" or sum(place > 0 for _, _, place in columns) != 1:
         raise Refused(f"there is no table {table} with a primary key of one column, and a name that a store takes")
@@ -183,14 +186,15 @@ def attached_in(db):
 
 
 def detach(db):
-    """Takes away all that an earlier attach.py made."""
+    """Takes away all that an earlier attach.py made. Gives the tables that were attached."""
     if not db.execute("select 1 from sqlite_master where name = 'mirror_outbox'").fetchone():
-        return
+        return set()
     bring_up(db)
     (waiting,) = db.execute("select count(*) from mirror_outbox where number > (select max(acknowledged) from mirror_state)").fetchone()
     writing = "select name from sqlite_master where type = 'trigger' and name glob 'mirror_*' and sql like '%mirror_outbox%'"
     triggers = {name for (name,) in db.execute(writing)}
-    for table in attached_in(db):
+    attached = attached_in(db)
+    for table in attached:
         triggers.update(f"mirror_{table}_{change}" for change in CHANGED)
         db.execute(f"drop index if exists mirror_{table}_is")
     for trigger in triggers:
@@ -199,6 +203,7 @@ def detach(db):
         db.execute(f"drop table if exists {table}")
     if waiting:
         print(f"attach: changes that waited in the outbox, and are in no store: {waiting}", file=sys.stderr)
+    return set(attached)
 
 
 def attach(db, table, columns):
@@ -225,8 +230,7 @@ def attach(db, table, columns):
 
 def attach_all(db, tables, utf8, anew):
     """The whole of it, within one transaction."""
-    if anew:
-        detach(db)
+    left = detach(db) - set(tables) if anew else set()
     for statement in (*OUTBOX, LIMITS):
         db.execute(statement)
     bring_up(db)
@@ -239,6 +243,8 @@ def attach_all(db, tables, utf8, anew):
         attach(db, table, columns)
     if unknown:
         raise Refused(f"--utf8 {min(unknown)} is no column of {', '.join(tables)}")
+    for table in sorted(left):
+        print(f"attach: {table} was attached, and isn't any more: name it with the others, if its changes are to go into the new store", file=sys.stderr)
     made = ["mirror_limits", *(f"mirror_{table}_{change}" for table in tables for change in CHANGED)]
     db.executemany("insert or ignore into mirror_trigger select name, sql from sqlite_master where type = 'trigger' and name = ?", [[name] for name in made])
 
@@ -254,7 +260,7 @@ def main(words):
         words = words[2:]
     if len(words) < 2 or words[0].startswith("-") or not os.path.isfile(words[0]):
         if len(words) > 1:
-            print(f"attach: there is no file {words[0]}", file=sys.stderr)
+            print(f"attach: there is no file {words[0] if words[0].isprintable() else ascii(words[0])}", file=sys.stderr)
         print(f"usage: {__doc__.splitlines()[2].strip()}", file=sys.stderr)
         return 2
     try:

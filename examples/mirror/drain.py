@@ -24,7 +24,8 @@ changes wait in the outbox by then are left out. Standard error names the first 
 the shop's writes wait while a table is read; --no-compare leaves it out. It doesn't tell what stood there between two drains.
 
 It looks that the triggers are there as attach.py made them, and each attached table under its name or another one. A table that was dropped
-counts as one without rows, and one that was renamed goes on under its first name. Columns that a table got since are named.
+counts as one without rows, and one that was renamed goes on under its first name. Columns that a table got since are named, and so are those
+that have other names by now.
 
 It ends with 0 if all was taken and is the same. It ends with 1 if it had to stop, a row differs, or triggers are gone or others. It ends
 with 6 where records stand hidden in the book or it has nothing of the store (the first `notarize` is made by hand), and with 2 on other words.
@@ -374,6 +375,8 @@ def unlike(db, program, number, table, columns):
         return f"{table} has fewer columns than the store's. {ANEW}"
     if more := names[len(kinds):]:
         print(f"drain: {table} has columns that no store gets: {verify.plain(', '.join(more))}", file=sys.stderr)
+    if renamed := [f"{name} (there {old})" for name, old in zip(names, columns.split(" ")[::2]) if name != old]:
+        print(f"drain: {table} has columns under other names than the store: {verify.plain(', '.join(renamed))}", file=sys.stderr)
     found = list(compared(db, stored, names, kinds, now, keys))
     if not found:
         return None
