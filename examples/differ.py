@@ -13,9 +13,10 @@ Headers, policies and Frontiers are compared as well, and how often and in which
 What may have been stored since is counted and not shown. It has a new number, no moment before the last one of COPY, and stands behind all
 that COPY has. So it is with Frontiers, which have no number, and with policies, which have neither. Standard error says where bytes stand
 behind the end of one of the two, or of BOOK. It ends with 0 if nothing differs up to there, or nothing was compared. It ends with 1 if
-something does, if COPY or BOOK isn't what was filed, or BOOK is none, and with 3 if a file can't be read or is no store.
+something does, if COPY or BOOK isn't what was filed, or BOOK is none, and with 3 if a file can't be read or is no store, or both are one file.
 """
 import itertools
+import os
 import sys
 from collections import Counter
 
@@ -23,7 +24,7 @@ sys.dont_write_bytecode = True
 import verify
 from parts import moments
 from parts.notary import is_altered, not_filed, shown_of_copy
-from parts.script import ALTERED, content_of, counted, end, number, plain, tell, words_of
+from parts.script import ALTERED, Refused, content_of, counted, end, number, plain, tell, words_of
 from parts.store import Create, Frontier, Policy, Put, Store, Tables, Transaction, hidden, item_of, literal, shown
 
 HEADER = ("id", "epoch", "width", "k", "algorithms")
@@ -212,6 +213,8 @@ def paired(ours, theirs):
 
 
 def main(given):
+    if os.path.exists(given.store) and os.path.exists(given.copy) and os.path.samefile(given.store, given.copy):
+        raise Refused(f"{plain(given.store)} is named twice: a store is held against another file, and not against itself")
     side, other, is_bad, front = Side(given.store), Side(given.copy), False, []
     lines, summary = compare(side, other, given.granule, given.zone)
     if side.store.content == other.store.content:
