@@ -28,6 +28,8 @@ LONGEST_RECORD = 32_774
 OPEN = verify.OPEN
 KEYS = ("STORE", "BOOK", "ID", "ALG", "STATE")
 COMMANDS = ("notarize", "validate", "run", "analyse")
+# how the names of the files end that STATE keeps of a store
+KEPT = ("book", "sealed", "length", "lock", "behind", "hidden", "socket", *COMMANDS)
 
 # `path` is where the conf lies, if there is one
 Conf = collections.namedtuple("Conf", "name store book id alg state path", defaults=[None])
@@ -117,7 +119,11 @@ def read_conf(path):
         raise Wrong(f"{path}: BOOK={said['BOOK']} names several books, and a conf has one")
     if not os.path.isdir(said["STATE"]):
         raise Wrong(f"{path}: STATE={said['STATE']} is no folder")
-    return Conf(pathlib.Path(path).stem, said["STORE"], said["BOOK"], int(said["ID"]), said["ALG"], said["STATE"], path)
+    name = pathlib.Path(path).stem
+    for key in ("STORE", "BOOK"):
+        if any(is_same(said[key], f"{said['STATE']}/{name}.{kind}") for kind in KEPT):
+            raise Wrong(f"{path}: {key}={said[key]} has the path of a file that STATE keeps: name another folder as STATE")
+    return Conf(name, said["STORE"], said["BOOK"], int(said["ID"]), said["ALG"], said["STATE"], path)
 
 
 def wrong_line(line, said):
@@ -413,6 +419,8 @@ def hold(conf, durable=False):
     """The book, held against what was kept of it; and that. Behind its end may stand what one crash leaves, and no record where its bytes weren't
     kept. A gate that is open has a whole record behind it in any case."""
     kept = read_kept(conf)
+    if kept and (moved := moved_from(kept.path, conf.book)):
+        raise Wrong(f"BOOK {moved}, remove {kept_file(conf)} and {sealed_file(conf)}")
 
     def read():
         content, _ = content_of(conf.book, durable=durable)
@@ -435,8 +443,6 @@ def hold(conf, durable=False):
     if kept and not kept.end:
         had = f"{kept.tiles} sealed tiles on {date(kept.moment)}"
         raise Wrong(f"{kept_file(conf)} is lost, and {conf.book} had {had}: hold the book against its copies, then remove {sealed_file(conf)}")
-    if kept and (moved := moved_from(kept.path, conf.book)):
-        raise Wrong(f"BOOK {moved}, remove {kept_file(conf)} and {sealed_file(conf)}")
     return book, kept
 
 
@@ -561,12 +567,12 @@ def hold_store(conf, durable=False, unless_broken=False):
         # (the program says so)
         return stand, kept
     is_held = kept is not None and kept.id == conf.id
+    if is_held and (moved := moved_from(kept.path, conf.store)):
+        raise Wrong(f"STORE {moved}, remove {length_file(conf)}")
     if is_held and (why := lost_of(conf, kept, stand, unless_broken)):
         raise Shorter(f"{conf.store} {why}. Look for the right one; where this one is to stay, remove {length_file(conf)}")
     if stays and not (unless_broken and is_broken(conf)):
         raise Shorter(f"{conf.store} {stand.open}. Store nothing and file nothing, and look for its copies (docs/OPERATING.md)")
-    if is_held and (moved := moved_from(kept.path, conf.store)):
-        raise Wrong(f"STORE {moved}, remove {length_file(conf)}")
     return stand, kept
 
 
@@ -742,7 +748,7 @@ def look_behind(conf, answer, is_well):
 
 
 def note_odd_end(conf):
-    """Notes what no crash leaves at the end of the store: the program doesn't tell of all of it."""
+    """Notes what no crash leaves at the end of the store."""
     if not is_locked(conf.store) and (said := odd_end(conf)):
         note(behind_file(conf), f"the store {said}", "")
 
