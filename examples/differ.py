@@ -11,8 +11,8 @@ eras that ended in it. What COPY has behind that is compared with no digest.
 
 Headers, policies and Frontiers are compared as well, and how often and in which order the transactions stand there. The last line counts.
 What may have been stored since is counted and not shown. It has a new number, no moment before the last one of COPY, and stands behind all
-that COPY has. So it is with Frontiers, which have no number, and with policies, which have neither. Standard error says where bytes stand
-behind the end of one of the two, or of BOOK. It ends with 0 if nothing differs up to there, or nothing was compared. It ends with 1 if
+that COPY has. So it is with policies, which have neither and may stand at any place. Frontiers, which have no number, are passed over there. Standard error
+says where bytes stand behind the end of one of the two, or of BOOK. It ends with 0 if nothing differs up to there, or nothing was compared. It ends with 1 if
 something does, if COPY or BOOK isn't what was filed, or BOOK is none, and with 3 if a file can't be read or is no store, or both are one file.
 """
 import itertools
@@ -200,7 +200,9 @@ def compare(side, other, granule, zone):
     none = "no transaction was compared" + (f": the copy has none in granule {granule}" if granule is not None else "")
     compared = f"{differ:,} of {counted(differ + same, 'transaction')} differ{'s' * (differ == 1)}{named}" if differ + same else none
     compared += ", and not all stand in one order, or as often" if order else ""
-    return lines + order, f"{compared}; behind the last one of the copy the store has {sum(map(counts, since))}"
+    policies = 0 if lines or granule is not None else len(side.policies) - len(other.policies)
+    policies = f", and {policies} polic{'y' if policies == 1 else 'ies'} more" if policies > 0 else ""
+    return lines + order, f"{compared}; behind the last one of the copy the store has {sum(map(counts, since))}{policies}"
 
 
 def paired(ours, theirs):

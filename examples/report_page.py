@@ -6,7 +6,8 @@
 It says the verdict in words; of which store and book that is, with their SHA-256, and when; each altered granule, when it was changed
 and what stands in it now; the diagram; what was filed and validated; what the algorithm can't say; and what to do next. Beside the report
 it has the verdict of verify.py, and says where digests of the book contradict one another. It is green only where a tile was compared,
-both say `clean`, and no bytes stand behind the records of either file.
+both say `clean`, no bytes stand behind the records of either file, and neither lacks what the other says was filed, or has what no writer
+stores.
 
 It asks over copies, so it writes neither file, and the SHA-256 are those of what was asked. ALG is mono, tiled, `tiled KAPPA` or a3d,
 and behind the last three ` era E` may stand: --alg 'a3d era 1'. Where none is given it is a3d where all sealed tiles have the tree,
@@ -36,7 +37,7 @@ class Page:
         self.given, self.asked = given, asked
         self.report = reports.read(asked.output)
         self.book = Book(given.book, asked.book)
-        self.judged = judged.verdict(self.report, asked, self.book)
+        self.judged = judged.verdict(self.report, asked, given.store, self.book)
         header = verify.header_of(asked.store)
         is_read = header and self.report.verdict != "header altered"
         # (of another header, or other eras, nothing but these is shown)
@@ -168,10 +169,10 @@ class Page:
         yield page.heading("What this can't say")
         yield page.listed(reports.cannot_say(self.report))
         yield page.heading("What to do next")
-        yield page.listed(judged.what_next(self.report, self.book, self.asked, self.judged.odd), "ol")
-        if self.asked.told:
+        yield page.listed(judged.what_next(self.report, self.book, self.asked, self.judged), "ol")
+        if told := judged.besides(self.asked, self.judged):
             yield page.heading("What the program says besides")
-            yield "".join(f"<p><code>{page.safe(line)}</code></p>" for line in self.asked.told.splitlines())
+            yield "".join(f"<p><code>{page.safe(line)}</code></p>" for line in told)
         yield page.heading("The report itself")
         yield f'<div class="wide"><pre><code>{chr(10).join(page.safe(it) for it in self.report.text.splitlines()[:200])}</code></pre></div>'
 

@@ -175,6 +175,8 @@ class Page:
             state += f" More of it may stand hidden behind records: {counted(behind, 'byte')}."
         if any(self.store.open_ends()):
             state += " More of it may be gone: a record was cut off or altered."
+        if given.notary and not self.filings:
+            state += " The book has nothing under this id."
         colour = "bad" if odd else "good" if is_there else "open"
         yield f'<div class="verdict {colour}"><b>{counted(len(versions), "version")}</b>{" ".join([state, *odd])}</div>'
         yield page.heading("Over time")
@@ -194,7 +196,8 @@ class Page:
         for (name, why), behind, said in zip(places, self.store.behind_ends(), self.store.open_ends()):
             if behind or said:
                 yield name, f"it {said} (docs/NOTARY.md)" if said else hidden(behind, why)
-        yield "Book", page.safe(self.given.notary) if self.given.notary else "none was named"
+        nothing = "; nothing is filed in it under this id" if self.given.notary and not self.filings else ""
+        yield "Book", page.safe(self.given.notary + nothing) if self.given.notary else "none was named"
         yield "Time", f"from the store's first second, {self.store.epoch}, to the last moment or filing"
         yield "Trust", page.with_code("The store is shown as it stands. Whether it is what was filed `validate` says.")
 

@@ -273,7 +273,7 @@ WHY_BEHIND = "a crash leaves such bytes, and so does whoever hides records"
 WHY_HIDDEN = "no crash leaves them so, and whoever hides records does"
 WHY_WITHIN = "no crash leaves such bytes there, and whoever hides records does"
 # what follows where a mark isn't clean and a later verdict is
-PUT_BACK = "rows were put back meanwhile, or the store was restored, or another file was validated"
+PUT_BACK = "rows were put back meanwhile, or the store was restored, or another file was validated, or that mark was altered or put in"
 WHY_OPEN = "behind an open gate, and no whole record stands there: one was cut off or altered, which no crash does"
 
 
@@ -335,20 +335,30 @@ def is_next(eras, policy):
     return len(eras) < ERAS and eras[-1].tile <= policy.tile and policy.granule == first_of(eras, policy.tile)
 
 
-def eras_of(content):
-    """The eras of a store, in order."""
+def policies_of(content):
+    """The policies of a store, in order."""
+    return [item for item, _ in records(content, *STORE) if isinstance(item, Era)]
+
+
+def eras_by(content, policies):
+    """The eras of a store that has these policies, in order."""
     *_, k, algorithms = header_of(content)
     eras = [Era(0, 0, k, algorithms)]
-    for item, _ in records(content, *STORE):
-        if isinstance(item, Era) and is_next(eras, item):
-            eras.append(item)
+    for policy in policies:
+        if is_next(eras, policy):
+            eras.append(policy)
     return eras
 
 
-def tiles_within(eras):
-    """How many tiles end at most behind the last granule."""
-    last = [era for era in eras if era.granule <= GRANULES][-1]
-    return last.tile + (GRANULES - last.granule >> last.k)
+def eras_of(content):
+    """The eras of a store, in order."""
+    return eras_by(content, policies_of(content))
+
+
+def tiles_within(eras, granule=GRANULES):
+    """How many tiles have ended where a granule begins. Behind the last one no more do."""
+    last = [era for era in eras if era.granule <= granule][-1]
+    return last.tile + (granule - last.granule >> last.k)
 
 
 def has_no_tile(eras, era):
@@ -403,10 +413,10 @@ def parts(tile, k, leaves):
         yield f"tile {tile} bit {bit}", digest(b"\x03", number(tile, 4), number(bit, 1), *part)
 
 
-def plan(content, tiles):
-    """The digests that are planned for each batch."""
+def plan(content, tiles, eras=None):
+    """The digests that are planned for each batch, where the store has these eras, or its own."""
     fields, _id, width, *_ = header_of(content)
-    eras = eras_of(content)
+    eras = eras or eras_of(content)
     granules, waiting, cum = [[] for _ in range(first_of(eras, tiles))], {}, digest(b"\x00", fields)
     for moment, item in records(content, *STORE):
         if isinstance(moment, int) and moment // width < len(granules):
@@ -640,9 +650,35 @@ def doubt_of_header(store, batches, id):
     return None
 
 
+def put_in(store, batches, id):
+    """Where the eras aren't those that were filed: the number of one without whose policy all that is filed is what the store gives; or None."""
+    if not batches or not is_header_filed(store, batches, id) or are_filed(eras_of(store), len(batches) - 1, batches):
+        return None
+    eras, policies = eras_of(store), policies_of(store)
+    for at, era in enumerate(eras):
+        if at and fits(store, batches, eras_by(store, without(policies, era))):
+            return at
+    return None
+
+
+def without(policies, policy):
+    """The policies but for the first such one."""
+    place = policies.index(policy)
+    return policies[:place] + policies[place + 1 :]
+
+
+def fits(store, batches, eras):
+    """Whether all that is filed is what the store gives, if it has these eras."""
+    tiles = len(batches) - 1
+    if not are_filed(eras, tiles, batches) or tiles > tiles_within(eras):
+        return False
+    both = zip_longest(plan(store, tiles, eras), map(first_seals, batches), fillvalue={})
+    return not any(name for planned, filed in both for name in differences(planned, filed))
+
+
 def doubt_of_eras(store, batches, id):
-    """The same where the eras aren't those that were filed."""
-    if not batches or not is_header_filed(store, batches, id):
+    """The same where the eras aren't those that were filed. A policy that was put in says nothing of the book."""
+    if not batches or not is_header_filed(store, batches, id) or put_in(store, batches, id):
         return None
     tiles = min(len(batches) - 1, tiles_within(eras_of(store)))
     sides = [[{name: value for name, value in seals.items() if not name.startswith("era ")} for seals in both]
@@ -670,11 +706,34 @@ def tell_of_book(said, both):
         print(f"verify: the book has digests that nothing plans where they stand, and nothing was compared with them: {named}", file=sys.stderr)
 
 
+def tell_put_in(store, batches, id):
+    """Says on standard error which policy keeps a store from being what was filed, where nothing else does."""
+    if era := put_in(store, batches, id):
+        print(f"verify: {put_in_words(eras_of(store), era)}", file=sys.stderr)
+
+
+def put_in_words(eras, at):
+    """That without the policy of an era all fits."""
+    return f"without the policy that begins era {at} at tile {eras[at].tile} all that is filed is what the store gives: that policy was put in, or doubled"
+
+
 def tell_put_back(marks):
     """Says on standard error that a validation found a store otherwise that is clean now."""
     bad = [it for it in marks if it.outcome != CLEAN]
     if bad:
         print(f"verify: the validation at second {bad[-1].moment} said `{verdict_of(bad[-1])}`, and the store is clean now: {PUT_BACK}", file=sys.stderr)
+
+
+def tell_oddities(store_name, book_name, store, book, id, passes):
+    """Says on standard error what stands in the two as no writer leaves it, and where they don't go together."""
+    sys.dont_write_bytecode = True
+    try:
+        from parts import oddities
+    except ImportError:
+        print("verify: nothing but digests was looked at: the folder `parts` doesn't lie beside this script", file=sys.stderr)
+        return
+    for it in oddities.of(f"the store {plain(store_name)}", f"the notary's book {plain(book_name)}", store, book, id, passes):
+        print(f"verify: {it.said}", file=sys.stderr)
 
 
 def verdict_of(mark):
@@ -748,6 +807,9 @@ def call(name, book, id, *files):
     for file, content in zip(files[:-1], read[1:]):
         if begins_as(content, b"DRAGOON"):
             tell_hidden(file, content, STORE)
+    if target and is_book(read[0]):
+        passes = notary.Notary(read[0], int(id)).passes(read[1])
+        tell_oddities(files[0], book, read[1], read[0], int(id), passes)
     return lines, status
 
 
@@ -786,6 +848,7 @@ def tell_why(line, book, id, files, read):
         "unsealed": f"nothing was made: {book} {nothing}",
         "other header": f"nothing was compared: {book} {nothing}" if nothing else f"{first} is evidence of another id than {id}, or of another header or other eras than {book} has under it",
         "header altered": f"nothing was made: {''.join(fail[:1])}",
+        "examined 0": f"{first} shows no granule: whoever made it found none altered, or left them out",
     }.get(found)
     if said:
         print(f"verify: {said}", file=sys.stderr)
@@ -826,6 +889,8 @@ def comparison(store_name, book_name, id, era):
     if era is None and lines[0].startswith("clean"):
         tell_put_back(it for it, _ in records(book, *BOOK) if isinstance(it, Mark) and it.id == int(id))
     tell_of_book(doubt(store, batches, int(id), both) if is_altered else None, both)
+    tell_put_in(store, batches, int(id))
+    tell_oddities(store_name, book_name, store, book, int(id), bool(both))
     return lines, 1 if is_altered else 0
 
 

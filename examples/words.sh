@@ -50,5 +50,12 @@ made_in() {
 # behind TOLD: what the program told of bytes that stand behind the end of a file, or of a record that was cut off there. Then `clean` is no verdict.
 behind() { sed -n -E 's/^dragoon: (.*( bytes stand behind it| behind an open gate, and no whole record stands there)):.*/\1/p' <<<"$1" | paste -s -d ';'; }
 
+# lacking TOLD: what the program told of tiles that were filed, and that the book or the store lacks. Then `clean` is no verdict of all that was filed.
+lacking() {
+    sed -n -E 's/^dragoon: //; s/^((an era of .* begins at|.* has a Frontier at the end of) tile [0-9]+, and .* had [0-9]+ sealed)\. .*/\1/p
+        s/^(the last moment of .* was before the end of tile [0-9]+, which .* has sealed): .*/\1/p
+        s/^(a mark in .*, counts [0-9]+ as sealed, and the batches in front of it [0-9]+): .*/\1/p' <<<"$1" | paste -s -d ';'
+}
+
 # in_format 1|2 OLD NEW: a store in this format, laid out by hand. OLD and NEW may be one file.
 in_format() { PYTHONDONTWRITEBYTECODE=1 PYTHONPATH=$(dirname "${BASH_SOURCE[0]}") python3 -m parts.laid "$@"; }

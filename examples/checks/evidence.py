@@ -162,6 +162,7 @@ def examined_by_users(folder):
             raise Wrong(f"of {len(content)} bytes under the id {id} verify.py and the program say {found}")
     for content, book, id, why in (
         (whole, "/dev/null", "7", "nothing was compared: /dev/null is empty\n"), (whole, BOOK, "8", "has nothing that was filed under the id 8\n"),
+        (by_fields(*FIELDS, (), []), BOOK, "7", "file shows no granule: whoever made it found none altered, or left them out\n"),
         (behind, BOOK, "7", "file shows: that isn't sealed, or its era has no tree, or the book was cut or altered\n"),
     ):
         (folder / "file").write_bytes(content)

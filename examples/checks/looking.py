@@ -34,6 +34,7 @@ import dump
 import look
 import timeline_page
 from make_worked_files import record, transaction, word
+from parts import oddities
 from parts.script import Refused, is_odd
 
 WORKED, ALTERED, BOOK = (EXAMPLES / name for name in ("worked.store", "altered.store", "worked.book"))
@@ -110,6 +111,10 @@ def grown(folder, seed):
     for part in (lines[:cut], lines[cut:]):
         shutil.copy(store, copy)
         dragoon(f"store={store}", f"notary={book}", "run", "7", "scripted", lines="\n".join(part) + "\n")
+    filed = book.read_bytes() if book.exists() else b""
+    passes = bool(filed) and made.verify.compare(store.read_bytes(), made.verify.batches_of(filed, 7), 7)[0][0].startswith("clean")
+    if false := [it.said for it in oddities.of("the store", "the book", store.read_bytes(), filed, 7, passes)]:
+        raise Wrong(f"made store {seed} is said to be odd: {false}")
     status, said, told = inside(differ, *(["--book", book] if book.exists() else []), store, copy)
     odd = [it for it in said.splitlines() if not it.startswith(("the copy is the same", "up to moment", "of the copy nothing", "0 of ", "no transaction was"))]
     if status or odd or told:
@@ -256,8 +261,33 @@ def marked(folder):
     dragoon(f"store={folder / 'other'}", f"notary={folder / 'put_back'}", "validate", "7")
 
 
+def lacking(folder):
+    """A store of two filed tiles; its book from before the second one, and without that batch; the store without its last Frontier, and with one
+    that is odd; and a store into which a policy was put that changes no tile."""
+    for store, book, algorithms in (("filed_twice", "twice", "ta"), ("of_tiles", "twice_of_tiles", "t")):
+        devices = f"store={folder / store}", f"notary={folder / book}"
+        dragoon(devices[0], "init", "7", "10", "2", algorithms)
+        content = (folder / store).read_bytes()
+        (folder / store).write_bytes(content[:17] + bytes(8) + content[25:])
+        dragoon(*devices, "run", "7", "scripted", lines="now 1\ncreate t k int\ninsert t 1\nnow 45\nnotarize\nvalidate\n")
+        shutil.copy(folder / book, folder / f"{book}_before")
+        dragoon(*devices, "run", "7", "scripted", lines="now 55\ninsert t 2\nnow 85\nnotarize\nvalidate\n")
+    content, frontiers = (folder / "filed_twice").read_bytes(), [record(b"\2" + struct.pack(">Q", moment)) for moment in (40, 80, 39)]
+    (folder / "frontier_out").write_bytes(content.replace(frontiers[1], b""))
+    (folder / "frontier_odd").write_bytes(content.replace(frontiers[0], frontiers[2]))
+    content, policies = (folder / "of_tiles").read_bytes(), [record(b"\3" + struct.pack(">IIBB", tile, 4 * tile, 2, 1)) for tile in (1, 2)]
+    (folder / "policy_in").write_bytes(content.replace(frontiers[0], frontiers[0] + policies[0]))
+    (folder / "policy_behind").write_bytes(content[:-1] + policies[1] + b"\0")
+    content, verify = (folder / "twice").read_bytes(), made.verify
+    payloads = [it for _, it in verify.records(content, *verify.BOOK)]
+    (folder / "batch_out").write_bytes(content[:64] + b"".join(record(it) for it in payloads[:3] + payloads[4:]) + b"\0")
+    early = payloads[:3] + [payloads[3][:13] + struct.pack(">Q", 46) + payloads[3][21:]] + payloads[4:]
+    (folder / "batch_early").write_bytes(content[:64] + b"".join(map(record, early)) + b"\0")
+
+
 def files(folder):
     """The worked files, and others that aren't what they should be."""
+    lacking(folder)
     hiding(folder)
     marked(folder)
     worked = WORKED.read_bytes()
@@ -280,7 +310,7 @@ def files(folder):
         (folder / name).write_text("".join(lines))
     policy = record(b"\x03" + bytes(8) + b"\x02\x03")
     for name, content in (("cut", worked[:65]), ("hides_all", worked[:64] + b"\xa6" + worked[65:]), ("policy", worked[:64] + policy + worked[64:]),
-                          ("empty", b""), ("short", b"x\n"), ("zeros", bytes(500)), ("other_id", worked[:16] + b"\x08" + worked[17:]), ("wide", worked[:28] + b"\x3d" + worked[29:]),
+                          ("empty", b""), ("short", b"x\n"), ("zeros", bytes(500)), ("other_id", worked[:16] + b"\x08" + worked[17:]), ("wide", worked[:28] + b"\x3d" + worked[29:]), ("other_chains", worked[:30] + b"\2" + worked[31:]),
                           ("closed", b"\0" + worked[1:]), ("turned", worked[:5] + b"o" + worked[6:]), ("text", b"this is a text, and no store\n" * 9), ("hidden", worked[:430] + b"\0" + worked[431:]),
                           ("raised", worked[:440] + b"\xff" + worked[441:]), ("ahead", worked[:21] + b"\xee" + worked[22:]), ("shorter", worked[:430] + b"\0"),
                           ("cut_off", worked[:431]), ("lost_pages", worked[:431] + bytes(14)), ("cut_book", BOOK.read_bytes()[:126])):
@@ -290,10 +320,32 @@ def files(folder):
         (folder / name).write_bytes(book[:place] + byte + book[place + 1:])
 
 
+LACKS = " has a Frontier at the end of tile 1, and the "
+COUNTS = ", of 1970-01-01 00:01:25 UTC, counts 2 as sealed, and the batches in front of it 1: batches were taken out,"
+ENDS = " was before the end of tile 1, which the "
+
 # the words, the status, and what has to be said
 SAYS = [
+    *((name, ("filed_twice", book, "7"), status, says) for book, odd in (("twice_before", ()), ("batch_out", (COUNTS,))) for name, status, says in (
+        ("verify.py", 0, ("clean 1\nverify: the store ", LACKS, *odd)), ("look.py", 0, ("doesn't fit     the store" + LACKS, *odd)),
+        ("explain", 3, ("No verdict: ", LACKS, *odd, "File nothing: look for copies of the book first,")),
+        ("report_page.py", 0, ('<div class="verdict open"><b>No verdict</b>The store ', LACKS, *odd, "File nothing: look for copies of the book first,")))),
+    *((name, ("frontier_out", "twice", "7"), status, (ENDS, *says)) for name, status, says in (
+        ("verify.py", 0, ("clean 2\n",)), ("look.py", 0, ("moment 80; the store ends BEFORE that\n",)),
+        ("explain", 3, ("No verdict: ", "Store nothing and file nothing: hold the store against its copies first,")))),
+    ("look.py", ("frontier_odd", "twice", "7"), 0, ("odd item        the first is item 3 of 5: a Frontier of moment 39, 1970-01-01 00:00:39 UTC, which was neither the last moment nor the end of a tile",)),
+    ("look.py", ("--json", "frontier_odd"), 0, ('"first_odd_item": { "place": 3, "kind": "Frontier", "item": 39 }',)),
+    ("report_page.py", ("frontier_odd", "twice", "7"), 0, ('<div class="verdict open"><b>Clean</b>', "has a Frontier of a moment that no writer gives it")),
+    ("verify.py", ("filed_twice", "batch_early", "7"), 0, ("clean 2\n", "batch 2 of the notary's book ", " is of 1970-01-01 00:00:46 UTC, before its tile ended by the store's header")),
+    ("verify.py", ("policy_in", "twice_of_tiles", "7"), 1, ("header altered 2\nverify: without the policy that begins era 1 at tile 1 all that is filed is what the store gives: that policy was put in, or doubled\n",)),
+    *((name, ("policy_in", "twice_of_tiles", "7"), status, ("Eras altered", "era 1 is none that was filed.", "Without the policy that begins era 1 at tile 1 all that is filed is what the store gives"))
+      for name, status in (("explain", 1), ("report_page.py", 0))),
+    ("differ.py", ("policy_behind", "of_tiles"), 0, ("0 of 3 transactions differ; behind the last one of the copy the store has 0, and 1 policy more\n",)),
+    ("explain", ("other_chains", BOOK, "7"), 1, ("Today's says granules of 60 s, 8 to a tile, the tree, and second 0 as the first.",)),
+    ("explain", (WORKED, "marked", "7"), 0, (", or that mark was altered or put in.", "Find out first what the validation has found that said otherwise:")),
+    ("timeline_page.py", ("--notary", BOOK, "other_id", "8", "t", "5"), 0, ("The book has nothing under this id.",)),
     ("look.py", (WORKED, BOOK, "7"), 0, ("1 tile, before 1970-01-01 00:08:00 UTC", "t, 8 rows: k int, v int", "the one that was filed")),
-    ("look.py", ("moved", BOOK, "7"), 0, ("moments fall    1 item of a moment before that of an earlier one", "numbers         2 transactions whose number doesn't follow that of the one before", "1 tile, before 1970-01-01 00:08:00 UTC, moment 480")),
+    ("look.py", ("moved", BOOK, "7"), 0, ("moments fall    1 item of a moment before that of an earlier one", "numbers         2 transactions whose number doesn't follow that of the one before", "; the first is item 12 of 12, of moment 480 behind 500", "; the first is item 11 of 12, transaction 5 behind 9", "1 tile, before 1970-01-01 00:08:00 UTC, moment 480")),
     ("look.py", (WORKED, BOOK, "8"), 3, ("has the id 7, and not 8",)),
     ("look.py", ("hidden",), 0, ("14 bytes: a crash leaves such bytes",)),
     *((name, (store, *words), status, says) for store in ("two_turned", "two_turned_zeros") for name, words, status, says in (
@@ -558,6 +610,7 @@ def kept(folder):
         ((ALTERED, folder / "other_kind", "7"), 3, "no verdict: the notary's book evidence/book ends at byte 126 behind an open gate, and no whole record stands there", "evidence/book ends at byte 126 behind an open gate, "),
         ((ALTERED, BOOK, "7", WORKED, ALTERED), 1, "altered 1 from 0", "case: copy_2: the copy is the same as the store, byte by byte\ncase: copy_2: the copy ISN'T what was filed: altered 1 from 0\n"),
         ((ALTERED, BOOK, "7", WORKED, BOOK), 1, "altered 1 from 0", "case: evidence/copy_2 is no store: it is a notary's book, and shows nothing\n"),
+        ((folder / "filed_twice", folder / "batch_out", "7"), 3, "no verdict: the store evidence/store has a Frontier at the end of tile 1, and the notary's book evidence/book had 1 sealed;a mark in the notary's book evidence/book, of 1970-01-01 00:01:25 UTC, counts 2 as sealed, and the batches in front of it 1", "batches were taken out,"),
         ((folder / "hidden", BOOK, "7"), 3, "no verdict: the store evidence/store ends at byte 431, and 14 bytes stand behind it", "14 bytes stand behind it"),
     ):
         done = subprocess.run([EXAMPLES / "case", folder / "odd case", *words], stdin=subprocess.DEVNULL, capture_output=True, text=True)

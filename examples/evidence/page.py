@@ -136,7 +136,15 @@ class Page:
     def behind(self):
         """Where bytes stand hidden, or an open gate ends records."""
         ends = [f"The {name} {end}." for name, content, kind in self.kinds() for end in verify.open_ends(content, kind) if end]
-        return " ".join(ends) or f"Behind the records of {' and '.join(f'the {it}' for it in self.hidden)} stand bytes as a crash leaves them, or whoever hides records. They were compared with nothing."
+        return " ".join(ends) or f"Behind the records of {' and '.join(f'the {it}' for it in self.hidden)} stand bytes that were compared with nothing: {'; '.join(self.why_hidden())}."
+
+    def why_hidden(self):
+        """Who leaves the bytes that stand behind the records of the files, each once."""
+        found = []
+        for name, content, kind in self.kinds():
+            behind, within = verify.behind_ends(content, kind)
+            found += [verify.why_behind(content, kind)] * bool(name in self.hidden and behind) + [verify.WHY_WITHIN] * bool(within)
+        return dict.fromkeys(found)
 
     @functools.cached_property
     def is_all(self):

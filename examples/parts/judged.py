@@ -3,16 +3,17 @@ import re
 from collections import namedtuple
 
 import verify
-from . import moments, report as reports, script
+from . import moments, oddities, report as reports, script
 from .book import CLEAN, put_back, said
 from .notary import contradiction, shown
-from .script import ALTERED, UNTOLD, Refused
+from .script import ALTERED, UNTOLD, Refused, plain
 
 # said above what a report names, where the book contradicts itself
 DOUBTED = "What follows is named by digests of this book that don't fit one another."
 COLOUR = {"clean": "good", "altered": "bad", "header altered": "bad", "unsealed": "open"}
-# `by_verify` is the first line of verify.py, or None where it has no verdict; `odd` is in what the book contradicts itself, or None
-Verdict = namedtuple("Verdict", "colour title said by_verify odd status")
+# `by_verify` is the first line of verify.py, or None where it has no verdict; `odd` is in what the book contradicts itself, or None; `gone` is from
+# what something may be gone, "book" or "store"
+Verdict = namedtuple("Verdict", "colour title said by_verify odd gone status")
 
 
 def ask_report(given):
@@ -25,20 +26,43 @@ def ask_report(given):
         return script.ask(given.store, given.book, "analyse", given.id, "mono")
 
 
-def verdict(report, asked, book):
-    """The verdict. It is green only where tiles were compared, verify.py says the same, and nothing stands hidden."""
+def verdict(report, asked, path, book):
+    """The verdict of the store of a path. It is green only where tiles were compared, verify.py says the same, and nothing stands hidden or may be gone."""
     title, of_it = reports.verdict(report, asked.store, book)
     batches = [it.seals for it in book.batches(report.id)]
     found = shown(asked.store, batches, report.id)
     by_verify, odd = found.verdict if report.era is None else of_verify(report, asked.store, batches), contradiction(found)
-    status = ALTERED if "altered" in f"{report.verdict} {by_verify}" else 0
+    status, passes = ALTERED if "altered" in f"{report.verdict} {by_verify}" else 0, found.verdict.startswith(("clean", "altered"))
+    of_store, of_both = gone_in(report, asked, path, book, passes)
+    gone = sorted({it.gone for it in of_store + of_both})
     if odd:
-        return Verdict("bad", "The book contradicts itself", f"By {reports.algorithm_of(report)} the program says `{report.verdict}`. {odd}", by_verify, odd, ALTERED)
+        return Verdict("bad", "The book contradicts itself", f"By {reports.algorithm_of(report)} the program says `{report.verdict}`. {odd}", by_verify, odd, gone, ALTERED)
     if by_verify and kind_of(by_verify) != report.verdict:
-        return Verdict("bad", "No verdict", f"The program says `{report.verdict}`, and verify.py `{by_verify}`. One of them is wrong.", by_verify, odd, status or UNTOLD)
-    if report.verdict == "clean" and (what := hidden_in(asked, book)):
-        return Verdict("open", "No verdict", f"{what}. Up to there: {of_it}", by_verify, odd, UNTOLD)
-    return Verdict("good" if title == "Clean" else "open" if report.verdict == "clean" else COLOUR[report.verdict], title, of_it, by_verify, odd, status)
+        return Verdict("bad", "No verdict", f"The program says `{report.verdict}`, and verify.py `{by_verify}`. One of them is wrong.", by_verify, odd, gone, status or UNTOLD)
+    if report.verdict == "clean" and (what := hidden_in(asked, book) + sentences(of_both)):
+        return Verdict("open", "No verdict", " ".join([*what, f"Up to there: {of_it}", *sentences(of_store)]), by_verify, odd, gone, UNTOLD)
+    if report.verdict in ("clean", "unsealed"):
+        of_it = " ".join([of_it, *sentences(of_store + of_both)])
+    is_good = title == "Clean" and not of_store
+    return Verdict("good" if is_good else "open" if report.verdict == "clean" else COLOUR[report.verdict], title, of_it, by_verify, odd, gone, status)
+
+
+def gone_in(report, asked, path, book, passes):
+    """What stands in the store as no writer leaves it, and where the book doesn't go together with it, as far as something may be gone."""
+    store, of_book, header = f"the store {plain(path)}", f"the notary's book {plain(book.path)}", verify.header_of(asked.store)
+    items = oddities.Items(asked.store) if header and header[1] == report.id else None
+    both = oddities.of_both(store, of_book, asked.store, book.content, report.id, passes, items)
+    return list(oddities.of_store(store, items)) if items else [], [it for it in both if it.gone]
+
+
+def sentences(found):
+    return [f"{it.said[0].upper()}{it.said[1:]}." for it in found]
+
+
+def besides(asked, judged_as):
+    """The lines of the program that the verdict hasn't."""
+    texts = ((line, line.removeprefix("dragoon: ")[1:]) for line in asked.told.splitlines())
+    return [line for line, text in texts if not text or text not in judged_as.said]
 
 
 def of_verify(report, store, batches):
@@ -54,10 +78,10 @@ def kind_of(line):
 
 
 def hidden_in(asked, book):
-    """Which of the two files an open gate ends, or behind the records of which of them bytes stand, in words; or nothing."""
-    opened = [f"The store {it}" for it in reports.open_ends(asked.store)] + [f"The book {it}" for it in [book.open_end()] if it]
+    """Which of the two files an open gate ends, or behind the records of which of them bytes stand, in sentences."""
+    opened = [f"The store {it}." for it in reports.open_ends(asked.store)] + [f"The book {it}." for it in [book.open_end()] if it]
     where = " and of ".join(["the store"] * any(reports.hides(asked.store)) + ["the book"] * bool(book.hidden()))
-    return ". ".join(opened) or where and f"Bytes stand behind the records of {where}, and were compared with nothing"
+    return opened or [f"Bytes stand behind the records of {where}, and were compared with nothing."] * bool(where)
 
 
 def earlier(report, book, zone):
@@ -90,10 +114,13 @@ def changed(found):
     return "at least one changed" if found.tile is None and sum(last - first + 1 for first, last in found.ranges) > 1 else "changed"
 
 
-def what_next(report, book, asked, odd):
+def what_next(report, book, asked, judged_as):
     """What to do next, a sentence each."""
+    odd, before = judged_as.odd, put_back(book.marks(report.id))
+    if report.verdict == "clean" and before and not before[1]:
+        yield "Find out first what the validation has found that said otherwise: hold the store and the book against their copies."
     if odd:
         yield "File nothing and validate nothing. Keep the store and the book as they are, with their SHA-256: `examples/case` does that."
         yield "Hold the book against the copies and sums that others have. Then ask over copies of the store, by the book that holds."
     if not odd or report.verdict in ("altered", "header altered"):
-        yield from reports.what_next(report, book, asked)
+        yield from reports.what_next(report, book, asked, judged_as.gone)

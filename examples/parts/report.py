@@ -7,13 +7,18 @@ import verify
 from . import moments
 from .book import nothing_of
 from .script import Refused, counted, plain
-from .store import Create, Store, Tables, hidden, what_is
+from .store import Create, Store, Tables, chains, hidden, what_is
 
 # granules are ranges, each with its first and its last; `tile` is one that fails, or None
 Found = namedtuple("Found", "ranges tile since until")
 # `era` is the one that was asked for, or None; `tiles` are its sealed ones then, else all of them
 Report = namedtuple("Report", "text algorithm id era tiles verdict found first")
 HEAD = re.compile(r"report (mono|tiled(?: \d+)?|a3d) id (\d+)(?: era (\d+))? tiles (\d+) (unsealed|clean|altered|header altered)")
+# what comes first where what was filed may be gone from the book or the store
+GONE = {
+    "book": "File nothing: look for copies of the book first, and hold it against them: `Held against its own past` in docs/NOTARY.md.",
+    "store": "Store nothing and file nothing: hold the store against its copies first, by `examples/differ.py STORE COPY`.",
+}
 BACKWARDS = "this span ends before it begins: a clock went back, or the book has a foreign mark. The granules don't depend on it"
 
 
@@ -126,7 +131,9 @@ def verdict(report, content, book):
         return "Altered", f"The store isn't what was filed. {changed}"
     doubt = f"So nothing that is filed ({tiles}) can be compared, and every granule of it is in doubt."
     if eras := other_eras(report, content, book):
-        return "Eras altered", f"The header is the one that was filed. {eras} {doubt}"
+        at = verify.put_in(content, [it.seals for it in book.batches(report.id)], report.id)
+        alone = f"{verify.put_in_words(verify.eras_of(content), at).capitalize()}." if at else doubt
+        return "Eras altered", f"The header is the one that was filed. {eras} {alone}"
     return "Header altered", f"{other_header(report, content)} {doubt}"
 
 
@@ -154,7 +161,7 @@ def other_header(report, content):
     if header[1] != report.id:
         return f"The file is another store: its id is {header[1]}, and not {report.id}."
     first = int.from_bytes(header[0][8:16], "big")
-    now = f"Today's says granules of {header[2]} s, {1 << header[3]} to a tile, and second {first} as the first."
+    now = f"Today's says granules of {header[2]} s, {1 << header[3]} to a tile, {chains(verify.Era(0, 0, *header[3:]))}, and second {first} as the first."
     return f"The store has the id {report.id}, and another header than was filed: it was made anew, or its header was changed. {now}"
 
 
@@ -186,8 +193,8 @@ def cannot_say(report):
     yield "All of this is only as good as the book: hold it against the copies and sums that others have."
 
 
-def what_next(report, book, asked):
-    """What to do next, a sentence each; `asked` has what was asked. docs/OPERATING.md has the steps."""
+def what_next(report, book, asked, gone):
+    """What to do next, a sentence each; `asked` has what was asked, and `gone` from what something may be gone. docs/OPERATING.md has the steps."""
     odd = odd_moment(asked)
     if odd:
         yield f"File nothing, and hold the store against its copies: of its last moment, {odd}."
@@ -207,7 +214,8 @@ def what_next(report, book, asked):
         yield f"File nothing and validate nothing with this book: {hidden(behind, book.why_behind())}. They stand behind its end, and each call would write over them."
     if behind or end:
         yield "Look for copies of the book first, and hold it against them: `Bytes behind the end` in docs/NOTARY.md has the steps."
-    if (is_hidden or opened or behind or end or odd) and report.verdict in ("unsealed", "clean"):
+    yield from (GONE[it] for it in gone)
+    if (is_hidden or opened or behind or end or odd or gone) and report.verdict in ("unsealed", "clean"):
         return
     yield from what_next_by(report)
 

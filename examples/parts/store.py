@@ -8,7 +8,7 @@ from collections import namedtuple
 
 import verify
 from verify import Era as Policy, what_is
-from . import moments
+from . import moments, oddities
 from .script import Refused, content_of, counted, plain, tell
 
 LIMIT, GRANULES, LAST_SECOND, LONGEST_LINE = 67_108_864, verify.GRANULES, 1_099_511_627_775, 65_536
@@ -100,12 +100,7 @@ class Store:
 
     def falls(self):
         """How many items have a moment before that of an earlier one. No honest writer stores such."""
-        last, count = 0, 0
-        for item in self.items():
-            if not isinstance(item, Policy):
-                count += item.moment < last
-                last = max(last, item.moment)
-        return count
+        return oddities.Items(self.content).falls
 
     def by_moment(self):
         """The transactions as the tables take them: by their moments, and in file order within one."""
