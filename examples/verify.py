@@ -12,7 +12,8 @@ number of sealed tiles, and P the first one with a digest that differs. Behind `
 where the digest differs, else `NAME is not filed`, or `NAME is not planned` of a tile behind the last granule. Where digests contradict
 one another, standard error says what follows: that the book was altered, or either of the two. `validate` compares fewer digests, and may
 say `clean` then. What else is filed is compared with nothing, and named there, too. So is the last mark that isn't clean, where the store
-is. With `--era E` it compares the tiles of that era alone, by their parts and nodes: the chain at a tile's end goes by all tiles before, too. N is the number of the era's sealed tiles
+is; the one policy by which alone the eras aren't those that were filed; and where STORE and BOOK don't go together, or what stands in them is left so by no writer:
+tiles, rows or a Frontier that one of them lacks, and moments or numbers that are odd. With `--era E` it compares the tiles of that era alone, by their parts and nodes: the chain at a tile's end goes by all tiles before, too. N is the number of the era's sealed tiles
 then. It writes no file, and ends with 0 if nothing differs, 1 if something does, and 2 on other words. It ends with 3 if a file can't be
 read or is no book, the store has no era E, or that era's tiles have neither chains nor a tree.
 
@@ -22,7 +23,7 @@ only once it is whole, and one of more than one byte is left as it is. They prin
 are lost; or `unsealed`, or `header altered N` with status 1. Where a call has no answer, the line is `fault NAME`, and the status is that of
 NAME in docs/COMMANDS.md. Standard error says why nothing was made. It also says which originals COPY didn't give, and what isn't sealed that
 TARGET lacks. Where numbers stand twice or moments fall behind the sealed tiles of TARGET, it says so. It says, too, where STORE, COPY or TARGET
-isn't what was filed by other digests.
+isn't what was filed by other digests, and of STORE and BOOK what it says where it compares them.
 Of `restore` HeaderLost is 24: neither store passes. An empty book is one without batches.
 """
 import bisect
@@ -376,7 +377,7 @@ def sealed_eras(eras, tiles):
     """The names and digests of the eras, from 1 on, that begin at one of so many tiles."""
     for at, era in enumerate(eras):
         if at and era.tile < tiles:
-            yield f"era {at}", digest(b"\x06", number(at, 4), number(era.tile, 4), number(era.granule, 4), number(era.k, 1), number(era.algorithms, 1))
+            yield f"era {at}", era_digest(at, era)
 
 
 def are_filed(eras, tiles, batches):
@@ -650,21 +651,32 @@ def doubt_of_header(store, batches, id):
     return None
 
 
-def put_in(store, batches, id):
-    """Where the eras aren't those that were filed: the number of one without whose policy all that is filed is what the store gives; or None."""
+def by_one_policy(store, batches, id):
+    """Where the eras aren't those that were filed: by which policy alone all that is filed isn't what the store gives, in words; or None."""
     if not batches or not is_header_filed(store, batches, id) or are_filed(eras_of(store), len(batches) - 1, batches):
         return None
     eras, policies = eras_of(store), policies_of(store)
-    for at, era in enumerate(eras):
-        if at and fits(store, batches, eras_by(store, without(policies, era))):
-            return at
+    for at, era in list(enumerate(eras))[1:]:
+        place = policies.index(era)
+        if fits(store, batches, eras_by(store, policies[:place] + policies[place + 1 :])):
+            return f"without the policy that begins era {at} at tile {era.tile} all that is filed is what the store gives: that policy was put in, or doubled"
+    for at, era in filed_eras(eras, batches):
+        if any(fits(store, batches, eras_by(store, [*eras[1:at], era, *behind])) for behind in (eras[at:], eras[at + 1 :])):
+            return f"with a policy from tile {era.tile} on, of {1 << era.k} granules to a tile, all that is filed is what the store gives: that policy was taken out, or changed"
     return None
 
 
-def without(policies, policy):
-    """The policies but for the first such one."""
-    place = policies.index(policy)
-    return policies[:place] + policies[place + 1 :]
+def filed_eras(eras, batches):
+    """The eras that were filed and that the store doesn't have, each with its number, where it begins behind one that it has."""
+    for tile, batch in enumerate(batches[1:]):
+        for at, value in ((int(name[4:]), value) for name, value in batch if name.startswith("era ")):
+            granule = first_of(eras[:at], tile) if 1 <= at <= len(eras) and eras[at - 1].tile <= tile else 0
+            found = (Era(tile, granule, k, algorithms) for k in range(11) for algorithms in range(4))
+            yield from ((at, era) for era in found if era_digest(at, era) == value and era not in eras[at : at + 1])
+
+
+def era_digest(at, era):
+    return digest(b"\x06", number(at, 4), number(era.tile, 4), number(era.granule, 4), number(era.k, 1), number(era.algorithms, 1))
 
 
 def fits(store, batches, eras):
@@ -677,8 +689,8 @@ def fits(store, batches, eras):
 
 
 def doubt_of_eras(store, batches, id):
-    """The same where the eras aren't those that were filed. A policy that was put in says nothing of the book."""
-    if not batches or not is_header_filed(store, batches, id) or put_in(store, batches, id):
+    """The same where the eras aren't those that were filed. Where one policy explains that, it says nothing of the book."""
+    if not batches or not is_header_filed(store, batches, id) or by_one_policy(store, batches, id):
         return None
     tiles = min(len(batches) - 1, tiles_within(eras_of(store)))
     sides = [[{name: value for name, value in seals.items() if not name.startswith("era ")} for seals in both]
@@ -704,17 +716,6 @@ def tell_of_book(said, both):
     if more:
         named = ", ".join(more[:9]) + (f" and {len(more) - 9} more" if more[9:] else "")
         print(f"verify: the book has digests that nothing plans where they stand, and nothing was compared with them: {named}", file=sys.stderr)
-
-
-def tell_put_in(store, batches, id):
-    """Says on standard error which policy keeps a store from being what was filed, where nothing else does."""
-    if era := put_in(store, batches, id):
-        print(f"verify: {put_in_words(eras_of(store), era)}", file=sys.stderr)
-
-
-def put_in_words(eras, at):
-    """That without the policy of an era all fits."""
-    return f"without the policy that begins era {at} at tile {eras[at].tile} all that is filed is what the store gives: that policy was put in, or doubled"
 
 
 def tell_put_back(marks):
@@ -889,7 +890,8 @@ def comparison(store_name, book_name, id, era):
     if era is None and lines[0].startswith("clean"):
         tell_put_back(it for it, _ in records(book, *BOOK) if isinstance(it, Mark) and it.id == int(id))
     tell_of_book(doubt(store, batches, int(id), both) if is_altered else None, both)
-    tell_put_in(store, batches, int(id))
+    if said := by_one_policy(store, batches, int(id)):
+        print(f"verify: {said}", file=sys.stderr)
     tell_oddities(store_name, book_name, store, book, int(id), bool(both))
     return lines, 1 if is_altered else 0
 

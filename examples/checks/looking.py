@@ -272,6 +272,8 @@ def lacking(folder):
         dragoon(*devices, "run", "7", "scripted", lines="now 1\ncreate t k int\ninsert t 1\nnow 45\nnotarize\nvalidate\n")
         shutil.copy(folder / book, folder / f"{book}_before")
         dragoon(*devices, "run", "7", "scripted", lines="now 55\ninsert t 2\nnow 85\nnotarize\nvalidate\n")
+    dragoon(f"store={folder / 'begun'}", "init", "7", "10", "2", "ta")
+    dragoon(f"store={folder / 'begun'}", f"notary={folder / 'of_begun'}", "notarize", "7")
     content, frontiers = (folder / "filed_twice").read_bytes(), [record(b"\2" + struct.pack(">Q", moment)) for moment in (40, 80, 39)]
     (folder / "frontier_out").write_bytes(content.replace(frontiers[1], b""))
     (folder / "frontier_odd").write_bytes(content.replace(frontiers[0], frontiers[2]))
@@ -338,8 +340,11 @@ SAYS = [
     ("report_page.py", ("frontier_odd", "twice", "7"), 0, ('<div class="verdict open"><b>Clean</b>', "has a Frontier of a moment that no writer gives it")),
     ("verify.py", ("filed_twice", "batch_early", "7"), 0, ("clean 2\n", "batch 2 of the notary's book ", " is of 1970-01-01 00:00:46 UTC, before its tile ended by the store's header")),
     ("verify.py", ("policy_in", "twice_of_tiles", "7"), 1, ("header altered 2\nverify: without the policy that begins era 1 at tile 1 all that is filed is what the store gives: that policy was put in, or doubled\n",)),
+    *(("verify.py", (store, "eras_book", "7"), 1, ("header altered 5\nverify: with a policy from tile 2 on, of 8 granules to a tile, all that is filed is what the store gives: that policy was taken out, or changed\n",))
+      for store in ("era_gone", "era_other")),
     *((name, ("policy_in", "twice_of_tiles", "7"), status, ("Eras altered", "era 1 is none that was filed.", "Without the policy that begins era 1 at tile 1 all that is filed is what the store gives"))
       for name, status in (("explain", 1), ("report_page.py", 0))),
+    *((name, ("begun", "of_begun", "7"), 0, (says,)) for name, says in (("explain", "Clean so far: "), ("report_page.py", '<div class="verdict open"><b>Clean so far</b>'))),
     ("differ.py", ("policy_behind", "of_tiles"), 0, ("0 of 3 transactions differ; behind the last one of the copy the store has 0, and 1 policy more\n",)),
     ("explain", ("other_chains", BOOK, "7"), 1, ("Today's says granules of 60 s, 8 to a tile, the tree, and second 0 as the first.",)),
     ("explain", (WORKED, "marked", "7"), 0, (", or that mark was altered or put in.", "Find out first what the validation has found that said otherwise:")),

@@ -20,7 +20,7 @@ from collections import Counter, namedtuple
 sys.dont_write_bytecode = True
 sys.path.insert(0, str(pathlib.Path(__file__).resolve().parent.parent))
 import verify
-from parts import evidence, moments, page
+from parts import evidence, moments, oddities, page
 from parts.notary import contradiction, leaf, shown, shown_of_copy
 from parts.script import Refused, content_of, counted, end, plain, tell, words_of
 from parts.store import Create, Store, chains, item_of
@@ -93,7 +93,11 @@ class Page:
         self.verified, self.told = self.text("verified").splitlines() or [""], self.text("told").splitlines()
         self.evidence = file_of(contents["evidence"], "`evidence` in this folder")
         self.width, self.epoch, self.left = self.store.width, self.store.epoch, MOST_TRANSACTIONS
-        self.odd = contradiction(shown(contents["store"], self.batches, self.id))
+        found = shown(contents["store"], self.batches, self.id)
+        self.odd, passes, items = contradiction(found), found.verdict.startswith(("clean", "altered")), oddities.Items(contents["store"])
+        self.of_store = oddities.sentences(oddities.of_store("the store", items))
+        both = oddities.of_both("the store", "the notary's book", contents["store"], self.book, self.id, passes, items)
+        self.of_both = oddities.sentences(it for it in both if it.gone)
         self.hidden = [name for name, content, kind in self.kinds()
                        if stands_hidden(content, kind) or any(it.startswith(f"dragoon: the {BY_PROGRAM[name]} ") and " bytes stand behind it" in it for it in self.told)]
         self.altered = [it for it in self.said or [] if not it.first]
@@ -131,7 +135,9 @@ class Page:
         said = f"What the store holds up to the end of the last filed tile is what was filed: {counted(self.tiles, 'tile')}."
         if self.hidden:
             return "open", "No verdict", f"{self.behind()} Up to there: {said[0].lower()}{said[1:]}"
-        return "good", "Not altered", said
+        if self.of_both:
+            return "open", "No verdict", f"{' '.join(self.of_both)} Up to there: {said[0].lower()}{said[1:]}"
+        return "open" if self.of_store else "good", "Not altered", " ".join([said, *self.of_store])
 
     def behind(self):
         """Where bytes stand hidden, or an open gate ends records."""

@@ -39,10 +39,10 @@ def verdict(report, asked, path, book):
         return Verdict("bad", "The book contradicts itself", f"By {reports.algorithm_of(report)} the program says `{report.verdict}`. {odd}", by_verify, odd, gone, ALTERED)
     if by_verify and kind_of(by_verify) != report.verdict:
         return Verdict("bad", "No verdict", f"The program says `{report.verdict}`, and verify.py `{by_verify}`. One of them is wrong.", by_verify, odd, gone, status or UNTOLD)
-    if report.verdict == "clean" and (what := hidden_in(asked, book) + sentences(of_both)):
-        return Verdict("open", "No verdict", " ".join([*what, f"Up to there: {of_it}", *sentences(of_store)]), by_verify, odd, gone, UNTOLD)
+    if report.verdict == "clean" and (what := hidden_in(asked, book) + oddities.sentences(of_both)):
+        return Verdict("open", "No verdict", " ".join([*what, f"Up to there: {of_it}", *oddities.sentences(of_store)]), by_verify, odd, gone, UNTOLD)
     if report.verdict in ("clean", "unsealed"):
-        of_it = " ".join([of_it, *sentences(of_store + of_both)])
+        of_it = " ".join([of_it, *oddities.sentences(of_store + of_both)])
     is_good = title == "Clean" and not of_store
     return Verdict("good" if is_good else "open" if report.verdict == "clean" else COLOUR[report.verdict], title, of_it, by_verify, odd, gone, status)
 
@@ -53,10 +53,6 @@ def gone_in(report, asked, path, book, passes):
     items = oddities.Items(asked.store) if header and header[1] == report.id else None
     both = oddities.of_both(store, of_book, asked.store, book.content, report.id, passes, items)
     return list(oddities.of_store(store, items)) if items else [], [it for it in both if it.gone]
-
-
-def sentences(found):
-    return [f"{it.said[0].upper()}{it.said[1:]}." for it in found]
 
 
 def besides(asked, judged_as):

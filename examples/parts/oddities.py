@@ -179,3 +179,7 @@ def of(store, book, content, filed, id, passes):
     if items:
         yield from of_store(store, items)
     yield from of_both(store, book, content, filed, id, passes, items)
+
+
+def sentences(found):
+    return [f"{it.said[0].upper()}{it.said[1:]}." for it in found]

@@ -131,9 +131,8 @@ def verdict(report, content, book):
         return "Altered", f"The store isn't what was filed. {changed}"
     doubt = f"So nothing that is filed ({tiles}) can be compared, and every granule of it is in doubt."
     if eras := other_eras(report, content, book):
-        at = verify.put_in(content, [it.seals for it in book.batches(report.id)], report.id)
-        alone = f"{verify.put_in_words(verify.eras_of(content), at).capitalize()}." if at else doubt
-        return "Eras altered", f"The header is the one that was filed. {eras} {alone}"
+        alone = verify.by_one_policy(content, [it.seals for it in book.batches(report.id)], report.id)
+        return "Eras altered", f"The header is the one that was filed. {eras} {f'{alone.capitalize()}.' if alone else doubt}"
     return "Header altered", f"{other_header(report, content)} {doubt}"
 
 
