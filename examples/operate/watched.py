@@ -29,7 +29,11 @@ OPEN = verify.OPEN
 KEYS = ("STORE", "BOOK", "ID", "ALG", "STATE")
 COMMANDS = ("notarize", "validate", "run", "analyse")
 # how the names of the files end that STATE keeps of a store
-KEPT = ("book", "sealed", "length", "lock", "behind", "hidden", "socket", *COMMANDS)
+KEPT = ("book", "sealed", "length", "lock", "behind", "hidden", "odd", "known", "socket", *COMMANDS)
+# what the program says of something that no writer and no crash leaves so, whatever a command ends with. Bytes behind an end are noted by
+# themselves, a mark that says altered is a verdict, and the clock may be wrong alone
+ODD = re.compile("^dragoon: (?!.*( bytes stand behind it| behind an open gate|last mark in|clock says))"
+    "(.*(altered|taken out|put in|put back|were lost|was replaced|no writer|no crash|by somebody else).*)$", re.MULTILINE)
 
 # `path` is where the conf lies, if there is one
 Conf = collections.namedtuple("Conf", "name store book id alg state path", defaults=[None])
@@ -687,14 +691,34 @@ def status_of(process):
     return process.returncode if process.returncode >= 0 else 128 - process.returncode
 
 
-def hear(conf, command, told):
+def hear(conf, command, told, is_well):
     """Hands on what the program told on standard error, and keeps what it said of bytes behind the end of the store, and whether they still
-    stand there; or of a record that was cut off there. Of a store that another process writes to it isn't kept."""
+    stand there; or of a record that was cut off there; and what else is odd, of a call that goes on or ended well. Of a store that another process
+    writes to it isn't kept."""
     print(told, end="", file=sys.stderr, flush=True)
+    if re.search("^dragoon: the (store|notary's book) .* is locked by another process", told, re.MULTILINE):
+        return
     behind = re.search("^dragoon: (the store .*( bytes stand behind it| behind an open gate, and no whole record stands there)):", told, re.MULTILINE)
-    if behind and not re.search("^dragoon: the store .* is locked by another process", told, re.MULTILINE):
-        is_over = command in ("notarize", "run") and behind[2] == " bytes stand behind it"
+    if behind:
+        is_over = command in ("notarize", "run") and behind[2] == " bytes stand behind it" and " ends a segment at " not in behind[1]
         is_kept(conf, command, lambda: note(behind_file(conf), behind[1], STORED_OVER if is_over else ""))
+    if is_well:
+        is_kept(conf, command, lambda: note_odd(conf, [it[2] for it in ODD.finditer(told)]))
+
+
+def note_odd(conf, sentences):
+    """Keeps these sentences, each once, but for those that a person knows already."""
+    there, known = lines_in(odd_file(conf)), lines_in(known_file(conf))
+    if new := [it for it in dict.fromkeys(sentences) if it not in there + known]:
+        write_whole(odd_file(conf), "".join(f"{it}\n" for it in [*there, *new]))
+
+
+def lines_in(file):
+    """The lines of a file of STATE. What is garbled says none."""
+    try:
+        return left_in(file).splitlines()
+    except (FileNotFoundError, ValueError, Unknown):
+        return []
 
 
 def note(file, words, over):
@@ -905,6 +929,24 @@ def behind_store(conf):
         return f"{said}; hold the store against its copies, then remove {behind_file(conf)}"
     said = odd_end(conf)
     return said and f"{said}; hold the store against its copies"
+
+
+def odd_file(conf):
+    return pathlib.Path(conf.state) / f"{conf.name}.odd"
+
+
+def known_file(conf):
+    return pathlib.Path(conf.state) / f"{conf.name}.known"
+
+
+def odd(conf):
+    """What the program told that no writer and no crash leaves so, or None. It stays until somebody removes it."""
+    said = noted(odd_file(conf), f"{conf.store} or {conf.book}")
+    if not said:
+        return None
+    first, *more = said.splitlines()
+    others = f" (and {len(more)} more)" if more else ""
+    return f"{first}{others}; hold both files against their copies, then add {odd_file(conf)} to {known_file(conf)}, and remove it"
 
 
 def behind_book(conf):
