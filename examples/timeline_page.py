@@ -7,8 +7,9 @@ KEY stands as in a statement, as 7, true or x'00ff'. A text may stand without it
 without one they are left out. Dates are those of ZONE, as Europe/Zurich, or else of UTC. The page is one file that any browser shows
 and prints, and loads nothing from outside. It reads the files as docs/FORMATS.md says and opens none for writing; whether the store is
 what was filed it can't say: examples/report_page.py does. Versions go by their moments, as `history` has them. Where moments fall or
-operations fit no table, the page's banner says so. It ends with 0 if the page is made, also of a row that never was, and with 3 if a file
-can't be read, the store has another id, or has no such table.
+operations fit no table, the page's banner says so. It says, too, and so does standard error, where more may stand hidden behind the records
+of either file or may be gone from it, and where BOOK has nothing of the store, or another header or other eras. It isn't green then. It ends
+with 0 if the page is made, also of a row that never was, and with 3 if a file can't be read, the store has another id, or has no such table.
 """
 import re
 import sys
@@ -16,9 +17,10 @@ from collections import namedtuple
 
 sys.dont_write_bytecode = True
 import verify
-from parts import moments, page
-from parts.book import CLEAN, Batch, Book, said
-from parts.script import Refused, counted, end, number, plain, words_of
+from parts import moments, oddities, page
+from parts.book import CLEAN, Batch, Book, filed_in, said
+from parts.notary import Notary
+from parts.script import Refused, counted, end, number, plain, tell, words_of
 from parts.store import Create, Put, Store, Tables, hidden, kind_of, literal
 
 MOST_TICKS, MOST_BARS = 400, 400
@@ -88,11 +90,34 @@ class Page:
         if self.store.id != given.id:
             raise Refused(f"{plain(given.store)} has the id {self.store.id}, and not {given.id}")
         self.history = History(self.store, given.table, given.key)
-        self.filings = [it for it in Book(given.notary).filings if it.id == given.id] if given.notary else []
+        self.book = Book(given.notary) if given.notary else None
+        self.filings = [it for it in self.book.filings if it.id == given.id] if self.book else []
+        self.doubts = list(self.of_book()) if self.book else []
         moments_of = [it.moment - self.store.epoch for it in self.filings]
         self.last = max([self.history.last, *moments_of])
         # what is now has a little room behind the last event
         self.stop = self.last + self.last // 30 + 1
+
+    def of_book(self):
+        """Where filings may stand hidden in the book or be gone from it, or may be another store's: each a sentence without its end."""
+        book, content, id = self.book, self.store.content, self.given.id
+        if open_end := book.open_end():
+            yield f"the book {open_end} (docs/NOTARY.md)"
+        elif behind := book.hidden():
+            yield f"behind the end of the book stand {hidden(behind, book.why_behind())}"
+        passes = Notary(book.content, id).passes(content)
+        if not self.filings:
+            yield f"the book has nothing under this id. {filed_in(book)}"
+        elif book.batches(id) and not passes:
+            yield f"the filings and validations may be another store's: this one {verify.what_fails(content, id, book.content)}"
+        both = oddities.of_both("the store", "the book", content, book.content, id, passes, oddities.Items(content))
+        yield from (it.said for it in both if it.gone)
+
+    def tell(self):
+        """Says on standard error what stands hidden or may be gone, and where the book may be another store's."""
+        self.store.tell_hidden()
+        for it in self.doubts:
+            tell(it)
 
     def date(self, moment):
         return moments.date(self.store.epoch + moment, self.given.zone)
@@ -170,15 +195,15 @@ class Page:
         yield f"<h1>{page.safe(given.table)} {page.long(literal(self.history.key))}: its history</h1>"
         is_there = bool(versions) and versions[-1].stop is None
         state = "The row is there now." if is_there else "The row isn't there now." if versions else "The store shows no such row."
-        behind, odd = self.store.behind(), list(self.history.odd())
+        behind, open_ends, odd = self.store.behind(), self.store.open_ends(), list(self.history.odd())
         if behind:
             state += f" More of it may stand hidden behind records: {counted(behind, 'byte')}."
-        if any(self.store.open_ends()):
+        if any(open_ends):
             state += " More of it may be gone: a record was cut off or altered."
-        if given.notary and not self.filings:
-            state += " The book has nothing under this id."
-        colour = "bad" if odd else "good" if is_there else "open"
-        yield f'<div class="verdict {colour}"><b>{counted(len(versions), "version")}</b>{" ".join([state, *odd])}</div>'
+        is_whole = not any(verify.hides(self.store.content, verify.STORE)) and not any(open_ends) and not self.doubts
+        colour = "bad" if odd else "good" if is_there and is_whole else "open"
+        what = page.with_code(" ".join([state, *odd, *map(oddities.sentence, self.doubts)]))
+        yield f'<div class="verdict {colour}"><b>{counted(len(versions), "version")}</b>{what}</div>'
         yield page.heading("Over time")
         yield from self.lanes()
         yield "<p class=soft>Point at a bar or a line to read its date. A number in a bar is that of the version below.</p>"
@@ -203,7 +228,9 @@ class Page:
 
 
 def main(given):
-    return page.page(f"{given.table} {given.key[:40]}", Page(given).parts()), 0
+    made = Page(given)
+    made.tell()
+    return page.page(f"{given.table} {given.key[:40]}", made.parts()), 0
 
 
 def words():

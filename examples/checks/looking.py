@@ -256,6 +256,9 @@ def marked(folder):
     shutil.copy(BOOK, folder / "marked")
     shutil.copy(ALTERED, folder / "other")
     dragoon(f"store={folder / 'other'}", f"notary={folder / 'marked'}", "validate", "7")
+    content, place = (folder / "marked").read_bytes(), BOOK.stat().st_size - 1
+    (folder / "hidden_mark").write_bytes(made.changed(content, place, 0xA6))
+    (folder / "crashed_book").write_bytes(made.changed(content, place, 0)[:-9])
     shutil.copy(folder / "marked", folder / "put_back")
     shutil.copy(WORKED, folder / "other")
     dragoon(f"store={folder / 'other'}", f"notary={folder / 'put_back'}", "validate", "7")
@@ -348,7 +351,15 @@ SAYS = [
     ("differ.py", ("policy_behind", "of_tiles"), 0, ("0 of 3 transactions differ; behind the last one of the copy the store has 0, and 1 policy more\n",)),
     ("explain", ("other_chains", BOOK, "7"), 1, ("Today's says granules of 60 s, 8 to a tile, the tree, and second 0 as the first.",)),
     ("explain", (WORKED, "marked", "7"), 0, (", or that mark was altered or put in.", "Find out first what the validation has found that said otherwise:")),
-    ("timeline_page.py", ("--notary", BOOK, "other_id", "8", "t", "5"), 0, ("The book has nothing under this id.",)),
+    ("timeline_page.py", ("--notary", BOOK, "other_id", "8", "t", "5"), 0, ("The book has nothing under this id. Under 7 something is filed.",)),
+    *(("timeline_page.py", ("--notary", book, store, "7", "t", "1"), 0, ('verdict open"><b>1 version</b>The row is there now. ', f"{says[0].upper()}{says[1:]}", f"timeline_page: {says}")) for store, book, says in (
+        (ALTERED, "hidden_mark", "behind the end of the book stand 31 bytes: no crash leaves them so"),
+        (WORKED, "hides_filings", "behind the end of the book stand 848 bytes: no crash leaves them so"),
+        (WORKED, "cut_book", "the book ends at byte 126 behind an open gate, and no whole record stands there"),
+        (WORKED, "empty", "the book has nothing under this id. Of the book: it is empty"),
+        ("wide", BOOK, "the filings and validations may be another store"),
+        ("filed_twice", "twice_before", "the store has a Frontier at the end of tile 1, and the book had 1 sealed"))),
+    *(("timeline_page.py", ("--notary", book, WORKED, "7", "t", "1"), 0, ('verdict good"><b>1 version</b>The row is there now.</div>',)) for book in (BOOK, "marked", "crashed_book")),
     ("look.py", (WORKED, BOOK, "7"), 0, ("1 tile, before 1970-01-01 00:08:00 UTC", "t, 8 rows: k int, v int", "the one that was filed")),
     ("look.py", ("moved", BOOK, "7"), 0, ("moments fall    1 item of a moment before that of an earlier one", "numbers         2 transactions whose number doesn't follow that of the one before", "; the first is item 12 of 12, of moment 480 behind 500", "; the first is item 11 of 12, transaction 5 behind 9", "1 tile, before 1970-01-01 00:08:00 UTC, moment 480")),
     ("look.py", (WORKED, BOOK, "8"), 3, ("has the id 7, and not 8",)),

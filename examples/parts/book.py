@@ -52,6 +52,12 @@ def nothing_of(book):
     return what_is(book.content) if is_empty(book.content) else "it has no record yet"
 
 
+def filed_in(book):
+    """Under which ids something is filed in a book, or what a book without any record is, as a sentence without its end."""
+    ids = book.ids()
+    return f"Under {' and '.join(map(str, ids[:9]))} something is filed" if ids else f"Of the book: {nothing_of(book)}"
+
+
 def put_back(marks):
     """The last mark that isn't clean, and the first clean one behind it or None; or None where all are clean."""
     at = max((at for at, it in enumerate(marks) if it.outcome != CLEAN), default=None)

@@ -182,4 +182,8 @@ def of(store, book, content, filed, id, passes):
 
 
 def sentences(found):
-    return [f"{it.said[0].upper()}{it.said[1:]}." for it in found]
+    return [sentence(it.said) for it in found]
+
+
+def sentence(said):
+    return f"{said[0].upper()}{said[1:]}."

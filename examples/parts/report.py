@@ -5,7 +5,7 @@ from collections import namedtuple
 
 import verify
 from . import moments
-from .book import nothing_of
+from .book import filed_in
 from .script import Refused, counted, plain
 from .store import Create, Store, Tables, chains, hidden, what_is
 
@@ -112,10 +112,8 @@ def verdict(report, content, book):
     """The verdict in a few words, and in a sentence."""
     tiles = counted(report.tiles, "tile") + (f" of era {report.era}" if report.era is not None else "")
     if report.verdict == "unsealed":
-        ids = book.ids()
-        filed = f"Under {' and '.join(map(str, ids[:9]))} something is filed." if ids else f"Of the book: {nothing_of(book)}."
         compared = f"Nothing was filed under the id {report.id}, so nothing was compared."
-        return "Nothing was filed", f"{compared} {filed} Of the file that was asked: {what_is(content)}."
+        return "Nothing was filed", f"{compared} {filed_in(book)}. Of the file that was asked: {what_is(content)}."
     if report.verdict == "clean" and report.era is not None and not report.tiles:
         has_none = verify.has_no_tile(verify.eras_of(content), report.era)
         why = f"Era {report.era} has no tile, since era {report.era + 1} begins at the same one." if has_none else f"No tile of era {report.era} is filed yet."
