@@ -18,12 +18,13 @@ then. It writes no file, and ends with 0 if nothing differs, 1 if something does
 read or is no book, the store has no era E, or that era's tiles have neither chains nor a tree.
 
 `examine` prints what the program's `examine` prints of an evidence file, by docs/COMMANDS.md, and ends with the same status. `evidence`
-writes such a file to TARGET, and `restore` a new store, of what STORE and COPY hold. COPY is /dev/null where there is none. TARGET is there
-only once it is whole, and one of more than one byte is left as it is. They print `evidence N`, or `restored K lost M` and the granules that
-are lost; or `unsealed`, or `header altered N` with status 1. Where a call has no answer, the line is `fault NAME`, and the status is that of
-NAME in docs/COMMANDS.md. Standard error says why nothing was made. It also says which originals COPY didn't give, and what isn't sealed that
-TARGET lacks. Where numbers stand twice or moments fall behind the sealed tiles of TARGET, it says so. It says, too, where STORE, COPY or TARGET
-isn't what was filed by other digests, and of STORE and BOOK what it says where it compares them.
+writes such a file to TARGET, and `restore` a new store, of what STORE and COPY hold. COPY is /dev/null where there is none, and another
+empty file is told. TARGET is there only once it is whole, and one of more than one byte is left as it is. They print `evidence N`, or
+`restored K lost M` and the granules that are lost; or `unsealed`, or `header altered N` with status 1. Where a call has no answer, the line
+is `fault NAME`, and the status is that of NAME in docs/COMMANDS.md. Standard error says why nothing was made, and where no tile is filed. It
+also says which originals COPY didn't give, how much of TARGET isn't sealed, and how much that isn't sealed TARGET lacks. Where numbers stand
+twice or moments fall behind the sealed tiles of TARGET, it says so. It says, too, where STORE, COPY or TARGET isn't what was filed by other
+digests, and of STORE and BOOK what it says where it compares them.
 Of `restore` HeaderLost is 24: neither store passes. An empty book is one without batches.
 """
 import bisect
@@ -777,6 +778,11 @@ def is_number(word):
 File = namedtuple("File", "name content")
 # the calls that a word in front names, and how many words stand behind it
 CALLS = {"examine": 3, "evidence": 5, "restore": 5}
+
+
+def is_named(file):
+    """Whether a file was named. /dev/null stands for none."""
+    return file.name != os.devnull
 
 
 def call(name, book, id, *files):

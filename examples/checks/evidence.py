@@ -70,6 +70,10 @@ def as_a_user(folder):
     for path, name in ((of_root, "node 3 0"), (of_leaf, "node 0 5")):
         path.write_bytes(BOOK.read_bytes().replace(planned[0][name], planned[1][name]))
     of_header.write_bytes(made.changed(BOOK.read_bytes(), 93, BOOK.read_bytes()[93] ^ 1))
+    empty, begun, header_alone = (folder / it for it in ("empty", "begun", "header_alone"))
+    empty.write_bytes(b"")
+    begun.write_bytes(laid(fields, items[:9]))
+    header_alone.write_bytes(BOOK.read_bytes()[:125] + b"\0")
     altered, lacks = "the book was altered: of tile 0 ", "has 1 transaction behind the sealed tiles that"
     for call, words, status, text, length, said_besides in (
         ("evidence", (BOOK, "7", ALTERED, WORKED), 0, "evidence 1\n", 133, ()),
@@ -77,6 +81,8 @@ def as_a_user(folder):
         ("evidence", (BOOK, "7", ALTERED, other_header), 0, "evidence 1\n", 88, ("header gave no original: it has another header or other eras than were filed",)),
         ("evidence", (BOOK, "7", ALTERED, BOOK), 0, "evidence 1\n", 88, ("worked.book gave no original: it is no store: it is a notary's book",)),
         ("evidence", (BOOK, "7", ALTERED, nothing), 0, "evidence 1\n", 88, ()),
+        ("evidence", (BOOK, "7", ALTERED, empty), 0, "evidence 1\n", 88, ("empty gave no original: it is no store: it is empty",)),
+        ("evidence", (header_alone, "7", begun, nothing), 0, "evidence 0\n", 38, ("verify: no tile is filed yet: the header alone was compared, and ",)),
         ("evidence", (BOOK, "7", WORKED, nothing), 0, "evidence 0\n", 38, ("shows no granule: the search of the trees found none of ",)),
         ("evidence", (BOOK, "7", WORKED, ALTERED), 0, "evidence 0\n", 38, ("shows no granule", "altered.store isn't what was filed: altered 1 from 0. Are the two swapped?")),
         ("evidence", (of_root, "7", ALTERED, WORKED), 0, "evidence 0\n", 38, ("shows no granule", f"altered.store isn't what was filed, or the book isn't: altered 1 from 0; {altered}")),
@@ -86,7 +92,10 @@ def as_a_user(folder):
         ("evidence", (WORKED, "7", ALTERED, WORKED), 6, "fault NotaryFault\n", None, ("is no notary's book",)),
         ("restore", (BOOK, "7", ALTERED, folder / "other"), 0, "restored 8 lost 0\n", 445, ()),
         ("restore", (BOOK, "7", ALTERED, ALTERED), 0, "restored 7 lost 1\nlost granules 5 to 5\n", 403, ()),
-        ("restore", (BOOK, "7", longer, WORKED), 0, "restored 8 lost 0\n", 510, ()),
+        ("restore", (BOOK, "7", ALTERED, nothing), 0, "restored 7 lost 1\nlost granules 5 to 5\n", 403, ()),
+        ("restore", (BOOK, "7", ALTERED, empty), 0, "restored 7 lost 1\nlost granules 5 to 5\n", 403, ("nothing was taken from ", "empty: it is no store: it is empty")),
+        ("restore", (header_alone, "7", begun, nothing), 0, "restored 0 lost 0\n", 445, ("verify: no tile is filed yet: the header alone was compared, and all rows were taken as they stand\n", "target has 9 transactions behind the sealed tiles: no digest vouches for what isn't sealed\n")),
+        ("restore", (BOOK, "7", longer, WORKED), 0, "restored 8 lost 0\n", 510, ("target has 1 transaction behind the sealed tiles: no digest vouches for what isn't sealed\n",)),
         ("restore", (BOOK, "7", WORKED, longer), 0, "restored 8 lost 0\n", 445, (f"longer {lacks}",)),
         ("restore", (BOOK, "7", other_header, WORKED), 0, "restored 8 lost 0\n", 445, ("what isn't sealed was taken from ", f"header {lacks}")),
         ("restore", (BOOK, "7", WORKED, other_header), 0, "restored 8 lost 0\n", 445, ("nothing was taken from ", f"header {lacks}")),

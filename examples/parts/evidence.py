@@ -134,19 +134,20 @@ def gather(store, copy, book, id):
 
 def told(lines, store, copy, target, book, id):
     """What an evidence file that was made doesn't show, in sentences. Each file is its name and its content."""
-    entries = Reader(target.content).evidence().entries
+    notary, entries = Notary(book, id), Reader(target.content).evidence().entries
     apart = [str(it.granule) for it in entries if it.second is None]
-    if not entries:
+    if not entries and not notary.tiles:
+        yield f"no tile is filed yet: the header alone was compared, and {target.name} shows no granule"
+    elif not entries:
         yield f"{target.name} shows no granule: the search of the trees found none of {store.name} that differs"
-        batches = verify.batches_of(book, id)
-        found, of_copy = shown(store.content, batches, id), shown_of_copy(copy.content, batches, id)
+        found, of_copy = shown(store.content, notary.batches, id), shown_of_copy(copy.content, notary.batches, id)
         if is_altered(found):
             yield not_filed(store.name, found)
         elif of_copy.verdict.startswith("altered"):
             yield f"{not_filed(copy.name, of_copy)}. Are the two swapped?"
-    elif apart and copy.content and not Notary(book, id).passes(copy.content):
+    elif apart and verify.is_named(copy) and not notary.passes(copy.content):
         yield f"{copy.name} gave no original: it {verify.what_fails(copy.content, id, book)}"
-    elif apart and copy.content:
+    elif apart and verify.is_named(copy):
         named = f"granule{'s' * (len(apart) > 1)} {', '.join(apart[:9])}" + (f" and {len(apart) - 9} more" if apart[9:] else "")
         yield f"{copy.name} gave the originals of {len(entries) - len(apart)} of {len(entries)}: of {named} it hasn't what was filed"
 

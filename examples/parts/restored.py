@@ -32,24 +32,35 @@ def restore(store, copy, book, id):
 
 
 def told(lines, store, copy, target, book, id):
-    """What a store that was restored lacks, what in it no honest writer stores, and where it or its sources aren't what was filed, in sentences. Each
-    file is its name and its content.
+    """What a store that was restored lacks, what in it isn't sealed or no honest writer stores, and where it or its sources aren't what was filed, in
+    sentences. Each file is its name and its content.
     """
     notary = Notary(book, id)
+    if not notary.tiles:
+        yield "no tile is filed yet: the header alone was compared, and all rows were taken as they stand"
     if not notary.passes(store.content):
         yield f"what isn't sealed was taken from {copy.name}, and nothing from {store.name}: that {verify.what_fails(store.content, id, book)}"
-    elif copy.content and not notary.passes(copy.content):
+    elif verify.is_named(copy) and not notary.passes(copy.content):
         yield f"nothing was taken from {copy.name}: it {verify.what_fails(copy.content, id, book)}"
     moment = verify.first_of(verify.eras_of(target.content), notary.tiles) * verify.header_of(target.content)[2]
+    unsealed = Counter(since(target.content, moment))
+    if unsealed:
+        yield f"{target.name} has {behind_tiles(unsealed)}: no digest vouches for what isn't sealed"
     for source in (store, copy):
-        lacks = sum((Counter(since(source.content, moment)) - Counter(since(target.content, moment))).values())
+        lacks = Counter(since(source.content, moment)) - unsealed
         if lacks:
-            yield f"{source.name} has {lacks} transaction{'s' * (lacks > 1)} behind the sealed tiles that {target.name} lacks"
+            yield f"{source.name} has {behind_tiles(lacks)} that {target.name} lacks"
     yield from moved(target, moment)
     is_whole = lines[0].endswith(" lost 0")
     found = [(target.name, shown(target.content, notary.batches, id))]
     found += [(it.name, shown_of_copy(it.content, notary.batches, id)) for it in (store, copy) if not is_whole and notary.passes(it.content)]
     yield from [not_filed(name, it) for name, it in found if it.doubt or is_whole and is_altered(it)][:1]
+
+
+def behind_tiles(transactions):
+    """How many of these transactions stand behind the sealed tiles, in words."""
+    count = sum(transactions.values())
+    return f"{count} transaction{'s' * (count > 1)} behind the sealed tiles"
 
 
 def moved(target, moment):
