@@ -531,11 +531,19 @@ SAYS = [
 ]
 
 
+def beside_a_copy(folder, words):
+    """The words of differ.py, where a store isn't held against itself: against a copy of it."""
+    if words[-1] != words[-2]:
+        return words
+    shutil.copy(words[-1], folder / "same")
+    return [*words[:-1], str(folder / "same")]
+
+
 def in_words(folder):
     """What each script says, and how it ends. Only an explanation without a verdict is text beside a status above 1."""
     for name, words, status, says in SAYS:
         there = [str(folder / it) if isinstance(it, str) and (it.isidentifier() or "," in it) and (folder / it).exists() else str(it) for it in words]
-        ended, said, told = script(name, *there)
+        ended, said, told = script(name, *(beside_a_copy(folder, there) if name == "differ.py" else there))
         wrong = [it for it in says if it not in " ".join((said + told).split()) and it not in said + told]
         if ended != status or wrong or "Traceback" in told or status > 1 and said and "No verdict: " not in says:
             raise Wrong(f"{name} {' '.join(map(str, words))} ends with {ended}, and doesn't say {wrong}: {(said + told)[-300:]}")
@@ -546,7 +554,7 @@ def in_words(folder):
             raise Wrong(f"{name} without a program ends with {done.returncode}: {done.stderr}")
     (folder / "report").write_text("report a3d id 7 tiles 0 clean\n")
     for output, why in ((">/dev/full", "No space left on device"), (">&-", "Bad file descriptor")):
-        for name, *words in (("report_page.py", WORKED, BOOK, "7"), ("explain", WORKED, BOOK, "7"), ("look.py", WORKED), ("dump.py", WORKED), ("differ.py", WORKED, WORKED),
+        for name, *words in (("report_page.py", WORKED, BOOK, "7"), ("explain", WORKED, BOOK, "7"), ("look.py", WORKED), ("dump.py", WORKED), ("differ.py", WORKED, ALTERED),
                              ("verify.py", WORKED, BOOK, "7"), ("quorum/compare", BOOK, folder / "book"), ("diagram_svg.py", folder / "report")):
             done = subprocess.run(["bash", "-c", f'"$0" "$@" {output}', sys.executable, EXAMPLES / name, *words], capture_output=True, text=True)
             if done.returncode != (1 if name == "diagram_svg.py" else 3) or done.stderr != f"{pathlib.Path(name).stem}: the output: {why}\n":
