@@ -106,6 +106,7 @@ def table(folder):
     whole = (EXAMPLES / "worked.book").read_bytes()
     # the same batches, filed a second later
     anew = books.spelled([it[:13] + struct.pack(">Q", int.from_bytes(it[13:21], "big") + 1) + it[21:] for it in books.read(EXAMPLES / "worked.book").payloads])
+    hidden = whole[:125] + b"\xa6" + whole[126:]
     short, other = whole[:125] + b"\0", whole[:200] + b"\1" + whole[201:]
     # put back behind the first batch, and validated since
     back = books.spelled([books.read(EXAMPLES / "worked.book").payloads[0], struct.pack(">BQQIBI", 2, 7, 99, 0, 0, 0)])
@@ -113,7 +114,10 @@ def table(folder):
         (0, "majority 3 of 3: 913 bytes, 21 seals, 0 marks\na: the same\nb: the same\nc: the same\n", (whole, whole, whole)),
         (1, "c: behind from byte 125: lacks 20 seals and 0 marks\n", (whole, whole, short)),
         (1, "b: differs from byte 125 on, where the majority's has 20 seals and 0 marks\n", (whole, other, whole)),
-        (1, "a: behind from byte 125: lacks 20 seals and 0 marks; 787 bytes stand behind its end", (whole[:125] + b"\0" + whole[126:], whole, whole)),
+        (1, "a: behind from byte 125: lacks 20 seals and 0 marks; 787 bytes stand behind its end: a crash", (whole[:125] + b"\0" + whole[126:], whole, whole)),
+        (1, "a: the same; 787 bytes stand behind its end: no crash leaves them so", (hidden, short, short)),
+        (1, "a: behind from byte 125: lacks 20 seals and 0 marks; it ends at byte 126 behind an open gate", (whole[:126], whole, whole)),
+        (3, "b: 1 seals and 0 marks; 787 bytes stand behind its end: no crash leaves them so", (None, hidden, None)),
         (1, "a: no book: No such file or directory\n", (None, whole, whole)),
         (1, "a: no book: its head is no book's\n", (b"x" * 99, whole, whole)),
         (1, "a: behind from byte 64: lacks 21 seals and 0 marks\n", (b"", whole, whole)),
@@ -142,6 +146,29 @@ def table(folder):
         for name, content in zip("abc", (whole, others, others)):
             put(pathlib.Path(name), content)
         expect(3, "mend: nothing is written: a has what the majority lacks", "mend", *"abc")
+    # the second batch is hidden, or cut off behind its open gate: nothing goes by that, and it is told where others have the batch
+    told = "787 bytes stand behind its end: no crash leaves them so"
+    for status, text, contents in [
+        (3, f"mend: a: the same; {told}, and whoever hides records does\nmend: nothing is written: a has what the majority lacks", (hidden, short, short)),
+        (3, "mend: nothing is written: a has what the majority lacks", (whole[:126], short, short)),
+        (3, f"mend: c: the same; {told}, and whoever hides records does\nmend: nothing is written: what more than half say hangs on", (b"", hidden, hidden)),
+        (3, "mend: nothing is written: what more than half say hangs on", (b"", whole[:126], whole[:126])),
+        (3, "mend: nothing is written: what more than half say hangs on", (short, whole, hidden)),
+        (3, f"mend: a: 1 seals and 0 marks; {told}", (hidden, None, None)),
+    ]:
+        for name, content in zip("abc", contents):
+            put(pathlib.Path(name), content)
+        expect(status, text, "mend", *"abc")
+        if pathlib.Path("a.mended").exists():
+            raise Wrong(f"{contents} were mended")
+    # one that a crash left a piece in hides nothing
+    for text, contents in ((f"{told}, and whoever hides records does\n", (hidden, whole, whole)), ("a is the majority's already\n", (whole + b"abc", whole, whole))):
+        for name, content in zip("abc", contents):
+            put(pathlib.Path(name), content)
+        expect(0, text, "mend", *"abc")
+    if pathlib.Path("a.mended").read_bytes() != whole:
+        raise Wrong("the copy isn't the majority's")
+    os.unlink("a.mended")
     for name, content in zip("abc", (other, whole, whole)):
         put(pathlib.Path(name), content)
     expect(0, "a.mended: 913 bytes, 21 seals", "mend", *"abc")

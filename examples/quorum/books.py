@@ -13,8 +13,9 @@ import verify
 HEAD = b"\xa7DRAGBOK1" + bytes(55)
 
 # the payloads of a book's records; `why` says in words why the file is no book. `odd` counts the bytes of a file that is taken for an
-# empty book, and isn't empty
-Book = collections.namedtuple("Book", "path payloads behind why odd", defaults=[0])
+# empty book, and isn't empty. `behind` says in words what stands behind its end, `hides` whether records may be hidden or cut off there,
+# and `opened` has the payloads as they are if the gate that ends it was open
+Book = collections.namedtuple("Book", "path payloads behind why odd hides opened", defaults=[0, False, []])
 
 
 class Missing(Exception):
@@ -45,13 +46,31 @@ def read(path):
     except BlockingIOError as error:
         raise Missing(f"{path} is in use: wait, and ask again") from error
     except OSError as error:
-        return Book(path, [], 0, error.strerror)
+        return Book(path, [], "", error.strerror)
     if verify.is_empty(content):
-        return Book(path, [], 0, None, len(content))
+        return Book(path, [], "", None, len(content))
     if len(content) < 65 or content[:64] != HEAD:
-        return Book(path, [], 0, "its head is no book's")
-    payloads = [payload for _, payload in verify.records(content, *verify.BOOK)]
-    return Book(path, payloads, len(content) - place_of(payloads, len(payloads)) - 1, None)
+        return Book(path, [], "", "its head is no book's")
+    payloads = payloads_of(content)
+    end = place_of(payloads, len(payloads))
+    hides = may_hide(content, end)
+    opened = payloads_of(content[:end] + HEAD[:1] + content[end + 1 :]) if hides else payloads
+    return Book(path, payloads, behind(content, end), None, hides=hides, opened=opened)
+
+
+def payloads_of(content):
+    return [payload for _, payload in verify.records(content, *verify.BOOK)]
+
+
+def behind(content, end):
+    """What stands behind the gate that ends a book, in words; or nothing."""
+    count, opened = len(content) - end - 1, verify.open_end(content, end)
+    return f"it {opened}" if opened else f"{count} bytes stand behind its end: {verify.why_behind(content, verify.BOOK)}" if count else ""
+
+
+def may_hide(content, end):
+    """Whether records may be hidden behind that gate, or one was cut off there."""
+    return content[end] == verify.OPEN or verify.hidden(content, end, verify.BOOK) > 0
 
 
 def place_of(payloads, number):
@@ -95,6 +114,13 @@ def majority_of(books):
     return None if split and read_ones.count(longest) < most else longest
 
 
+def goes_by_hidden(books, majority):
+    """Whether more than half say something else without the books in which records may be hidden or cut off, or once these are opened."""
+    without = [it._replace(why=it.behind) if it.hides else it for it in books]
+    opened = [it._replace(payloads=it.opened) if it.hides else it for it in books]
+    return majority_of(without) != majority or majority_of(opened) != majority
+
+
 def missed(book, majority):
     """Whether it has nothing but what the majority's has, in the same order, and lacks some of it."""
     left = iter(majority)
@@ -122,9 +148,20 @@ def only_here(book, majority):
 
 
 def standing(book, majority):
-    """How a book stands to the majority's, in words; `the same` where nothing is to be done."""
+    """How a book stands to the majority's, in words, or where there is none, what it has; `the same` where nothing is to be done."""
     if book.why:
         return f"no book: {book.why}"
+    return "; ".join(filter(None, (stands(book, majority), odd(book), book.behind)))
+
+
+def odd(book):
+    return book.odd and f"the file has {book.odd} byte{'s' * (book.odd != 1)}, and is no notary's book"
+
+
+def stands(book, majority):
+    """The same by its records alone."""
+    if majority is None:
+        return f"{seals_of(book.payloads)} seals and {marks_of(book.payloads)} marks"
     mine, same = book.payloads, shared(book.payloads, majority)
     place, lacks, more = place_of(majority, same), majority[same:], mine[same:]
     if not lacks and not more:
@@ -142,6 +179,4 @@ def standing(book, majority):
             text += f"; it has {count} batch{'es' * (count > 1)} that the majority lacks, from batch {index} under the id {id} on, as where the others were put back: look at anchors"
         if earlier := filed_before(mine, majority):
             text += "; it filed batch {1} under the id {0} BEFORE the majority did, as where those were begun anew or put back: look at anchors".format(*earlier)
-    if book.odd:
-        text += f"; the file has {book.odd} byte{'s' * (book.odd != 1)}, and is no notary's book"
-    return text + (f"; {book.behind} bytes stand behind its end" if book.behind else "")
+    return text
