@@ -74,10 +74,14 @@ def row_before(front):
     """What the second transaction of a store puts into the table `before`, by the front of its bytes; or None. successor/open_next opens a store so."""
     if verify.header_of(front) is None:
         return None
-    items = (item for item, *_ in verify.run(front, verify.FIRST_GATE, len(front), *RECORDS[:2]))
-    second = itertools.islice((it for it in items if isinstance(it, Transaction)), 1, 2)
-    rows = [it.values for item in second for it in item.operations if isinstance(it, Put) and it.table == "before"]
+    rows = [it.values for item in first_two(front)[1:] for it in item.operations if isinstance(it, Put) and it.table == "before"]
     return next((row for row in rows if len(row) == 3), None)
+
+
+def first_two(front):
+    """The first two transactions of a store, or what the front of its bytes has of them."""
+    items = (item for item, *_ in verify.run(front, verify.FIRST_GATE, len(front), *RECORDS[:2]))
+    return list(itertools.islice((it for it in items if isinstance(it, Transaction)), 2))
 
 
 class Store:
