@@ -59,6 +59,8 @@ OTHER_FILES = (
     (r"\s*<(!doctype|html|\?xml)\b", "a page of HTML or XML, and no CSV"),
     (r"\s*[\[{]\s*[\[{\"]", "JSON, and no CSV"),
 )
+# what may stand between fields, and how --delimiter takes it
+SIGNS = ((";", "';'"), ("\t", "tab"), ("|", "'|'"), (",", "','"))
 DEVICE = re.compile(".DRAG(OON|BOK)", re.DOTALL)
 # what an earlier conversion leaves in a text
 SPOILED = (
@@ -251,10 +253,18 @@ def read(text, delimiter):
         raise Refused(f"line {rows.line_num}: {fault}") from None
     if not table:
         raise Refused("there is no heading")
-    for sign, name in ((";", "';'"), ("\t", "tab"), ("|", "'|'"), (",", "','")):
+    for sign, name in SIGNS:
         if len(table[0][1]) == 1 and sign in table[0][1][0]:
             raise Refused(f"row 1: this is one column with {name} in its name: --delimiter {name} cuts there")
     return table[0][1], table[1:]
+
+
+def note_sign(rows):
+    """Says which sign each row of an only column holds, as often as the others do: fields may end there, and row 1 be a title."""
+    for sign, name in SIGNS:
+        counts = {row[0].count(sign) for _, row in rows if len(row) == 1}
+        if len(counts) == 1 and 0 not in counts:
+            tell(f"each row is one field with {name} in it. If fields end there, --delimiter {name} cuts; if row 1 is a title, take that out")
 
 
 def columns_like(options):
@@ -267,6 +277,7 @@ def columns_like(options):
         for operation in transaction.operations:
             if isinstance(operation, store.Create) and operation.table == options.table:
                 return dict(operation.columns)
+    content.tell_hidden()
     raise Refused(f"{options.like} has no table {options.table}")
 
 
@@ -360,6 +371,8 @@ def statements(file, options):
     if not rows and not options.add and not options.like:
         tell("there is no row, so each column without --kind NAME=KIND becomes text, the key too")
     note_heading(heading, columns, options)
+    if len(columns) == 1:
+        note_sign(rows)
     note_spoiled(columns, rows)
     note_bytes(columns, options)
     note_looks([column for column in columns if column[0] not in dict(options.kind) and not options.like], rows)

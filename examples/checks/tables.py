@@ -160,6 +160,8 @@ def refusals(folder):
         raise Wrong("TRUE isn't taken for true")
     if script("csv_in.py", "t", "-", lines="a,b\n")[1:] != ("create t a text b text\n", "csv_in: there is no row, so each column without --kind NAME=KIND becomes text, the key too\n"):
         raise Wrong("a heading alone becomes text without a word")
+    if "each row is one field with ';' in it" not in script("csv_in.py", "t", "-", lines="people\nid;name\n1;Ada\n")[2]:
+        raise Wrong("rows with ; under a title become one column without a word")
     if "column b: it is empty in every row" not in script("csv_in.py", "t", "-", lines="a,b\n1,\n")[2]:
         raise Wrong("an empty column becomes text without a word")
     if script("csv_in.py", "--delimiter", "tab", "t", "-", lines="a\tb\n1\tx\n")[0]:
