@@ -89,10 +89,13 @@ class Page:
         self.given, self.store = given, Store(given.store)
         if self.store.id != given.id:
             raise Refused(f"{plain(given.store)} has the id {self.store.id}, and not {given.id}")
+        self.store.tell_hidden()
         self.history = History(self.store, given.table, given.key)
         self.book = Book(given.notary) if given.notary else None
         self.filings = [it for it in self.book.filings if it.id == given.id] if self.book else []
         self.doubts = list(self.of_book()) if self.book else []
+        for it in self.doubts:
+            tell(it)
         moments_of = [it.moment - self.store.epoch for it in self.filings]
         self.last = max([self.history.last, *moments_of])
         # what is now has a little room behind the last event
@@ -112,12 +115,6 @@ class Page:
             yield f"the filings and validations may be another store's: this one {verify.what_fails(content, id, book.content)}"
         both = oddities.of_both("the store", "the book", content, book.content, id, passes, oddities.Items(content))
         yield from (it.said for it in both if it.gone)
-
-    def tell(self):
-        """Says on standard error what stands hidden or may be gone, and where the book may be another store's."""
-        self.store.tell_hidden()
-        for it in self.doubts:
-            tell(it)
 
     def date(self, moment):
         return moments.date(self.store.epoch + moment, self.given.zone)
@@ -228,9 +225,7 @@ class Page:
 
 
 def main(given):
-    made = Page(given)
-    made.tell()
-    return page.page(f"{given.table} {given.key[:40]}", made.parts()), 0
+    return page.page(f"{given.table} {given.key[:40]}", Page(given).parts()), 0
 
 
 def words():
