@@ -114,8 +114,8 @@ def read_conf(path):
             raise Wrong(f"{path}: there is no line {key}=")
     if not re.fullmatch("0|[1-9][0-9]{0,19}", said["ID"]) or int(said["ID"]) >= 1 << 64:
         raise Wrong(f"{path}: ID={said['ID']} is no id")
-    if not re.fullmatch("mono|tiled( [1-9][0-9]{0,3})?|a3d", said.setdefault("ALG", "mono")):
-        raise Wrong(f"{path}: ALG={said['ALG']} is none of mono, tiled and a3d")
+    if not re.fullmatch("mono|tiled( ([1-9][0-9]{0,2}|10[01][0-9]|102[0-4]))?|a3d", said.setdefault("ALG", "mono")):
+        raise Wrong(f"{path}: ALG={said['ALG']} is none of mono, tiled, tiled KAPPA (1 to 1024) and a3d")
     for key in ("STORE", "BOOK", "STATE"):
         if not said[key].startswith("/"):
             raise Wrong(f"{path}: {key}={said[key]} doesn't begin with /: it means another file for each folder in which it is read")
