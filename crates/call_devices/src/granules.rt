@@ -1,5 +1,6 @@
 //! The transactions of a store granule by granule, as far as those of another one are held against them.
 
+use crate::sum::sum_of;
 use std::alloc::{AllocError, Global};
 
 /// A granule, and a sum over the bytes of its transactions in any order.
@@ -93,13 +94,4 @@ fn front_of(here: Option<&Granule>, there: Option<&Granule>) -> Front {
             is_same: here.sum == there.sum,
         },
     }
-}
-
-/// By FNV-1a.
-fn sum_of(bytes: &[u8]) -> u64 {
-    let mut sum: u64 = 0xcbf2_9ce4_8422_2325;
-    for byte in bytes {
-        sum = (sum ^ u64::from(*byte)).wrapping_mul(0x0100_0000_01b3);
-    }
-    sum
 }

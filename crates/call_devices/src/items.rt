@@ -1,7 +1,9 @@
 //! What a store says by its items.
 
 use crate::item::{Jump, Numbers, frontier_of, is_policy, moment_of};
+use crate::tables::Tables;
 use policy_eras::{Eras, MAX_GRANULES};
+use std::alloc::{AllocError, Global};
 use tuple_bytes::Header;
 
 /// An item that no writer stores.
@@ -32,6 +34,8 @@ pub struct Summary {
     pub reached: u32,
     /// The first item that no writer stores.
     pub unwritten: Option<Unwritten>,
+    /// How many operations fit no table.
+    pub misfits: u64,
 }
 
 /// The items as they come.
@@ -45,11 +49,12 @@ pub(crate) struct Items {
     falls: bool,
     reached: u32,
     unwritten: Option<Unwritten>,
+    tables: Tables,
 }
 
 impl Items {
     /// Of a store of this header, which has these eras at first.
-    pub(crate) fn of(header: Header, eras: Eras) -> Items {
+    pub(crate) fn of(alloc: Global, header: Header, eras: Eras) -> Items {
         Items {
             header,
             eras,
@@ -59,10 +64,11 @@ impl Items {
             falls: false,
             reached: 0,
             unwritten: None,
+            tables: Tables::new(alloc),
         }
     }
 
-    pub(crate) fn take(&mut self, payload: &[u8]) {
+    pub(crate) fn take(&mut self, payload: &[u8]) -> Result<(), AllocError> {
         self.count = self.count.saturating_add(1);
         let eras = self.eras.count();
         self.eras.offer_payload(payload);
@@ -75,6 +81,7 @@ impl Items {
             (Some(moment), None) => self.take_moment(moment),
             _ => {}
         }
+        self.tables.take(payload)
     }
 
     /// A restoring stores one of the last moment, which files nothing.
@@ -114,6 +121,7 @@ impl Items {
             ended: self.tiles_at(self.granule_of(self.last)),
             reached: self.reached,
             unwritten: self.unwritten,
+            misfits: self.tables.misfits,
         }
     }
 

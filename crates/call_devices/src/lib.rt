@@ -9,6 +9,7 @@
 //! | which of them failed, or differed from most | `ballot` |
 //! | what a file is, by reading it alone | `looking`, `found`, with `peek` and `behind` |
 //! | what a store says by its items, and a book by its batches and marks | `items` over `item`, `entries` over `entry` |
+//! | which operations of a store fit no table | `tables`, with `operation` and `sum` |
 //! | which file stands at a path, and how the last change left it | `stamp` |
 //! | what a store holds, for which it is held against another | `content`, with `granules` |
 //! | how failures are counted | `faults` |
@@ -42,8 +43,11 @@ mod item;
 mod items;
 mod looking;
 mod members;
+mod operation;
 mod peek;
 mod stamp;
+mod sum;
+mod tables;
 mod unmade;
 
 pub use ballot::{Ballot, Odd};

@@ -70,7 +70,7 @@ fn store_in(alloc: Global, disk: &mut Peek, length: u64, front: Front) -> Result
 {
     let Front { format, header } = front;
     let mut records = SegmentRecords::at_first(alloc, disk, format)?;
-    let mut items = Items::of(header, Eras::new(alloc, &header)?);
+    let mut items = Items::of(alloc, header, Eras::new(alloc, &header)?);
     let mut within = None;
     let mut segments: u32 = 0;
     for _ in 0..u64::MAX {
@@ -84,7 +84,7 @@ fn store_in(alloc: Global, disk: &mut Peek, length: u64, front: Front) -> Result
         if !found {
             break;
         }
-        items.take(records.payload());
+        items.take(records.payload())?;
     }
     let behind = behind_gate::<StoreShape>(alloc, disk, records.place(), length)?;
     Ok(Found::Store {

@@ -31,6 +31,8 @@ enum What {
     Jumps(Jump),
     /// A moment of it falls.
     Falls,
+    /// So many operations fit no table.
+    Misfits(u64),
     /// It has an item that no writer stores.
     Unwritten(Unwritten),
     /// It was missing, and then it wasn't.
@@ -58,6 +60,7 @@ fn tell_file<R: Eprint>(rt: &R, ending: &Ending<'_, '_>, device: &Named<'_>) -> 
     say(rt, ending, behind(ending, device))?;
     say(rt, ending, jumps(device))?;
     say(rt, ending, falls(device))?;
+    say(rt, ending, misfits(device))?;
     say(rt, ending, unwritten(device))?;
     say(rt, ending, left(device))
 }
@@ -118,6 +121,16 @@ fn falls<'a>(device: &'a Named<'a>) -> Option<Warning<'a>> {
     }
 }
 
+fn misfits<'a>(device: &'a Named<'a>) -> Option<Warning<'a>> {
+    match items_in(device)?.misfits {
+        0 => None,
+        count => {
+            let what = What::Misfits(count);
+            Some(Warning { device, what })
+        }
+    }
+}
+
 fn unwritten<'a>(device: &'a Named<'a>) -> Option<Warning<'a>> {
     let what = What::Unwritten(items_in(device)?.unwritten?);
     Some(Warning { device, what })
@@ -166,6 +179,7 @@ impl fmt::Display for Told<'_, Warning<'_>> {
                 f,
                 "{device} has a moment before that of the item before it, as no writer stores it: `examples/look.py` says where"
             ),
+            What::Misfits(count) => tell_misfits(device, count, f),
             What::Unwritten(what) => tell_unwritten(device, what, f),
             What::Made => write!(
                 f,
@@ -237,6 +251,27 @@ impl fmt::Display for Why {
                 "all are zero, and no crash leaves so many; whoever lengthens a file or overwrites it does"
             ),
         }
+    }
+}
+
+/// Why operations fit no table.
+const LOST: &str = "records were altered, or are missing";
+
+fn tell_misfits<W: fmt::Write>(
+    device: &Named<'_>,
+    count: u64,
+    f: &mut fmt::Formatter<W>,
+) -> fmt::Result {
+    if count == 1 {
+        write!(
+            f,
+            "{device} has 1 operation that fits no table, and counts for nothing: {LOST}; `examples/dump.py` shows it"
+        )
+    } else {
+        write!(
+            f,
+            "{device} has {count} operations that fit no table, and count for nothing: {LOST}; `examples/dump.py` shows them"
+        )
     }
 }
 

@@ -16,9 +16,10 @@
 //! | what a device is called, what its file is, moments as dates of the calendar | `named`, `kind`, `date` |
 //!
 //! All of it is made from an [`Ending`] (`ending`): how the call ended, with what its devices tell. Some files are read once
-//! more behind the call, and not changed: the books where no store was found, an evidence file or a store that was made, and a
-//! store whose moments no clock gave. Each function is safe and returns, for every input. No contract
-//! speaks of these texts: `examples/check` tries them. What standard error doesn't take is lost.
+//! more behind the call, and not changed: the books where no store was found, an evidence file or a store that was made, a
+//! store whose moments no clock gave, and a book to which a run by the clock has added something. Each function is safe and
+//! returns, for every input. No contract speaks of these texts: `examples/check` tries them. What standard error doesn't take
+//! is lost.
 //!
 //! ```text
 //! let missed = Missed::of(ask, call, status, store.found);
