@@ -270,7 +270,10 @@ def main(words):
         db.execute("begin immediate")
         attach_all(db, words[1:], utf8, anew)
         db.execute("commit")
-    except (sqlite3.Error, Refused) as fault:
+    except sqlite3.Error as fault:
+        print(f"attach: {words[0]}: {fault}", file=sys.stderr)
+        return 1
+    except Refused as fault:
         print(f"attach: {fault}", file=sys.stderr)
         return 1
     return 0

@@ -473,7 +473,10 @@ def main():
             raise Stopped(f"{why}. Stored before that: {', '.join(program.took.values())}" if program.took else why) from None
         finally:
             program.end()
-    except (OSError, sqlite3.Error, Stopped) as fault:
+    except sqlite3.Error as fault:
+        print(f"drain: {options.database}: {fault}", file=sys.stderr)
+        return 1
+    except (OSError, Stopped) as fault:
         print(f"drain: {fault}", file=sys.stderr)
         return 1
     for sentence in wrong:
