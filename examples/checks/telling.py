@@ -85,6 +85,14 @@ def new_store():
     call(["store=new.store", "init", "7", "60", "3", "ta"], "")
 
 
+def unsayable():
+    """A text of a row has a line feed."""
+    new_store()
+    call(["store=new.store", "run", "7"], "create note k int v text\ninsert note 1 'a line'\n")
+    file = pathlib.Path("new.store")
+    file.write_bytes(file.read_bytes().replace(b"a line", b"a\nline"))
+
+
 def new_and_filed():
     new_store()
     call(["store=new.store", "notary=new.book", "notarize", "7"], "")
@@ -339,6 +347,8 @@ ROWS = [
      ["dragoon: the store worked.store has 1 operation that fits no table, and counts for nothing: records were altered, or are missing; `examples/dump.py` shows it"]),
     ("a table that was renamed", lambda: put("worked.store", 86, b"u"), [STORE, "link"], "", 0, None,
      ["dragoon: the store worked.store has 8 operations that fit no table, and count for nothing: records were altered, or are missing; `examples/dump.py` shows them"]),
+    ("a text that no statement spells", unsayable, ["store=new.store", "link"], "", 0, None,
+     ["dragoon: the store new.store has a text that no statement can spell: that was altered, or it was put in; `examples/dump.py` shows it"]),
     ("what an append leaves that was cut off", lambda: put("worked.store", None, bytes.fromhex("0000002501000000")), [STORE, "link"], "", 0, None, []),
     ("records behind a piece of one", lambda: (put("worked.store", 94, b"\0"), put("worked.store", 95, b"\xff")), [STORE, "link"], "", 0, None,
      [f"dragoon: the store worked.store ends at byte 95, and 350 bytes stand behind it: {NO_CRASH}"]),
@@ -512,6 +522,7 @@ ROWS = [
      ["dragoon: the store of an empty path is missing: make one by `init`, or name the right file"]),
     ("a damaged book", two_batches_with_one_index, [STORE, BOOK, "validate", "7"], "", 6, "fault NotaryFault\n",
      ["dragoon: the notary's book worked.book is damaged: its records don't follow one another as a notary's do; it stays as it is, so look for copies first (docs/OPERATING.md)"]),
+    ("a damaged book that isn't asked", two_batches_with_one_index, [STORE, BOOK, "run", "7"], "get t 5\n", 0, "row 5 0\n", [DAMAGED]),
     ("a clock behind the last filing", later_book, [STORE, BOOK, "validate", "7"], "", 0, "clean 1\n",
      [WENT_BACK]),
     ("a clock that went back", lambda: put("worked.store", 17, (1 << 39).to_bytes(8, "big")), [STORE, "run", "7"], "insert t 9 9\n", 3, "refused ClockBack 480\n",
@@ -667,6 +678,8 @@ ROWS = [
      [SHOWN, f"dragoon: the copy new.store holds a store with the id 8, which begins at 20..: {ALONE}"]),
     ("one of a store that is not altered", None, [STORE, BOOK, EVIDENCE, "evidence", "7"], "", 0, "evidence 0\n",
      ["dragoon: the search of the trees found no granule of the store worked.store that differs, and other digests weren't asked: the evidence file shows none"]),
+    ("the same beside a copy that is missing", None, [STORE, "copy=none", BOOK, EVIDENCE, "evidence", "7"], "", 0, "evidence 0\n",
+     ["dragoon: the search of the trees found no granule of the store worked.store that differs, ..", "dragoon: the copy none is missing: no original could have come from it"]),
     ("one over no sealed tile", new_and_filed, ["store=new.store", "notary=new.book", EVIDENCE, "evidence", "7"], "", 0, "evidence 0\n",
      ["dragoon: no tile is filed yet: the header alone was compared, and the evidence file shows no granule"]),
     ("one into memory", None, [ALTERED, COPY, BOOK, "evidence", "7"], "", 0, "evidence 1\n", [f"dragoon: no target=FILE was named: what was written {GONE}", SHOWN]),

@@ -10,6 +10,11 @@ pub(crate) fn filed_at(payload: &[u8]) -> Option<u64> {
     number_at(payload, 13).filter(|_| payload.first() == Some(&1))
 }
 
+/// The index of a batch among those under its id.
+pub(crate) fn index_at(payload: &[u8]) -> Option<u32> {
+    count_at(payload, 9).filter(|_| payload.first() == Some(&1))
+}
+
 /// What a validation has found of so many tiles, and its second.
 #[derive(Clone, Copy)]
 pub struct Marked {

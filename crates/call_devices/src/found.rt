@@ -32,6 +32,8 @@ pub enum Found {
     },
     Book {
         entries: Entries,
+        /// Whether its batches don't follow one another, so that no notary takes it.
+        is_damaged: bool,
         behind: Option<Behind>,
     },
     Other {

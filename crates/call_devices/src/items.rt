@@ -34,8 +34,10 @@ pub struct Summary {
     pub reached: u32,
     /// The first item that no writer stores.
     pub unwritten: Option<Unwritten>,
-    /// How many operations fit no table.
+    /// How many operations fit no table, in the order in which they stand.
     pub misfits: u64,
+    /// Whether one has a text that no statement can spell.
+    pub is_unsayable: bool,
 }
 
 /// The items as they come.
@@ -122,6 +124,7 @@ impl Items {
             reached: self.reached,
             unwritten: self.unwritten,
             misfits: self.tables.misfits,
+            is_unsayable: self.tables.is_unsayable,
         }
     }
 

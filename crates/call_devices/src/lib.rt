@@ -8,7 +8,7 @@
 //! | the notaries of a call, each with its book | `members` |
 //! | which of them failed, or differed from most | `ballot` |
 //! | what a file is, by reading it alone | `looking`, `found`, with `peek` and `behind` |
-//! | what a store says by its items, and a book by its batches and marks | `items` over `item`, `entries` over `entry` |
+//! | what a store says by its items, and a book by its batches and marks | `items` over `item`, `entries` and `indexes` over `entry` |
 //! | which operations of a store fit no table | `tables`, with `operation` and `sum` |
 //! | which file stands at a path, and how the last change left it | `stamp` |
 //! | what a store holds, for which it is held against another | `content`, with `granules` |
@@ -39,6 +39,7 @@ mod entry;
 mod faults;
 mod found;
 mod granules;
+mod indexes;
 mod item;
 mod items;
 mod looking;

@@ -6,6 +6,7 @@ ghost use Rattle.tuple_bytes.specs.Spelling.{FitsHeader};
 use crate::behind::{behind_gate, behind_segments};
 use crate::entries::{Entries, Filed};
 use crate::found::{Found, Letters};
+use crate::indexes::Indexes;
 use crate::items::Items;
 use crate::peek::Peek;
 use disk_model::{Disk, DiskFail};
@@ -54,14 +55,20 @@ fn book_in(alloc: Global, disk: &mut Peek, length: u64, of: Filed) -> Result<Fou
     let mut records = Records::<BookShape>::at_first(alloc)?;
     records.read_head(disk)?;
     let mut entries = Entries::of(of);
+    let mut indexes = Indexes::new(alloc);
     for _ in 0..u64::MAX {
         if !records.advance(disk)? {
             break;
         }
         entries.take(records.payload());
+        indexes.take(records.payload())?;
     }
     let behind = behind_gate::<BookShape>(alloc, disk, records.place(), length)?;
-    Ok(Found::Book { entries, behind })
+    Ok(Found::Book {
+        entries,
+        is_damaged: indexes.is_broken,
+        behind,
+    })
 }
 
 /// Goes over all records of a store, in any of its segments, and looks behind the first gate that ends records with bytes behind it.

@@ -18,6 +18,8 @@ pub(crate) struct Operation<'a> {
     pub(crate) count: usize,
     /// These one after another: of a removal the key alone.
     pub(crate) parts: &'a [u8],
+    /// Whether statements can spell its values.
+    pub(crate) is_sayable: bool,
 }
 
 /// The first one of these bytes, and what stands behind it.
@@ -36,18 +38,23 @@ pub(crate) fn split(bytes: &[u8]) -> Option<(Operation<'_>, &[u8])> {
     };
     let count = usize::from(count);
     let mut rest = parts;
+    let mut is_sayable = true;
     for _ in 0..count {
-        rest = if verb == Verb::Create {
-            column_of(rest)?.1
+        if verb == Verb::Create {
+            let (_, behind) = column_of(rest)?;
+            rest = behind;
         } else {
-            value_of(rest)?.1
-        };
+            let (value, behind) = value_of(rest)?;
+            is_sayable = is_sayable && has_no_control(value);
+            rest = behind;
+        }
     }
     let operation = Operation {
         verb,
         table,
         count,
         parts,
+        is_sayable,
     };
     Some((operation, rest))
 }
@@ -81,4 +88,12 @@ pub(crate) fn value_of(bytes: &[u8]) -> Option<(&[u8], &[u8])> {
         _ => 2,
     };
     part_of(length, bytes)
+}
+
+/// A text has it behind the byte of its kind and its length of two.
+fn has_no_control(value: &[u8]) -> bool {
+    match value {
+        [2, _, _, text @ ..] => !text.iter().any(|byte| byte.is_ascii_control()),
+        _ => true,
+    }
 }

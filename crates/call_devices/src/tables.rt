@@ -20,6 +20,8 @@ pub(crate) struct Tables {
     all: BTreeMap<u64, Table>,
     /// How many operations don't fit them: each is one that a command refuses.
     pub(crate) misfits: u64,
+    /// Whether one has a text that no statement can spell.
+    pub(crate) is_unsayable: bool,
 }
 
 impl Tables {
@@ -28,6 +30,7 @@ impl Tables {
             alloc,
             all: BTreeMap::new(alloc),
             misfits: 0,
+            is_unsayable: false,
         }
     }
 
@@ -44,6 +47,7 @@ impl Tables {
             if !self.apply(operation)? {
                 self.misfits = self.misfits.saturating_add(1);
             }
+            self.is_unsayable = self.is_unsayable || !operation.is_sayable;
             rest = behind;
         }
         Ok(())

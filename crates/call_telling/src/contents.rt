@@ -33,6 +33,8 @@ enum What {
     Falls,
     /// So many operations fit no table.
     Misfits(u64),
+    /// It has a text that no statement can spell.
+    Unsayable,
     /// It has an item that no writer stores.
     Unwritten(Unwritten),
     /// It was missing, and then it wasn't.
@@ -61,6 +63,7 @@ fn tell_file<R: Eprint>(rt: &R, ending: &Ending<'_, '_>, device: &Named<'_>) -> 
     say(rt, ending, jumps(device))?;
     say(rt, ending, falls(device))?;
     say(rt, ending, misfits(device))?;
+    say(rt, ending, unsayable(device))?;
     say(rt, ending, unwritten(device))?;
     say(rt, ending, left(device))
 }
@@ -121,13 +124,25 @@ fn falls<'a>(device: &'a Named<'a>) -> Option<Warning<'a>> {
     }
 }
 
+/// The tables go by moments, and these were counted as they stand.
 fn misfits<'a>(device: &'a Named<'a>) -> Option<Warning<'a>> {
-    match items_in(device)?.misfits {
+    let items = items_in(device)?;
+    match items.misfits {
+        _ if items.falls => None,
         0 => None,
         count => {
             let what = What::Misfits(count);
             Some(Warning { device, what })
         }
+    }
+}
+
+fn unsayable<'a>(device: &'a Named<'a>) -> Option<Warning<'a>> {
+    if items_in(device)?.is_unsayable {
+        let what = What::Unsayable;
+        Some(Warning { device, what })
+    } else {
+        None
     }
 }
 
@@ -180,6 +195,10 @@ impl fmt::Display for Told<'_, Warning<'_>> {
                 "{device} has a moment before that of the item before it, as no writer stores it: `examples/look.py` says where"
             ),
             What::Misfits(count) => tell_misfits(device, count, f),
+            What::Unsayable => write!(
+                f,
+                "{device} has a text that no statement can spell: that was altered, or it was put in; `examples/dump.py` shows it"
+            ),
             What::Unwritten(what) => tell_unwritten(device, what, f),
             What::Made => write!(
                 f,

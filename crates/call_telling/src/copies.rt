@@ -24,6 +24,8 @@ enum Warning<'a> {
     NoneAltered,
     /// The copy isn't a store of the id, so an evidence file shows nothing of it.
     ShownAlone,
+    /// It isn't, and none was to be shown.
+    Useless,
     /// The copy gave what was filed of fewer granules than an evidence file shows.
     FewOriginals {
         gathered: Gathered,
@@ -72,6 +74,7 @@ enum Warning<'a> {
 pub(crate) fn tell_copies<R: Eprint>(rt: &R, ending: &Ending<'_, '_>) -> io::Result<()> {
     say(rt, ending, examined(ending))?;
     say(rt, ending, gathered(ending))?;
+    say(rt, ending, useless(ending))?;
     say(rt, ending, unrestored(ending))?;
     match ending.restored {
         Some(restored) => tell_restored(rt, ending, &restored),
@@ -123,6 +126,18 @@ fn gathered<'a>(ending: &Ending<'_, '_>) -> Option<Warning<'a>> {
         few_originals(ending)
     } else {
         Some(Warning::ShownAlone)
+    }
+}
+
+/// Of a search that found nothing, a copy that could have given nothing.
+fn useless<'a>(ending: &Ending<'_, '_>) -> Option<Warning<'a>> {
+    let is_of_none = ending.ask == Ask::Evidence
+        && is_answered(ending)
+        && ending.heard.is_none_shown;
+    if is_of_none && ending.copy.path.is_some() && !ending.copy.is_store_of(ending.id()) {
+        Some(Warning::Useless)
+    } else {
+        None
     }
 }
 
@@ -271,6 +286,7 @@ impl fmt::Display for Told<'_, Warning<'_>> {
             Warning::Unfit => tell_unfit(ending, f),
             Warning::NoneAltered => tell_none_altered(ending, f),
             Warning::ShownAlone => tell_shown_alone(&ending.copy, f),
+            Warning::Useless => tell_useless(&ending.copy, f),
             Warning::FewOriginals { gathered } => tell_few_originals(&ending.copy, gathered, f),
             Warning::Unrestored => tell_unrestored(ending, f),
             Warning::NoneSealed => write!(
@@ -363,6 +379,11 @@ fn tell_shown_alone<W: fmt::Write>(copy: &Named<'_>, f: &mut fmt::Formatter<W>) 
         f,
         ": the evidence file shows what the store holds alone, and nothing of what was filed there"
     )
+}
+
+fn tell_useless<W: fmt::Write>(copy: &Named<'_>, f: &mut fmt::Formatter<W>) -> fmt::Result {
+    let kind = Kind(copy.found);
+    write!(f, "{copy} {kind}: no original could have come from it")
 }
 
 fn tell_few_originals<W: fmt::Write>(

@@ -268,7 +268,9 @@ fn odd_in<'a>(ending: &'a Ending<'a, 'a>, device: &'a Named<'a>) -> Option<Oddit
 /// What is odd about a book that the call didn't come to ask.
 fn unasked<'a>(ending: &'a Ending<'a, 'a>, book: &'a Named<'a>) -> Option<Oddity<'a>> {
     match (book.known, ending.other_id()) {
-        (Known::Damaged, _) if !is_told(ending, book) => Some(Oddity::Damaged { book }),
+        _ if is_damaged(book) && book.odd == Odd::No && !is_told(ending, book) => {
+            Some(Oddity::Damaged { book })
+        }
         (
             Known::Batches {
                 of_id: 0,
@@ -278,6 +280,18 @@ fn unasked<'a>(ending: &'a Ending<'a, 'a>, book: &'a Named<'a>) -> Option<Oddity
         ) => Some(Oddity::Foreign { book, other }),
         _ => None,
     }
+}
+
+/// Whether no notary takes it.
+fn is_damaged(book: &Named<'_>) -> bool {
+    matches!(&book.known, Known::Damaged)
+        || matches!(
+            &book.found,
+            Found::Book {
+                is_damaged: true,
+                ..
+            }
+        )
 }
 
 /// Whether the call failed since all books but this one were missing or empty.
