@@ -44,7 +44,7 @@ sys.dont_write_bytecode = True
 sys.path.insert(0, str(pathlib.Path(__file__).resolve().parent))
 from parts import script, store
 
-NAME = re.compile(r"[a-z_][a-z0-9_]{0,31}")
+from parts.script import NAME, tell_plain as tell
 BARRED = re.compile(r"[\x00-\x1f\x7f]")
 KINDS = {"int": "int", "text": "text", "bool": "bool", "bytes": "bytes", "utf8": "bytes"}
 TXN_LIMIT, OPERATIONS, LINE_LIMIT, INPUT_LIMIT = 32_768, 256, 65_536, 67_108_864
@@ -90,11 +90,6 @@ LOOKS = (
 
 class Refused(Exception):
     """What can't become a statement, and where it stands."""
-
-
-def tell(said):
-    """Says a sentence on standard error. What it shows of the file steers no terminal."""
-    script.tell(script.plain(said))
 
 
 def number_of(field):
@@ -411,7 +406,7 @@ def words():
         return int(word)
 
     options = "[--names A,B,..] [--key NAME] [--kind NAME=KIND].. [--empty-text] [--add | --like STORE] [--session N [--rows N]]"
-    parser = argparse.ArgumentParser(usage=f"csv_in.py {options} [--delimiter C] TABLE FILE", description=__doc__,
+    parser = script.Parser(usage=f"csv_in.py {options} [--delimiter C] TABLE FILE", description=__doc__,
         formatter_class=argparse.RawDescriptionHelpFormatter)
     parser.add_argument("--names")
     parser.add_argument("--key")

@@ -11,11 +11,17 @@ A null is an empty field, and an empty text is the field "". A value of kind byt
 column after --utf8 is the text that its bytes spell in UTF-8 (as csv_in.py --kind NAME=utf8 put it in). Lines end with a
 carriage return and a line feed, as RFC 4180 says.
 
-A reply that isn't whole, or is a refusal or a fault, is refused; nothing is written then, and the status is 1.
+A reply that isn't whole, or is a refusal or a fault, is refused; nothing is written then, and the status is 1. It is 2 where a name is none that
+a column can have.
 """
 import argparse
+import pathlib
 import re
 import sys
+
+sys.dont_write_bytecode = True
+sys.path.insert(0, str(pathlib.Path(__file__).resolve().parent))
+from parts.script import NAME, Parser, tell_plain
 
 VALUE = r"(-?[0-9]+|true|false|null|x'(?:[0-9a-f]{2})*'|'(?:[^']|'')*')"
 ROW = re.compile(rf"(?:(version|during) ([0-9]+) ([0-9]+|-) )?row((?: {VALUE})+)\n", re.DOTALL)
@@ -69,11 +75,14 @@ def lines_of(text, names, utf8):
 
 
 def words():
-    parser = argparse.ArgumentParser(usage="csv_out.py [--utf8 NAME].. NAMES", description=__doc__,
+    parser = Parser(usage="csv_out.py [--utf8 NAME].. NAMES", description=__doc__,
         formatter_class=argparse.RawDescriptionHelpFormatter)
     parser.add_argument("--utf8", action="append", default=[])
     parser.add_argument("names", type=lambda word: word.split(","))
     options = parser.parse_args()
+    for name in options.names:
+        if not NAME.fullmatch(name):
+            parser.error(f"`{name}` isn't a column's name: at most 32 lower-case letters, digits and _, the first no digit")
     for name in options.utf8:
         if name not in options.names:
             parser.error(f"there is no column {name}")
@@ -85,15 +94,15 @@ def main():
     try:
         lines = lines_of(sys.stdin.buffer.read().decode(), options.names, options.utf8)
     except (UnicodeDecodeError, Refused) as fault:
-        print(f"csv_out: {fault}", file=sys.stderr)
+        tell_plain(fault)
         return 1
     for name in sorted({name for name in lines[0] if lines[0].count(name) > 1}):
-        print(f"csv_out: the heading has {name} twice", file=sys.stderr)
+        tell_plain(f"the heading has {name} twice")
     try:
         with open(1, "wb", closefd=False) as out:
             out.write("".join(",".join(line) + "\r\n" for line in lines).encode())
     except OSError as fault:
-        print(f"csv_out: the output: {fault.strerror}", file=sys.stderr)
+        tell_plain(f"the output: {fault.strerror}")
         return 1
     return 0
 

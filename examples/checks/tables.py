@@ -127,7 +127,8 @@ CUT_OFF = [
 ]
 NO_REPLIES = (
     "", "row 1\n", "row 1\nrows 2\n", "row 1 2\nrows 1\n", "rows 0\nrows 0\n", "version 1 - row 1\nrows 1\n", "none\n",
-    "refused NoTable\n", "row 1\nrows 1\nfault DiskFault\n", "during 1 2 row 1\nversions 1\n", "row 1\npieces 1\n")
+    "refused NoTable\n", "row 1\nrows 1\nfault DiskFault\n", "during 1 2 row 1\nversions 1\n", "row 1\npieces 1\n",
+    "row \x1b[2J\nrows 1\n")
 
 
 def refusals(folder):
@@ -169,8 +170,12 @@ def refusals(folder):
     if script("csv_out.py", "a,b,a", lines="row 1 2 3\nrows 1\n") != (0, "a,b,a\r\n1,2,3\r\n", "csv_out: the heading has a twice\n"):
         raise Wrong("csv_out doesn't say that a name stands twice")
     for reply in NO_REPLIES:
-        if script("csv_out.py", "a", lines=reply)[:2] != (1, ""):
-            raise Wrong(f"csv_out takes the reply {reply!r}")
+        status, out, told = script("csv_out.py", "a", lines=reply)
+        if (status, out) != (1, "") or "\x1b" in told:
+            raise Wrong(f"csv_out takes the reply {reply!r}, or says {told!r}")
+    for names in ("a,", "a, b", "a,B", "a" * 33):
+        if (told := script("csv_out.py", names, lines="row 1 2\nrows 1\n"))[:2] != (2, "") or "isn't a column's name" not in told[2]:
+            raise Wrong(f"csv_out takes the names {names!r}: {told}")
 
 
 def like_a_store(folder):

@@ -25,9 +25,9 @@ HELP, WRONG, NINE = ["--help"], ["--wrong", "words"], ["no", "such", "words", "a
 # what is named in odd letters, and the words of those that are tried so
 ODD = "\x1b[2Jodd"
 NAMED = {
-    "examples/anchor/anchor": ["check", ODD, ODD, ODD], "examples/case": [ODD, ODD, ODD, "7"], "examples/diagram_svg.py": [ODD], "examples/explain": [ODD, ODD, "7"],
+    "examples/anchor/anchor": ["check", ODD, ODD, ODD], "examples/case": [ODD, ODD, ODD, "7"], "examples/csv_in.py": ["t", ODD], "examples/csv_out.py": [ODD], "examples/diagram_svg.py": [ODD], "examples/explain": [ODD, ODD, "7"],
     "examples/fleet/one": [f"{ODD} {ODD} 7"], "examples/fleet/validate_all": [ODD, ODD], "examples/look.py": [ODD], "examples/on_copy": [f"store={ODD}", "link"],
-    "examples/operate/check_dragoon": ["store", ODD], "examples/operate/hold": [ODD, "7"], "examples/operate/job": ["notarize", ODD], "examples/operate/metrics": [ODD, ODD],
+    "examples/mirror/attach.py": [ODD, ODD], "examples/mirror/drain.py": [ODD, ODD, "7"], "examples/operate/check_dragoon": ["store", ODD], "examples/operate/hold": [ODD, "7"], "examples/operate/job": ["notarize", ODD], "examples/operate/metrics": [ODD, ODD],
     "examples/operate/serve": [ODD], "examples/quorum/compare": [ODD, "/"], "examples/quorum/mend": [ODD, ODD, "/"], "examples/second_machine/receive": [ODD, "7"],
     "examples/successor/walk_back": [ODD, ODD, "7"], "examples/verify.py": [ODD, ODD, "7"],
 }

@@ -22,12 +22,14 @@ change any more. What waited in the outbox is in no store then, and standard err
 attached and isn't named now.
 """
 import os
-import re
+import pathlib
 import sqlite3
 import sys
 from urllib.parse import quote
 
-NAME = re.compile(r"[a-z_][a-z0-9_]{0,31}")
+sys.dont_write_bytecode = True
+sys.path.insert(0, str(pathlib.Path(__file__).resolve().parents[1]))
+from parts.script import NAME, tell_plain
 
 
 def without(text, *letters):
@@ -202,7 +204,7 @@ def detach(db):
     for table in TABLES:
         db.execute(f"drop table if exists {table}")
     if waiting:
-        print(f"attach: changes that waited in the outbox, and are in no store: {waiting}", file=sys.stderr)
+        tell_plain(f"changes that waited in the outbox, and are in no store: {waiting}")
     return set(attached)
 
 
@@ -244,7 +246,7 @@ def attach_all(db, tables, utf8, anew):
     if unknown:
         raise Refused(f"--utf8 {min(unknown)} is no column of {', '.join(tables)}")
     for table in sorted(left):
-        print(f"attach: {table} was attached, and isn't any more: name it with the others, if its changes are to go into the new store", file=sys.stderr)
+        tell_plain(f"{table} was attached, and isn't any more: name it with the others, if its changes are to go into the new store")
     made = ["mirror_limits", *(f"mirror_{table}_{change}" for table in tables for change in CHANGED)]
     db.executemany("insert or ignore into mirror_trigger select name, sql from sqlite_master where type = 'trigger' and name = ?", [[name] for name in made])
 
@@ -271,10 +273,10 @@ def main(words):
         attach_all(db, words[1:], utf8, anew)
         db.execute("commit")
     except sqlite3.Error as fault:
-        print(f"attach: {words[0]}: {fault}", file=sys.stderr)
+        tell_plain(f"{words[0]}: {fault}")
         return 1
     except Refused as fault:
-        print(f"attach: {fault}", file=sys.stderr)
+        tell_plain(fault)
         return 1
     return 0
 

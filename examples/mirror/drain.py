@@ -24,8 +24,8 @@ changes wait in the outbox by then are left out. Standard error names the first 
 the shop's writes wait while a table is read; --no-compare leaves it out. It doesn't tell what stood there between two drains.
 
 It looks that the triggers are there as attach.py made them, and each attached table under its name or another one. A table that was dropped
-counts as one without rows, and one that was renamed goes on under its first name. Columns that a table got since are named, and so are those
-that have other names by now.
+counts as one without rows, and one that was renamed goes on under its first name. Columns that a table got since are named, and so are generated
+ones, and those that have other names by now.
 
 It ends with 0 if all was taken and is the same. It ends with 1 if it had to stop, a row differs, or triggers are gone or others. It ends
 with 6 where records stand hidden in the book or it has nothing of the store (the first `notarize` is made by hand), and with 2 on other words.
@@ -44,8 +44,8 @@ from urllib.parse import quote
 sys.dont_write_bytecode = True
 sys.path.insert(0, str(pathlib.Path(__file__).resolve().parents[1]))
 import verify
-from attach import CHANGED, attached_in, bring_up, columns_in, row_of
-from parts.script import counted
+from attach import CHANGED, attached_in, bring_up, columns_in, generated_in, not_there, row_of
+from parts.script import Parser, counted, tell_plain
 
 DRAGOON = os.environ.get("DRAGOON") or str(pathlib.Path(__file__).resolve().parents[2] / "dragoon")
 HOLD = pathlib.Path(__file__).resolve().parents[1] / "operate" / "hold"
@@ -245,7 +245,7 @@ def store(program, changes):
         if reply == refusal and other:
             reply = program.ask(f"s0 {other} {rest}")
         if reply not in ("ok", refusal):
-            raise Stopped(f"change {number}, `{verify.plain(statement[:100])}`, is answered {reply}. {ANEW}")
+            raise Stopped(f"change {number}, `{statement[:100]}`, is answered {reply}. {ANEW}")
     program.have(f"s0 update mirrored 0 {changes[-1][0]}", "ok")
     program.have("s0 commit", "ok ")
 
@@ -373,17 +373,17 @@ def unlike(db, program, number, table, columns):
     names, kinds = [name for name, *_ in columns_in(db, now or table)], columns.split(" ")[1::2]
     if now and len(names) < len(kinds):
         return f"{table} has fewer columns than the store's. {ANEW}"
-    if more := names[len(kinds):]:
-        print(f"drain: {table} has columns that no store gets: {verify.plain(', '.join(more))}", file=sys.stderr)
+    if more := names[len(kinds):] + generated_in(db, now or table):
+        tell_plain(f"{table} has columns that no store gets: {', '.join(more)}")
     if renamed := [f"{name} (there {old})" for name, old in zip(names, columns.split(" ")[::2]) if name != old]:
-        print(f"drain: {table} has columns under other names than the store: {verify.plain(', '.join(renamed))}", file=sys.stderr)
+        tell_plain(f"{table} has columns under other names than the store: {', '.join(renamed)}")
     found = list(compared(db, stored, names, kinds, now, keys))
     if not found:
         return None
     shown = "; ".join(found[:SHOWN]).encode(errors="surrogateescape").decode(errors="backslashreplace") + "; .." * (len(found) > SHOWN)
     where = "" if now else ", which the database has under no name,"
     alone = f". If the database lacks such a row rightly, `delete {table} KEY` in the store ends this" * found[-1].endswith(" in the store alone")
-    return (f"{table}{where} differs from the store's by {counted(len(found), 'row')}: {verify.plain(shown)}. "
+    return (f"{table}{where} differs from the store's by {counted(len(found), 'row')}: {shown}. "
         f"Its triggers were passed by, or the store was written to{alone}")
 
 
@@ -423,7 +423,7 @@ def words():
         return int(word)
 
     usage = __doc__.splitlines()[2].strip().partition("mirror/")[2]
-    parser = argparse.ArgumentParser(usage=usage, description=__doc__, formatter_class=argparse.RawDescriptionHelpFormatter, allow_abbrev=False)
+    parser = Parser(usage=usage, description=__doc__, formatter_class=argparse.RawDescriptionHelpFormatter, allow_abbrev=False)
     parser.add_argument("--notary", type=books)
     parser.add_argument("--changes", type=changes, default=CHANGES)
     parser.add_argument("--no-compare", action="store_true")
@@ -442,12 +442,12 @@ def words():
 def main():
     options = words()
     if not os.path.isfile(options.database):
-        print(f"drain: there is no file {options.database}", file=sys.stderr)
+        tell_plain(not_there(options.database))
         return 1
     if options.notary:
         why = not_to_be_filed(options.notary.split(","), options.id)
         if why:
-            print(f"drain: nothing is taken and nothing is filed: {why}", file=sys.stderr)
+            tell_plain(f"nothing is taken and nothing is filed: {why}")
             return 6
     devices = [f"store={options.store}"] + ([f"notary={options.notary}"] if options.notary else [])
     place = os.fsencode(os.path.realpath(options.database)).decode(errors="backslashreplace")
@@ -474,13 +474,13 @@ def main():
         finally:
             program.end()
     except sqlite3.Error as fault:
-        print(f"drain: {options.database}: {fault}", file=sys.stderr)
+        tell_plain(f"{options.database}: {fault}")
         return 1
     except (OSError, Stopped) as fault:
-        print(f"drain: {fault}", file=sys.stderr)
+        tell_plain(fault)
         return 1
     for sentence in wrong:
-        print(f"drain: {sentence}", file=sys.stderr)
+        tell_plain(sentence)
     return 1 if wrong else 0
 
 

@@ -15,6 +15,8 @@ import verify
 
 EXAMPLES = pathlib.Path(__file__).resolve().parent.parent
 ALTERED, UNTOLD = 1, 3
+# a table's or a column's
+NAME = re.compile(r"[a-z_][a-z0-9_]{0,31}")
 
 
 class Refused(Exception):
@@ -24,21 +26,28 @@ class Refused(Exception):
 # ---- words
 
 
+class Parser(argparse.ArgumentParser):
+    """A parser whose refusals steer no terminal, whatever the words are."""
+
+    def error(self, said):
+        super().error(plain(said))
+
+
 def words_of(page):
     """A parser of the words that stand in a script's head, in the first line that is indented."""
     usage = page.splitlines()[2].strip().partition("examples/")[2]
-    return argparse.ArgumentParser(usage=usage, description=page, formatter_class=argparse.RawDescriptionHelpFormatter, allow_abbrev=False)
+    return Parser(usage=usage, description=page, formatter_class=argparse.RawDescriptionHelpFormatter, allow_abbrev=False)
 
 
 def number(word, most=(1 << 64) - 1):
     if not re.fullmatch(r"0|[1-9][0-9]{0,19}", word) or int(word) > most:
-        raise argparse.ArgumentTypeError(f"{plain(word)} is no number from 0 to {most}")
+        raise argparse.ArgumentTypeError(f"{word} is no number from 0 to {most}")
     return int(word)
 
 
 def algorithm(word):
     if not re.fullmatch("mono|(tiled( ([1-9][0-9]{0,2}|10[01][0-9]|102[0-4]))?|a3d)( era (0|[1-9][0-9]{0,9}))?", word):
-        raise argparse.ArgumentTypeError(f"{plain(word)} is none of mono, tiled, 'tiled KAPPA' and a3d, or of these but mono with ' era E' behind it")
+        raise argparse.ArgumentTypeError(f"{word} is none of mono, tiled, 'tiled KAPPA' and a3d, or of these but mono with ' era E' behind it")
     return word
 
 
@@ -123,6 +132,11 @@ def common_algorithms(store, book, id):
 def tell(said):
     """Says a sentence on standard error, behind the script's name."""
     print(f"{pathlib.Path(sys.argv[0]).stem}: {said}", file=sys.stderr)
+
+
+def tell_plain(said):
+    """The same. What it shows of a file or of the words steers no terminal."""
+    tell(plain(said))
 
 
 def put(text):
