@@ -172,7 +172,7 @@ DONE = [
     ("alter table t rename to u; drop trigger mirror_t_delete", 1, 1, "triggers are gone: mirror_t_delete. What"),
     (f"alter table t rename to u; {NO_TRIGGERS}", 1, 1, f"triggers are gone: {ALL}. What"),
     ("alter table t rename to u; create table t (id integer primary key)", 1, 1, f"triggers are gone: {ALL}. What"),
-    ("alter table t add column w", 0, 1, "t has columns that no store gets: w\n"),
+    ("alter table t add column w", 0, 1, "t has columns that no store gets: w\n"), ("alter table t add column w as (v * 2)", 0, 1, "t has columns that no store gets: w\n"),
     # another trigger of the same name, and one of the shop's that keeps attach.py's from being asked
     ("drop trigger mirror_t_update; create trigger mirror_t_update after update on t begin select 1; end", 1, 1, "triggers are others than attach.py made: mirror_t_update. What"),
     ("create trigger s after insert on t begin select raise(ignore); end; insert into t values (9, 9)", 1, 1, "differs from the store's by 1 row: `row 9 9` in the database alone"),
@@ -222,7 +222,7 @@ def hears_refusals(folder):
 # what is attached, and why not
 NOT_ATTACHED = [
     (["--utf8", "t.nmae", "t"], "name text", "--utf8 t.nmae is no column of t"), (["--utf8", "T.name", "t"], "name text", "--utf8 T.name is no column of t"),
-    (["mirror_outbox"], "name text", "mirror_outbox is the mirror's own table"),
+    (["mirror_outbox"], "name text", "mirror_outbox is the mirror's own table"), (["mirrored"], "name text", "the name mirrored is taken"),
     (["t"], "id text primary key collate nocase", "the key t.id is compared by NOCASE"), (["t"], "id primary key", "the key t.id has no type"),
 ]
 
@@ -252,9 +252,12 @@ def attaches_anew(folder):
         raise Wrong(f"attach --anew ends with {status}: {told}")
     drains(shop, store, 4)
     drains(shop, store, 0)
-    sqlite3.connect(shop).execute("create table other (id integer primary key)")
-    if (told := script("mirror/attach.py", "--anew", shop, "other")[2]) != "attach: t was attached, and isn't any more: name it with the others, if its changes are to go into the new store\n":
+    sqlite3.connect(shop).execute("create table other (id integer primary key, twice int as (id * 2) stored)")
+    if (told := script("mirror/attach.py", "--anew", shop, "other")[2]) != "attach: other.twice is generated: no store gets it\nattach: t was attached, and isn't any more: name it with the others, if its changes are to go into the new store\n":
         raise Wrong(f"attach --anew of another table says {told}")
+    for words, status in ((["attach.py", folder, "t"], 2), (["drain.py", folder, store, "7"], 1)):
+        if (told := script(f"mirror/{words[0]}", *words[1:]))[:2] != (status, "") or f"{folder} is a folder\n" not in told[2]:
+            raise Wrong(f"{words[0]} of a folder ends with {told}")
     for words in (["--notary", ""], ["--notary", "a,,b"], ["--changes", "0"], ["--note", "a"]):
         if (told := script("mirror/drain.py", *words, shop, store, "7"))[:2] != (2, ""):
             raise Wrong(f"a drain with {words} ends with {told}")

@@ -13,9 +13,9 @@ UTF-8 of its texts.
 
 A change that no store can hold is refused when the shop makes it, so that nothing is missing later: a value of another type than its
 column's, a key that is null or has a fraction, a text that isn't UTF-8, or with a line end, a tab or another byte below 0x20 (--utf8 takes
-it), a row of more than 32,000 bytes. Columns that a table gets afterwards aren't mirrored, and a mirrored one can't be dropped. Where
-another column than the key is unique, `replace` takes rows away without telling: the shop then sets `pragma recursive_triggers = on`.
-Standard error names such a table.
+it), a row of more than 32,000 bytes. Columns that a table gets afterwards aren't mirrored, and a mirrored one can't be dropped. No store gets
+a generated column, whose value the others give. Where another column than the key is unique, `replace` takes rows away without telling: the
+shop then sets `pragma recursive_triggers = on`. Standard error names such a table, and generated columns.
 
 With --anew all that an earlier attach.py made is taken away first, in the same transaction. It is for a new store: the old one takes no
 change any more. What waited in the outbox is in no store then, and standard error says how much that was. It names each table that was
@@ -108,12 +108,19 @@ def columns_in(db, table):
     return sorted(columns, key=lambda column: not column[2])
 
 
+def generated_in(db, table):
+    """The generated columns of a table, which the others leave out."""
+    return [name for _, name, *_, hidden in db.execute(f'pragma table_xinfo("{table}")') if hidden in (2, 3)]
+
+
 def columns_of(db, table, utf8):
     """The columns of a table that can be mirrored: name, kind, and the only types that its values may have, or None. The key comes first."""
     if table in TABLES:
         raise Refused(f"{table} is the mirror's own table")
+    if table == "mirrored":
+        raise Refused("the name mirrored is taken: the mirror has a table of it in the store")
     columns = columns_in(db, table)
-    if not NAME.fullmatch(table) or table == "mirrored" or sum(place > 0 for _, _, place in columns) != 1:
+    if not NAME.fullmatch(table) or sum(place > 0 for _, _, place in columns) != 1:
         raise Refused(f"there is no table {table} with a primary key of one column, and a name that a store takes")
     if len(columns) > 32 or not all(NAME.fullmatch(name) for name, _, _ in columns):
         raise Refused(f"the columns of {table} aren't at most 32 with names that a store takes")
@@ -127,7 +134,9 @@ def columns_of(db, table, utf8):
         if compared.upper() != "BINARY":
             raise Refused(f"the key {table}.{key} is compared by {compared}, so that one key of the database may be two in the store")
     if set(indexes.values()) - {"pk"}:
-        print(f"attach: {table} has another unique column: where the shop uses `replace`, it has to set `pragma recursive_triggers = on`", file=sys.stderr)
+        tell_plain(f"{table} has another unique column: where the shop uses `replace`, it has to set `pragma recursive_triggers = on`")
+    for name in generated_in(db, table):
+        tell_plain(f"{table}.{name} is generated: no store gets it")
     made = [(name, "bytes" if f"{table}.{name}" in utf8 else kind_of(declared), None) for name, declared, _ in columns]
     # (numbers with a fraction are printed otherwise by other versions of SQLite)
     only = {"int": ["integer"], "bytes": ["text" if f"{table}.{key}" in utf8 else "blob"], "text": ["text", "integer"]}
@@ -251,6 +260,11 @@ def attach_all(db, tables, utf8, anew):
     db.executemany("insert or ignore into mirror_trigger select name, sql from sqlite_master where type = 'trigger' and name = ?", [[name] for name in made])
 
 
+def not_there(path):
+    """Why there is no database at this path, in words."""
+    return f"{path} is a folder" if os.path.isdir(path) else f"there is no file {path}"
+
+
 def main(words):
     if words == ["--help"]:
         print(__doc__.strip())
@@ -262,7 +276,7 @@ def main(words):
         words = words[2:]
     if len(words) < 2 or words[0].startswith("-") or not os.path.isfile(words[0]):
         if len(words) > 1:
-            print(f"attach: there is no file {words[0] if words[0].isprintable() else ascii(words[0])}", file=sys.stderr)
+            tell_plain(not_there(words[0]))
         print(f"usage: {__doc__.splitlines()[2].strip()}", file=sys.stderr)
         return 2
     try:
