@@ -18,7 +18,8 @@ A kind that isn't given is found: int if each field is a number of 64 bits as it
 `false`, else text. (`007` and `+5` are text, and ints where --kind says so.) A text of the language holds no line end, tab or other
 byte below 0x20, nor 0x7F. A column of kind utf8 is of kind bytes in the table: the UTF-8 of the field, whatever it holds.
 A column of which text is made, though it looks like something else (`TRUE`, `007`, `12,50`, `1e5`, `2026-12-31`), or though some
-of it are whole numbers, is named on standard error.
+of it are whole numbers, or all but one field looks so, is named on standard error. So is the first text of a column that dumps and
+spreadsheets write where there is no value (`NULL`, `N/A`, `#REF!`), and the first field with a blank before its quote.
 
 What the language can't hold is refused with its row and column, and so is a row with too few or too many fields, a key that
 is empty or stands there twice, and a name that is none. Nothing is written then, and the status is 1. Row 1 is the heading, and goes into no
@@ -35,6 +36,7 @@ place, whatever their heading says. --like STORE is for that.
 import argparse
 import csv
 import io
+import itertools
 import pathlib
 import re
 import sys
@@ -43,8 +45,8 @@ import unicodedata
 sys.dont_write_bytecode = True
 sys.path.insert(0, str(pathlib.Path(__file__).resolve().parent))
 from parts import script, store
-
 from parts.script import NAME, tell_plain as tell
+
 BARRED = re.compile(r"[\x00-\x1f\x7f]")
 KINDS = {"int": "int", "text": "text", "bool": "bool", "bytes": "bytes", "utf8": "bytes"}
 TXN_LIMIT, OPERATIONS, LINE_LIMIT, INPUT_LIMIT = 32_768, 256, 65_536, 67_108_864
@@ -52,6 +54,8 @@ ZEROS = "bytes 0x00, as a crash may leave of a file: look for a whole one"
 
 # how files begin that are no CSV, and what they are
 OTHER_FILES = (
+    ("\0\0(\udcfe\udcff|\0[^\0\n])", "UTF-32: `iconv -f UTF-32BE -t UTF-8` makes UTF-8 of it"),
+    ("\udcff\udcfe\0\0|[^\0]\0{3}[^\0]", "UTF-32: `iconv -f UTF-32LE -t UTF-8` makes UTF-8 of it"),
     ("PK\3\4", "a spreadsheet or another archive: save it as CSV, or unpack it"),
     ("\udcd0\udccf\x11", "a spreadsheet: save it as CSV"),
     ("\x1f\udc8b|BZh[0-9]|\udcfd7zXZ|[(]\udcb5/\udcfd", "compressed: unpack it first"),
@@ -71,6 +75,8 @@ SPOILED = (
 
 # a number with a fraction, which may have signs between its digits
 FRACTION = r"(?=.*[0-9])[+-]?([0-9]+|[0-9]{1,3}([.,' _][0-9]{3})+)?([.,][0-9]+)?"
+# what dumps and spreadsheets write where there is no value
+NO_VALUES = {"NULL", r"\N", "n/a", "N/A", "#N/A", "#REF!", "#DIV/0!", "#VALUE!", "#NAME?", "#NUM!"}
 # what all fields of a column look like that becomes text, and what there is to do; the first one that fits is said
 LOOKS = (
     ("(?i:true|false)", "`true` and `false` in capitals stay text: --kind {0}=bool makes them bool"),
@@ -159,6 +165,11 @@ def looks(name, fields):
         return f"it stays text, since {len(others)} of {len(fields)} fields are no whole numbers, as `{others[0][:20]}`: an empty field is null"
     if all(any(re.fullmatch(pattern, field) for pattern, _ in LOOKS) for field in fields):
         return f"it stays text, since its fields are of several forms, as `{fields[0][:20]}`: written in one, they may get a kind"
+    # (words for true and false stand among others in many a text)
+    for pattern, _ in LOOKS[2:]:
+        others = list(itertools.islice((field for field in fields if not re.fullmatch(pattern, field)), 2))
+        if len(others) == 1 and len(fields) > 2:
+            return f"it stays text, since 1 of {len(fields)} fields isn't like the others, `{others[0][:20]}`: an empty field is null"
     return None
 
 
@@ -178,13 +189,18 @@ def note_heading(heading, columns, options):
         tell(f"the fields go by place, so the columns of {options.table} have to be {', '.join(name for name, *_ in columns)}, in this order")
 
 
-def note_looks(columns, rows):
-    """Says of which columns text is made, though they look like something else."""
+def note_looks(columns, rows, options):
+    """Says of which columns text is made, though they look like something else, and which texts stand where there is no value."""
     for name, at, kind in columns:
         said = [row[at] for _, row in rows if row[at]]
-        if kind == "text" and said and (note := looks(name, said)):
+        is_found = name not in dict(options.kind) and not options.like
+        note = looks(name, said) if is_found and kind == "text" and said else None
+        if note:
             tell(f"column {name}: {note}")
-        if rows and not said:
+        odd = next((field for field in said if field in NO_VALUES), None)
+        if kind in ("text", "utf8") and odd and f"`{odd}`" not in (note or ""):
+            tell(f"column {name}: `{odd}` goes in as a text, and not as null: an empty field is null")
+        if is_found and rows and not said:
             tell(f"column {name}: it is empty in every row, and becomes text: --kind {name}=KIND says otherwise, and a table's columns stay as they are")
 
 
@@ -221,13 +237,15 @@ def hold_to_csv(text):
     """Refuses a file that is none of text in UTF-8, by its front."""
     if DEVICE.match(text):
         raise Refused("this is a store or a notary's book, and no CSV: csv_out.py makes one of what a store answers")
-    if text[:2] == "\0\0":
-        raise Refused(f"it begins with {ZEROS}")
-    if text[:2] in ("\udcff\udcfe", "\udcfe\udcff") or "\0" in text[:2]:
-        raise Refused("this is UTF-16: `iconv -f UTF-16 -t UTF-8` makes UTF-8 of it")
     for front, what in OTHER_FILES:
         if re.match(front, text, re.IGNORECASE):
             raise Refused(f"this is {what}")
+    if text[:2] == "\0\0":
+        raise Refused(f"it begins with {ZEROS}")
+    if text[:2] in ("\udcff\udcfe", "\udcfe\udcff") or "\0" in text[:2]:
+        # (without its mark the machine's own order would be taken)
+        order = {"\0": "BE", "\udcff": "", "\udcfe": ""}.get(text[0], "LE")
+        raise Refused(f"this is UTF-16: `iconv -f UTF-16{order} -t UTF-8` makes UTF-8 of it")
 
 
 def read(text, delimiter):
@@ -252,6 +270,14 @@ def read(text, delimiter):
         if len(table[0][1]) == 1 and sign in table[0][1][0]:
             raise Refused(f"row 1: this is one column with {name} in its name: --delimiter {name} cuts there")
     return table[0][1], table[1:]
+
+
+def note_quotes(heading, rows):
+    """Says which row is the first where a quote isn't taken as one."""
+    for number, row in [(1, heading), *rows]:
+        if field := next((field for field in row if re.match(r'\s+"', field)), None):
+            tell(f"row {number}: a blank stands before the quote in `{field[:40]}`, so that quotes are part of the text: take such blanks out")
+            return
 
 
 def note_sign(rows):
@@ -298,10 +324,11 @@ def columns_of(heading, rows, options):
             raise Refused(f"row {number}: it has {ZEROS}")
     if len(names) != len(heading):
         raise Refused(f"there are {len(names)} names for {len(heading)} columns")
-    for name in names:
+    for place, name in enumerate(names, 1):
         if not NAME.fullmatch(name) or names.count(name) > 1:
             would = f"where row 1 is a heading, --names {legal(heading)} would do; where it is a row, put a heading in front"
-            raise Refused(f"row 1, column {name}: no name, or one that stands there twice ({would})")
+            what = f"column {name}: no name, or one that stands there twice" if name.strip() else f"place {place}: no name stands there"
+            raise Refused(f"row 1, {what} ({would})")
     if len(names) > 32:
         raise Refused(f"there are {len(names)} columns, and a table has at most 32")
     key = options.key or names[0]
@@ -310,7 +337,8 @@ def columns_of(heading, rows, options):
             raise Refused(f"there is no column {name}")
     for number, row in rows:
         if len(row) != len(names):
-            raise Refused(f"row {number}: {len(row)} fields for {len(names)} columns")
+            dos = ": a Ctrl-Z (0x1a) ends the file, as DOS wrote it, and is to be taken out" if row == ["\x1a"] else ""
+            raise Refused(f"row {number}: {len(row)} fields for {len(names)} columns{dos}")
     if options.like:
         order, kinds = as_stored(names, options)
     else:
@@ -360,6 +388,7 @@ def in_transactions(lines, session, rows):
 def statements(file, options):
     text = file.read()
     heading, rows = read(text, options.delimiter)
+    note_quotes(heading, rows)
     columns = columns_of(heading, rows, options)
     if text[-1] not in "\r\n":
         tell("the last row has no line end: if the file was cut off, look at it")
@@ -370,7 +399,7 @@ def statements(file, options):
         note_sign(rows)
     note_spoiled(columns, rows)
     note_bytes(columns, options)
-    note_looks([column for column in columns if column[0] not in dict(options.kind) and not options.like], rows)
+    note_looks(columns, rows, options)
     if not options.add and not options.like:
         yield f"create {options.table} " + " ".join(f"{name} {KINDS[kind]}" for name, _, kind in columns)
     lines = inserts(rows, columns, options)

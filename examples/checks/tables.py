@@ -76,6 +76,8 @@ REFUSED = [  # options, heading, rows, and what is said
     (["--key", "b"], "a,b", ["1,x", "2,"], "row 3, column b: is empty"),
     ([], "a,b", ["1,x", "2,y", "1,z"], "row 4, column a: is the key of row 2"),
     ([], "a,b", ["1,x", "2"], "row 3: 1 fields for 2 columns"),
+    ([], "a,b", ["1,x", "\x1a"], "row 3: 1 fields for 2 columns: a Ctrl-Z (0x1a) ends the file, as DOS wrote it"), ([], "a,b,", ["1,x,"], "row 1, place 3: no name stands there (where"),
+    ([], "a,b", ['1, "x, y"'], "row 2: a blank stands before the quote in ` \"x`, so that quotes are part of the text"),
     ([], "a,b", ["1," + "x" * 32768], "row 2: longer than"),
     ([], "a,B c", ["1,x"], "row 1, column B c: no name"),
     ([], "a,a", ["1,x"], "row 1, column a: no name, or one that"),
@@ -102,11 +104,14 @@ NOTED = [
     ("10:30,23:59:59", "times of day"), ("007,12", "--kind b=int"), ("+5,7", "--kind b=int"), ("-0,1", "--kind b=int"), ("12345678901234567890,1", "wider than 64 bits"), ("9223372036854775808,007", "wider than 64 bits"), ("9223372036854775807,007", "--kind b=int"), ("1e5,2E-3", "an exponent"),
     ("1e5,2,1.5", "an exponent"), ("0x1F,0xff", "--kind b=bytes"), (" 5,6 ", "blanks"), ("5 %,6 %", "a unit"), ("$5,€ 6.50", "a unit"), ("5.00 EUR,6.50 EUR", "a unit"),
     ("1,2,n/a", "1 of 3 fields are no whole numbers, as `n/a`"), ("1,x,y", "2 of 3 fields are no whole numbers, as `x`"), ("TRUE,12.5,1e5", "of several forms, as `TRUE`"), ("TRUE,x", None), ("a,b", None), ("007x,8x", None), ("192.168.0.1,10.0.0.1", None), ("1.2.3,1.2.4", None), ("-,-", None), ("030 123456,040 98765", None),
+    ("2026-12-31,n/a,2027-01-01", "1 of 3 fields isn't like the others, `n/a`"), ("12.5,0.1,7.5,-", "1 of 4 fields isn't like the others, `-`"), ("no,yes,maybe", None), ("x,y,5 €,z", None),
+    ("x,NULL,#REF!", "column b: `NULL` goes in as a text, and not as null"), ("\\N,\\N", "`\\N` goes in as a text"), ("null,Null", None), (' "Ada",x, "y"', 'row 2: a blank stands before the quote in ` "Ada"`'),
     ("M\ufffdller,x", "has lost a letter"), ("x,\x84Adler\x93", "-f CP1252"), ("MÃ¼ller,x", "taken for Latin letters"), ("Müller,5 €", None),
 ]
 # files that are none of text in UTF-8
 NO_TEXT = [
-    *(("a,b\n1,x\n".encode(coding), "this is UTF-16") for coding in ("utf-16", "utf-16-le", "utf-16-be")),
+    *(("a,b\n1,x\n".encode(coding), f"this is UTF-16: `iconv -f {coding} -t UTF-8`") for coding in ("UTF-16", "UTF-16LE", "UTF-16BE")),
+    *(("\ufeffa,b\n1,x\n"[begin:].encode(coding), f"this is UTF-32: `iconv -f {coding} -t UTF-8` makes") for coding in ("UTF-32LE", "UTF-32BE") for begin in (0, 1)),
     (b"a,b\n1,x\n2,\xff\n", "row 3, column b: isn't valid UTF-8"), (b"PK\3\4\x14\0\0\0", "this is a spreadsheet"), (gzip.compress(b"a,b\n"), "this is compressed"),
     ((EXAMPLES / "altered.store").read_bytes(), "this is a store"), (b'[{"a": 1}]\n', "this is JSON"), (b"<!DOCTYPE html>\n", "this is a page"),
 ]
