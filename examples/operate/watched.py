@@ -188,7 +188,7 @@ def read_header(conf):
     epoch = int.from_bytes(fields[8:16], "big")
     granule = max(0, int(time.time()) - epoch) // width
     last = epoch + (last_moment(conf, length) if head[8:9] == b"2" else 0)
-    return Header(max(0, STORE_LIMIT - length), max(0, GRANULES - granule), epoch + GRANULES * width, width << exponent, last)
+    return Header(max(0, STORE_LIMIT - stand_of(conf.store).bytes), max(0, GRANULES - granule), epoch + GRANULES * width, width << exponent, last)
 
 
 def segment_of(file, begin):
@@ -206,8 +206,8 @@ def segment_of(file, begin):
 
 
 def begin_of(place):
-    """Where the segment of a place begins."""
-    return max(0, place) // verify.SEGMENT * verify.SEGMENT
+    """Where the segment of a place begins. What stands behind the last one that a store has is none."""
+    return min(max(0, place) // verify.SEGMENT, verify.SEGMENTS - 1) * verify.SEGMENT
 
 
 def last_moment(conf, length):
@@ -281,9 +281,11 @@ def stand_of(path, durable=False):
             if header and verify.LETTERS[head[1:9]] == 2:
                 begin = begin_of(length - 1)
                 content, gates = segment_of(file, begin)
+                # (of what stands behind all segments so much says whether an append leaves it)
+                content += file.read(verify.SEGMENT) if length > begin + verify.SEGMENT else b""
                 end = max(gates) - begin
                 rest, records = content[end + 1 :], verify.records_behind(content, end, verify.STORE)
-                opened, behind = verify.open_end(content, end, begin), len(rest) if records or any(rest) else 0
+                opened, behind = verify.open_end(content, end, begin), max(len(rest), length - begin - end - 1) if records or any(rest) else 0
                 zeros = 0 if end or any(rest) else zeros_before(file, begin)
                 stand = Stand(header[1], begin + end + 1, gates[begin + end].digest, length, behind, rest, records, zeros, gates, opened)
             if durable:
