@@ -363,6 +363,27 @@ def lost(made, folder):
     served.stop()
 
 
+def oddities(made, folder):
+    """A row that wasn't filed was taken out before: that is noted once the run opens, and again behind a refused line."""
+    served = Served(made, folder, "3600", "3600")
+    served.connect()
+    served.stop()
+    store, note = folder / "store", folder / "w.odd"
+    content = store.read_bytes()
+    store.write_bytes(content[: place(295)] + content[place(296) :])
+    (folder / "w.length").unlink()
+    for line, wanted in (("get t 1\n", "row 1 0\n"), ("?\n", "refused Syntax\n")):
+        served.start("3600", "3600")
+        served.wait(note.exists, "what is odd isn't noted")
+        served.is_alarm("store", 1, "some were lost or altered, or put in")
+        client = served.connect()
+        note.unlink()
+        says(client, line, wanted)
+        served.stop()
+        if note.read_text().count("\n") != 1:
+            raise Wrong(f"behind {line!r} is noted {note.read_text()}")
+
+
 def main(words):
     count_of(words, None, __doc__)
     with tempfile.TemporaryDirectory() as room:
@@ -370,7 +391,7 @@ def main(words):
         fill(folder / "made")
         for number, row in enumerate(CHANGES):
             try_change(folder / "made", folder / str(number), *row)
-        for number, tried in enumerate((replies, reports, alterations, books, ends, lost)):
+        for number, tried in enumerate((replies, reports, alterations, books, ends, lost, oddities)):
             tried(folder / "made", folder / f"w{number}")
     print(f"audits: {len(CHANGES)} changes of an open store are told, and a run that is kept open serves, files, audits and ends as it has to")
 

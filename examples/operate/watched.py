@@ -31,9 +31,9 @@ COMMANDS = ("notarize", "validate", "run", "analyse")
 # how the names of the files end that STATE keeps of a store
 KEPT = ("book", "sealed", "length", "lock", "behind", "hidden", "odd", "known", "socket", *COMMANDS)
 # what the program says of something that no writer and no crash leaves so, whatever a command ends with. Bytes behind an end are noted by
-# themselves, a mark that says altered is a verdict, and the clock may be wrong alone
-ODD = re.compile("^dragoon: (?!.*( bytes stand behind it| behind an open gate|last mark in|clock says))"
-    "(.*(altered|taken out|put in|put back|were lost|was replaced|no writer|no crash|by somebody else).*)$", re.MULTILINE)
+# themselves, a mark that says altered is a verdict, the clock may be wrong alone, and a refusal shows words of whoever asked
+ODD = re.compile("dragoon: (?!.*( bytes stand behind it| behind an open gate|last mark in|clock says|refus))"
+    ".*(altered|taken out|put in|put back|were lost|was replaced|no writer|no crash|by somebody else)")
 
 # `path` is where the conf lies, if there is one
 Conf = collections.namedtuple("Conf", "name store book id alg state path", defaults=[None])
@@ -70,6 +70,9 @@ STANDING = ALTERED_STATUSES | NOTARY_STATUSES
 # the statuses that a command ends with where a store or its book takes nothing any more
 CLOSED_STATUSES = {15, 16}
 USAGE, STORE_FAULT, NOTARY_FAULT, CANNOT = 2, 5, 6, 70
+# of what else is odd the words count with these: it ended well, or with lines refused, or goes on, or takes nothing any more. Each other
+# one is an alarm until a call ends well
+HEARD_STATUSES = {None, 0, 3, *CLOSED_STATUSES}
 
 
 class Wrong(Exception):
@@ -693,9 +696,9 @@ def status_of(process):
     return process.returncode if process.returncode >= 0 else 128 - process.returncode
 
 
-def hear(conf, command, told, is_well):
+def hear(conf, command, told, status):
     """Hands on what the program told on standard error, and keeps what it said of bytes behind the end of the store, and whether they still
-    stand there; or of a record that was cut off there; and what else is odd, of a call that goes on or ended well. Of a store that another process
+    stand there; or of a record that was cut off there; and what else is odd, of a call that goes on or ended so. Of a store that another process
     writes to it isn't kept."""
     print(told, end="", file=sys.stderr, flush=True)
     if re.search("^dragoon: the (store|notary's book) .* is locked by another process", told, re.MULTILINE):
@@ -704,22 +707,33 @@ def hear(conf, command, told, is_well):
     if behind:
         is_over = command in ("notarize", "run") and behind[2] == " bytes stand behind it" and " ends a segment at " not in behind[1]
         is_kept(conf, command, lambda: note(behind_file(conf), behind[1], STORED_OVER if is_over else ""))
-    if is_well:
-        is_kept(conf, command, lambda: note_odd(conf, [it[2] for it in ODD.finditer(told)]))
+    if status in HEARD_STATUSES and (sentences := odd_in(conf, told)):
+        is_kept(conf, command, lambda: note_odd(conf, sentences))
+
+
+def odd_in(conf, told):
+    """The sentences of what is odd, each once. The paths of store and book, as the program spells them, say nothing."""
+    spelled = sorted((it.replace("\\", r"\\") for it in (conf.store, conf.book)), key=len, reverse=True)
+    paths = re.compile("|".join(map(re.escape, spelled)))
+    lines = [line for line in told.split("\n") if ODD.match(paths.sub("it", line))]
+    return [line.removeprefix("dragoon: ") for line in dict.fromkeys(lines)]
 
 
 def note_odd(conf, sentences):
-    """Keeps these sentences, each once, but for those that a person knows already."""
-    there, known = lines_in(odd_file(conf)), lines_in(known_file(conf))
-    if new := [it for it in dict.fromkeys(sentences) if it not in there + known]:
+    """Keeps these sentences, but for those that stand there, or that a person knows already."""
+    there, known = lines_in(conf, odd_file(conf)), lines_in(conf, known_file(conf))
+    if new := [it for it in sentences if it not in there + known]:
         write_whole(odd_file(conf), "".join(f"{it}\n" for it in [*there, *new]))
 
 
-def lines_in(file):
-    """The lines of a file of STATE. What is garbled says none."""
+def lines_in(conf, file):
+    """The lines of a file of STATE, with other letters for what is garbled. Why it can't be read is told."""
     try:
-        return left_in(file).splitlines()
-    except (FileNotFoundError, ValueError, Unknown):
+        return verify.content_of(file).decode(errors="replace").splitlines()
+    except FileNotFoundError:
+        return []
+    except OSError as error:
+        tell(conf, f"{file}: {error.strerror}")
         return []
 
 
@@ -916,9 +930,9 @@ def hidden_file(conf):
 
 
 def noted(file, what):
-    """What was noted of bytes that stand behind the end of a file, or None. It stays until somebody removes that."""
+    """What was noted in a file of STATE, or else `what` alone; or None. It stays until somebody removes that."""
     try:
-        return left_in(file).strip() or f"bytes stand behind the end of {what}: {file} is there, and has lost what was said of them"
+        return left_in(file).strip() or f"{what}: {file} is there, and has lost what was said of them"
     except FileNotFoundError:
         return None
     except ValueError as error:
@@ -927,7 +941,7 @@ def noted(file, what):
 
 def behind_store(conf):
     """The same of the store. Nobody has to note what no crash leaves there, as long as it stands there."""
-    if said := noted(behind_file(conf), conf.store):
+    if said := noted(behind_file(conf), f"bytes stand behind the end of {conf.store}"):
         return f"{said}; hold the store against its copies, then remove {behind_file(conf)}"
     said = odd_end(conf)
     return said and f"{said}; hold the store against its copies"
@@ -943,7 +957,7 @@ def known_file(conf):
 
 def odd(conf):
     """What the program told that no writer and no crash leaves so, or None. It stays until somebody removes it."""
-    said = noted(odd_file(conf), f"{conf.store} or {conf.book}")
+    said = noted(odd_file(conf), f"the program told of something odd in {conf.store} or {conf.book}")
     if not said:
         return None
     first, *more = said.splitlines()
@@ -952,7 +966,7 @@ def odd(conf):
 
 
 def behind_book(conf):
-    return noted(hidden_file(conf), conf.book)
+    return noted(hidden_file(conf), f"bytes stand behind the end of {conf.book}")
 
 
 def ended_well(conf, command):
