@@ -662,6 +662,13 @@ def keep_length(conf, path=None):
 # ---- how commands ended
 
 
+def patience():
+    """How many seconds a command waits for others."""
+    if not re.fullmatch(r"[0-9]+(\.[0-9]+)?", WAIT):
+        raise Wrong(f"WAIT={WAIT} is no number of seconds")
+    return float(WAIT)
+
+
 def alone(conf, until):
     """Waits until nothing else looks after this store. Nothing does while the file that is answered is open."""
     lock = open(pathlib.Path(conf.state) / f"{conf.name}.lock", "a", opener=at_once)
