@@ -141,6 +141,10 @@ def table(folder):
         put(pathlib.Path(name), content)
     expect(0, "mend: a: differs from byte 64 on", "mend", *"abc")
     os.unlink("a.mended")
+    for text, content in (("no book: No such file or directory\n", None), ("no book: its head is no book's\n", b"x" * 99), ("behind from byte 64", b"")):
+        put(pathlib.Path("a"), content)
+        expect(0, f"mend: a: {text}", "mend", *"abc")
+        os.unlink("a.mended")
     # mend
     for others in (back, short):
         for name, content in zip("abc", (whole, others, others)):
