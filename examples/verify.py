@@ -21,9 +21,9 @@ read or is no book, the store has no era E, or that era's tiles have neither cha
 writes such a file to TARGET, and `restore` a new store, of what STORE and COPY hold. COPY is /dev/null where there is none, and another
 empty file is told. TARGET is there only once it is whole, and one of more than one byte is left as it is. They print `evidence N`, or
 `restored K lost M` and the granules that are lost; or `unsealed`, or `header altered N` with status 1. Where a call has no answer, the line
-is `fault NAME`, and the status is that of NAME in docs/COMMANDS.md. Standard error says why nothing was made, and where no tile is filed. It
-also says which originals COPY didn't give, how much of TARGET isn't sealed, and how much that isn't sealed TARGET lacks. Where numbers stand
-twice or moments fall behind the sealed tiles of TARGET, it says so. It says, too, where STORE, COPY or TARGET isn't what was filed by other
+is `fault NAME`, and the status is that of NAME in docs/COMMANDS.md. Standard error says why nothing was made, where no tile is filed, and where
+an evidence file shows what `evidence` never puts in one. It also says which originals COPY didn't give, how much of TARGET isn't sealed, and how
+much that isn't sealed TARGET lacks. Where numbers stand twice or moments fall behind the sealed tiles of TARGET, it says so. It says, too, where STORE, COPY or TARGET isn't what was filed by other
 digests, and of STORE and BOOK what it says where it compares them.
 Of `restore` HeaderLost is 24: neither store passes. An empty book is one without batches.
 """
@@ -802,7 +802,7 @@ def call(name, book, id, *files):
     except notary.Fault as fault:
         tell_why(str(fault), book, id, files, read)
         return [str(fault)], fault.status
-    tell_why(lines[0], book, id, files, read)
+    tell_why("unfit" if any(map(evidence.is_unfit, lines)) else lines[0], book, id, files, read)
     for content in made:
         if content is not None:
             keep(content, target)
@@ -837,7 +837,7 @@ def keep(content, target):
 
 
 def tell_why(line, book, id, files, read):
-    """Says on standard error why such a call has this answer, where it made or confirmed nothing."""
+    """Says on standard error why such a call has this answer, where it made or confirmed nothing, or is `unfit`."""
     book, first, target, found = plain(book), plain(files[0]), plain(files[-1]), " ".join(line.split(" ")[:2])
     nothing = nothing_under(id, read[0]) if found in ("unsealed", "other header") else None
     lacks = "a digest that was filed with the others: compare it with its copies" if files[1:] else f"the digest of a granule that {first} shows: that isn't sealed, or its era has no tree, or the book was cut or altered"
@@ -856,6 +856,7 @@ def tell_why(line, book, id, files, read):
         "other header": f"nothing was compared: {book} {nothing}" if nothing else f"{first} is evidence of another id than {id}, or of another header or other eras than {book} has under it",
         "header altered": f"nothing was made: {''.join(fail[:1])}",
         "examined 0": f"{first} shows no granule: whoever made it found none altered, or left them out",
+        "unfit": f"a file that `evidence` made shows altered granules alone, and no original that isn't as notarized: so this one was changed, or the notary's book {book} was",
     }.get(found)
     if said:
         print(f"verify: {said}", file=sys.stderr)

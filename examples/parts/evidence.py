@@ -110,6 +110,11 @@ def is_notarized(granule, items, eras, notary):
     return notary.is_same(leaf(eras, granule), verify.granule_digest(granule, items))
 
 
+def is_unfit(line):
+    """Whether a line shows a granule that isn't altered, or an original that is."""
+    return line.startswith("granule ") and (line.split(" ")[2] == "as" or line.endswith(" not as notarized"))
+
+
 # ---- what is gathered
 
 
