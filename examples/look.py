@@ -4,9 +4,9 @@
     python3 examples/look.py [--json] [--zone ZONE] STORE [BOOK ID]
 
 Of the store: its id, granules, chains and eras, its first second and its last moment, its tables with their columns and rows, and what
-room is left. Where operations fit no table, moments fall, the numbers of transactions don't follow one another, or an item is one that no
-writer stores, it says so, and where the first one stands. Of the book: up to which moment the store is filed, what stands behind that, its
-last mark, and the last one that isn't clean where a clean one follows; and where it doesn't go together with the store, or with itself. Of
+room is left. Where operations fit no table, or have a text that no statement can spell, it says how many. Where moments fall, the numbers of
+transactions don't follow one another, or an item is one that no writer stores, it says so, and where the first one stands. Of the book: up
+to which moment the store is filed, what stands behind that, its last mark, and the last one that isn't clean where a clean one follows; and where it doesn't go together with the store, or with itself. Of
 both: the bytes that stand behind the gate that ends them, or that this gate is open. Dates are those of ZONE, as Europe/Zurich, or else of UTC. With --json it is one object, in
 which all times are numbers.
 
@@ -23,19 +23,16 @@ import verify
 from parts import moments, oddities
 from parts.book import Book, nothing_of, put_back, said
 from parts.script import Refused, counted, end, number, plain, words_of
-from parts.store import GRANULES, LIMIT, Frontier, Policy, Store, Tables, Transaction, chains, hidden
+from parts.store import GRANULES, LIMIT, LOST, PUT_IN, Frontier, Policy, Store, Transaction, chains, hidden
 
 
 def of_store(store, items):
     """What the store says, in numbers and names."""
-    tables, last, counts, granules = Tables(), items.latest, collections.Counter(), set()
+    (tables, misfits, unsayable), last, counts, granules = store.held(), items.latest, collections.Counter(), set()
     for item in store.items():
         counts[type(item)] += 1
         if isinstance(item, Transaction):
             granules.add(store.granule(item))
-    for transaction in store.by_moment():
-        for operation in transaction.operations:
-            counts["misfits"] += tables.apply(operation) is not None
     return {
         "store": store.path, "bytes": len(store.content), "format": store.format, "id": store.id, "first_second": store.epoch, "last_moment": last,
         "odd_moment": store.odd_moment(last, int(time.time())),
@@ -43,7 +40,7 @@ def of_store(store, items):
         "later_eras": [{"tile": it.tile, "granule": it.granule, "granules_in_a_tile": 1 << it.k, "chains": chains(it), "has_no_tile": verify.has_no_tile(store.eras, at)}
                        for at, it in enumerate(store.eras) if at],
         "transactions": counts[Transaction], "frontiers": counts[Frontier],
-        "policies": counts[Policy], "policies_without_effect": items.without_effect, "misfits": counts["misfits"],
+        "policies": counts[Policy], "policies_without_effect": items.without_effect, "misfits": misfits, "unsayable": unsayable,
         "falling_moments": items.falls, "first_fall": in_names(items.fall), "gaps_in_numbers": items.jumps, "first_gap": in_names(items.jump),
         "first_odd_item": in_names(items.unwritten), "granules_with_transactions": len(granules),
         "tables": {name: {"rows": len(tables.keys[name]), "columns": dict(columns)} for name, columns in sorted(tables.columns.items())},
@@ -123,7 +120,9 @@ def store_lines(it, date):
     yield "last moment", f"{date(it['first_second'] + it['last_moment'])}, moment {it['last_moment']}{odd}"
     yield "transactions", f"{it['transactions']:,}, in {counted(it['granules_with_transactions'], 'granule')}"
     if it["misfits"]:
-        yield "misfits", f"{counted(it['misfits'], 'operation')} that fit no table: records were altered, or are missing"
+        yield "misfits", f"{counted(it['misfits'], 'operation')} that fit{'s' * (it['misfits'] == 1)} no table: {LOST}"
+    if it["unsayable"]:
+        yield "unsayable", f"{counted(it['unsayable'], 'operation')} with a text that no statement can spell: {PUT_IN}"
     if it["falling_moments"]:
         yield "moments fall", f"{counted(it['falling_moments'], 'item')} of a moment before that of an earlier one: no honest writer stores such; {first(it['first_fall'], it)}, of moment {it['first_fall']['this']} behind {it['first_fall']['before']}"
     if it["gaps_in_numbers"]:

@@ -21,7 +21,7 @@ from parts import moments, oddities, page
 from parts.book import CLEAN, Batch, Book, filed_in, said
 from parts.notary import Notary
 from parts.script import Refused, counted, end, number, plain, tell, words_of
-from parts.store import Create, Put, Store, Tables, hidden, kind_of, literal
+from parts.store import LOST, Create, Put, Store, Tables, hidden, kind_of, literal
 
 MOST_TICKS, MOST_BARS = 400, 400
 # `by` is the number of the transaction that put the row, and `stop` is None where it is the current one
@@ -65,7 +65,7 @@ class History:
         if self.falls:
             yield f"Moments fall at {counted(self.falls, 'item')}: no honest writer stores such. The versions go by their moments."
         if self.misfits:
-            yield f"{counted(self.misfits, 'operation')} fit{'s' * (self.misfits == 1)} no table, and {'counts' if self.misfits == 1 else 'count'} for nothing: records were altered, or are missing."
+            yield f"{counted(self.misfits, 'operation')} fit{'s' * (self.misfits == 1)} no table, and {'counts' if self.misfits == 1 else 'count'} for nothing: {LOST}."
 
     def take(self, operation, transaction, word):
         """An operation that fits this row's table may begin a version, and stops the one before."""

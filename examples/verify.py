@@ -13,7 +13,7 @@ where the digest differs, else `NAME is not filed`, or `NAME is not planned` of 
 one another, standard error says what follows: that the book was altered, or either of the two. `validate` compares fewer digests, and may
 say `clean` then. What else is filed is compared with nothing, and named there, too. So is the last mark that isn't clean, where the store
 is; the one policy by which alone the eras aren't those that were filed; and where STORE and BOOK don't go together, or what stands in them is left so by no writer:
-tiles, rows or a Frontier that one of them lacks, and moments or numbers that are odd. With `--era E` it compares the tiles of that era alone, by their parts and nodes: the chain at a tile's end goes by all tiles before, too. N is the number of the era's sealed tiles
+tiles, rows or a Frontier that one of them lacks, and moments, numbers, operations or texts that are odd. With `--era E` it compares the tiles of that era alone, by their parts and nodes: the chain at a tile's end goes by all tiles before, too. N is the number of the era's sealed tiles
 then. It writes no file, and ends with 0 if nothing differs, 1 if something does, and 2 on other words. It ends with 3 if a file can't be
 read or is no book, the store has no era E, or that era's tiles have neither chains nor a tree.
 

@@ -224,7 +224,7 @@ def tampered(folder):
     for name, payloads in (
         ("longer", items), ("planted", [*items, last]), ("planted_in", [*items[:7], early, *items[7:]]), ("planted_late", [*items[:7], late, *items[7:]]),
         ("planted_twice", [*items, transaction(5, 301, row(9, 9))]), ("moved", [*items[:-1], transaction(5, 500, row(3, 3)), items[-1]]), ("swapped", [items[1], items[0], *items[2:]]), ("doubled", [*items, items[3]]),
-        ("early", [*items[:3], transaction(4, 120, row(2, 7))]), ("falls", begin + rows), ("misfits", [*begin, rows[0], transaction(3, 120, put("t", b"\0"))]),
+        ("odd_text", [*items, transaction(11, 480, put("u", text("\x1b")))]), ("early", [*items[:3], transaction(4, 120, row(2, 7))]), ("falls", begin + rows), ("misfits", [*begin, rows[0], transaction(3, 120, put("t", b"\0"))]),
     ):
         (folder / name).write_bytes(made.laid(verify.header_of(WORKED.read_bytes())[0], payloads))
     digests, others = (list(verify.plan(of.read_bytes(), 1))[1] for of in (WORKED, ALTERED))
@@ -341,6 +341,11 @@ SAYS = [
     ("look.py", ("frontier_odd", "twice", "7"), 0, ("odd item        the first is item 3 of 5: a Frontier of moment 39, 1970-01-01 00:00:39 UTC, which was neither the last moment nor the end of a tile",)),
     ("look.py", ("--json", "frontier_odd"), 0, ('"first_odd_item": { "place": 3, "kind": "Frontier", "item": 39 }',)),
     ("report_page.py", ("frontier_odd", "twice", "7"), 0, ('<div class="verdict open"><b>Clean</b>', "has a Frontier of a moment that no writer gives it")),
+    *((name, (*words[:-2], "odd_text", *words[-2:]), 0, says) for name, words, says in (
+        ("verify.py", (BOOK, "7"), ("clean 1\nverify: the store ", "odd_text has 1 operation that fits no table, and counts for nothing: ", "odd_text has a text that no statement can spell: ")),
+        ("look.py", (BOOK, "7"), ("misfits         1 operation that fits no table: ", "unsayable       1 operation with a text that no statement can spell: ")),
+        ("look.py", ("--json", BOOK, "7"), ('"misfits": 1, "unsayable": 1,',)),
+        ("report_page.py", (BOOK, "7"), ('<div class="verdict open"><b>Clean</b>', "has 1 operation that fits no table", "has a text that no statement can spell")))),
     ("verify.py", ("filed_twice", "batch_early", "7"), 0, ("clean 2\n", "batch 2 of the notary's book ", " is of 1970-01-01 00:00:46 UTC, before its tile ended by the store's header")),
     ("verify.py", ("policy_in", "twice_of_tiles", "7"), 1, ("header altered 2\nverify: without the policy that begins era 1 at tile 1 all that is filed is what the store gives: that policy was put in, or doubled\n",)),
     *(("verify.py", (store, "eras_book", "7"), 1, ("header altered 5\nverify: with a policy from tile 2 on, of 8 granules to a tile, all that is filed is what the store gives: that policy was taken out, or changed\n",))

@@ -2,12 +2,13 @@
 
 The rules are the program's (crates/call_devices), and so are the sentences (crates/call_telling), so that both can be held side by side. Here
 one book is seen alone, and it may be one of a quorum that missed a filing. So a mark over fewer tiles than were sealed in front of it isn't
-told, which beside others is nothing odd.
+told, which beside others is nothing odd. Operations are taken by their moments. The program takes them as they stand, and says nothing of
+those that fit no table where moments fall.
 """
 from collections import namedtuple
 
 import verify
-from . import moments
+from . import moments, store as stores
 
 # a sentence; and what of what was filed may be gone: "book", "store", or None
 Oddity = namedtuple("Oddity", "said gone")
@@ -29,6 +30,7 @@ class Items:
     """
 
     def __init__(self, content):
+        self.content = content
         *_, self.width, _, _ = verify.header_of(content)
         self.eras, self.place, self.last, self.latest, self.number, self.reached = verify.eras_by(content, ()), 0, 0, 0, 0, 0
         self.fall = self.jump = self.unwritten = None
@@ -134,6 +136,12 @@ def of_store(store, items):
         yield Oddity(f"{store} {has}: some were lost or altered, or put in; `examples/look.py` says more", "store")
     if items.fall:
         yield Oddity(f"{store} has a moment before that of the item before it, as no writer stores it: `examples/look.py` says where", "store")
+    _, misfits, unsayable = stores.Store(store, items.content).held()
+    if misfits:
+        fit = "operation that fits no table, and counts" if misfits == 1 else "operations that fit no table, and count"
+        yield Oddity(f"{store} has {misfits} {fit} for nothing: {stores.LOST}; `examples/dump.py` shows {'it' if misfits == 1 else 'them'}", "store")
+    if unsayable:
+        yield Oddity(f"{store} has a text that no statement can spell: {stores.PUT_IN}; `examples/dump.py` shows it", "store")
     if items.unwritten:
         yield Oddity(f"{store} has {UNWRITTEN[items.unwritten.kind]}; `examples/look.py` lists it", "store")
 

@@ -13,6 +13,8 @@ from .script import Refused, content_of, counted, plain, tell
 
 LIMIT, GRANULES, LAST_SECOND, LONGEST_LINE = 67_108_864, verify.GRANULES, 1_099_511_627_775, 65_536
 KINDS = {1: "int", 2: "text", 3: "bytes", 4: "bool"}
+# why operations fit no table, and why a text is one that no statement can spell
+LOST, PUT_IN = "records were altered, or are missing", "that was altered, or it was put in"
 
 Transaction = namedtuple("Transaction", "number moment operations payload")
 Frontier = namedtuple("Frontier", "moment")
@@ -109,6 +111,15 @@ class Store:
     def by_moment(self):
         """The transactions as the tables take them: by their moments, and in file order within one."""
         return sorted(self.transactions(), key=lambda it: it.moment) if self.falls() else self.transactions()
+
+    def held(self):
+        """The tables; and how many operations fit none of them, and how many have a text that no statement can spell."""
+        tables, misfits, unsayable = Tables(), 0, 0
+        for transaction in self.by_moment():
+            for operation in transaction.operations:
+                misfits += tables.apply(operation) is not None
+                unsayable += not is_sayable(operation)
+        return tables, misfits, unsayable
 
     def granule(self, transaction):
         return transaction.moment // self.width
