@@ -856,7 +856,7 @@ def tell_why(line, book, id, files, read):
         "other header": f"nothing was compared: {book} {nothing}" if nothing else f"{first} is evidence of another id than {id}, or of another header or other eras than {book} has under it",
         "header altered": f"nothing was made: {''.join(fail[:1])}",
         "examined 0": f"{first} shows no granule: whoever made it found none altered, or left them out",
-        "unfit": f"a file that `evidence` made shows altered granules alone, and no original that isn't as notarized: so this one was changed, or the notary's book {book} was",
+        "unfit": f"a file that `evidence` made shows altered granules alone, and no original that isn't as notarized: so this one was changed, or the notary's book {book} was, or it is another book than that of the file",
     }.get(found)
     if said:
         print(f"verify: {said}", file=sys.stderr)

@@ -172,8 +172,8 @@ def examined_by_users(folder):
     for content, book, id, why in (
         (whole, "/dev/null", "7", "nothing was compared: /dev/null is empty\n"), (whole, BOOK, "8", "has nothing that was filed under the id 8\n"),
         (by_fields(*FIELDS, (), []), BOOK, "7", "file shows no granule: whoever made it found none altered, or left them out\n"),
-        (by_fields(*FIELDS, (), [(5, rows(WORKED.read_bytes(), [5])[5])]), BOOK, "7", f"so this one was changed, or the notary's book {BOOK} was\n"),
-        (by_fields(*FIELDS, (), [(5, *[rows(ALTERED.read_bytes(), [5])[5]] * 2)]), BOOK, "7", f"so this one was changed, or the notary's book {BOOK} was\n"),
+        (by_fields(*FIELDS, (), [(5, rows(WORKED.read_bytes(), [5])[5])]), BOOK, "7", f"so this one was changed, or the notary's book {BOOK} was, or it is another book than that of the file\n"),
+        (by_fields(*FIELDS, (), [(5, *[rows(ALTERED.read_bytes(), [5])[5]] * 2)]), BOOK, "7", f"so this one was changed, or the notary's book {BOOK} was, or it is another book than that of the file\n"),
         (behind, BOOK, "7", "file shows: that isn't sealed, or its era has no tree, or the book was cut or altered\n"),
     ):
         (folder / "file").write_bytes(content)

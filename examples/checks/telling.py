@@ -34,7 +34,7 @@ GONE = "stood in memory, and is gone"
 QUORUM = "notary=a,b,c"
 ADDED = "differs from the others, and this call added to it: stop, and compare all of them; docs/NOTARY.md says why one does"
 DIFFERS = "differs from the others: keep it as it is; docs/NOTARY.md says why one does"
-LOST = "more than half of the books were missing, empty or without a batch, and what they say is what new books say: {}; docs/NOTARY.md"
+LOST = "more than half of the books were missing, empty or without a batch under the id 7, and what they say is what new books say: {}; docs/NOTARY.md"
 LOOK = "stop, keep the others as they are, and look for copies"
 UNSTORED = "nothing of it is stored"
 OTHER_ID = "dragoon: the store worked.store has the id 7, and not 8"
@@ -528,7 +528,7 @@ ROWS = [
     ("a clock that went back", lambda: put("worked.store", 17, (1 << 39).to_bytes(8, "big")), [STORE, "run", "7"], "insert t 9 9\n", 3, "refused ClockBack 480\n",
      [f"dragoon: {ONLY} 1, `insert t 9 9`: ClockBack 480, the clock is behind the store's last moment, second 480, 19391-01-25 12:26:08 UTC; docs/OPERATING.md"]),
     ("a filing by a clock that went back", lambda: put("worked.store", 17, (1 << 39).to_bytes(8, "big")), [STORE, "notarize", "7"], "", 14, "fault ClockBack 480\n",
-     ["dragoon: the clock is behind the store worked.store, whose last moment is second 480, 19391-01-25 12:26:08 UTC: set it right and start again. Where it is right, a scripted run has stored a moment that is still to come, so wait for it; or the store was altered, so hold it against its copies"]),
+     ["dragoon: the clock is behind the store worked.store, whose last moment is second 480, 19391-01-25 12:26:08 UTC: set it right and start again. Where it is right, it was ahead before, or a scripted run has stored a moment that is still to come, so wait for it; or the store was altered, so hold it against its copies"]),
     ("a notary that is behind the others", three_books, [STORE, QUORUM, "validate", "7"], "", 0, "clean 1\n",
      [f"dragoon: notary 2 of 3 (b) {ADDED}"]),
     ("a notary whose book is missing", a_book_missing, [STORE, QUORUM, "validate", "7"], "", 0, "clean 1\n",
@@ -701,7 +701,7 @@ ROWS = [
     ("a restoring without a store", None, ["copy=worked.store", "target=new.store", BOOK, "restore", "7"], "", 0, "restored 8 lost 0\n",
      ["dragoon: no store=FILE was named: what isn't sealed is the copy's alone"]),
     ("a restoring of what both have altered", lambda: shutil.copy("altered.store", "other.store"), [ALTERED, "copy=other.store", "target=new.store", BOOK, "restore", "7"], "", 0, ONE_LOST,
-     ["dragoon: 1 granule is lost: no digest confirms what the store altered.store or the copy other.store has there, and the target new.store has no row of that time. Validate copies of all of them ..", f"{DIFFERING} the copy other.store, or is lost", "dragoon: 1 sealed granule of the copy other.store isn't as the target new.store has it: it is older or altered there"]),
+     ["dragoon: 1 granule is lost: no digest confirms what the store altered.store or the copy other.store has there, and the target new.store has no row of that time. Validate copies of all of them ..", f"{DIFFERING} the copy other.store, or is lost", "dragoon: 1 sealed granule of the copy other.store isn't as the target new.store has it: it is older or altered there, or the book was"]),
     ("a restoring without a copy", None, [ALTERED, "target=new.store", BOOK, "restore", "7"], "", 0, ONE_LOST,
      ["dragoon: 1 granule is lost: .. or the copy in memory (no file was named) has there, ..", DIFFERING.replace("comes from", "is lost")]),
     ("a restoring of rows that aren't sealed", newer, ["store=new.store", "target=made.store", BOOK, "restore", "7"], "", 0, "restored 8 lost 0\n",

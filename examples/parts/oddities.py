@@ -159,7 +159,7 @@ def of_both(store, book, content, filed, id, passes, items, date=moments.date):
         lacks = f"batch {entries.lacks} of {book} lacks the chain of tile {entries.lacks - 1}" if entries.lacks else f"the first batch of {book} lacks the header's digest"
         yield Oddity(f"{lacks}: batches were taken out, or this one was altered. File nothing, and look for copies of the book; docs/NOTARY.md", "book")
     if entries.early:
-        yield Oddity(f"batch {entries.early.index} of {book} is of {date(entries.early.moment)}, before its tile ended by the store's header: one of the two was altered, or the book is another store's. The spans of a report go by such moments", None)
+        yield Oddity(f"batch {entries.early.index} of {book} is of {date(entries.early.moment)}, before its tile ended by the store's header: one of the two was altered, or the store lacks a policy that was filed, or the book is another store's. The spans of a report go by such moments", None)
     if entries.odd:
         yield Oddity(f"a mark in {book}, of {date(entries.odd.moment)}, is none that a validation leaves there: it was altered or put in, or batches in front of it were; docs/NOTARY.md", None)
     if entries.over:
@@ -177,8 +177,9 @@ def apart(store, book, items, entries, passes):
         yield Oddity(f"an era of {store} begins at tile {turned}, and {book} had {sealed} sealed. The book was put back or cut, or is another one, or the era was put in: stop, and look for copies; docs/NOTARY.md", "book")
     elif passes and sealed < items.reached:
         yield Oddity(f"{store} has a Frontier at the end of tile {items.reached - 1}, and {book} had {sealed} sealed. It is filed in another book, too, or a filing was cut off. Else this one was put back or cut, or the Frontier was put in, or the header altered: look for copies; docs/NOTARY.md", "book")
-    if passes and sealed > items.ended:
-        yield Oddity(f"the last moment of {store} was before the end of tile {sealed - 1}, which {book} has sealed: rows or a Frontier were taken out, or the header was altered, or it is an older copy or another store. Look for copies, and store nothing in it; docs/NOTARY.md", "store")
+    if passes and sealed > items.ended and not items.fall:
+        turned = "a policy was put in, or given with another book; or " if len(items.eras) > 1 else ""
+        yield Oddity(f"the last moment of {store} was before the end of tile {sealed - 1}, which {book} has sealed: {turned}rows or a Frontier were taken out, or the header was altered, or it is an older copy or another store. Look for copies, and store nothing in it; docs/NOTARY.md", "store")
 
 
 def of(store, book, content, filed, id, passes):

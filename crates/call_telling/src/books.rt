@@ -22,8 +22,8 @@ struct Warning<'a> {
 enum What {
     /// It has so many sealed tiles, and the store says that there were more.
     Fewer { sealed: u32, of: Tiles },
-    /// It has more sealed tiles than the store has moments for.
-    More { sealed: u32 },
+    /// It has more sealed tiles than the store has moments for, by its eras.
+    More { sealed: u32, has_eras: bool },
     /// A batch was filed before its tile had ended.
     Early(Early),
     /// It lacks the digest that its batch of this index has to have.
@@ -122,13 +122,17 @@ fn more<'a>(ending: &'a Ending<'a, 'a>) -> Option<Warning<'a>> {
         return None;
     };
     let is_in_doubt = is_header_altered(ending) || ending.status == Status::NotaryFault;
-    if !ending.store.is_store_of(ending.id()) || is_in_doubt {
+    // (where moments fall, the last one isn't that which commits go by)
+    if !ending.store.is_store_of(ending.id()) || is_in_doubt || items.falls {
         return None;
     }
     ending.notaries.0.iter().find_map(|book| {
         let sealed = sealed_in(book)?;
         if sealed > items.ended {
-            let what = What::More { sealed };
+            let what = What::More {
+                sealed,
+                has_eras: items.eras > 1,
+            };
             Some(Warning { book, what })
         } else {
             None
@@ -286,11 +290,16 @@ impl fmt::Display for Told<'_, Warning<'_>> {
         let store = &self.ending.store;
         match what {
             What::Fewer { sealed, of } => tell_fewer(store, book, sealed, of, f),
-            What::More { sealed } => {
+            What::More { sealed, has_eras } => {
                 let tile = sealed.saturating_sub(1);
+                let turned = if has_eras {
+                    "a policy was put in, or given with another book; or "
+                } else {
+                    ""
+                };
                 write!(
                     f,
-                    "the last moment of {store} was before the end of tile {tile}, which {book} has sealed: rows or a Frontier were taken out, or the header was altered, or it is an older copy or another store. Look for copies, and store nothing in it; docs/NOTARY.md"
+                    "the last moment of {store} was before the end of tile {tile}, which {book} has sealed: {turned}rows or a Frontier were taken out, or the header was altered, or it is an older copy or another store. Look for copies, and store nothing in it; docs/NOTARY.md"
                 )
             }
             What::Early(early) => tell_early(book, early, f),
@@ -368,7 +377,7 @@ fn tell_early<W: fmt::Write>(
     let date = Date(second);
     write!(
         f,
-        "batch {batch} of {book} is of {date}, before its tile ended by the store's header: one of the two was altered, or the book is another store's. The spans of a report go by such moments"
+        "batch {batch} of {book} is of {date}, before its tile ended by the store's header: one of the two was altered, or the store lacks a policy that was filed, or the book is another store's. The spans of a report go by such moments"
     )
 }
 

@@ -313,7 +313,7 @@ impl fmt::Display for Told<'_, Warning<'_>> {
             }
             Warning::DifferingCopy { count } => {
                 tell_granules(&ending.copy, &ending.target, count, f)?;
-                write!(f, ": it is older or altered there")
+                write!(f, ": it is older or altered there, or the book was")
             }
             Warning::Unsealed { source, count } => {
                 let target = &ending.target;
@@ -353,7 +353,7 @@ fn tell_unfit<W: fmt::Write>(ending: &Ending<'_, '_>, f: &mut fmt::Formatter<W>)
     let notary = &ending.notaries;
     write!(
         f,
-        "a file that `evidence` made shows altered granules alone, and no original that isn't as notarized: so this one was changed, or {notary} was"
+        "a file that `evidence` made shows altered granules alone, and no original that isn't as notarized: so this one was changed, or {notary} was, or it is another book than that of the file"
     )
 }
 

@@ -428,7 +428,7 @@ fn tell_seal_missing<W: fmt::Write>(
 }
 
 const MENDS_CLOCK: &str =
-    "set it right and start again. Where it is right, a scripted run has stored a moment that is still to come, so wait for it; or the store was altered, so hold it against its copies";
+    "set it right and start again. Where it is right, it was ahead before, or a scripted run has stored a moment that is still to come, so wait for it; or the store was altered, so hold it against its copies";
 
 // Of the clock of a store, whose last moment is so many seconds behind its first.
 fn tell_clock_back<W: fmt::Write>(

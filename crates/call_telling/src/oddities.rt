@@ -1,7 +1,7 @@
 //! What is odd about the files of a call, but for what stands in them. Each oddity is told by itself, however the call ended and whatever the other files
 //! are: only what the line of a fault says of its own file isn't said again.
 
-use crate::ending::{Ending, Knows, OtherId, is_done};
+use crate::ending::{Ending, Id, Knows, OtherId, is_done};
 use crate::fault::{IS_OLD, tell_damaged, tell_member_failed};
 use crate::kind::{Kind, Was};
 use crate::known::Known;
@@ -64,8 +64,11 @@ enum Oddity<'a> {
     },
     /// More than half of the books held nothing, and another holds something.
     Lost {
+        id: Id,
         /// Whether the call filed something, or marked.
         is_filed: bool,
+        /// One of them that has batches of other ids.
+        foreign: Option<&'a Named<'a>>,
     },
     /// No store was named.
     Unnamed {
@@ -345,6 +348,14 @@ pub(crate) fn is_filed(device: &Named<'_>) -> bool {
         .is_some_and(|entries| entries.batches > 0)
 }
 
+/// Whether its batches are all of other ids.
+fn is_of_others(device: &Named<'_>) -> bool {
+    device
+        .found
+        .entries()
+        .is_some_and(|entries| entries.batches == 0 && entries.filed.is_some())
+}
+
 /// What more than half of the books say is then what new books say.
 fn lost<'a>(ending: &'a Ending<'a, 'a>) -> Option<Oddity<'a>> {
     let books = ending.notaries.0.as_slice();
@@ -352,8 +363,11 @@ fn lost<'a>(ending: &'a Ending<'a, 'a>) -> Option<Oddity<'a>> {
     let full = books.iter().filter(|book| is_filed(book)).count();
     let is_quorum = books.len() > 1;
     if is_quorum && uses_notary(ending) && full > 0 && new > books.len().saturating_sub(new) {
-        let is_filed = ending.heard.is_filed;
-        Some(Oddity::Lost { is_filed })
+        Some(Oddity::Lost {
+            id: Id(ending.id()),
+            is_filed: ending.heard.is_filed,
+            foreign: books.iter().find(|book| is_of_others(book)),
+        })
     } else {
         None
     }
@@ -451,7 +465,11 @@ impl fmt::Display for Oddity<'_> {
             Oddity::UnusedBooks { notaries } => {
                 write!(f, "{notaries} isn't used by this command")
             }
-            Oddity::Lost { is_filed } => {
+            Oddity::Lost {
+                id,
+                is_filed,
+                foreign,
+            } => {
                 let next = if is_filed {
                     "what this call filed or marked stands in the others, too, which don't tell any more what was filed before: stop, and put back copies of all of them"
                 } else {
@@ -459,8 +477,15 @@ impl fmt::Display for Oddity<'_> {
                 };
                 write!(
                     f,
-                    "more than half of the books were missing, empty or without a batch, and what they say is what new books say: {next}; docs/NOTARY.md"
-                )
+                    "more than half of the books were missing, empty or without a batch under {id}, and what they say is what new books say: {next}; docs/NOTARY.md"
+                )?;
+                match foreign {
+                    Some(book) => write!(
+                        f,
+                        ". {book} has batches of other ids alone: name the right file"
+                    ),
+                    None => Ok(()),
+                }
             }
             Oddity::Unnamed { is_uncompared } => {
                 let uncompared = if is_uncompared { UNCOMPARED } else { "" };
