@@ -12,7 +12,8 @@ eras that ended in it. What COPY has behind that is compared with no digest.
 Headers, policies and Frontiers are compared as well, and how often and in which order the transactions stand there. The last line counts.
 What may have been stored since is counted and not shown. It has a new number, no moment before the last one of COPY, and stands behind all
 that COPY has. So it is with policies, which have neither and may stand at any place. Frontiers, which have no number, are passed over there. Standard error
-says where bytes stand behind the end of one of the two, or of BOOK. It ends with 0 if nothing differs up to there, or nothing was compared. It ends with 1 if
+says where bytes stand behind the end of one of the two, or of BOOK, and where the numbers of transactions don't follow one another, or an item is one
+that no writer stores. It ends with 0 if nothing differs up to there, or nothing was compared. It ends with 1 if
 something does, if COPY or BOOK isn't what was filed, or BOOK is none, and with 3 if a file can't be read or is no store, or both are one file.
 """
 import itertools
@@ -22,7 +23,7 @@ from collections import Counter
 
 sys.dont_write_bytecode = True
 import verify
-from parts import moments
+from parts import moments, oddities
 from parts.notary import is_altered, not_filed, shown_of_copy
 from parts.script import ALTERED, Refused, content_of, counted, end, number, plain, tell, words_of
 from parts.store import Create, Frontier, Policy, Put, Store, Tables, Transaction, hidden, item_of, literal, shown
@@ -219,6 +220,10 @@ def main(given):
         raise Refused(f"{plain(given.store)} is named twice: a store is held against another file, and not against itself")
     side, other, is_bad, front = Side(given.store), Side(given.copy), False, []
     lines, summary = compare(side, other, given.granule, given.zone)
+    for of in (side, other):
+        name, items = f"the store {plain(of.store.path)}", oddities.Items(of.store.content)
+        for it in (*oddities.jumps(name, items), *oddities.unwritten(name, items)):
+            tell(it.said)
     if side.store.content == other.store.content:
         front = ["the copy is the same as the store, byte by byte"]
     if given.book:

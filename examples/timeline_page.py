@@ -6,9 +6,10 @@
 KEY stands as in a statement, as 7, true or x'00ff'. A text may stand without its quotes. Filings and validations come from BOOK, and
 without one they are left out. Dates are those of ZONE, as Europe/Zurich, or else of UTC. The page is one file that any browser shows
 and prints, and loads nothing from outside. It reads the files as docs/FORMATS.md says and opens none for writing; whether the store is
-what was filed it can't say: examples/report_page.py does. Versions go by their moments, as `history` has them. Where moments fall or
-operations fit no table, the page's banner says so. It says, too, and so does standard error, where more may stand hidden behind the records
-of either file or may be gone from it, and where BOOK has nothing of the store, or another header or other eras. It isn't green then. It ends
+what was filed it can't say: examples/report_page.py does. Versions go by their moments, as `history` has them. Where moments fall,
+operations fit no table or have a text that no statement can spell, the page's banner says so. It says, too, and so does standard error, where
+more may stand hidden behind the records of either file or may be gone from it, where the numbers of transactions don't follow one another or an
+item is one that no writer stores, and where BOOK has nothing of the store, or another header or other eras. It isn't green then. It ends
 with 0 if the page is made, also of a row that never was, and with 3 if a file can't be read, the store has another id, or has no such table.
 """
 import re
@@ -21,7 +22,7 @@ from parts import moments, oddities, page
 from parts.book import CLEAN, Batch, Book, filed_in, said
 from parts.notary import Notary
 from parts.script import Refused, counted, end, number, plain, tell, words_of
-from parts.store import LOST, Create, Put, Store, Tables, hidden, kind_of, literal
+from parts.store import LOST, PUT_IN, Create, Put, Store, Tables, hidden, is_sayable, kind_of, literal
 
 MOST_TICKS, MOST_BARS = 400, 400
 # `by` is the number of the transaction that put the row, and `stop` is None where it is the current one
@@ -46,12 +47,12 @@ def key_of(word, kind):
 
 class History:
     """The versions of a row, the moments and numbers of all commits, and the last moment; and what no honest writer stores: how many
-    moments fall, and how many operations fit no table.
+    moments fall, how many operations fit no table, and how many have a text that no statement can spell.
     """
 
     def __init__(self, store, table, word):
         self.tables, self.versions, self.commits, self.last, self.key = Tables(), [], [], store.last_moment(), None
-        self.table, self.falls, self.misfits = table, store.falls(), 0
+        self.table, self.falls, self.misfits, self.unsayable = table, store.falls(), 0, 0
         for transaction in store.by_moment():
             self.commits.append(Event(transaction.moment, "", f"transaction {transaction.number}"))
             for operation in transaction.operations:
@@ -66,11 +67,14 @@ class History:
             yield f"Moments fall at {counted(self.falls, 'item')}: no honest writer stores such. The versions go by their moments."
         if self.misfits:
             yield f"{counted(self.misfits, 'operation')} fit{'s' * (self.misfits == 1)} no table, and {'counts' if self.misfits == 1 else 'count'} for nothing: {LOST}."
+        if self.unsayable:
+            yield f"{counted(self.unsayable, 'operation')} {'has' if self.unsayable == 1 else 'have'} a text that no statement can spell: {PUT_IN}."
 
     def take(self, operation, transaction, word):
         """An operation that fits this row's table may begin a version, and stops the one before."""
         misfit = self.tables.apply(operation)
         self.misfits += misfit is not None
+        self.unsayable += not is_sayable(operation)
         if misfit or operation.table != self.table:
             return
         if isinstance(operation, Create):
@@ -93,7 +97,9 @@ class Page:
         self.history = History(self.store, given.table, given.key)
         self.book = Book(given.notary) if given.notary else None
         self.filings = [it for it in self.book.filings if it.id == given.id] if self.book else []
-        self.doubts = list(self.of_book()) if self.book else []
+        items = oddities.Items(self.store.content)
+        odd = [*oddities.jumps("the store", items), *oddities.unwritten("the store", items)]
+        self.doubts = [it.said for it in odd] + (list(self.of_book(items)) if self.book else [])
         for it in self.doubts:
             tell(it)
         moments_of = [it.moment - self.store.epoch for it in self.filings]
@@ -101,7 +107,7 @@ class Page:
         # what is now has a little room behind the last event
         self.stop = self.last + self.last // 30 + 1
 
-    def of_book(self):
+    def of_book(self, items):
         """Where filings may stand hidden in the book or be gone from it, or may be another store's: each a sentence without its end."""
         book, content, id = self.book, self.store.content, self.given.id
         if open_end := book.open_end():
@@ -113,7 +119,7 @@ class Page:
             yield f"the book has nothing under this id. {filed_in(book)}"
         elif book.batches(id) and not passes:
             yield f"the filings and validations may be another store's: this one {verify.what_fails(content, id, book.content)}"
-        both = oddities.of_both("the store", "the book", content, book.content, id, passes, oddities.Items(content))
+        both = oddities.of_both("the store", "the book", content, book.content, id, passes, items)
         yield from (it.said for it in both if it.gone)
 
     def date(self, moment):

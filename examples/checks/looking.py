@@ -530,6 +530,7 @@ SAYS = [
     ("diagram_svg.py", ("two_reports",), 1, ("diagram_svg: 1 more report stands behind this one: draw each from a file of its own",)),
     ("timeline_page.py", ("falls", "7", "t", "9"), 0, ('verdict bad"><b>3 versions</b>', "Moments fall at 1 item: no honest writer stores such. The versions go by their moments.", "moment 90, transaction 4", "to 1970-01-01 00:02:00 UTC")),
     ("timeline_page.py", ("misfits", "7", "t", "9"), 0, ('verdict bad"><b>1 version</b>', "1 operation fits no table, and counts for nothing: records were altered, or are missing.")),
+    ("timeline_page.py", ("doubled", "7", "t", "0"), 0, ('verdict bad"><b>', " behind transaction ", "some were lost or altered, or put in")),
     ("timeline_page.py", (WORKED, "7", "u", "5"), 3, ("has no table u; its tables are: t",)),
     ("timeline_page.py", (WORKED, "7", "t", "'5'"), 3, ("its keys are of kind int",)),
     ("timeline_page.py", (WORKED, "8", "t", "5"), 3, ("has the id 7, and not 8",)),

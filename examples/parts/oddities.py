@@ -130,10 +130,7 @@ def has_own_seal(batch):
 
 def of_store(store, items):
     """What no writer stores. A file is named as in a sentence: `the store s`."""
-    if items.jump:
-        _, before, this = items.jump
-        has = f"has transaction {this} behind transaction {before}" if before else f"begins with transaction {this}"
-        yield Oddity(f"{store} {has}: some were lost or altered, or put in; `examples/look.py` says more", "store")
+    yield from jumps(store, items)
     if items.fall:
         yield Oddity(f"{store} has a moment before that of the item before it, as no writer stores it: `examples/look.py` says where", "store")
     _, misfits, unsayable = stores.Store(store, items.content).held()
@@ -142,6 +139,19 @@ def of_store(store, items):
         yield Oddity(f"{store} has {misfits} {fit} for nothing: {stores.LOST}; `examples/dump.py` shows {'it' if misfits == 1 else 'them'}", "store")
     if unsayable:
         yield Oddity(f"{store} has a text that no statement can spell: {stores.PUT_IN}; `examples/dump.py` shows it", "store")
+    yield from unwritten(store, items)
+
+
+def jumps(store, items):
+    """Where the numbers of transactions don't follow one another."""
+    if items.jump:
+        _, before, this = items.jump
+        has = f"has transaction {this} behind transaction {before}" if before else f"begins with transaction {this}"
+        yield Oddity(f"{store} {has}: some were lost or altered, or put in; `examples/look.py` says more", "store")
+
+
+def unwritten(store, items):
+    """Of which kind the first item is that no writer stores."""
     if items.unwritten:
         yield Oddity(f"{store} has {UNWRITTEN[items.unwritten.kind]}; `examples/look.py` lists it", "store")
 
