@@ -6,8 +6,8 @@
 It is 100 times if no number is given. A shop changes two tables all the time, and drains take the changes into a store. At some
 moment kill -9 ends one of these, chosen by lot: the shop, the drain, the program under it, or drain and program; or the drain as
 it would read the `ok N` of a commit. Triggers are dropped and changed, tables too, and the outbox is emptied. A drain is given a store that is
-another database's, a copy of the database, and a text that isn't UTF-8. At the end one more drain takes what is left, and the store is held
-against the database: each table, and of each key the rows that it ever had, in order.
+another database's, a copy of the database, a text that isn't UTF-8, and an output that takes nothing. At the end one more drain takes
+what is left, and the store is held against the database: each table, and of each key the rows that it ever had, in order.
 """
 import os
 import pathlib
@@ -186,6 +186,10 @@ DONE = [
     ("insert into t values (3, 3); delete from mirror_outbox", 1, None, "changes 3 to 4 are gone from the outbox"),
     ("delete from mirror_outbox; delete from sqlite_sequence; insert into t values (3, 3)", 1, None, "the outbox counts from 1 again, and all changes up to 2"),
     ("delete from sqlite_sequence", 0, 1, ""),
+    # what no trigger writes there
+    ("insert into mirror_outbox (statement) values ('')", 1, None, "change 4, ``, is no statement that a trigger writes"),
+    ("insert into mirror_outbox (statement) values ('update mirrored 1 12345')", 1, None, "change 4, `update mirrored 1`, is no statement that a trigger writes"),
+    ("drop trigger mirror_limits; insert into mirror_outbox (statement) values ('insert t 9 9' || char(10) || 's0 commit')", 1, None, "for it\ndrain: change 4, `insert t 9`, has a line end"),
 ]
 # an earlier attach.py made none of these
 OF_NOW = "drop table mirror_name; drop table mirror_attached; drop table mirror_trigger; drop index mirror_t_is; alter table mirror_state drop column pruned"
@@ -219,10 +223,26 @@ def hears_refusals(folder):
     stops(*ahead, "dragoon: the refusals by kind: NoTable 1, ClockBack 1\n")
 
 
+def goes_on_without_output(folder):
+    """Where the output takes nothing, that is said, and the tables are compared all the same. A program that can't be run is named."""
+    hidden = "create trigger s after insert on t begin select raise(ignore); end; insert into t values (9, 9)"
+    drain = [sys.executable, EXAMPLES / "mirror" / "drain.py", *attached(folder, "mute", (1, 2), then=hidden), "7"]
+    for output, why in ((">/dev/full", "No space left on device"), (">&-", "Bad file descriptor")):
+        done = subprocess.run(["bash", "-c", f'"$@" {output}', "drain", *drain], stderr=subprocess.PIPE, text=True)
+        if done.returncode != 1 or not re.fullmatch(f"drain: the output: {why}\ndrain: t differs .*\n", done.stderr):
+            raise Wrong(f"a drain {output} ends with {done.returncode}: {done.stderr}")
+    for program, why in (("/nowhere", "No such file or directory"), ("/tmp", "Permission denied")):
+        done = subprocess.run(drain, env={**os.environ, "DRAGOON": program}, capture_output=True, text=True)
+        if (done.returncode, done.stdout, done.stderr) != (1, "", f"drain: the program {program} can't be run: {why}; DRAGOON names it\n"):
+            raise Wrong(f"a drain with the program {program} ends with {done.returncode}: {done.stdout}{done.stderr}")
+
+
 # what is attached, and why not
 NOT_ATTACHED = [
     (["--utf8", "t.nmae", "t"], "name text", "--utf8 t.nmae is no column of t"), (["--utf8", "T.name", "t"], "name text", "--utf8 T.name is no column of t"),
     (["mirror_outbox"], "name text", "mirror_outbox is the mirror's own table"), (["mirrored"], "name text", "the name mirrored is taken"),
+    (["custmer"], "name text", "there is no table custmer"), (["a_view"], "name text", "a_view is a view"), (["Big"], "name text", "a store takes no table of the name Big"),
+    (["t"], "id int, name text, primary key (id, name)", "t has a primary key of 2 columns"), (["t"], "name text /* with no primary key */", "t has no primary key"),
     (["t"], "id text primary key collate nocase", "the key t.id is compared by NOCASE"), (["t"], "id primary key", "the key t.id has no type"),
 ]
 
@@ -233,6 +253,7 @@ def attaches_anew(folder):
         shop = folder / f"not {at}.db"
         db = sqlite3.connect(shop)
         db.execute(f"create table t ({columns if 'primary' in columns else 'id integer primary key, ' + columns})")
+        db.executescript("create view a_view as select * from t; create table Big (id integer primary key)")
         db.close()
         status, _, told = script("mirror/attach.py", *words[:-1], shop, words[-1])
         if status != 1 or text.lower() not in told.lower():
@@ -247,6 +268,9 @@ def attaches_anew(folder):
     db = sqlite3.connect(shop)
     db.executescript("insert into t values (5, 5); create unique index w on t (v)")
     db.close()
+    for tables, text in ((["t", "t"], "t is named twice"), (["custmer"], "there is no table custmer")):
+        if (told := script("mirror/attach.py", "--anew", shop, *tables)) != (1, "", f"attach: {text}\n"):
+            raise Wrong(f"attach --anew of {tables} ends with {told}")
     status, _, told = script("mirror/attach.py", "--anew", shop, "t")
     if status or "changes that waited in the outbox, and are in no store: 1\n" not in told or "t has another unique column" not in told:
         raise Wrong(f"attach --anew ends with {status}: {told}")
@@ -381,6 +405,7 @@ def main(words):
         files_by_hand_first(folder)
         sees_what_is_done(folder)
         hears_refusals(folder)
+        goes_on_without_output(folder)
         attaches_anew(folder)
         refuses_strangers(folder)
         stops_at_text(folder)

@@ -119,9 +119,17 @@ def columns_of(db, table, utf8):
         raise Refused(f"{table} is the mirror's own table")
     if table == "mirrored":
         raise Refused("the name mirrored is taken: the mirror has a table of it in the store")
+    found = db.execute("select type from sqlite_master where type in ('table', 'view') and lower(name) = lower(?)", (table,)).fetchone()
+    if not found:
+        raise Refused(f"there is no table {table}")
+    if found == ("view",):
+        raise Refused(f"{table} is a view, and has no rows of its own")
+    if not NAME.fullmatch(table):
+        raise Refused(f"a store takes no table of the name {table}: a name is of a-z, 0-9 and _, at most 32, with no digit in front")
     columns = columns_in(db, table)
-    if not NAME.fullmatch(table) or sum(place > 0 for _, _, place in columns) != 1:
-        raise Refused(f"there is no table {table} with a primary key of one column, and a name that a store takes")
+    keys = sum(place > 0 for _, _, place in columns)
+    if keys != 1:
+        raise Refused(f"{table} has {f'a primary key of {keys} columns' if keys else 'no primary key'}, and the mirror needs one of one column")
     if len(columns) > 32 or not all(NAME.fullmatch(name) for name, _, _ in columns):
         raise Refused(f"the columns of {table} aren't at most 32 with names that a store takes")
     key, declared, _ = columns[0]
@@ -197,9 +205,9 @@ def attached_in(db):
 
 
 def detach(db):
-    """Takes away all that an earlier attach.py made. Gives the tables that were attached."""
+    """Takes away all that an earlier attach.py made. Gives the tables that were attached, and how many changes waited."""
     if not db.execute("select 1 from sqlite_master where name = 'mirror_outbox'").fetchone():
-        return set()
+        return set(), 0
     bring_up(db)
     (waiting,) = db.execute("select count(*) from mirror_outbox where number > (select max(acknowledged) from mirror_state)").fetchone()
     writing = "select name from sqlite_master where type = 'trigger' and name glob 'mirror_*' and sql like '%mirror_outbox%'"
@@ -212,9 +220,7 @@ def detach(db):
         db.execute(f'drop trigger if exists "{trigger}"')
     for table in TABLES:
         db.execute(f"drop table if exists {table}")
-    if waiting:
-        tell_plain(f"changes that waited in the outbox, and are in no store: {waiting}")
-    return set(attached)
+    return set(attached), waiting
 
 
 def attach(db, table, columns):
@@ -240,8 +246,11 @@ def attach(db, table, columns):
 
 
 def attach_all(db, tables, utf8, anew):
-    """The whole of it, within one transaction."""
-    left = detach(db) - set(tables) if anew else set()
+    """The whole of it, within one transaction. Gives what there is to say once that is committed."""
+    for table in tables:
+        if tables.count(table) > 1:
+            raise Refused(f"{table} is named twice")
+    were, waiting = detach(db) if anew else (set(), 0)
     for statement in (*OUTBOX, LIMITS):
         db.execute(statement)
     bring_up(db)
@@ -254,10 +263,10 @@ def attach_all(db, tables, utf8, anew):
         attach(db, table, columns)
     if unknown:
         raise Refused(f"--utf8 {min(unknown)} is no column of {', '.join(tables)}")
-    for table in sorted(left):
-        tell_plain(f"{table} was attached, and isn't any more: name it with the others, if its changes are to go into the new store")
     made = ["mirror_limits", *(f"mirror_{table}_{change}" for table in tables for change in CHANGED)]
     db.executemany("insert or ignore into mirror_trigger select name, sql from sqlite_master where type = 'trigger' and name = ?", [[name] for name in made])
+    left = [f"{it} was attached, and isn't any more: name it with the others, if its changes are to go into the new store" for it in sorted(were - set(tables))]
+    return [f"changes that waited in the outbox, and are in no store: {waiting}"] * (waiting > 0) + left
 
 
 def not_there(path):
@@ -284,7 +293,7 @@ def main(words):
         if db.execute("pragma encoding").fetchone() != ("UTF-8",):
             raise Refused("the database isn't in UTF-8")
         db.execute("begin immediate")
-        attach_all(db, words[1:], utf8, anew)
+        sentences = attach_all(db, words[1:], utf8, anew)
         db.execute("commit")
     except sqlite3.Error as fault:
         tell_plain(f"{words[0]}: {fault}")
@@ -292,6 +301,8 @@ def main(words):
     except Refused as fault:
         tell_plain(fault)
         return 1
+    for sentence in sentences:
+        tell_plain(sentence)
     return 0
 
 

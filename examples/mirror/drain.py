@@ -17,7 +17,8 @@ and `mirrored` have the name of the mirror, too, a random number: with the store
 database has the same name. So a drain notes where the database lies, and the next one stores nothing of one that lies elsewhere: --moved
 says that it is the same, and was moved.
 
-What is stored is taken out of the outbox. Nobody else takes changes away there: their numbers have no gaps, and at a gap it stops.
+What is stored is taken out of the outbox. Nobody else takes changes away there: their numbers have no gaps, and at a gap it stops. So it does
+at what no trigger writes there, before it sends that: another statement, one over `mirrored`, or one with a line end.
 
 Then it holds each attached table against the store: its rows as the store has them, in one reading transaction of the database. Rows whose
 changes wait in the outbox by then are left out. Standard error names the first rows that differ. In a database without a write-ahead log
@@ -27,9 +28,9 @@ It looks that the triggers are there as attach.py made them, and each attached t
 counts as one without rows, and one that was renamed goes on under its first name. Columns that a table got since are named, and so are generated
 ones, and those that have other names by now.
 
-It ends with 0 if all was taken and is the same. It ends with 1 if it had to stop, a row differs, or triggers are gone or others. It ends
-with 6 where records stand hidden in the book or it has nothing of the store (the first `notarize` is made by hand), and with 2 on other words.
-DRAGOON names another program than ./dragoon.
+It ends with 0 if all was taken and is the same. It ends with 1 if it had to stop, a row differs, or triggers are gone or others. So it does
+where its output takes nothing: filing and comparison are done all the same. It ends with 6 where records stand hidden in the book or it has
+nothing of the store (the first `notarize` is made by hand), and with 2 on other words. DRAGOON names another program than ./dragoon.
 """
 import argparse
 import os
@@ -45,7 +46,7 @@ sys.dont_write_bytecode = True
 sys.path.insert(0, str(pathlib.Path(__file__).resolve().parents[1]))
 import verify
 from attach import CHANGED, attached_in, bring_up, columns_in, generated_in, not_there, row_of
-from parts.script import Parser, counted, tell_plain
+from parts.script import NAME, Parser, Refused, counted, put, tell_plain
 
 DRAGOON = os.environ.get("DRAGOON") or str(pathlib.Path(__file__).resolve().parents[2] / "dragoon")
 HOLD = pathlib.Path(__file__).resolve().parents[1] / "operate" / "hold"
@@ -60,6 +61,9 @@ KINDS = "the refusals by kind: ((NoTable|NoRow|RowExists) [0-9]+(, |$))+$"
 WITHOUT = r"s0 was committed \(line [0-9]+\) without .* refused: "
 EXPECTED = f"dragoon: ({FIRST}|{KINDS}|{WITHOUT})".encode()
 VALUE = r"(-?[0-9]+|x'[0-9a-fA-F]*'|'(?:[^']|'')*')"
+# how a trigger's statement begins, and what none has in it
+WRITTEN = re.compile(f"(create|insert|update|delete) (?!mirrored ){NAME.pattern} ")
+UNFIT = {"[\udc80-\udcff]": "a text that isn't UTF-8", "[\0-\x1f]": "a line end, or another byte below 0x20"}
 SHOWN = 3
 ANEW = "Begin with a new store: attach.py --anew attaches the tables for it"
 
@@ -74,8 +78,12 @@ class Program:
     def __init__(self, devices, id):
         self.id, self.store = id, devices[0].partition("=")[2]
         proved = {**os.environ, "DRAGOON_PROVED": "1"}
-        self.run = subprocess.Popen([DRAGOON, *devices, "run", id], stdin=subprocess.PIPE, stdout=subprocess.PIPE,
-            stderr=subprocess.PIPE, env=proved)
+        try:
+            self.run = subprocess.Popen([DRAGOON, *devices, "run", id], stdin=subprocess.PIPE, stdout=subprocess.PIPE,
+                stderr=subprocess.PIPE, env=proved)
+        except OSError as fault:
+            named = "; DRAGOON names it" if os.environ.get("DRAGOON") else ""
+            raise Stopped(f"the program {DRAGOON} can't be run: {fault.strerror}{named}") from None
         self.told, self.took = [], {}
         # read meanwhile, so that the program never waits for it
         self.reader = threading.Thread(target=lambda: self.told.extend(self.run.stderr))
@@ -185,11 +193,18 @@ def stored_up_to(db, program, place, is_moved):
     return number or 0
 
 
-def is_utf8(statement):
-    try:
-        return bool(statement.encode())
-    except UnicodeEncodeError:
-        return False
+def not_to_be_sent(number, statement):
+    """Why a change isn't sent, or None."""
+    if not isinstance(statement, str):
+        return Stopped(f"change {number} is no text, as a trigger writes one. {ANEW}")
+    front = " ".join(statement.split(" ")[:3]).encode(errors="surrogateescape").decode(errors="backslashreplace")
+    for pattern, what in UNFIT.items():
+        if re.search(pattern, statement):
+            return Stopped(f"change {number}, `{front[:100]}`, has {what}, and no store takes it. Mend the row in the database, and put the "
+                f"mended text here: update mirror_outbox set statement = '..' where number = {number}")
+    if not WRITTEN.match(statement):
+        return Stopped(f"change {number}, `{front[:100]}`, is no statement that a trigger writes. {ANEW}")
+    return None
 
 
 def weight(statement):
@@ -219,13 +234,8 @@ def next_changes(db, number, most):
     found, total = [], 0
     ask = "select number, statement from mirror_outbox where number > ? order by number limit ?"
     for change in db.execute(ask, (number, most)):
-        wanted, why = number + len(found) + 1, None
-        if change[0] != wanted:
-            why = gone(wanted, change[0] - 1)
-        elif not is_utf8(change[1]):
-            front = " ".join(change[1].split(" ")[:3]).encode(errors="surrogateescape").decode(errors="backslashreplace")
-            why = Stopped(f"change {change[0]}, `{front[:100]}`, has a text that isn't UTF-8, and no store takes it. Mend the row in the database, and put the "
-                f"mended text here: update mirror_outbox set statement = '..' where number = {change[0]}")
+        wanted = number + len(found) + 1
+        why = not_to_be_sent(*change) if change[0] == wanted else gone(wanted, change[0] - 1)
         if why and not found:
             raise why
         total += 0 if why else weight(change[1])
@@ -411,6 +421,15 @@ def not_to_be_filed(books, id):
     return lost[0] if 2 * len(lost) >= len(books) else None
 
 
+def print_or_note(line, wrong):
+    """Prints a line. That the output doesn't take it is one of the things that are wrong, and the rest goes on."""
+    try:
+        put(f"{line}\n")
+    except Refused as why:
+        if str(why) not in wrong:
+            wrong.append(str(why))
+
+
 def words():
     def books(word):
         if not all(word.split(",")) or word.count(",") > 8:
@@ -451,6 +470,7 @@ def main():
             return 6
     devices = [f"store={options.store}"] + ([f"notary={options.notary}"] if options.notary else [])
     place = os.fsencode(os.path.realpath(options.database)).decode(errors="backslashreplace")
+    wrong = []
     try:
         db = sqlite3.connect(f"file:{quote(options.database)}?mode=rw", uri=True, isolation_level=None, timeout=60)
         db.execute("pragma synchronous = full")
@@ -462,11 +482,11 @@ def main():
         attached_in(db)
         program = Program(devices, options.id)
         try:
+            wrong += odd_triggers(db)
             taken, number = drain(db, program, stored_up_to(db, program, place, options.moved), options.changes)
-            print(f"drained {taken}")
+            print_or_note(f"drained {taken}", wrong)
             if options.notary:
-                print(program.have("notarize", "sealed"))
-            wrong = list(odd_triggers(db))
+                print_or_note(program.have("notarize", "sealed"), wrong)
             if not options.no_compare:
                 wrong += compare(db, program, number)
         except Stopped as why:
@@ -474,11 +494,9 @@ def main():
         finally:
             program.end()
     except sqlite3.Error as fault:
-        tell_plain(f"{options.database}: {fault}")
-        return 1
+        wrong.append(f"{options.database}: {fault}")
     except (OSError, Stopped) as fault:
-        tell_plain(fault)
-        return 1
+        wrong.append(fault)
     for sentence in wrong:
         tell_plain(sentence)
     return 1 if wrong else 0
