@@ -5,7 +5,7 @@
 
 Each is run in an empty folder, with an input that never ends and without a program: with `--help` (status 0), with `--wrong words`
 and with nine words that are none (status 2). None may take ten seconds, leave a file, or print a traceback. So it is of a word too
-many behind those that ./dragoon takes alone. That one names what its checkout lacks, and the shell that it takes. Scripts on duty are given files that aren't there, under a name that would clear the
+many behind those that ./dragoon takes alone. That one names what its checkout lacks or has more, and the shell that it takes. Scripts on duty are given files that aren't there, under a name that would clear the
 terminal: none may print that. Where bench/ is missing, as in an installed copy, examples/ is tried alone.
 """
 import concurrent.futures
@@ -89,18 +89,40 @@ def shown_raw(call):
 
 
 def of_half_a_checkout():
-    """What is wrong where ./dragoon stands without crates.txt, or is run by a shell that isn't bash."""
+    """What is wrong where ./dragoon lacks a part of its checkout, or is run by a shell that isn't bash, or git doesn't track a source."""
     if not any(wrapper()):
         return
     with tempfile.TemporaryDirectory() as name:
         copy = pathlib.Path(name, "dragoon")
         shutil.copy(EXAMPLES.parent / "dragoon", copy)
         pathlib.Path(name, "crates/dragoon_cli/src").mkdir(parents=True)
-        for shell, says in (("bash", "crates.txt is missing"), ("dash", "is a script for bash")):
+        specs, proofs, rt = (pathlib.Path(name, it) for it in ("crates/dragoon_cli/specs", "crates/dragoon_cli/proofs", "rt"))
+        rt.symlink_to("/bin/false")
+        place = {**os.environ, "PATH": f"{name}:{os.environ['PATH']}"}
+        # what is made before each
+        for makes, shell, word, says in (
+            ([], "bash", "--version", "crates.txt is missing"),
+            ([], "dash", "--version", "is a script for bash"),
+            ([pathlib.Path(name, "crates.txt")], "bash", "--version", "a source can't be read (find: "),
+            ([specs / "a.rt", proofs / "a.rt"], "bash", "--help", "usage.rt is missing"),
+        ):
+            for path in makes:
+                path.parent.mkdir(exist_ok=True)
+                path.touch()
             if shutil.which(shell):
-                done = subprocess.run([shell, copy, "--version"], capture_output=True, text=True)
+                done = subprocess.run([shell, copy, word], env=place, capture_output=True, text=True)
                 if done.returncode != 70 or done.stdout or says not in done.stderr or len(done.stderr.splitlines()) != 1:
-                    yield f"dragoon by {shell} in half a checkout ends with {done.returncode}, and says: {done.stdout + done.stderr}"
+                    yield f"dragoon {word} by {shell} in half a checkout ends with {done.returncode}, and says: {done.stdout + done.stderr}"
+        if not shutil.which("git"):
+            return
+        for call in (["init", "-q"], ["add", "."], ["-c", "user.name=a", "-c", "user.email=a", "commit", "-q", "-m", "All"]):
+            subprocess.run(["git", "-C", name, *call], check=True)
+        for source in (None, specs / "new.rt"):
+            if source:
+                source.touch()
+            done = subprocess.run(["bash", copy, "--version"], env=place, capture_output=True, text=True)
+            if done.returncode or (", changed since\n" in done.stdout) != bool(source):
+                yield f"dragoon --version with the source {source} ends with {done.returncode}, and says: {done.stdout + done.stderr}"
 
 
 def main(words):
