@@ -25,9 +25,9 @@ What the language can't hold is refused with its row and column, and so is a row
 is empty or stands there twice, and a name that is none. Nothing is written then, and the status is 1. Row 1 is the heading, and goes into no
 table: a file without one wants one. Where it looks like a row, or --names stands for it, standard error says so.
 
-FILE is in UTF-8; `-` is standard input. Where its last row has no line end it may have been cut off, and standard error says so. It names the
-first text that an earlier conversion may have spoiled, too. Bytes 0x00, as a crash may leave of a file, are refused but in columns of kind
-utf8, and so is a file that is none of text: a spreadsheet, an archive, a page.
+FILE is in UTF-8, and has at most 67,108,864 bytes; `-` is standard input. Where its last row has no line end it may have been cut off, and
+standard error says so. It names the first texts that an earlier conversion may have spoiled, or that hold what can't be seen, too. Bytes 0x00,
+as a crash may leave of a file, are refused but in columns of kind utf8, and so is a file that is none of text: a spreadsheet, an archive, a page.
 
 After a crash give the statements again: what is there is refused (RowExists, and TableExists of the `create`), and the rest goes in. Each other
 refusal among the replies is of a row that didn't go in. TableExists the first time says that the table was there before: then the rows went in by
@@ -45,11 +45,12 @@ import unicodedata
 sys.dont_write_bytecode = True
 sys.path.insert(0, str(pathlib.Path(__file__).resolve().parent))
 from parts import script, store
-from parts.script import NAME, tell_plain as tell
+from parts.script import NAME, Refused, content_of_input, tell_plain as tell
 
 BARRED = re.compile(r"[\x00-\x1f\x7f]")
 KINDS = {"int": "int", "text": "text", "bool": "bool", "bytes": "bytes", "utf8": "bytes"}
 TXN_LIMIT, OPERATIONS, LINE_LIMIT, INPUT_LIMIT = 32_768, 256, 65_536, 67_108_864
+TOO_LONG = "longer than the input of a run can be: give the file in parts, the later ones with --add"
 ZEROS = "bytes 0x00, as a crash may leave of a file: look for a whole one"
 
 # how files begin that are no CSV, and what they are
@@ -92,10 +93,6 @@ LOOKS = (
     (r" *[+-]?[0-9]+ *", "whole numbers stay text, since blanks stand beside some: --kind {0}=int wants them gone"),
     (r"(?=.*[^0-9.,' +-])[+-]?[^0-9a-zA-Z]? ?[+-]?[0-9][0-9.,' ]* ?([^0-9a-zA-Z]|[A-Z]{3})?", "numbers with a sign or a unit beside them stay text"),
 )
-
-
-class Refused(Exception):
-    """What can't become a statement, and where it stands."""
 
 
 def number_of(field):
@@ -290,10 +287,7 @@ def note_sign(rows):
 
 def columns_like(options):
     """The columns and kinds of the table in the store that --like names."""
-    try:
-        content = store.Store(options.like)
-    except script.Refused as fault:
-        raise Refused(str(fault)) from None
+    content = store.Store(options.like)
     for transaction in content.transactions():
         for operation in transaction.operations:
             if isinstance(operation, store.Create) and operation.table == options.table:
@@ -385,8 +379,7 @@ def in_transactions(lines, session, rows):
         yield f"s{session} commit"
 
 
-def statements(file, options):
-    text = file.read()
+def statements(text, options):
     heading, rows = read(text, options.delimiter)
     note_quotes(heading, rows)
     columns = columns_of(heading, rows, options)
@@ -469,14 +462,15 @@ def main():
     options = words()
     csv.field_size_limit(INPUT_LIMIT)
     try:
-        source = sys.stdin.fileno() if options.file == "-" else options.file
-        with open(source, encoding="utf-8-sig", errors="surrogateescape", newline="") as file:
-            text = "".join(line + "\n" for line in statements(file, options)).encode()
+        content = content_of_input(INPUT_LIMIT + 1) if options.file == "-" else open(options.file, "rb").read(INPUT_LIMIT + 1)
+        if len(content) > INPUT_LIMIT:
+            raise Refused(TOO_LONG)
+        text = "".join(line + "\n" for line in statements(content.decode("utf-8-sig", "surrogateescape"), options)).encode()
         if len(text) >= INPUT_LIMIT:
-            raise Refused("longer than the input of a run can be: give the file in parts, the later ones with --add")
+            raise Refused(TOO_LONG)
         put(text)
     except (OSError, Refused) as fault:
-        tell(f"{fault.filename}: {fault.strerror}" if isinstance(fault, OSError) else fault)
+        tell(f"{options.file}: {fault.strerror}" if isinstance(fault, OSError) else fault)
         return 1
     return 0
 

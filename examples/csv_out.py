@@ -21,7 +21,7 @@ import sys
 
 sys.dont_write_bytecode = True
 sys.path.insert(0, str(pathlib.Path(__file__).resolve().parent))
-from parts.script import NAME, Parser, tell_plain
+from parts.script import NAME, Parser, Refused, content_of_input, tell_plain
 
 VALUE = r"(-?[0-9]+|true|false|null|x'(?:[0-9a-f]{2})*'|'(?:[^']|'')*')"
 ROW = re.compile(rf"(?:(version|during) ([0-9]+) ([0-9]+|-) )?row((?: {VALUE})+)\n", re.DOTALL)
@@ -29,10 +29,6 @@ END = re.compile(r"(row|version|piece)s ([0-9]+)\n")
 
 # the word that a line of the reply begins with, by the word that its last line counts
 BEGINS = {"row": None, "version": "version", "piece": "during"}
-
-
-class Refused(Exception):
-    """Why there is no CSV of this reply."""
 
 
 def field(value, is_utf8):
@@ -92,7 +88,7 @@ def words():
 def main():
     options = words()
     try:
-        lines = lines_of(sys.stdin.buffer.read().decode(), options.names, options.utf8)
+        lines = lines_of(content_of_input().decode(), options.names, options.utf8)
     except (UnicodeDecodeError, Refused) as fault:
         tell_plain(fault)
         return 1

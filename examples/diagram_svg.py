@@ -15,7 +15,7 @@ import sys
 from html import escape
 
 sys.dont_write_bytecode = True
-from parts.script import Refused, plain, put
+from parts.script import Refused, content_of_input, plain, put
 from parts.store import Store
 
 CELL, LEAST_LEFT, TOP = 24, 130, 64
@@ -146,19 +146,16 @@ def drawn(head, events, tiles, granules, first, eras=(), date=str):
 
 def main(words):
     if words == ["--help"]:
-        return print(__doc__.strip())
+        return put(__doc__.strip() + "\n")
     eras = ()
     if words[:1] == ["--store"] and len(words) > 1:
-        try:
-            eras = Store(words[1]).eras
-        except Refused as why:
-            return f"diagram_svg: {why}"
+        eras = Store(words[1]).eras
         words = words[2:]
     if len(words) > 1 or words and words[0].startswith("-"):
         print(f"usage: {__doc__.splitlines()[2].strip()}", file=sys.stderr)
         return 2
     try:
-        text = open(words[0]).read() if words else sys.stdin.read()
+        text = open(words[0]).read() if words else content_of_input().decode()
     except (OSError, UnicodeDecodeError) as fault:
         why = fault.strerror if isinstance(fault, OSError) else "it is no text"
         return f"diagram_svg: {plain(words[0]) if words else 'standard input'} can't be read: {why}"
@@ -179,12 +176,11 @@ def main(words):
         why = "the diagram was left out: it would have more than 64 events" if "diagram left out" in text else "there is no diagram"
         parts = [word(10, 24, head, 'font-weight="bold"'), word(10, 52, why, 'fill="#444444"')]
         made = picture(max(9 * len(head) + 20, 560), 74, parts)
-    try:
-        put(made)
-    except Refused as why:
-        return f"diagram_svg: {why}"
-    return 0
+    return put(made)
 
 
 if __name__ == "__main__":
-    sys.exit(main(sys.argv[1:]))
+    try:
+        sys.exit(main(sys.argv[1:]))
+    except Refused as why:
+        sys.exit(f"diagram_svg: {why}")

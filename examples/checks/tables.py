@@ -142,6 +142,8 @@ def refusals(folder):
         status, out, told = script("csv_in.py", *options, "t", folder / "in.csv")
         if (status, out) != (1, "") or not told.startswith(f"csv_in: {wanted}"):
             raise Wrong(f"wanted {wanted}; csv_in ends with {status}, {len(out)} letters and {told}")
+    if (told := script("csv_in.py", "t", "/dev/zero")) != (1, "", "csv_in: longer than the input of a run can be: give the file in parts, the later ones with --add\n"):
+        raise Wrong(f"of a file without an end is said {told}")
     for content, wanted in NO_TEXT:
         (folder / "in.csv").write_bytes(content)
         if wanted not in script("csv_in.py", "t", folder / "in.csv")[2]:

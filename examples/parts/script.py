@@ -65,6 +65,16 @@ def content_of(path, most=-1):
         raise Refused(f"{plain(path)} is no name of a file") from None
 
 
+def content_of_input(most=-1):
+    """What stands on standard input, or so many bytes of it."""
+    if sys.stdin is None:
+        raise Refused("standard input can't be read: it is closed")
+    try:
+        return sys.stdin.buffer.read(most)
+    except OSError as fault:
+        raise Refused(f"standard input can't be read: {fault.strerror}") from None
+
+
 def is_odd(letter):
     """Whether a letter steers what shows it, or can't be seen: a control, a mark of direction, a line end, a stray half."""
     return unicodedata.category(letter) in ("Cc", "Cf", "Cs", "Cn", "Co", "Zl", "Zp")
