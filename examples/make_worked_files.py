@@ -122,12 +122,14 @@ def main(folder):
 
 
 if __name__ == "__main__":
-    if sys.argv[1:] == ["--help"]:
-        sys.exit(print(__doc__.strip()))
-    if len(sys.argv) != 2 or sys.argv[1].startswith("-"):
+    is_help = sys.argv[1:] == ["--help"]
+    if not is_help and (len(sys.argv) != 2 or sys.argv[1].startswith("-")):
         print(f"usage: {__doc__.splitlines()[2].strip()}", file=sys.stderr)
         sys.exit(2)
     try:
+        if is_help:
+            with open(1, "w", closefd=False) as out:
+                sys.exit(print(__doc__.strip(), file=out))
         main(sys.argv[1])
     except OSError as fault:
-        sys.exit(f"make_worked_files: {fault.filename}: {fault.strerror}")
+        sys.exit(f"make_worked_files: {fault.filename or 'the output'}: {fault.strerror}")

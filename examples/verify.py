@@ -908,13 +908,16 @@ def main(words):
     is_call = name or len(words) == 3 or len(options) == 2 and options[0] == "--era"
     bad = [word for word in words[2:3] + ([] if name else options[1:]) if not is_number(word)]
     if not is_call or bad:
-        print(__doc__, file=sys.stdout if words == ["--help"] else sys.stderr)
+        if words == ["--help"]:
+            say(__doc__)
+            return 0
+        print(__doc__, file=sys.stderr)
         if is_call:
             print(f"verify: {plain(bad[0])} is no number from 0 to {(1 << 64) - 1} without a zero in front", file=sys.stderr)
-        elif words != ["--help"]:
+        else:
             wanted = f"`{words[0]}` takes {CALLS[words[0]]}" if words and words[0] in CALLS else "a comparison takes STORE, BOOK and ID, and --era E behind them: 3 or 5"
             print(f"verify: {wanted} words, and here are {len(words) - (words[:1] != [] and words[0] in CALLS)}", file=sys.stderr)
-        return 0 if words == ["--help"] else 2
+        return 2
     try:
         lines, status = call(*words) if name else comparison(*words[:3], int(options[1]) if options else None)
     except (OSError, ValueError) as fault:

@@ -5,8 +5,9 @@
 
 Each is run in an empty folder, with an input that never ends and without a program: with `--help` (status 0), with `--wrong words`
 and with nine words that are none (status 2). None may take ten seconds, leave a file, or print a traceback. So it is of a word too
-many behind those that ./dragoon takes alone. That one names what its checkout lacks or has more, and the shell that it takes. Scripts on duty are given files that aren't there, under a name that would clear the
-terminal: none may print that. Where bench/ is missing, as in an installed copy, examples/ is tried alone.
+many behind those that ./dragoon takes alone. That one names what its checkout lacks or has more, and the shell that it takes. Scripts on duty are
+given files that aren't there, under a name that would clear the terminal: none may print that. Nor may one but these checks print a traceback
+where the output takes nothing of --help, or the input is closed. Where bench/ is missing, as in an installed copy, examples/ is tried alone.
 """
 import concurrent.futures
 import os
@@ -31,6 +32,8 @@ NAMED = {
     "examples/operate/serve": [ODD], "examples/quorum/compare": [ODD, "/"], "examples/quorum/mend": [ODD, ODD, "/"], "examples/second_machine/receive": [ODD, "7"],
     "examples/successor/walk_back": [ODD, ODD, "7"], "examples/verify.py": [ODD, ODD, "7"],
 }
+# what reads standard input, and the words for that
+CLOSED = {"examples/csv_in.py": ["t", "-"], "examples/csv_out.py": ["id"], "examples/diagram_svg.py": []}
 # a service of Nagios says by 3 that it can't tell
 OTHERWISE = {"examples/operate/check_dragoon": 3}
 
@@ -88,6 +91,17 @@ def shown_raw(call):
     return f"{name} prints a name's odd letters, or not the name: {said!r}" if "\x1b" in said or "[2Jodd" not in said else None
 
 
+def untaken(call):
+    """What is wrong where a script prints a traceback as its output takes nothing of --help, or its input is closed, or None."""
+    name, run = call
+    for words, shell in ((HELP, ">/dev/full"), *(((CLOSED[name], "<&-"),) if name in CLOSED else ())):
+        place = {**os.environ, "DRAGOON": "/nowhere/dragoon", "PYTHONUNBUFFERED": "1"}
+        done = subprocess.run(["bash", "-c", f'"$@" {shell}', "bash", *run, *words], env=place, stdin=subprocess.DEVNULL, capture_output=True, text=True, timeout=10)
+        if "Traceback" in done.stderr or words != HELP and (done.returncode != 1 or "standard input can't be read: it is closed" not in done.stderr):
+            return f"{name} {' '.join(words)} {shell} ends with {done.returncode}, and says: {done.stderr[-200:]}"
+    return None
+
+
 def of_half_a_checkout():
     """What is wrong where ./dragoon lacks a part of its checkout, or is run by a shell that isn't bash, or git doesn't track a source."""
     if not any(wrapper()):
@@ -132,7 +146,9 @@ def main(words):
     tries += [(call, ["words"]) for call in wrapper()]
     with concurrent.futures.ThreadPoolExecutor(os.cpu_count()) as pool:
         named = [call for call in scripts() if call[0] in NAMED]
-        wrong = [it for it in (*pool.map(answer, *zip(*tries)), *pool.map(shown_raw, named), *of_half_a_checkout()) if it]
+        # (the checks, and what measures, print their heads themselves)
+        others = [call for call in scripts() if not call[0].startswith(("examples/checks/", "bench/"))]
+        wrong = [it for it in (*pool.map(answer, *zip(*tries)), *pool.map(shown_raw, named), *pool.map(untaken, others), *of_half_a_checkout()) if it]
     if wrong:
         raise Wrong(f"{len(wrong)} of {len(tries)}:\n" + "\n".join(wrong))
     print(f"words: {count} scripts answer --help, and refuse wrong words; {len(named)} show a name's odd letters as text")

@@ -29,6 +29,7 @@ from urllib.parse import quote
 
 sys.dont_write_bytecode = True
 sys.path.insert(0, str(pathlib.Path(__file__).resolve().parents[1]))
+import verify
 from parts.script import NAME, tell_plain
 
 
@@ -276,7 +277,7 @@ def not_there(path):
 
 def main(words):
     if words == ["--help"]:
-        print(__doc__.strip())
+        verify.say(__doc__.strip(), "attach")
         return 0
     utf8, anew = set(), words[:1] == ["--anew"]
     words = words[anew:]

@@ -96,14 +96,12 @@ def page(text, date):
 
 
 def main(words):
-    if words == ["--help"]:
-        print(__doc__.strip())
-        return 0
-    if len(words) > 1 or words and not re.fullmatch("[0-9]{4}-[0-9]{2}-[0-9]{2}", words[0]):
+    is_help = words == ["--help"]
+    if not is_help and (len(words) > 1 or words and not re.fullmatch("[0-9]{4}-[0-9]{2}-[0-9]{2}", words[0])):
         print(f"usage: {__doc__.splitlines()[2].strip()}", file=sys.stderr)
         return 2
     try:
-        made = "\n".join(page((DOCS / "COMMANDS.md").read_text(), words[0] if words else ""))
+        made = __doc__.strip() if is_help else "\n".join(page((DOCS / "COMMANDS.md").read_text(), words[0] if words else ""))
     except (OSError, ValueError) as error:
         print(f"man.py: {error}", file=sys.stderr)
         return 3
