@@ -447,6 +447,11 @@ def words():
         parsed.rows = OPERATIONS
     elif parsed.session is None:
         parser.error("--rows is for transactions of a session: --session N")
+    for option, what in (("names", "the columns' names"), ("key", "a column's name"), ("like", "the path of a store")):
+        if getattr(parsed, option) == "":
+            parser.error(f"--{option} takes {what}, and what stands there is empty")
+    if len(dict(parsed.kind)) < len(parsed.kind):
+        parser.error("--kind names a column twice")
     return parsed
 
 

@@ -115,6 +115,11 @@ NO_TEXT = [
     (b"a,b\n1,x\n2,\xff\n", "row 3, column b: isn't valid UTF-8"), (b"PK\3\4\x14\0\0\0", "this is a spreadsheet"), (gzip.compress(b"a,b\n"), "this is compressed"),
     ((EXAMPLES / "altered.store").read_bytes(), "this is a store"), (b'[{"a": 1}]\n', "this is JSON"), (b"<!DOCTYPE html>\n", "this is a page"),
 ]
+# words that aren't taken
+NO_WORDS = [
+    (["--like", ""], "--like takes the path of a store"), (["--names", ""], "--names takes the columns' names"), (["--key", ""], "--key takes a column's name"),
+    (["--kind", "b=int", "--kind", "b=text"], "--kind names a column twice"),
+]
 # what is said of a heading that may be a row, and of fields that go by place
 ROW, LIKE = "csv_in: row 1, `{}`, is taken as the heading, and goes into no table", ". It looks like a row: a file without a heading wants one in front"
 HEADINGS = [  # options, the file, and what is said
@@ -142,6 +147,9 @@ def refusals(folder):
         status, out, told = script("csv_in.py", *options, "t", folder / "in.csv")
         if (status, out) != (1, "") or not told.startswith(f"csv_in: {wanted}"):
             raise Wrong(f"wanted {wanted}; csv_in ends with {status}, {len(out)} letters and {told}")
+    for options, wanted in NO_WORDS:
+        if (told := script("csv_in.py", *options, "t", "-", lines="a,b\n1,x\n"))[:2] != (2, "") or wanted not in told[2]:
+            raise Wrong(f"csv_in takes {options}, or doesn't say {wanted}: {told}")
     if (told := script("csv_in.py", "t", "/dev/zero")) != (1, "", "csv_in: longer than the input of a run can be: give the file in parts, the later ones with --add\n"):
         raise Wrong(f"of a file without an end is said {told}")
     for content, wanted in NO_TEXT:
