@@ -19,7 +19,8 @@ A kind that isn't given is found: int if each field is a number of 64 bits as it
 byte below 0x20, nor 0x7F. A column of kind utf8 is of kind bytes in the table: the UTF-8 of the field, whatever it holds.
 A column of which text is made, though it looks like something else (`TRUE`, `007`, `12,50`, `1e5`, `2026-12-31`), or though some
 of it are whole numbers, or all but one field looks so, is named on standard error. So is the first text of a column that dumps and
-spreadsheets write where there is no value (`NULL`, `N/A`, `#REF!`), and the first field with a blank before its quote.
+spreadsheets write where there is no value (`NULL`, `N/A`, `#REF!`), the first field with a blank before its quote, the first row that is the
+heading again, and the first two keys that look like one.
 
 What the language can't hold is refused with its row and column, and so is a row with too few or too many fields, a key that
 is empty or stands there twice, and a name that is none. Nothing is written then, and the status is 1. Row 1 is the heading, and goes into no
@@ -67,17 +68,19 @@ OTHER_FILES = (
 # what may stand between fields, and how --delimiter takes it
 SIGNS = ((";", "';'"), ("\t", "tab"), ("|", "'|'"), (",", "','"))
 DEVICE = re.compile(".DRAG(OON|BOK)", re.DOTALL)
-# what an earlier conversion leaves in a text
+# what an earlier conversion leaves in a text, and what of one can't be seen
 SPOILED = (
     ("\ufffd", "U+FFFD: a conversion has lost a letter there"),
     ("[\x80-\x9f]", "a letter of U+0080 to U+009F: `iconv -f LATIN1` makes these of a file from Windows, where -f CP1252 makes the right ones"),
+    (r"^[\s\u00ad\u200b-\u200f\u2060-\u2064\u2800\u3164\ufeff]+$", "no letter that can be seen"),
+    ("[\u200b\u202a-\u202e\u2066-\u2069]", "a letter that can't be seen, or that turns the order of others"),
 )
 
 
 # a number with a fraction, which may have signs between its digits
 FRACTION = r"(?=.*[0-9])[+-]?([0-9]+|[0-9]{1,3}([.,' _][0-9]{3})+)?([.,][0-9]+)?"
 # what dumps and spreadsheets write where there is no value
-NO_VALUES = {"NULL", r"\N", "n/a", "N/A", "#N/A", "#REF!", "#DIV/0!", "#VALUE!", "#NAME?", "#NUM!"}
+NO_VALUES = re.compile(r"NULL|null|\(null\)|\[NULL\]|\\N|n/a|#?N/A|NA|None|NaN|nan|#[A-Z/0]+[!?]|###+|Err:[0-9]+")
 # what all fields of a column look like that becomes text, and what there is to do; the first one that fits is said
 LOOKS = (
     ("(?i:true|false)", "`true` and `false` in capitals stay text: --kind {0}=bool makes them bool"),
@@ -89,9 +92,12 @@ LOOKS = (
     (r"[+-]?[0-9]{1,3}([.,' _][0-9]{3})*", "numbers with signs between their digits, as thousands have them, stay text: without these they would be ints"),
     (FRACTION, "numbers with a fraction stay text: no kind has one, so whole cents would have to stand there"),
     (FRACTION + "([eE][+-]?[0-9]+)?", "numbers with an exponent stay text: an int stands in digits alone"),
-    ("0[xX][0-9a-fA-F]+", "hexadecimal numbers stay text: without `0x` --kind {0}=bytes makes bytes of them"),
+    (r"0[xX][0-9a-fA-F]+|\\x([0-9a-fA-F]{2})*", "hexadecimal numbers stay text: without `0x` or `\\x` --kind {0}=bytes makes bytes of them"),
     (r" *[+-]?[0-9]+ *", "whole numbers stay text, since blanks stand beside some: --kind {0}=int wants them gone"),
     (r"(?=.*[^0-9.,' +-])[+-]?[^0-9a-zA-Z]? ?[+-]?[0-9][0-9.,' ]* ?([^0-9a-zA-Z]|[A-Z]{3})?", "numbers with a sign or a unit beside them stay text"),
+    ("'.*'", "MySQL's quotes stand round each text, and are part of it: take them out"),
+    ("'.*", "a spreadsheet's mark stands in front of each text, `'`, and is part of it: take it out"),
+    ('=".*"', "each text stands in `=\"` and `\"`, as Excel takes a formula, and these are part of it: take them out"),
 )
 
 
@@ -149,7 +155,8 @@ def legal(heading):
 
 
 def looks(name, fields):
-    """What these fields of a column look like that becomes text, or None."""
+    """What these fields of a column look like that becomes text, or None. A blank at which no line may end is one as others are."""
+    fields = [re.sub("[\u00a0\u202f]", " ", field) for field in fields]
     if all(re.fullmatch("[+-]?[0-9]+", field) for field in fields):
         if None in map(number_of, fields):
             return "whole numbers stay text, since some are wider than 64 bits"
@@ -194,7 +201,7 @@ def note_looks(columns, rows, options):
         note = looks(name, said) if is_found and kind == "text" and said else None
         if note:
             tell(f"column {name}: {note}")
-        odd = next((field for field in said if field in NO_VALUES), None)
+        odd = next(filter(NO_VALUES.fullmatch, said), None)
         if kind in ("text", "utf8") and odd and f"`{odd}`" not in (note or ""):
             tell(f"column {name}: `{odd}` goes in as a text, and not as null: an empty field is null")
         if is_found and rows and not said:
@@ -219,15 +226,26 @@ def is_twice_encoded(field):
 
 
 def note_spoiled(columns, rows):
-    """Says which text is the first that an earlier conversion may have spoiled."""
+    """Says which texts are the first that an earlier conversion may have spoiled, each in its way, or that hold what can't be seen."""
+    told, texts = set(), [(name, at) for name, at, kind in columns if kind in ("text", "utf8")]
     for number, row in rows:
-        for name, at, kind in columns:
+        for name, at in texts:
             why = next((why for pattern, why in SPOILED if re.search(pattern, row[at])), None)
             if not why and not row[at].isascii() and is_twice_encoded(row[at]):
                 why = "UTF-8 that was taken for Latin letters, and made to UTF-8 again"
-            if why and kind in ("text", "utf8"):
+            if why and why not in told:
                 tell(f"row {number}, column {name}: `{row[at][:40]}` has {why}")
-                return
+                told.add(why)
+
+
+def note_keys(columns, rows):
+    """Says which two keys are the first that look like one."""
+    at, seen = columns[0][1], {}
+    for number, row in rows:
+        other, key = seen.setdefault(unicodedata.normalize("NFC", row[at].strip()), (number, row[at]))
+        if key != row[at]:
+            tell(f"rows {other} and {number}: their keys look the same, and differ in blanks at their ends or in how letters are put together")
+            return
 
 
 def hold_to_csv(text):
@@ -275,6 +293,12 @@ def note_quotes(heading, rows):
         if field := next((field for field in row if re.match(r'\s+"', field)), None):
             tell(f"row {number}: a blank stands before the quote in `{field[:40]}`, so that quotes are part of the text: take such blanks out")
             return
+
+
+def note_again(heading, rows):
+    """Says which row is the first that is the heading again. A byte order mark may stand before it."""
+    if again := next((number for number, row in rows if [row[0].removeprefix("\ufeff"), *row[1:]] == heading), None):
+        tell(f"row {again} is the heading again: were files put together?")
 
 
 def note_sign(rows):
@@ -382,6 +406,7 @@ def in_transactions(lines, session, rows):
 def statements(text, options):
     heading, rows = read(text, options.delimiter)
     note_quotes(heading, rows)
+    note_again(heading, rows)
     columns = columns_of(heading, rows, options)
     if text[-1] not in "\r\n":
         tell("the last row has no line end: if the file was cut off, look at it")
@@ -391,6 +416,7 @@ def statements(text, options):
     if len(columns) == 1:
         note_sign(rows)
     note_spoiled(columns, rows)
+    note_keys(columns, rows)
     note_bytes(columns, options)
     note_looks(columns, rows, options)
     if not options.add and not options.like:

@@ -96,6 +96,7 @@ REFUSED = [  # options, heading, rows, and what is said
     (["--delimiter", ";"], "a,b", ["1,x"], "row 1: this is one column with ',' in its name"),
     ([], "Größe,2nd,,a b,a-b", ["1,2,3,4,5"], "row 1, column Größe: no name, or one that stands there twice (where row 1 is a heading, --names groe,c_2nd,column_3,a_b,a_b_5 would"),
 ]
+NO_VALUES = "NA", "null", "None", "(null)", "[NULL]", "NaN", "nan", "#NULL!", "#####", "Err:502"
 # columns that become text, and what is said of them
 NOTED = [
     ("TRUE,FALSE,", "--kind b=bool"), ("true,True", "--kind b=bool"), ("true,false", None), ("x,TRUE", None), ("yes,no", "words for true"), ('"12,50",7', "a fraction"),
@@ -105,7 +106,9 @@ NOTED = [
     ("1e5,2,1.5", "an exponent"), ("0x1F,0xff", "--kind b=bytes"), (" 5,6 ", "blanks"), ("5 %,6 %", "a unit"), ("$5,€ 6.50", "a unit"), ("5.00 EUR,6.50 EUR", "a unit"),
     ("1,2,n/a", "1 of 3 fields are no whole numbers, as `n/a`"), ("1,x,y", "2 of 3 fields are no whole numbers, as `x`"), ("TRUE,12.5,1e5", "of several forms, as `TRUE`"), ("TRUE,x", None), ("a,b", None), ("007x,8x", None), ("192.168.0.1,10.0.0.1", None), ("1.2.3,1.2.4", None), ("-,-", None), ("030 123456,040 98765", None),
     ("2026-12-31,n/a,2027-01-01", "1 of 3 fields isn't like the others, `n/a`"), ("12.5,0.1,7.5,-", "1 of 4 fields isn't like the others, `-`"), ("no,yes,maybe", None), ("x,y,5 €,z", None),
-    ("x,NULL,#REF!", "column b: `NULL` goes in as a text, and not as null"), ("\\N,\\N", "`\\N` goes in as a text"), ("null,Null", None), (' "Ada",x, "y"', 'row 2: a blank stands before the quote in ` "Ada"`'),
+    ("x,NULL,#REF!", "column b: `NULL` goes in as a text, and not as null"), ("\\N,\\N", "`\\N` goes in as a text"), ("Null,##,Errol,#1", None), *((f"x,{it}", f"`{it}` goes in as a text, and not as null") for it in NO_VALUES),
+    ("1\u00a0000,25\u202f000", "between their digits"), ("1\u00a0000\u00a0€,2 €", "a unit"), ("\\x0102,\\x", "--kind b=bytes"), ("'a','b'", "MySQL's quotes"), ("'007,'x y", "a spreadsheet's mark"), ('="007",="08"', "as Excel takes a formula"), ('x,=,"=x"', None),
+    ("x, ,\u00a0", "row 3, column b: ` ` has no letter that can be seen"), ("x,y\u202egnp", "row 3, column b: `y\\u{202e}gnp` has a letter that can't be seen, or"), ("👩\u200d👧,x", None), (' "Ada",x, "y"', 'row 2: a blank stands before the quote in ` "Ada"`'),
     ("M\ufffdller,x", "has lost a letter"), ("x,\x84Adler\x93", "-f CP1252"), ("MÃ¼ller,x", "taken for Latin letters"), ("Müller,5 €", None),
 ]
 # files that are none of text in UTF-8
@@ -120,12 +123,14 @@ NO_WORDS = [
     (["--like", ""], "--like takes the path of a store"), (["--names", ""], "--names takes the columns' names"), (["--key", ""], "--key takes a column's name"),
     (["--kind", "b=int", "--kind", "b=text"], "--kind names a column twice"),
 ]
-# what is said of a heading that may be a row, and of fields that go by place
+# what is said of a heading that may be a row or stands there again, of fields that go by place, and of keys that look like one
 ROW, LIKE = "csv_in: row 1, `{}`, is taken as the heading, and goes into no table", ". It looks like a row: a file without a heading wants one in front"
 HEADINGS = [  # options, the file, and what is said
     ([], "id,n\n1,x\n", ""), ([], "a,true\n1,false\n", ROW.format("a,true") + LIKE), (["--names", "a,b"], "1,Ada\n2,Bob\n", ROW.format("1,Ada") + LIKE),
     (["--names", "a,b"], "2026-12-31,x\n?,y\n", ROW.format("2026-12-31,x") + LIKE), (["--names", "a,b"], "#,N\x1b\n1,x\n", ROW.format("#,N\\u{1b}")),
     (["--add", "--key", "n"], "id,n\n1,x\n", "csv_in: the fields go by place, so the columns of t have to be n, id, in this order"),
+    *(([], f"id,n\nA,x\n{mark}id,n\nB,y\n", "csv_in: row 3 is the heading again: were files put together?") for mark in ("", "\ufeff")), ([], "id,n\nA,x\nid,x\na,y\n", ""),
+    *(([], f"id,n\né,x\n{key},y\n", "csv_in: rows 2 and 3: their keys look the same, and differ in blanks at their ends or in how letters are put together") for key in ("e\u0301", "é ", "\u00a0é")),
     (["--names", "a,b"], "金額1,b\n1,x\n", ROW.format("金額1,b")), (["--key", "n"], "id,n\n1,x\n", "csv_in: the table's columns are n, id, in this order: csv_out.py takes them so"),
 ]
 # a file that was cut off, or that a crash left zeros in; and what is said alone. Where its last row has no line end the rows go in
