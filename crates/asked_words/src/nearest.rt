@@ -100,7 +100,7 @@ fn wrong_of(alloc: Global, call: &[String]) -> Wrong<'_> {
     if names_device(word) {
         return wrong_device(word);
     }
-    if word.as_bytes().contains(&b'=') || DEVICES.contains(&word) {
+    if DEVICES.contains(&word) || is_path(word) {
         return Wrong::Almost { word };
     }
     if STATEMENTS
@@ -121,6 +121,12 @@ fn wrong_of(alloc: Global, call: &[String]) -> Wrong<'_> {
 
 /// What names a device, in front of a `=`.
 const DEVICES: [&str; 4] = ["store", "copy", "target", "notary"];
+
+/// Whether it has a letter that no command has, and that stands in paths, or behind what names a device.
+fn is_path(word: &str) -> bool {
+    word.bytes()
+        .any(|byte| matches!(byte, b'=' | b'.' | b'/' | b'\\'))
+}
 
 fn names_device(word: &str) -> bool {
     match word.split_once('=') {

@@ -151,7 +151,15 @@ fn uses_notary(ending: &Ending<'_, '_>) -> bool {
     let heard = ending.heard;
     let is_cut_short = heard.replies == 0 && !is_done(ending)
         || ending.status == Status::NotaryFault;
-    ending.ask.uses_notary() && (ending.ask != Ask::Run || heard.uses_notary() || is_cut_short)
+    let is_named = heard.uses_notary() || is_filing_refused(ending);
+    ending.ask.uses_notary() && (ending.ask != Ask::Run || is_named || is_cut_short)
+}
+
+/// Whether the first line that was refused is one that files.
+fn is_filing_refused(ending: &Ending<'_, '_>) -> bool {
+    ending
+        .refused
+        .is_some_and(|line| line.text.as_slice().starts_with(b"notarize"))
 }
 
 /// Whether it was missing, or empty.
