@@ -81,14 +81,16 @@ SPOILED = (
 FRACTION = r"(?=.*[0-9])[+-]?([0-9]+|[0-9]{1,3}([.,' _][0-9]{3})+)?([.,][0-9]+)?"
 # what dumps and spreadsheets write where there is no value
 NO_VALUES = re.compile(r"NULL|null|\(null\)|\[NULL\]|\\N|n/a|#?N/A|NA|None|NaN|nan|#[A-Z/0]+[!?]|###+|Err:[0-9]+")
+# a date with its month in letters
+MONTH = r"([A-Za-z]{3,9},? )?[0-9]{1,2}[. /-]{1,2}[A-Za-z]{3,9}[. ,/-]{1,2}[0-9]{2,4}([ T].*)?|[A-Za-z]{3,9}[.]? [0-9]{1,2},? [0-9]{4}.*"
 # what all fields of a column look like that becomes text, and what there is to do; the first one that fits is said
 LOOKS = (
     ("(?i:true|false)", "`true` and `false` in capitals stay text: --kind {0}=bool makes them bool"),
     ("(?i:yes|no|y|n|t|f|on|off)", "words for true and false stay text: written as `true` and `false` they would be bool"),
-    (r"[0-9]{1,2}[./-][0-9]{1,2}[./-]([0-9]{2}|[0-9]{4})([ T].*)?",
-        "dates stay text, and sort by their day first: 2026-12-31 would sort by time, and as 20261231 it would be an int"),
+    (rf"[0-9]{{1,2}}[./-][0-9]{{1,2}}[./-]([0-9]{{2}}|[0-9]{{4}})([ T].*)?|{MONTH}",
+        "dates stay text, and sort by what stands in front: 2026-12-31 would sort by time, and as 20261231 it would be an int"),
     (r"[0-9]{4}[./-][0-9]{1,2}[./-][0-9]{1,2}([ T].*)?", "dates stay text, and sort by time: written as 20261231 they would be ints"),
-    (r"[0-9]{1,2}:[0-9]{2}(:[0-9]{2}([.,][0-9]+)?)?", "times of day stay text; as seconds they would be ints"),
+    (r"[0-9]{1,2}:[0-9]{2}(:[0-9]{2}([.,][0-9]+)?)?( ?[AaPp][.]?[Mm][.]?)?", "times of day stay text; as seconds they would be ints"),
     (r"[+-]?[0-9]{1,3}([.,' _][0-9]{3})*", "numbers with signs between their digits, as thousands have them, stay text: without these they would be ints"),
     (FRACTION, "numbers with a fraction stay text: no kind has one, so whole cents would have to stand there"),
     (FRACTION + "([eE][+-]?[0-9]+)?", "numbers with an exponent stay text: an int stands in digits alone"),

@@ -100,7 +100,7 @@ NO_VALUES = "NA", "null", "None", "(null)", "[NULL]", "NaN", "nan", "#NULL!", "#
 # columns that become text, and what is said of them
 NOTED = [
     ("TRUE,FALSE,", "--kind b=bool"), ("true,True", "--kind b=bool"), ("true,false", None), ("x,TRUE", None), ("yes,no", "words for true"), ('"12,50",7', "a fraction"),
-    ('"12,50","-1.234,00"', "a fraction"), ("12.50,0.1", "a fraction"), ("5,1.5,.5", "a fraction"), ("1'000,2'000", "between their digits"), ('"1,000",250', "as thousands have them"), ("1_000,2_000", "between their digits"),
+    ('"12,50","-1.234,00"', "a fraction"), ("31-DEC-26,5 Jan 2027", "what stands in front"), ("10:30 PM,9:05", "times of day"), ("12.50,0.1", "a fraction"), ("5,1.5,.5", "a fraction"), ("1'000,2'000", "between their digits"), ('"1,000",250', "as thousands have them"), ("1_000,2_000", "between their digits"),
     ("01.02.2026,31.12.2026", "20261231"), ("31.12.2026,1/2/26", "20261231"), ("2026-12-31,2027-01-01", "20261231"), ("2026-12-31 10:00,2027-01-01T00:00:00Z", "dates"),
     ("10:30,23:59:59", "times of day"), ("007,12", "--kind b=int"), ("+5,7", "--kind b=int"), ("-0,1", "--kind b=int"), ("12345678901234567890,1", "wider than 64 bits"), ("9223372036854775808,007", "wider than 64 bits"), ("9223372036854775807,007", "--kind b=int"), ("1e5,2E-3", "an exponent"),
     ("1e5,2,1.5", "an exponent"), ("0x1F,0xff", "--kind b=bytes"), (" 5,6 ", "blanks"), ("5 %,6 %", "a unit"), ("$5,€ 6.50", "a unit"), ("5.00 EUR,6.50 EUR", "a unit"),
