@@ -303,12 +303,17 @@ def note_again(heading, rows):
         tell(f"row {again} is the heading again: were files put together?")
 
 
-def note_sign(rows):
-    """Says which sign each row of an only column holds, as often as the others do: fields may end there, and row 1 be a title."""
+def note_sign(heading, rows, is_named):
+    """Says which sign each row holds, as often as the others do: fields may end there, and the heading of an only column be a title. Of several
+    columns it is said only where no other sign was named."""
+    is_only = len(heading) == 1
+    if is_named and not is_only:
+        return
     for sign, name in SIGNS:
-        counts = {row[0].count(sign) for _, row in rows if len(row) == 1}
-        if len(counts) == 1 and 0 not in counts:
-            tell(f"each row is one field with {name} in it. If fields end there, --delimiter {name} cuts; if row 1 is a title, take that out")
+        counts = {sum(field.count(sign) for field in row) for row in [*([] if is_only else [heading]), *(row for _, row in rows)]}
+        if rows and len(counts) == 1 and 0 not in counts:
+            title = "; if row 1 is a title, take that out" if is_only else ""
+            tell(f"each row {'is one field with' if is_only else 'has'} {name} in it. If fields end there, --delimiter {name} cuts{title}")
 
 
 def columns_like(options):
@@ -409,14 +414,13 @@ def statements(text, options):
     heading, rows = read(text, options.delimiter)
     note_quotes(heading, rows)
     note_again(heading, rows)
+    note_sign(heading, rows, options.delimiter != ",")
     columns = columns_of(heading, rows, options)
     if text[-1] not in "\r\n":
         tell("the last row has no line end: if the file was cut off, look at it")
     if not rows and not options.add and not options.like:
         tell("there is no row, so each column without --kind NAME=KIND becomes text, the key too")
     note_heading(heading, columns, options)
-    if len(columns) == 1:
-        note_sign(rows)
     note_spoiled(columns, rows)
     note_keys(columns, rows)
     note_bytes(columns, options)

@@ -27,10 +27,13 @@ class Refused(Exception):
 
 
 class Parser(argparse.ArgumentParser):
-    """A parser whose refusals steer no terminal, whatever the words are."""
+    """A parser whose refusals steer no terminal, whatever the words are, and whose help ends in a sentence where nothing takes it."""
 
     def error(self, said):
         super().error(plain(said))
+
+    def print_help(self, file=None):
+        end(lambda: (self.format_help(), 0))
 
 
 def words_of(page):
