@@ -114,7 +114,7 @@ fn whole_entry(alloc: Global, bytes: &[u8]) -> Result<Option<Entry>, AllocError>
 }
 
 /// What a payload says, all of it, or nothing where it spells no call.
-pub(crate) fn decode(alloc: Global, bytes: &[u8]) -> Result<Option<Entry>, AllocError>
+pub fn decode(alloc: Global, bytes: &[u8]) -> Result<Option<Entry>, AllocError>
     ensures value { IfOk result (λ found. Gives call_in found (call_of bytes.now)) }
     ensures fits { IfOk result (λ found. IfSome found (λ entry. FitsCall (call_in entry))) }
 {

@@ -88,5 +88,7 @@ mod skipping;
 mod writing;
 
 pub use book::Book;
+pub use decoding::decode;
+pub use entry::Entry;
 pub use limits::BOOK_LIMITS;
 pub use shape::BookShape;

@@ -1,0 +1,5 @@
+pub mod Booking
+pub mod Filing
+pub mod Turning
+pub mod Comparing
+pub mod Looking

@@ -1,0 +1,4 @@
+pub mod Along
+pub mod Steps
+pub mod Putting
+pub mod Tails

@@ -1,0 +1,6 @@
+use Rattle.std.proofs.Common.{◌≡◌, ◌++◌, take}
+use Rattle.file_findings.proofs.listing.note_all.Given as goal
+
+-- those so far
+abbrev pub invariant-loop-finding : goal.invariant-loop-finding
+invariant-loop-finding l = l.found.items ≡ l.initial.found.items ++ take l.finding-index l.more

@@ -1,0 +1,7 @@
+pub mod Early
+pub mod Seeing
+pub mod Reading
+pub mod Placing
+pub mod Eras
+pub mod Still
+pub mod Failing

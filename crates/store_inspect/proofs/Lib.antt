@@ -1,0 +1,12 @@
+pub mod Applying
+pub mod Going
+pub mod Others
+pub mod Numbering
+pub mod Timing
+pub mod Placing
+pub mod Fitting
+pub mod Refusing
+pub mod Running
+pub mod Cutting
+pub mod Seeing
+pub mod Counting
