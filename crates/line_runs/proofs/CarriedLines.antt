@@ -30,18 +30,22 @@ use Rattle.line_runs.specs.declared.status.Status.{Status}
 use Rattle.line_runs.specs.declared.status.Status.TheVariants as statuses
 use Rattle.line_runs.specs.declared.run_fail.RunFail.{RunFail}
 use Rattle.line_runs.specs.declared.runner.Runner.{Runner}
+use Rattle.line_runs.specs.declared.seen.Seen.{Seen}
 use Rattle.line_runs.specs.Saying.{SomeIsOut}
 use Rattle.line_runs.specs.Running.{Running, Timed, carried, Takes}
 use Rattle.line_runs.specs.Ran.{AreDone, IsNext, IsUnderWay, Reads, TakesNoMore, lines_in, text_before}
 use Rattle.line_runs.specs.Failing.{EndsByUse}
 use Rattle.line_runs.specs.Devices.{Desk, Devices}
-use Rattle.line_runs.specs.Carrying.{FromWhere, IsLineOf, Replies, Carries, CarriesFrom, IsWritten, ending, of_line, of_input, of_output}
+use Rattle.line_runs.specs.Sees.{SeesAny, SeesNothing, Sees}
+use Rattle.line_runs.specs.SeeingLines.{IsNew, CarriesSeen, CarriesSeenFrom}
+use Rattle.line_runs.specs.Carrying.{FromWhere, IsLineOf, Replies, CarriesFrom, IsWritten, ending, of_line, of_input, of_output}
 use Rattle.line_runs.proofs.Seconds.{takes_none, takes_then}
 use Rattle.line_runs.proofs.Reading.{take_front, take_first, IsRead}
 use Rattle.line_runs.proofs.Written.{before_more}
 use Rattle.line_runs.proofs.Nothing.{nothing}
 use Rattle.line_runs.proofs.Limits.{carry_limits}
 use Rattle.line_runs.proofs.Standing.{IsStill}
+use Rattle.line_runs.proofs.Seeing.{Hears, sees_none, sees_more}
 use Rattle.line_runs.proofs.LinesRun.{lines_done, lines_begun}
 use Rattle.line_runs.proofs.Lines.{Stands, stands_first, stands_more, sound_on, carried_more}
 
@@ -62,32 +66,35 @@ clock_same s = record { told = refl }
 -- ---- between two lines
 
 -- These lines were carried out from this beginning on. Written is what is said of the text before the last reply, and of all.
-pub record Along (scripted : Bool) (runner : Runner) (old now : Desk) (clock ahead : clocks.State) (input left : sources.State) (reader : Reading) (Written : List ℕ → List ℕ → Type 0) (begin : Running) (before after : List ℕ) : Type 0 where
+pub record Along (scripted : Bool) (runner : Runner) (old now : Desk) (clock ahead : clocks.State) (input left : sources.State) (reader : Reading) (seen : Seen) (Written : List ℕ → List ℕ → Type 0) (begin : Running) (before after : List ℕ) : Type 0 where
   pub done : List Timed
   pub read : WhereTold input.rest left.rest (IsRead (lines_in done) reader)
   pub takes : Takes scripted done clock ahead
   pub stands : Stands scripted begin done runner old now before after
   pub said : begin.text ≡ [] → Written (text_before scripted begin done) (carried scripted begin done).text
+  pub sees : IsNew begin → Sees scripted begin done seen
 
 -- what a turn of the loop keeps
-pub record IsGoing (first runner : Runner) (old now : Desk) (clock ahead : clocks.State) (input left : sources.State) (reader : Reading) (Written : List ℕ → List ℕ → Type 0) : Type 0 where
+pub record IsGoing (first runner : Runner) (old now : Desk) (clock ahead : clocks.State) (input left : sources.State) (reader : Reading) (seen : Seen) (Written : List ℕ → List ℕ → Type 0) : Type 0 where
   pub within : reader.taken ≤ input_limit
   pub scripted : runner.is_scripted ≡ first.is_scripted
-  pub told : FromWhere first old now (Along first.is_scripted runner old now clock ahead input left reader Written)
+  pub told : FromWhere first old now (Along first.is_scripted runner old now clock ahead input left reader seen Written)
   pub disk_frame : disks.GoesOn old.disk now.disk
   pub notary_frame : notaries.GoesOn old.notary now.notary
   pub clock_frame : clocks.GoesOn clock ahead
   pub input_frame : sources.GoesOn input left
 
 -- the same, with what every call of the output keeps
-pub record IsCarrying (first runner : Runner) (old now : Desk) (clock ahead : clocks.State) (input left : sources.State) (reader : Reading) (out written : sinks.State) : Type 0 where
-  pub going : IsGoing first runner old now clock ahead input left reader (λ before text. sinks.IsOut text out written)
+pub record IsCarrying (first runner : Runner) (old now : Desk) (clock ahead : clocks.State) (input left : sources.State) (reader : Reading) (seen : Seen) (out written : sinks.State) : Type 0 where
+  pub going : IsGoing first runner old now clock ahead input left reader seen (λ before text. sinks.IsOut text out written)
+  pub any : SeesAny seen.first_refusal seen.refused
+  pub counted : seen.refused ≡ runner.refused
   pub out_frame : sinks.GoesOn out written
   pub out_grows : SomeIsOut out written
 
-pub begins : (runner : Runner) (s : Desk) (clock : clocks.State) (input : sources.State) (reader : Reading) (out : sinks.State) → IsStill s.disk → reader ≡ record { line = []; pending = []; taken = 0; is_ended = false }
-    → IsGoing runner runner s s clock clock input input reader (λ before text. sinks.IsOut text out out)
-begins runner s clock input reader out still fresh = record {
+pub begins : (runner : Runner) (s : Desk) (clock : clocks.State) (input : sources.State) (reader : Reading) (seen : Seen) (out : sinks.State) → IsStill s.disk → SeesNothing seen → reader ≡ record { line = []; pending = []; taken = 0; is_ended = false }
+    → IsGoing runner runner s s clock clock input input reader seen (λ before text. sinks.IsOut text out out)
+begins runner s clock input reader seen out still unseen fresh = record {
   within = omega (arith, ap (λ (r : Reading). r.taken) fresh);
   scripted = refl;
   told = told_same s.disk.reads s.disk.reads _ refl (λ bytes begin at. record {
@@ -96,6 +103,7 @@ begins runner s clock input reader out still fresh = record {
     takes = takes_none runner.is_scripted clock;
     stands = stands_first runner.is_scripted begin runner s bytes still at (told_same s.notary.lists s.notary.lists _ refl (λ lists. refl));
     said = λ silent. subst (λ (text : List ℕ). sinks.IsOut text out out) (sym silent) (nothing_out out out refl);
+    sees = λ new. sees_none runner.is_scripted begin seen unseen new;
   });
   disk_frame = disk_frames.goes_on_same s.disk;
   notary_frame = notary_frames.goes_on_same s.notary;
@@ -134,22 +142,22 @@ read_off (Err fail) done reader later input left rest alike read none tells sees
 read_off (Ok true) done reader later input left rest alike read none tells sees takes = absurd none
 
 -- what is said of a reply of a run that is scripted so
-abbrev Seen : Bool → List ℕ → Result (List ℕ) LineFail → Runner → Runner → Desk → Desk → clocks.State → clocks.State → Type 0
-Seen scripted line result runner last old new clock ahead = FromWhere runner old new (Replies line scripted result last (record { desk = old; clock = clock }) (record { desk = new; clock = ahead }))
+abbrev Replied : Bool → List ℕ → Result (List ℕ) LineFail → Runner → Runner → Desk → Desk → clocks.State → clocks.State → Type 0
+Replied scripted line result runner last old new clock ahead = FromWhere runner old new (Replies line scripted result last (record { desk = old; clock = clock }) (record { desk = new; clock = ahead }))
 
 -- one line
-module _ (first runner last : Runner) (old mid new : Desk) (clock tick tock : clocks.State) (input left rest : sources.State) (reader next : Reading) where
+module _ (first runner last : Runner) (old mid new : Desk) (clock tick tock : clocks.State) (input left rest : sources.State) (reader next : Reading) (seen heard : Seen) where
   -- a reply as the first runner sees it
-  as_first : (result : Result (List ℕ) LineFail) → runner.is_scripted ≡ first.is_scripted → Seen runner.is_scripted next.line result runner last mid new tick tock → Seen first.is_scripted next.line result runner last mid new tick tock
-  as_first result scripted replies = subst (λ (b : Bool). Seen b next.line result runner last mid new tick tock) scripted replies
+  as_first : (result : Result (List ℕ) LineFail) → runner.is_scripted ≡ first.is_scripted → Replied runner.is_scripted next.line result runner last mid new tick tock → Replied first.is_scripted next.line result runner last mid new tick tock
+  as_first result scripted replies = subst (λ (b : Bool). Replied b next.line result runner last mid new tick tock) scripted replies
 
   pub goes_on : (text : List ℕ) (Written After : List ℕ → List ℕ → Type 0)
-      → IsGoing first runner old mid clock tick input left reader Written
+      → IsGoing first runner old mid clock tick input left reader seen Written → SeesAny seen.first_refusal seen.refused → Hears next.line text last.refused seen heard
       → Tells (Ok true) reader next left rest → IsFeedless next.line → readers.Takes reader next left rest → sources.GoesOn left rest
-      → Seen runner.is_scripted next.line (Ok text) runner last mid new tick tock → last.is_scripted ≡ runner.is_scripted → disks.GoesOn mid.disk new.disk → notaries.GoesOn mid.notary new.notary → clocks.GoesOn tick tock
+      → Replied runner.is_scripted next.line (Ok text) runner last mid new tick tock → last.is_scripted ≡ runner.is_scripted → disks.GoesOn mid.disk new.disk → notaries.GoesOn mid.notary new.notary → clocks.GoesOn tick tock
       → ((before xs : List ℕ) → Written before xs → After xs (xs ++ text))
-      → IsGoing first last old new clock tock input rest next After
-  goes_on text Written After g tells clear takes input_on replies scripted disk_on notary_on clock_on writes = record {
+      → IsGoing first last old new clock tock input rest next heard After
+  goes_on text Written After g any hears tells clear takes input_on replies scripted disk_on notary_on clock_on writes = record {
     within = takes.within;
     scripted = scripted ∙ g.scripted;
     told = told_then old.disk.reads mid.disk.reads new.disk.reads _ _ _ g.disk_frame.told g.told (as_first (Ok text) g.scripted replies)
@@ -165,6 +173,7 @@ module _ (first runner last : Runner) (old mid new : Desk) (clock tick tock : cl
           stands = stands_more first.is_scripted begin a.done x.timed runner last old mid new before here after g.notary_frame.limits notary_on.told.untold (carry_limits first.is_scripted r x.timed) text a.stands x.goes x.may x.finds;
           said = λ silent. subst (λ (b : List ℕ). After b (carried first.is_scripted begin (a.done ++ x.timed ∷ [])).text) (sym (before_more first.is_scripted begin a.done x.timed))
               (subst (After r.text) (sym said) (writes (text_before first.is_scripted begin a.done) r.text (a.said silent)));
+          sees = λ is_new. sees_more first.is_scripted begin a.done x.timed next.line text last.refused x.line_is x.goes.reply x.goes.stands.refused seen heard any hears (a.sees is_new);
         });
     disk_frame = disk_frames.goes_on_then old.disk mid.disk new.disk g.disk_frame disk_on;
     notary_frame = notary_frames.goes_on_then old.notary mid.notary new.notary g.notary_frame notary_on;
@@ -173,21 +182,22 @@ module _ (first runner last : Runner) (old mid new : Desk) (clock tick tock : cl
   }
 
 -- no line
-module _ (found : Result Bool InputFail) (none : GivesNoLine found) (runner : Runner) (old now : Desk) (clock ahead : clocks.State) (input left rest : sources.State) (reader next : Reading) (Written : List ℕ → List ℕ → Type 0) where
+module _ (found : Result Bool InputFail) (none : GivesNoLine found) (runner : Runner) (old now : Desk) (clock ahead : clocks.State) (input left rest : sources.State) (reader next : Reading) (seen : Seen) (Written : List ℕ → List ℕ → Type 0) where
   along_rest : (scripted : Bool) (begin : Running) (before after : List ℕ) → TellsAlike input.rest left.rest
       → Tells found reader next left rest → SeesEnd found reader next → readers.Takes reader next left rest
-      → Along scripted runner old now clock ahead input left reader Written begin before after → Along scripted runner old now clock ahead input rest next Written begin before after
+      → Along scripted runner old now clock ahead input left reader seen Written begin before after → Along scripted runner old now clock ahead input rest next seen Written begin before after
   along_rest scripted begin before after alike tells sees takes a = record {
     done = a.done;
     read = read_off found (lines_in a.done) reader next input left rest alike a.read none tells sees takes;
     takes = a.takes;
     stands = a.stands;
     said = a.said;
+    sees = a.sees;
   }
 
-  pub goes_no_further : (first : Runner) → IsGoing first runner old now clock ahead input left reader Written
+  pub goes_no_further : (first : Runner) → IsGoing first runner old now clock ahead input left reader seen Written
       → Tells found reader next left rest → SeesEnd found reader next → readers.Takes reader next left rest → sources.GoesOn left rest
-      → IsGoing first runner old now clock ahead input rest next Written
+      → IsGoing first runner old now clock ahead input rest next seen Written
   goes_no_further first g tells sees takes input_on = record {
     within = takes.within;
     scripted = g.scripted;
@@ -205,35 +215,38 @@ on_ok (Ok done) is = is
 on_ok (Err fail) is = tt
 
 -- between two lines
-pub between_with : (result : Result (Unit {0}) RunFail) (scripted : Bool) (runner : Runner) (old now : Devices) (reader : Reading) (Written : List ℕ → List ℕ → Type 0)
+pub between_with : (result : Result (Unit {0}) RunFail) (scripted : Bool) (runner : Runner) (old now : Devices) (reader : Reading) (seen : Seen) (Written : List ℕ → List ℕ → Type 0)
     (begin : Running) (before after : List ℕ) → clocks.GoesOn old.clock now.clock
-    → (a : Along scripted runner old.desk now.desk old.clock now.clock old.input now.input reader Written begin before after)
+    → (a : Along scripted runner old.desk now.desk old.clock now.clock old.input now.input reader seen Written begin before after)
     → WhereTold old.input.rest now.input.rest (Reads (ending result) a.done nothing)
     → ((before text : List ℕ) → Written before text → IsWritten (nothing.line ≡ []) before text result old.out now.out)
     → ((r : Running) → EndsByUse (ending result) scripted r nothing)
-    → Carries scripted result runner old now begin before after
-between_with result scripted runner old now reader Written begin before after clock_frame a read writes uses =
+    → CarriesSeen seen scripted result runner old now begin before after
+between_with result scripted runner old now reader seen Written begin before after clock_frame a read writes uses =
     let r : Running = carried scripted begin a.done in
     record {
-      done = a.done;
-      next = nothing;
-      lines = lines_done scripted begin a.done (ending result) runner old.desk now.desk old.clock now.clock before after clock_frame a.takes a.stands (uses r);
-      first = told_map old.input.rest now.input.rest _ _ a.read (λ all others x. first_given all (lines_in a.done) reader others x.given);
-      read = read;
-      stands = on_ok result a.stands.at;
-      said = λ silent. writes (text_before scripted begin a.done) r.text (a.said silent);
-      sound = a.stands.sound;
+      carries = record {
+        done = a.done;
+        next = nothing;
+        lines = lines_done scripted begin a.done (ending result) runner old.desk now.desk old.clock now.clock before after clock_frame a.takes a.stands (uses r);
+        first = told_map old.input.rest now.input.rest _ _ a.read (λ all others x. first_given all (lines_in a.done) reader others x.given);
+        read = read;
+        stands = on_ok result a.stands.at;
+        said = λ silent. writes (text_before scripted begin a.done) r.text (a.said silent);
+        sound = a.stands.sound;
+      };
+      sees = a.sees;
     }
 
-pub between : (first runner : Runner) (old now : Devices) (reader : Reading) (Written : List ℕ → List ℕ → Type 0) (result : Result (Unit {0}) RunFail)
-    → IsGoing first runner old.desk now.desk old.clock now.clock old.input now.input reader Written
+pub between : (first runner : Runner) (old now : Devices) (reader : Reading) (seen : Seen) (Written : List ℕ → List ℕ → Type 0) (result : Result (Unit {0}) RunFail)
+    → IsGoing first runner old.desk now.desk old.clock now.clock old.input now.input reader seen Written
     → ((done : List Timed) (all others : List ℕ) → IsRead (lines_in done) reader all others → Reads (ending result) done nothing all others)
     → ((before text : List ℕ) → Written before text → IsWritten (nothing.line ≡ []) before text result old.out now.out)
     → ((scripted : Bool) (r : Running) → EndsByUse (ending result) scripted r nothing)
-    → CarriesFrom result first runner old now
-between first runner old now reader Written result g reads writes uses = told_map old.desk.disk.reads now.desk.disk.reads _ _ g.told (λ before after all begin at.
+    → CarriesSeenFrom seen result first runner old now
+between first runner old now reader seen Written result g reads writes uses = told_map old.desk.disk.reads now.desk.disk.reads _ _ g.told (λ before after all begin at.
     let a = all begin at in
-    between_with result first.is_scripted runner old now reader Written begin before after g.clock_frame a
+    between_with result first.is_scripted runner old now reader seen Written begin before after g.clock_frame a
     (told_map old.input.rest now.input.rest _ _ a.read (λ all others r. reads a.done all others r)) writes (uses first.is_scripted))
 
 -- what was read where the input ended
@@ -243,17 +256,17 @@ reads_ended reader next input left rest done alike read tells sees takes below =
     told_map input.rest rest.rest _ _ (told_end input left rest (lines_in done) reader next alike (given_of input left (lines_in done) reader read) tells sees takes) (λ all others g.
     record { lines = end_given all (lines_in done) next others g.0 g.1 below; under_way = inl refl; little = tt; front = front_given all (lines_in done) next others g.0 takes.within })
 
-pub ended : (first runner : Runner) (old now : Devices) (left : sources.State) (reader next : Reading)
-    → IsGoing first runner old.desk now.desk old.clock now.clock old.input left reader (λ before text. sinks.IsOut text old.out now.out)
+pub ended : (first runner : Runner) (old now : Devices) (left : sources.State) (reader next : Reading) (seen : Seen)
+    → IsGoing first runner old.desk now.desk old.clock now.clock old.input left reader seen (λ before text. sinks.IsOut text old.out now.out)
     → Tells (Ok false) reader next left now.input → SeesEnd (Ok false) reader next → readers.Takes reader next left now.input → next.taken < input_limit
-    → CarriesFrom (Ok tt) first runner old now
+    → CarriesSeenFrom seen (Ok tt) first runner old now
 unfolding along_rest
-ended first runner old now left reader next g tells sees takes below =
+ended first runner old now left reader next seen g tells sees takes below =
     let Out : List ℕ → List ℕ → Type 0 = λ before text. sinks.IsOut text old.out now.out in
     told_map old.desk.disk.reads now.desk.disk.reads _ _ g.told (λ before after all begin at.
     let a = all begin at in
-    between_with (Ok tt) first.is_scripted runner old now next Out begin before after g.clock_frame
-    (along_rest (Ok false) tt runner old.desk now.desk old.clock now.clock old.input left now.input reader next Out first.is_scripted begin before after g.input_frame.told tells sees takes a)
+    between_with (Ok tt) first.is_scripted runner old now next seen Out begin before after g.clock_frame
+    (along_rest (Ok false) tt runner old.desk now.desk old.clock now.clock old.input left now.input reader next seen Out first.is_scripted begin before after g.input_frame.told tells sees takes a)
     (reads_ended reader next old.input left now.input a.done g.input_frame.told a.read tells sees takes below)
     (λ before text is. is) (λ r. tt))
 
@@ -319,16 +332,16 @@ module _ (done : List Timed) (t : Timed) (line : List ℕ) (reader : Reading) (a
     front = front_given all (lines_in done ++ line ∷ []) reader others r.given r.within;
   }
 
-module _ (first runner last : Runner) (old new : Devices) (mid : Desk) (tick : clocks.State) (left : sources.State) (reader next : Reading) where
+module _ (first runner last : Runner) (old new : Devices) (mid : Desk) (tick : clocks.State) (left : sources.State) (reader next : Reading) (seen : Seen) where
   pub under_way : (fail : LineFail)
-      → IsGoing first runner old.desk mid old.clock tick old.input left reader (λ before text. sinks.IsOut text old.out new.out)
+      → IsGoing first runner old.desk mid old.clock tick old.input left reader seen (λ before text. sinks.IsOut text old.out new.out)
       → ((n : ℕ) (c : List ℕ) → n ≤ disks.turn new.desk.disk → new.desk.disk.is_image c → new.desk.disk.was_image n c)
       → Tells (Ok true) reader next left new.input → IsFeedless next.line → readers.Takes reader next left new.input → length next.pending < piece_limit
-      → Seen runner.is_scripted next.line (Err fail) runner last mid new.desk tick new.clock → notaries.GoesOn mid.notary new.desk.notary
-      → CarriesFrom (Err (of_line fail)) first last old new
+      → Replied runner.is_scripted next.line (Err fail) runner last mid new.desk tick new.clock → notaries.GoesOn mid.notary new.desk.notary
+      → CarriesSeenFrom seen (Err (of_line fail)) first last old new
   under_way fail g counts tells clear takes less replies notary_on =
       told_then old.desk.disk.reads mid.disk.reads new.desk.disk.reads _ _ _ g.disk_frame.told g.told
-      (as_first first runner last old.desk mid new.desk old.clock tick new.clock old.input left new.input reader next (Err fail) g.scripted replies)
+      (as_first first runner last old.desk mid new.desk old.clock tick new.clock old.input left new.input reader next seen seen (Err fail) g.scripted replies)
       (λ before here after so_far from begin at.
       let a = so_far begin at in
       let s = a.stands in
@@ -336,12 +349,19 @@ module _ (first runner last : Runner) (old new : Devices) (mid : Desk) (tick : c
       let x = from r s.at in
       let read = read_on (lines_in a.done) reader next old.input left new.input g.input_frame.told a.read tells clear takes in
       record {
-        done = a.done;
-        next = x.timed;
-        lines = lines_begun first.is_scripted begin a.done fail runner last old.desk mid new.desk old.clock tick new.clock next.line before here after g.clock_frame g.notary_frame notary_on counts a.takes s x;
-        first = told_map old.input.rest new.input.rest _ _ read (λ all others h. first_before (lines_in a.done) next.line all (first_given all (lines_in a.done ++ next.line ∷ []) next others h.given));
-        read = told_map old.input.rest new.input.rest _ _ read (λ all others h. reads_under_way a.done x.timed next.line next all others less h fail x.line_is);
-        stands = tt;
-        said = λ silent. written_under_way fail (x.timed.line ≡ []) (text_before first.is_scripted begin a.done) r.text old.out new.out (a.said silent);
-        sound = sound_on first.is_scripted begin a.done x.timed runner last old.desk mid new.desk before here after g.notary_frame.limits notary_on.told.untold (Err fail) s x.goes;
+        carries = record {
+          done = a.done;
+          next = x.timed;
+          lines = lines_begun first.is_scripted begin a.done fail runner last old.desk mid new.desk old.clock tick new.clock next.line before here after g.clock_frame g.notary_frame notary_on counts a.takes s x;
+          first = told_map old.input.rest new.input.rest _ _ read (λ all others h. first_before (lines_in a.done) next.line all (first_given all (lines_in a.done ++ next.line ∷ []) next others h.given));
+          read = told_map old.input.rest new.input.rest _ _ read (λ all others h. reads_under_way a.done x.timed next.line next all others less h fail x.line_is);
+          stands = tt;
+          said = λ silent. written_under_way fail (x.timed.line ≡ []) (text_before first.is_scripted begin a.done) r.text old.out new.out (a.said silent);
+          sound = sound_on first.is_scripted begin a.done x.timed runner last old.desk mid new.desk before here after g.notary_frame.limits notary_on.told.untold (Err fail) s x.goes;
+        };
+        sees = a.sees;
       })
+
+-- what was carried out, without what was seen
+pub carries_of : (seen : Seen) (result : Result (Unit {0}) RunFail) (first last : Runner) (old new : Devices) → CarriesSeenFrom seen result first last old new → CarriesFrom result first last old new
+carries_of seen result first last old new told = told_map old.desk.disk.reads new.desk.disk.reads _ _ told (λ before after all begin at. (all begin at).carries)

@@ -24,10 +24,13 @@ use Rattle.line_runs.specs.declared.status.Status.TheVariants as statuses
 use Rattle.line_runs.specs.declared.run_fail.RunFail.{RunFail}
 use Rattle.line_runs.specs.declared.run_fail.RunFail.TheVariants as fails
 use Rattle.line_runs.specs.declared.runner.Runner.{Runner}
+use Rattle.line_runs.specs.declared.seen.Seen.{Seen}
 use Rattle.line_runs.specs.Saying.{WriteCause}
 use Rattle.line_runs.specs.Running.{Running, Timed, start, carried, world_of}
 use Rattle.line_runs.specs.Ran.{CauseOf, IsToTell, Writes, IsSettled, RunsLines, Runs, KeepsPromises, RunsStore, RunsHeader, RunsOn, opened, lists_of, text_before}
 use Rattle.line_runs.specs.Carrying.{IsReady, Carries, CarriesFrom, EndsWith, RunsFrom, SoundFrom, ending}
+use Rattle.line_runs.specs.Sees.{SeesHeader, SeesOn, SeesStore}
+use Rattle.line_runs.specs.SeeingLines.{CarriesSeenFrom, RunsSeenFrom}
 use Rattle.line_runs.specs.Devices.{Site, Devices, StaysSound, desk, site_of}
 use Rattle.line_runs.proofs.RunEnds.{Ended, at_out, IsToldBy, told_failed, told_well}
 use Rattle.line_runs.proofs.OnStore.{IsHeaderOf, cause_from, only_before, every_image_from, told_from, at_disk, opened_on, telling}
@@ -56,28 +59,35 @@ lines_as scripted begin done next s t old new before after settles uses l = reco
       record { keeps = λ x. files.keeps (settles x); between = files.between; ordered = files.ordered });
 }
 
-module _ (first last : Runner) (old new : Devices) (written : State) where
+module _ (first last : Runner) (old new : Devices) (seen : Seen) (written : State) where
   -- the lines that were carried out, wherever the run began
   pub ran : (result : Status) (r : Ended) → ((begin : Running) (before after : List ℕ) (c : Carries first.is_scripted r last old new begin before after) → begin.text ≡ []
       → IsToldBy old new written c.done c.next (text_before first.is_scripted begin c.done) (carried first.is_scripted begin c.done) result r)
-      → CarriesFrom r first last old new → RunsFrom result first old (at_out written new)
+      → CarriesSeenFrom seen r first last old new → RunsSeenFrom seen result first old (at_out written new)
   ran result r tells told = told_map old.desk.disk.reads new.desk.disk.reads _ _ told (λ before after all begin at silent.
-      let c = all begin at in
+      let c = (all begin at).carries in
       let x : Running = carried first.is_scripted begin c.done in
       let t = tells begin before after c silent in
       record {
-        done = c.done;
-        next = c.next;
-        lines = lines_as first.is_scripted begin c.done c.next (ending r) result (site_of old) (site_of new) before after t.settles t.uses c.lines;
-        read = t.read;
-        said = t.said;
+        runs = record {
+          done = c.done;
+          next = c.next;
+          lines = lines_as first.is_scripted begin c.done c.next (ending r) result (site_of old) (site_of new) before after t.settles t.uses c.lines;
+          read = t.read;
+          said = t.said;
+        };
+        sees = (all begin at).sees;
       })
 
   -- a failure
-  pub ran_failed : (fail : RunFail) (result : Status) → CarriesFrom (Err fail) first last old new → (IsErrOf {T = Unit {0}} (Err fail) fails.DiskFault → Rose old.desk.disk.faults new.desk.disk.faults) → (IsErrOf {T = Unit {0}} (Err fail) fails.NotaryFault → Rose old.desk.notary.faults new.desk.notary.faults)
-      → (IsErrOf {T = Unit {0}} (Err fail) fails.ReadFault → Rose old.input.faults new.input.faults) → EndsWith fail result new.out written → RunsFrom result first old (at_out written new)
+  pub ran_failed : (fail : RunFail) (result : Status) → CarriesSeenFrom seen (Err fail) first last old new → (IsErrOf {T = Unit {0}} (Err fail) fails.DiskFault → Rose old.desk.disk.faults new.desk.disk.faults) → (IsErrOf {T = Unit {0}} (Err fail) fails.NotaryFault → Rose old.desk.notary.faults new.desk.notary.faults)
+      → (IsErrOf {T = Unit {0}} (Err fail) fails.ReadFault → Rose old.input.faults new.input.faults) → EndsWith fail result new.out written → RunsSeenFrom seen result first old (at_out written new)
   ran_failed fail result told disk notary input ends = ran result (Err fail) (λ begin before after c silent.
       told_failed old new written c.done c.next (text_before first.is_scripted begin c.done) (carried first.is_scripted begin c.done) fail result disk notary input ends c.first c.read (c.said silent)) told
+
+-- the run, without what was seen
+pub runs_of : (seen : Seen) (result : Status) (first : Runner) (old new : Devices) → RunsSeenFrom seen result first old new → RunsFrom result first old new
+runs_of seen result first old new told = told_map old.desk.disk.reads new.desk.disk.reads _ _ told (λ before after all begin at silent. (all begin at silent).runs)
 
 -- whether some reply is a refusal
 pub some_refused : (n : ℕ) → 0 < n → nat_lt 0 n ≡ true
@@ -87,8 +97,8 @@ pub none_refused : (n : ℕ) → n ≤ 0 → nat_lt 0 n ≡ false
 none_refused n none = grind (arith, nat_tests, none)
 
 -- all lines were carried out
-pub ran_well : (first last : Runner) (old new : Devices) (b : Bool) → CarriesFrom (Ok tt) first last old new → nat_lt 0 last.refused ≡ b → RunsFrom (if b then statuses.Refused else statuses.Ok) first old new
-ran_well first last old new b told flag = ran first last old new new.out (if b then statuses.Refused else statuses.Ok) (Ok tt) (λ begin before after c silent.
+pub ran_well : (first last : Runner) (old new : Devices) (seen : Seen) (b : Bool) → CarriesSeenFrom seen (Ok tt) first last old new → nat_lt 0 last.refused ≡ b → RunsSeenFrom seen (if b then statuses.Refused else statuses.Ok) first old new
+ran_well first last old new seen b told flag = ran first last old new seen new.out (if b then statuses.Refused else statuses.Ok) (Ok tt) (λ begin before after c silent.
     told_well old new c.done c.next (text_before first.is_scripted begin c.done) (carried first.is_scripted begin c.done) last.refused c.stands.refused c.read (c.said silent) b flag) told
 
 pub rose_on : (old mid new : ℕ) → mid ≤ new → Rose old mid → Rose old new
@@ -201,6 +211,24 @@ ran_opened id runner first old new ready is same result image le runs = opened_o
       h,
       record { header_is = r.is; id_is = r.id ∙ is; format_is = r.format },
       runs_store runner.is_scripted h result first old new before after same le both.0 r.is r.fits (from (opened h old before) (r.at (lists_of old.desk.notary.lists) old.desk.notary.limits) refl),
+    ))))
+
+-- the same with what was seen
+pub seen_opened : (id : ℕ) (runner : Runner) (seen : Seen) (first : disks.State) (old new : Devices) → IfSome first.reads (IsReady runner) → runner.world.id ≡ id → disks.Unchanged first old.desk.disk → (result : Status)
+    → IfSome first.reads first.is_image → first.faults ≤ old.desk.disk.faults → RunsSeenFrom seen result runner old new → SeesOn runner.is_scripted id seen result (at_disk first old) new
+unfolding runs_store
+seen_opened id runner seen first old new ready is same result image le runs = opened_on id (SeesHeader runner.is_scripted seen) result (at_disk first old) new
+    (telling first.reads new.desk.disk.reads (IsHeaderOf id) (λ h before after. SeesStore runner.is_scripted h seen result (at_disk first old) new before after)
+    (told_from first.reads old.desk.disk.reads new.desk.disk.reads _ _ _ same.reads (if_both first.reads first.is_image (IsReady runner) image ready) runs (λ before after both from.
+    let r = both.1 in
+    let h : Header = r.header in
+    let s = from (opened h old before) (r.at (lists_of old.desk.notary.lists) old.desk.notary.limits) refl in (
+      h,
+      record { header_is = r.is; id_is = r.id ∙ is; format_is = r.format },
+      record {
+        run = runs_store runner.is_scripted h result first old new before after same le both.0 r.is r.fits s.runs;
+        sees = s.sees (record { refused = refl; begun = λ n. refl });
+      },
     ))))
 
 -- ---- what was sound stays so

@@ -9,6 +9,8 @@ pub mod Reading
 pub mod Written
 pub mod Limits
 pub mod Ended
+pub mod Begun
+pub mod Seeing
 pub mod CarriedLines
 pub mod RunEnds
 pub mod Ending

@@ -11,4 +11,6 @@ pub mod Made
 pub mod Laws
 pub mod Serial
 pub mod Carrying
+pub mod Sees
+pub mod SeeingLines
 pub mod MakingLines

@@ -55,6 +55,18 @@
 //! | behind all lines the summary is out; or the line of a fault that has its cause. Of either a front is out where the output failed or memory was wanting, or nothing | `tells` |
 //! | it reads no input | `none_read` |
 //!
+//! What a run has seen, `run_lines` notes in a [`Seen`]: `SeesOn`, in its clause `sees`, says it of the same lines.
+//!
+//! | Sentence | Field of `Sees` |
+//! |---|---|
+//! | the first refusal is that of a line that was refused, none before it was: with its number among all lines from 1, its first 200 bytes, or none of them if memory was wanting, and the whole reply to it | `first`: `IsFirstRefused` |
+//! | it counts the lines, blank ones too, and the replies that are refusals | `lines`, `refused` |
+//! | of the sixteen sessions exactly those are seen as begun that are begun after the last line | `begun` |
+//!
+//! Whatever the devices tell, a first refusal is seen exactly if some reply is one, so exactly if a run whose lines were all
+//! carried out ends as `Refused`: `CountsRefusals`, in the clause `refusals`. Of a generated script only the count is seen:
+//! `EndsByCount`, in the clause `counted` of `run_make`.
+//!
 //! Both calls, whatever their devices tell:
 //!
 //! | Sentence | Clause |
@@ -73,11 +85,12 @@
 //! | over bytes that hold what is filed a run begins over a sound world; it ends over one, and no line tells of an alteration | [`sound_bytes_begin_sound`], [`sound_runs_are_unaltered`] |
 //! | a summary ends with the replies to the last two lines | [`last_two_are_told`] |
 //!
-//! Only tested: that memory is found where there is plenty of it.
+//! Only tested: that memory is found where there is plenty of it, and how many replies a run has seen.
 //!
 //! ```rust
-//! let status = run_lines(alloc, id, false, &mut disk, &mut notary, &mut clock, &mut input, &mut out);
-//! let status = run_make(alloc, id, seed, steps, &mut disk, &mut notary, &mut clock, &mut out);
+//! let mut seen = Seen::new();
+//! let status = run_lines(alloc, id, false, &mut disk, &mut notary, &mut clock, &mut input, &mut out, &mut seen);
+//! let status = run_make(alloc, id, seed, steps, &mut disk, &mut notary, &mut clock, &mut out, &mut seen);
 //! let status = refuse(&mut out, Status::NotAStore);
 //! ```
 #![tactic(auto)]
@@ -88,6 +101,7 @@ mod run;
 mod run_fail;
 mod runner;
 mod saying;
+mod seen;
 mod status;
 
 pub use laws::{
@@ -97,4 +111,5 @@ pub use laws::{
 pub use make::run_make;
 pub use run::run_lines;
 pub use saying::{refuse, say};
+pub use seen::{Refusal, Seen};
 pub use status::Status;

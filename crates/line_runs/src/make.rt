@@ -16,12 +16,14 @@ ghost use Rattle.line_runs.specs.Saying.{WriteCause};
 ghost use Rattle.line_runs.specs.Carrying.{SoundFrom};
 ghost use Rattle.line_runs.specs.Ran.{ending_by};
 ghost use Rattle.line_runs.specs.Made.{made_line, MakesOn};
+ghost use Rattle.line_runs.specs.Sees.{SeesNothing, EndsByCount};
 ghost use Rattle.line_runs.specs.MakingLines.{script_for, stored_in, told_of, MakesLinesFrom, MakesTextFrom, MakesFrom};
 
 use crate::Status;
 use crate::run_fail::{RunFail, end};
 use crate::runner::Runner;
 use crate::saying::{refuse, say};
+use crate::seen::Seen;
 use disk_model::Disk;
 use line_input::first_line;
 use notary_link::Notary;
@@ -61,9 +63,10 @@ fn make_lines<D: Disk, N: Notary, C: Clock>(
     let mut rest = text;
     let mut first = Blob::new(alloc);
     let mut second = Blob::new(alloc);
+    let mut begun = [false; 16];
     'lines: while !rest.is_empty() {
         let (line, behind) = first_line(rest);
-        let reply = runner.reply(alloc, disk, notary, clock, line)?;
+        let reply = runner.reply(alloc, disk, notary, clock, line, &mut begun)?;
         first = second;
         second = reply;
         rest = behind;
@@ -118,6 +121,7 @@ fn say_made<O: Sink>(
     runner: &Runner,
     two: &LastTwo,
 ) -> Status
+    ensures counted { EndsByCount result runner.now.refused }
     ensures said { Said (told_of count runner.now two.now) result (O.state out.old) (O.state out.new) }
     ensures cause { WriteCause result (O.state out.old) (O.state out.new) }
     ensures frame { sinks.GoesOn (O.state out.old) (O.state out.new) }
@@ -151,6 +155,7 @@ fn make_text<D: Disk, N: Notary, C: Clock, O: Sink>(
     out: &mut O,
 ) -> Status
     requires scripted { runner.old.is_scripted ≡ true }
+    ensures counted { EndsByCount result runner.new.refused }
     ensures told { (input : sources.State) → MakesTextFrom count text.now runner.old result
         (devices (D.state disk.old) (N.state notary.old) (C.state clock.old) input (O.state out.old))
         (devices (D.state disk.new) (N.state notary.new) (C.state clock.new) input (O.state out.new)) }
@@ -184,6 +189,7 @@ fn make_opened<D: Disk, N: Notary, C: Clock, O: Sink>(
     requires store { IsSome runner.old.world.opened }
     requires some { 1 ≤ count }
     requires few { count ≤ max_steps }
+    ensures counted { EndsByCount result runner.new.refused }
     ensures told { (input : sources.State) → MakesFrom seed count runner.old result
         (devices (D.state disk.old) (N.state notary.old) (C.state clock.old) input (O.state out.old))
         (devices (D.state disk.new) (N.state notary.new) (C.state clock.new) input (O.state out.new)) }
@@ -211,7 +217,7 @@ fn make_opened<D: Disk, N: Notary, C: Clock, O: Sink>(
     }
 }
 
-/// The command.
+/// The command, and how many replies are seen to be refusals.
 pub fn run_make<D: Disk, N: Notary, C: Clock, O: Sink>(
     alloc: Global,
     id: u64,
@@ -221,9 +227,12 @@ pub fn run_make<D: Disk, N: Notary, C: Clock, O: Sink>(
     notary: &mut N,
     clock: &mut C,
     out: &mut O,
+    seen: &mut Seen,
 ) -> Status
     requires some { 1 ≤ count }
     requires few { count ≤ max_steps }
+    requires unseen { SeesNothing seen.old }
+    ensures counted { EndsByCount result seen.new.refused }
     ensures leaves { (input : sources.State) → MakesOn id seed count result
         (devices (D.state disk.old) (N.state notary.old) (C.state clock.old) input (O.state out.old))
         (devices (D.state disk.new) (N.state notary.new) (C.state clock.new) input (O.state out.new)) }
@@ -237,7 +246,11 @@ pub fn run_make<D: Disk, N: Notary, C: Clock, O: Sink>(
         (devices (D.state disk.new) (N.state notary.new) (C.state clock.new) input (O.state out.new)) }
 {
     match Runner::open(alloc, disk, id, true) {
-        Ok(mut runner) => make_opened(alloc, &mut runner, seed, count, disk, notary, clock, out),
+        Ok(mut runner) => {
+            let status = make_opened(alloc, &mut runner, seed, count, disk, notary, clock, out);
+            seen.refused = runner.refused;
+            status
+        }
         Err(StoreFail::NotAStore) => refuse(out, Status::NotAStore),
         Err(StoreFail::OldFormat) => refuse(out, Status::OldFormat),
         Err(StoreFail::DiskFault) => refuse(out, Status::DiskFault),

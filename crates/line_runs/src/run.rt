@@ -1,5 +1,6 @@
 //! The command `run`: the lines of the input, carried out one after another.
 
+ghost use Rattle.std.specs.Prelude.{◌≡◌, OnOk};
 ghost use Rattle.outside_words.specs.Faults.{HasCause};
 ghost use Rattle.disk_words.specs.Disk as disks;
 ghost use Rattle.notary_link.specs.Notary as notaries;
@@ -12,11 +13,14 @@ ghost use Rattle.line_runs.specs.Ends.{Ends, run_ends};
 ghost use Rattle.line_runs.specs.Saying.{SomeIsOut};
 ghost use Rattle.line_runs.specs.Carrying.{CarriesFrom, RunsFrom, SoundFrom};
 ghost use Rattle.line_runs.specs.Ran.{RunsOn};
+ghost use Rattle.line_runs.specs.Sees.{SeesNothing, SeesAny, CountsRefusals, SeesOn};
+ghost use Rattle.line_runs.specs.SeeingLines.{CarriesSeenFrom, RunsSeenFrom};
 
 use crate::Status;
 use crate::run_fail::{RunFail, end};
 use crate::runner::Runner;
 use crate::saying::refuse;
+use crate::seen::Seen;
 use disk_model::Disk;
 use line_input::LineReader;
 use notary_link::Notary;
@@ -24,7 +28,8 @@ use outside_io::{Clock, Sink, Source, write_whole};
 use std::alloc::Global;
 use store_engine::StoreFail;
 
-/// Carries out the lines of the input. The reply of each is out before the next one is read.
+/// Carries out the lines of the input. The reply of each is out before the next one is read. What is seen of a line
+/// is noted also where its reply was cut off.
 fn carry_lines<D: Disk, N: Notary, C: Clock, I: Source, O: Sink>(
     alloc: Global,
     runner: &mut Runner,
@@ -33,7 +38,15 @@ fn carry_lines<D: Disk, N: Notary, C: Clock, I: Source, O: Sink>(
     clock: &mut C,
     input: &mut I,
     out: &mut O,
+    seen: &mut Seen,
 ) -> Result<(), RunFail>
+    requires unseen { SeesNothing seen.old }
+    requires unrefused { runner.old.refused ≡ 0 }
+    ensures any { SeesAny seen.new.first_refusal seen.new.refused }
+    ensures counted { OnOk result (seen.new.refused ≡ runner.new.refused) }
+    ensures sees { CarriesSeenFrom seen.new result runner.old runner.new
+        (devices (D.state disk.old) (N.state notary.old) (C.state clock.old) (I.state input.old) (O.state out.old))
+        (devices (D.state disk.new) (N.state notary.new) (C.state clock.new) (I.state input.new) (O.state out.new)) }
     ensures told { CarriesFrom result runner.old runner.new
         (devices (D.state disk.old) (N.state notary.old) (C.state clock.old) (I.state input.old) (O.state out.old))
         (devices (D.state disk.new) (N.state notary.new) (C.state clock.new) (I.state input.new) (O.state out.new)) }
@@ -50,8 +63,11 @@ fn carry_lines<D: Disk, N: Notary, C: Clock, I: Source, O: Sink>(
 {
     let mut reader = LineReader::new(alloc);
     'lines: while reader.read_line(input)? {
-        let text = runner.reply(alloc, disk, notary, clock, reader.line())?;
-        write_whole(out, text.as_slice())?;
+        let line = reader.line();
+        let text = runner.reply(alloc, disk, notary, clock, line, &mut seen.begun)?;
+        let written = write_whole(out, text.as_slice());
+        seen.note(alloc, line, text, runner.refused);
+        written?;
     }
     Ok(())
 }
@@ -65,7 +81,14 @@ fn run_opened<D: Disk, N: Notary, C: Clock, I: Source, O: Sink>(
     clock: &mut C,
     input: &mut I,
     out: &mut O,
+    seen: &mut Seen,
 ) -> Status
+    requires unseen { SeesNothing seen.old }
+    requires unrefused { runner.old.refused ≡ 0 }
+    ensures refusals { CountsRefusals result seen.new }
+    ensures sees { RunsSeenFrom seen.new result runner.old
+        (devices (D.state disk.old) (N.state notary.old) (C.state clock.old) (I.state input.old) (O.state out.old))
+        (devices (D.state disk.new) (N.state notary.new) (C.state clock.new) (I.state input.new) (O.state out.new)) }
     ensures told { RunsFrom result runner.old
         (devices (D.state disk.old) (N.state notary.old) (C.state clock.old) (I.state input.old) (O.state out.old))
         (devices (D.state disk.new) (N.state notary.new) (C.state clock.new) (I.state input.new) (O.state out.new)) }
@@ -78,7 +101,7 @@ fn run_opened<D: Disk, N: Notary, C: Clock, I: Source, O: Sink>(
         (devices (D.state disk.old) (N.state notary.old) (C.state clock.old) (I.state input.old) (O.state out.old))
         (devices (D.state disk.new) (N.state notary.new) (C.state clock.new) (I.state input.new) (O.state out.new)) }
 {
-    match carry_lines(alloc, runner, disk, notary, clock, input, out) {
+    match carry_lines(alloc, runner, disk, notary, clock, input, out, seen) {
         Ok(()) => {
             if 0 < runner.refused {
                 Status::Refused
@@ -90,7 +113,7 @@ fn run_opened<D: Disk, N: Notary, C: Clock, I: Source, O: Sink>(
     }
 }
 
-/// The command.
+/// The command, and what is seen of it.
 pub fn run_lines<D: Disk, N: Notary, C: Clock, I: Source, O: Sink>(
     alloc: Global,
     id: u64,
@@ -100,7 +123,13 @@ pub fn run_lines<D: Disk, N: Notary, C: Clock, I: Source, O: Sink>(
     clock: &mut C,
     input: &mut I,
     out: &mut O,
+    seen: &mut Seen,
 ) -> Status
+    requires unseen { SeesNothing seen.old }
+    ensures refusals { CountsRefusals result seen.new }
+    ensures sees { SeesOn is_scripted id seen.new result
+        (devices (D.state disk.old) (N.state notary.old) (C.state clock.old) (I.state input.old) (O.state out.old))
+        (devices (D.state disk.new) (N.state notary.new) (C.state clock.new) (I.state input.new) (O.state out.new)) }
     ensures leaves { RunsOn is_scripted id result
         (devices (D.state disk.old) (N.state notary.old) (C.state clock.old) (I.state input.old) (O.state out.old))
         (devices (D.state disk.new) (N.state notary.new) (C.state clock.new) (I.state input.new) (O.state out.new)) }
@@ -114,7 +143,7 @@ pub fn run_lines<D: Disk, N: Notary, C: Clock, I: Source, O: Sink>(
         (devices (D.state disk.new) (N.state notary.new) (C.state clock.new) (I.state input.new) (O.state out.new)) }
 {
     match Runner::open(alloc, disk, id, is_scripted) {
-        Ok(mut runner) => run_opened(alloc, &mut runner, disk, notary, clock, input, out),
+        Ok(mut runner) => run_opened(alloc, &mut runner, disk, notary, clock, input, out, seen),
         Err(StoreFail::NotAStore) => refuse(out, Status::NotAStore),
         Err(StoreFail::OldFormat) => refuse(out, Status::OldFormat),
         Err(StoreFail::DiskFault) => refuse(out, Status::DiskFault),

@@ -1,19 +1,22 @@
 //! A run over an open store, one line at a time.
 
-ghost use Rattle.std.specs.Prelude.{◌≡◌, IfOk, IfErr, IfSome, IsSome, MatchResult};
+ghost use Rattle.std.specs.Prelude.{◌≡◌, ◌≤◌, IfOk, IfErr, OnErr, IfSome, IsSome, MatchResult};
 ghost use Rattle.outside_words.specs.Faults.{HasCause};
 ghost use Rattle.disk_words.specs.Disk as disks;
 ghost use Rattle.notary_link.specs.Notary as notaries;
 ghost use Rattle.outside_io.specs.Clock as clocks;
 ghost use Rattle.history_model.specs.Stored.{stored, format_of};
 ghost use Rattle.stmt_text.specs.Fits.{FitsParts};
+ghost use Rattle.stmt_text.specs.Lines.{answer};
 ghost use Rattle.store_engine.specs.declared.fail.StoreFail.TheVariants as stores;
 ghost use Rattle.store_engine.specs.Causes.{IsOfOpening, IsNoStore};
 ghost use Rattle.store_world.specs.declared.fail.LineFail.TheVariants as lines;
 ghost use Rattle.store_world.specs.Steps.{IsWorldLine};
 ghost use Rattle.line_runs.specs.Devices.{desk, site};
 ghost use Rattle.line_runs.specs.Carrying.{IsReady, GivesSeconds, StepsFrom, LineFrom, RepliesFrom, counting, refusing, SetsMoment};
+ghost use Rattle.line_runs.specs.Sees.{Follows};
 
+use crate::seen::follow;
 use disk_model::Disk;
 use notary_link::Notary;
 use outside_io::Clock;
@@ -48,6 +51,7 @@ impl Runner {
         ensures id { IfOk result (λ r. r.world.id ≡ id) }
         ensures store { IfOk result (λ r. IsSome r.world.opened) }
         ensures scripted { IfOk result (λ r. r.is_scripted ≡ is_scripted) }
+        ensures unrefused { IfOk result (λ r. r.refused ≡ 0) }
         ensures none_other { IfErr result IsOfOpening }
         ensures same { disks.Unchanged (D.state disk.old) (D.state disk.new) }
         ensures frame { disks.GoesOn (D.state disk.old) (D.state disk.new) }
@@ -82,6 +86,7 @@ impl Runner {
     /// Counts a reply, where it is a refusal. The count stands still at its type's end.
     fn count(&mut self, is_refusal: bool)
         ensures change { self.new ≡ counting is_refusal self.old }
+        ensures counted { self.old.refused ≤ self.new.refused }
     {
         if is_refusal {
             self.refused = self.refused.saturating_add(1);
@@ -92,6 +97,7 @@ impl Runner {
     fn refuse(&mut self, alloc: Global, text: &str) -> Result<Blob, AllocError>
         ensures value { IfOk result (λ b. b ≡ text.now) }
         ensures change { self.new ≡ refusing self.old }
+        ensures counted { self.old.refused ≤ self.new.refused }
     {
         self.count(true);
         Ok(Blob::from_vec(text.as_bytes().to_vec(alloc)?))
@@ -100,6 +106,7 @@ impl Runner {
     /// Sets the moment, where the run is scripted.
     fn set_moment(&mut self, alloc: Global, moment: u64) -> Result<Blob, AllocError>
         ensures value { SetsMoment self.old.is_scripted moment result self.old self.new }
+        ensures counted { self.old.refused ≤ self.new.refused }
     {
         if !self.is_scripted {
             return self.refuse(alloc, "refused NotScripted\n");
@@ -120,6 +127,7 @@ impl Runner {
         requires is_line { IsWorldLine line.now }
         requires fits { FitsParts line.now }
         ensures scripted { self.new.is_scripted ≡ self.old.is_scripted }
+        ensures counted { self.old.refused ≤ self.new.refused }
         ensures told { StepsFrom line.now now result self.old self.new
             (desk (D.state disk.old) (N.state notary.old)) (desk (D.state disk.new) (N.state notary.new)) }
         ensures disk_frame { disks.GoesOn (D.state disk.old) (D.state disk.new) }
@@ -143,6 +151,7 @@ impl Runner {
     ) -> Result<Blob, LineFail>
         requires fits { FitsParts line.now }
         ensures scripted { self.new.is_scripted ≡ self.old.is_scripted }
+        ensures counted { self.old.refused ≤ self.new.refused }
         ensures told { LineFrom line.now result self.old self.new
             (site (D.state disk.old) (N.state notary.old) (C.state clock.old)) (site (D.state disk.new) (N.state notary.new) (C.state clock.new)) }
         ensures disk_frame { disks.GoesOn (D.state disk.old) (D.state disk.new) }
@@ -168,7 +177,7 @@ impl Runner {
         }
     }
 
-    /// Carries out a line, and gives the text of its reply: nothing for a blank one.
+    /// Carries out a line, and gives the text of its reply: nothing for a blank one. It follows which sessions are begun.
     pub fn reply<D: Disk, N: Notary, C: Clock>(
         &mut self,
         alloc: Global,
@@ -176,8 +185,12 @@ impl Runner {
         notary: &mut N,
         clock: &mut C,
         line: &[u8],
+        begun: &mut [bool; 16],
     ) -> Result<Blob, LineFail>
         ensures scripted { self.new.is_scripted ≡ self.old.is_scripted }
+        ensures counted { self.old.refused ≤ self.new.refused }
+        ensures begun { IfOk result (λ text. Follows (answer line.now) text begun.old begun.new) }
+        ensures unbegun { OnErr result (begun.new ≡ begun.old) }
         ensures told { RepliesFrom line.now result self.old self.new
             (site (D.state disk.old) (N.state notary.old) (C.state clock.old)) (site (D.state disk.new) (N.state notary.new) (C.state clock.new)) }
         ensures disk_frame { disks.GoesOn (D.state disk.old) (D.state disk.new) }
@@ -187,7 +200,11 @@ impl Runner {
         ensures notary_cause { HasCause lines.NotaryFault (N.state notary.old).faults (N.state notary.new).faults result }
     {
         match parse_line(alloc, line) {
-            Ok(line) => self.carry(alloc, disk, notary, clock, &line),
+            Ok(line) => {
+                let reply = self.carry(alloc, disk, notary, clock, &line);
+                follow(begun, &line, &reply);
+                reply
+            }
             Err(ParseFail::Syntax) => {
                 let _ = self.seconds(clock);
                 Ok(self.refuse(alloc, "refused Syntax\n")?)

@@ -20,6 +20,8 @@ mod eras;
 #[cfg(test)]
 mod evidence;
 #[cfg(test)]
+mod files;
+#[cfg(test)]
 mod limits;
 #[cfg(test)]
 mod makes;

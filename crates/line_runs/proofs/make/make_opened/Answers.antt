@@ -7,6 +7,7 @@ use Rattle.line_runs.proofs.SoundKept.{sound_same}
 use Rattle.line_runs.specs.Ends.{make_ends}
 use Rattle.line_runs.specs.declared.status.Status.TheVariants as statuses
 use Rattle.line_runs.proofs.Ended.{ends_cut}
+use Rattle.line_runs.proofs.Seeing.{ends_other}
 use Rattle.line_runs.proofs.make.make_opened.Goals as goal
 
 pub returns-in-Ok-clause-told : goal.returns-in-Ok-clause-told
@@ -29,3 +30,6 @@ returns-in-Ok-clause-ends g c = c.make_text.ensures.ends
 
 pub returns-in-Err-clause-ends : goal.returns-in-Err-clause-ends
 returns-in-Err-clause-ends g c = ends_cut make_ends statuses.NoMemory (g.O.Sink.state c.args.out.now) (g.O.Sink.state c.args.out.now) (inr refl)
+
+pub returns-in-Err-clause-counted : goal.returns-in-Err-clause-counted
+returns-in-Err-clause-counted g c = ends_other statuses.NoMemory c.args.runner.now.refused (λ e. cc) (λ e. cc)

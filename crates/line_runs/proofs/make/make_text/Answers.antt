@@ -5,6 +5,7 @@ use Rattle.line_runs.specs.Devices.{devices}
 use Rattle.line_runs.proofs.MadeEnding.{made_all, made_failed}
 use Rattle.line_runs.specs.Ends.{make_ends}
 use Rattle.line_runs.proofs.Ended.{ended, made_ended, make_may}
+use Rattle.line_runs.proofs.Seeing.{failed_counted}
 use Rattle.line_runs.proofs.make.make_text.Goals as goal
 
 pub returns-in-Ok-clause-told : goal.returns-in-Ok-clause-told
@@ -27,4 +28,10 @@ pub returns-in-Err-clause-ends : goal.returns-in-Err-clause-ends
 returns-in-Err-clause-ends g c =
     let same : c.from.result ≡ of_line c.in-Err.fail = search rules in
     ended make_ends c.end.result (g.O.Sink.state c.args.out.now) (g.O.Sink.state c.end.new.out) (of_line c.in-Err.fail) (make_may c.in-Err.fail)
+    (subst (λ (fail : RunFail). EndsWith fail c.end.result (g.O.Sink.state c.args.out.now) (g.O.Sink.state c.end.new.out)) same c.end.ensures.value)
+
+pub returns-in-Err-clause-counted : goal.returns-in-Err-clause-counted
+returns-in-Err-clause-counted g c =
+    let same : c.from.result ≡ of_line c.in-Err.fail = search rules in
+    failed_counted (of_line c.in-Err.fail) c.make_lines.new.runner.refused c.end.result (g.O.Sink.state c.args.out.now) (g.O.Sink.state c.end.new.out)
     (subst (λ (fail : RunFail). EndsWith fail c.end.result (g.O.Sink.state c.args.out.now) (g.O.Sink.state c.end.new.out)) same c.end.ensures.value)
