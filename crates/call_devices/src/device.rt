@@ -1,155 +1,242 @@
-//! A device that is a file or stands in memory.
+//! A device that is a file or is in memory.
 
-ghost use Rattle.std.specs.Prelude.{◌≡◌, [], IsSome, IsNone, IfOk};
-ghost use Rattle.disk_model.specs.Untold.{TellsOnly};
+ghost use Rattle.std.specs.Prelude.{◌≡◌, ◌≢◌, ◌≤◌, IfOk, IsErrOf};
+ghost use Rattle.outside_words.specs.Faults.{HasCause, HidesNoFault};
+ghost use Rattle.disk_words.specs.declared.DiskFail.TheVariants.{Failed, NoMemory};
 
-use crate::unmade::Unmade;
-use disk_model::{Disk, DiskFail, FileDisk, MemDisk};
+use crate::file::{Access, NamedFile};
+use crate::found::Found;
+use crate::progress::Progress;
+use disk_model::{Disk, DiskFail, MemDisk};
 use std::alloc::AllocError;
 use std::fs::File;
-use std::io;
 use std::rt::{Files, Runtime};
+use std::{fmt, io};
+
+/// A device as the words of a call name it.
+#[derive(Clone, Copy)]
+pub struct Named<'n> {
+    /// The word that names it: `store`, `copy`, `target` or `notary`.
+    pub word: &'static str,
+    pub path: Option<&'n str>,
+}
+
+impl fmt::Display for Named<'_> {
+    fn fmt<W: fmt::Write>(&self, f: &mut fmt::Formatter<W>) -> fmt::Result {
+        let word = self.word;
+        let of = if word == "notary" { "'s book" } else { "" };
+        match self.path {
+            Some(path) => write!(f, "the {word}{of} {path:?}"),
+            None => write!(f, "the {word}{of} in memory"),
+        }
+    }
+}
 
 /// A device of the program.
 #[derive(Drop)]
-pub enum Device<R: Files<File = File> + Drop> {
-    File(FileDisk<R>),
-    Unmade(Unmade<R>),
+pub enum Device<'a, R: Runtime + Files<File = File> + Drop> {
+    File(FileDevice<'a, R>),
     Memory(MemDisk),
 }
 
-impl<R: Runtime + Files<File = File> + AllocGlobal + Drop> Device<R> {
-    /// The file of this path, or an empty device where none is named.
-    pub fn named(rt: &R, path: Option<&str>) -> Result<Device<R>, AllocError>
-        ensures file { IsSome path.entry → IfOk result (λ device.
-            TellsOnly 0 (⟦<Device<R> as Disk>⟧.state device)) }
-        ensures empty { IsNone path.entry → IfOk result (λ device.
-            (⟦<Device<R> as Disk>⟧.state device).reads ≡ Some []) }
+/// A file that tells nothing of itself but how often it has failed, and shows how far its calls are.
+#[derive(Drop)]
+pub struct FileDevice<'a, R: Runtime + Files<File = File> + Drop> {
+    rt: R,
+    file: NamedFile<R>,
+    faults: u64,
+    /// Why it failed last.
+    error: Option<io::Error>,
+    progress: &'a Progress,
+    /// What the line of progress calls it.
+    name: &'static str,
+    written: u64,
+}
+
+/// What a device says at the end of a call.
+#[derive(Clone, Copy)]
+pub struct Left {
+    /// What was at its path at the first call.
+    pub found: Found,
+    /// Whether its file was missing, and was made.
+    pub is_made: bool,
+    /// Whether it was in memory, and held something.
+    pub is_gone: bool,
+    /// Why its file failed last, if it did.
+    pub error: Option<io::Error>,
+}
+
+impl<'a, R: Runtime + Files<File = File> + AllocGlobal + Drop> Device<'a, R> {
+    ghost use Rattle.std.specs.Prelude.{[], Some, IsNone, IfSome};
+    ghost use Rattle.std.specs.String.{string_bytes};
+    ghost use Rattle.call_devices.specs.declared.device.Device.TheVariants as devices;
+    ghost use Rattle.disk_model.specs.Untold.{TellsOnly};
+
+    /// The file of its path, or an empty device where none is named.
+    pub fn named(
+        rt: &R,
+        named: Named<'_>,
+        access: Access,
+        progress: &'a Progress,
+    ) -> Result<Self, AllocError>
+        ensures file { IfSome named.entry.path (λ path. IfOk result (λ device.
+            TellsOnly 0 (⟦<Device<'a, R> as Disk>⟧.state device))) }
+        ensures path { IfSome named.entry.path (λ path. IfOk result (elim [
+          | devices.File it ↦ string_bytes it.file.path ≡ path.now
+          | devices.Memory memory ↦ memory ≢ memory
+        ])) }
+        ensures memory { IsNone named.entry.path → IfOk result (λ device.
+            (⟦<Device<'a, R> as Disk>⟧.state device).reads ≡ Some []) }
     {
-        let alloc = rt.alloc();
-        match path {
-            Some(path) => Ok(Device::File(file_of(rt, path)?)),
-            None => Ok(Device::Memory(MemDisk::new(alloc))),
+        match named.path {
+            Some(path) => Ok(Device::File(FileDevice {
+                rt: rt.clone()?,
+                file: NamedFile::new(rt, path, access)?,
+                faults: 0,
+                error: None,
+                progress,
+                name: named.word,
+                written: 0,
+            })),
+            None => Ok(Device::Memory(MemDisk::new(rt.alloc()))),
         }
     }
+}
 
-    /// The file of this path, which is missing.
-    pub fn missing(rt: &R, path: &str) -> Result<Device<R>, AllocError>
-        ensures file { IfOk result (λ device. TellsOnly 0 (⟦<Device<R> as Disk>⟧.state device)) }
+impl<R: Runtime + Files<File = File> + Drop> Device<'_, R> {
+    pub fn left(&self) -> Left {
+        match self {
+            Device::File(it) => Left {
+                found: it.file.found,
+                is_made: it.file.is_made,
+                is_gone: false,
+                error: it.error,
+            },
+            Device::Memory(memory) => Left {
+                found: Found::Unasked,
+                is_made: false,
+                is_gone: !memory.bytes().is_empty(),
+                error: None,
+            },
+        }
+    }
+}
+
+impl<R: Runtime + Files<File = File> + Drop> FileDevice<'_, R> {
+    /// What the system answered, where each failure counts as a fault.
+    fn counted<T>(&mut self, outcome: io::Result<T>) -> Result<T, DiskFail>
+        ensures value { IfOk result (λ value. outcome ≡ Ok value) }
+        ensures frame { self.old.faults ≤ self.new.faults }
+        ensures cause { HasCause Failed self.old.faults self.new.faults result }
+        ensures counted { HidesNoFault self.old.faults self.new.faults result }
+        ensures memory { ¬ IsErrOf result NoMemory }
     {
-        Ok(Device::Unmade(Unmade::new(file_of(rt, path)?)))
-    }
-}
-
-fn file_of<R: Runtime + Files<File = File> + AllocGlobal + Drop>(
-    rt: &R,
-    path: &str,
-) -> Result<FileDisk<R>, AllocError>
-    ensures fresh { IfOk result (λ file. TellsOnly 0 (⟦<FileDisk<R> as Disk>⟧.state file)) }
-{
-    Ok(FileDisk::new(rt.clone()?, String::from_str(rt.alloc(), path)?))
-}
-
-impl<R: Files<File = File> + Drop> Device<R> {
-    /// Why the last call of a file that failed did so, where one did.
-    pub fn error(&self) -> Option<io::Error> {
-        match self {
-            Device::File(file) => file.error(),
-            Device::Unmade(file) => file.error(),
-            Device::Memory(_) => None,
+        match outcome {
+            Ok(value) => Ok(value),
+            Err(error) => {
+                self.error = Some(error);
+                self.faults = self.faults.saturating_add(1);
+                Err(DiskFail::Failed)
+            }
         }
     }
 
-    /// Whether it was missing, and was made.
-    pub fn was_made(&self) -> bool {
-        match self {
-            Device::Unmade(file) => file.is_made(),
-            _ => false,
-        }
+    fn show(&self, done: u64, what: &str) {
+        self.progress.show(&self.rt, self.name, done, what);
     }
 }
 
-impl<R: Files<File = File> + Drop> Disk for Device<R> {
+impl<'a, R: Runtime + Files<File = File> + Drop> Disk for Device<'a, R> {
     ghost use Rattle.std.proofs.Common.{ap};
     ghost use Rattle.std.specs.Prelude.{Some, true};
-    ghost use Rattle.call_devices.specs.declared.device.Device.TheVariants.{File, Unmade, Memory};
+    ghost use Rattle.call_devices.specs.declared.device.Device.TheVariants as devices;
     ghost use Rattle.disk_model.specs.Calls.{first_of, trace_of};
     ghost use Rattle.disk_model.specs.Memory.{state_of};
+    ghost use Rattle.disk_model.specs.Untold.{untold_state};
     ghost use Rattle.disk_words.proofs.Images.{reads_image_at};
     ghost use Rattle.disk_words.proofs.Images.{counts_now as counts_now_of};
     ghost use Rattle.disk_words.proofs.Images.{only_now as only_now_of};
 
     ghost state = { elim [
-      | File file ↦ ⟦<FileDisk<R> as Disk>⟧.state file
-      | Unmade file ↦ ⟦<Unmade<R> as Disk>⟧.state file
-      | Memory memory ↦ state_of memory
+      | devices.File it ↦ untold_state it.faults
+      | devices.Memory memory ↦ state_of memory
     ] };
 
     ghost takes_memory = { true };
 
     ghost replayed = { elim [
-      | File file ↦ tt
-      | Unmade file ↦ tt
-      | Memory memory ↦ ap Some memory.replayed
+      | devices.File it ↦ tt
+      | devices.Memory memory ↦ ap Some memory.replayed
     ] };
 
     ghost reads_image = { elim [
-      | File file ↦ tt
-      | Unmade file ↦ tt
-      | Memory memory ↦ reads_image_at (first_of memory.first memory.bytes.items)
+      | devices.File it ↦ tt
+      | devices.Memory memory ↦ reads_image_at (first_of memory.first memory.bytes.items)
           (trace_of memory.made.items) memory.bytes.items memory.replayed
     ] };
 
     ghost counts_now = { elim [
-      | File file ↦ λ t c le now. tt
-      | Unmade file ↦ λ t c le now. tt
-      | Memory memory ↦ λ t c le now. counts_now_of
+      | devices.File it ↦ λ t c le now. tt
+      | devices.Memory memory ↦ λ t c le now. counts_now_of
           (first_of memory.first memory.bytes.items) (trace_of memory.made.items) t c now
     ] };
 
     ghost only_now = { elim [
-      | File file ↦ λ c was. tt
-      | Unmade file ↦ λ c was. tt
-      | Memory memory ↦ λ c was. only_now_of
+      | devices.File it ↦ λ c was. tt
+      | devices.Memory memory ↦ λ c was. only_now_of
           (first_of memory.first memory.bytes.items) (trace_of memory.made.items) c was
     ] };
 
     fn length(&mut self) -> Result<u64, DiskFail> {
         match self {
-            Device::File(file) => file.length(),
-            Device::Unmade(file) => file.length(),
+            Device::File(it) => {
+                let outcome = it.file.length();
+                it.counted(outcome)
+            }
             Device::Memory(memory) => memory.length(),
         }
     }
 
     fn read_at(&mut self, place: u64, into: &mut [u8]) -> Result<usize, DiskFail> {
         match self {
-            Device::File(file) => file.read_at(place, into),
-            Device::Unmade(file) => file.read_at(place, into),
+            Device::File(it) => {
+                it.show(place, "read");
+                let outcome = it.file.read_at(place, into);
+                it.counted(outcome)
+            }
             Device::Memory(memory) => memory.read_at(place, into),
         }
     }
 
     fn write_at(&mut self, place: u64, bytes: &[u8]) -> Result<(), DiskFail> {
         match self {
-            Device::File(file) => file.write_at(place, bytes),
-            Device::Unmade(file) => file.write_at(place, bytes),
+            Device::File(it) => {
+                let written = it.written.saturating_add(bytes.len() as u64);
+                it.written = written;
+                it.show(written, "written");
+                let outcome = it.file.write_at(place, bytes);
+                it.counted(outcome)
+            }
             Device::Memory(memory) => memory.write_at(place, bytes),
         }
     }
 
     fn cut(&mut self, length: u64) -> Result<(), DiskFail> {
         match self {
-            Device::File(file) => file.cut(length),
-            Device::Unmade(file) => file.cut(length),
+            Device::File(it) => {
+                let outcome = it.file.cut(length);
+                it.counted(outcome)
+            }
             Device::Memory(memory) => memory.cut(length),
         }
     }
 
     fn sync(&mut self) -> Result<(), DiskFail> {
         match self {
-            Device::File(file) => file.sync(),
-            Device::Unmade(file) => file.sync(),
+            Device::File(it) => {
+                let outcome = it.file.sync();
+                it.counted(outcome)
+            }
             Device::Memory(memory) => memory.sync(),
         }
     }

@@ -1,67 +1,45 @@
-//! The devices of a call of the program: each a file, a file that is still missing, or bytes in memory. Up to nine
-//! notaries keep a book each, and are one. A look at a file says before the call what it is.
+//! The devices of a call of the program: each a file, or bytes in memory. Up to nine notaries keep a book each, and are one.
 //!
 //! | Of | Module |
 //! |---|---|
-//! | a file or bytes in memory | `device` |
-//! | a file that is missing, which the first change makes | `unmade` |
+//! | a device: a file, or bytes in memory | `device` |
+//! | how a file is opened, made and locked | `file` |
+//! | what is at a path, which is decided at a file's first call | `found` |
 //! | the notaries of a call, each with its book | `members` |
 //! | which of them failed, or differed from most | `ballot` |
-//! | what a file is, by reading it alone | `looking`, `found`, with `peek` and `behind` |
-//! | what a store says by its items, and a book by its batches and marks | `items` over `item`, `entries` and `indexes` over `entry` |
-//! | which operations of a store fit no table | `tables`, with `operation` and `sum` |
-//! | which file stands at a path, and how the last change left it | `stamp` |
-//! | what a store holds, for which it is held against another | `content`, with `granules` |
-//! | how failures are counted | `faults` |
+//! | how far a long call is | `progress`, with streams in `watched` |
+//!
+//! It stands on `disk_model` (whose `FileDisk` opens, locks and syncs a file that may be changed), `outside_io`, `notary_book`
+//! and `notary_quorum`.
 //!
 //! | The layer above may rely on | Clause |
 //! |---|---|
+//! | a device that is named is a file of that path and of no other, and any other is empty and in memory | `file`, `path`, `memory` of `Device::named` |
 //! | each device is a disk: a file tells nothing, and a fault is answered only where it was counted | those of `Disk` |
-//! | a device that is named has a file, and any other is empty and in memory | `file`, `empty` of `Device::named` |
-//! | a member of a quorum answers what the notary below it answers | those of `Notary` |
+//! | a member of a quorum and a watched stream answer, keep and tell what the one below does | those of `Notary`, `Source` and `Sink` |
 //!
-//! Only tested: that the right file is opened, what a look finds, and which notary stands out. A look takes no lock and
-//! changes nothing. Where it fails nothing is known of the file.
+//! Only tested: that a file is opened as its access says, that a missing one is made by the first change and by nothing
+//! else, that a file which is only read is never changed, and which notary stands out.
 //!
 //! ```text
-//! let found = look(rt, alloc, Some(path), Filed::under(None));
-//! let device = Device::named(rt, Some(path))?;
+//! let progress = Progress::new(rt, is_terminal, is_terminal);
+//! let mut store = Device::named(rt, Named { word: "store", path }, Access::Reads, &progress)?;
 //! let notary = quorum_of(alloc, disks, &ballot)?;
 //! ```
 #![tactic(auto)]
 
 mod ballot;
-mod behind;
-mod content;
 mod device;
-mod entries;
-mod entry;
-mod faults;
+mod file;
 mod found;
-mod granules;
-mod indexes;
-mod item;
-mod items;
-mod looking;
 mod members;
-mod operation;
-mod peek;
-mod stamp;
-mod sum;
-mod tables;
-mod unmade;
+mod progress;
+mod watched;
 
-pub use ballot::{Ballot, Odd};
-pub use behind::{Behind, Remains};
-pub use content::Content;
-pub use device::Device;
-pub use entries::{Early, Entries, Fall, Filed, Over};
-pub use entry::Marked;
-pub use found::{Found, Letters};
-pub use item::Jump;
-pub use items::{Summary, Unwritten};
-pub use looking::look;
+pub use ballot::Ballot;
+pub use device::{Device, Left, Named};
+pub use file::Access;
+pub use found::Found;
 pub use members::{Member, quorum_of};
-pub use peek::Peek;
-pub use stamp::Stamp;
-pub use unmade::Unmade;
+pub use progress::Progress;
+pub use watched::{WatchedSink, WatchedSource};

@@ -44,9 +44,6 @@ impl<'a, N: Notary + Drop> Notary for Member<'a, N> {
 
     fn file(&mut self, id: u64, index: u32, moment: u64, seals: &[Seal]) -> Result<(), NotaryFail> {
         let answer = self.below.file(id, index, moment, seals);
-        if answer.is_ok() {
-            self.ballot.file(index);
-        }
         self.say(of_done(answer));
         answer
     }

@@ -1,29 +1,45 @@
-//! The program: it makes the devices that its leading words name, makes the one call of `dragoon_app`
-//! with the words behind them, and ends with the number of the status.
+//! The program: it makes the devices that its leading words name, makes the one call of `dragoon_app` with the words after
+//! them, and ends with the number of the status.
 //!
-//! What the words, the files and the output do is proved below; here stands what is only tested: that
-//! the right file is opened, and what standard error is told.
-//!
-//! | Beside the call | Crate |
+//! | Beside the call | Module or crate |
 //! |---|---|
-//! | which command the words ask for, and what is wrong with them | `asked_words` |
-//! | its files and its notaries, and what each file was before it | `call_devices` |
-//! | how far it is, and what went through its devices | `call_watch` |
-//! | what is told at its end | `call_telling` |
-//! | its devices before it, and its end | `call_frame` |
+//! | which file each word names | `names` |
+//! | which of them a command changes, and which it only reads | `uses` |
+//! | its files and its notaries | `call_devices` |
+//! | what a person is told at its end | `ending`, by `call_notes` |
 //!
-//! None of what is told changes output or status. It is made from values that the call has left behind.
+//! A device that is named is a file of that path, whatever the command (`path` of `device_of`). What the words, the files and
+//! the output do is proved below. Only tested: that the right word gives the path, and what standard error is told.
 #![tactic(auto)]
 
-use call_frame::{Asked, CallNotary, Devices, Terminals, notary_of, tell_end};
-use call_watch::Shared;
-use dragoon_app::{Status, dragoon, leading};
+mod ending;
+mod inspecting;
+mod names;
+mod uses;
+
+use crate::ending::{add, ending_of};
+use crate::inspecting::inspect_over;
+use crate::names::{books_of, device_of, devices_of, named_by};
+use crate::uses::uses_of;
+use call_devices::{Ballot, Progress, WatchedSink, WatchedSource, quorum_of};
+use call_notes::note;
+use dragoon_app::{Command, carry_out, command_of, leading};
+use inspect_call::asked_of;
+use outside_io::{StdSink, StdSource, SystemClock};
 use std::alloc::AllocError;
 use std::fs::File;
 use std::io::IsTerminal;
 use std::process::ExitCode;
 use std::rt::{Files, Runtime};
 use std::{env, fs, io};
+
+/// Which streams are terminals.
+#[derive(Clone, Copy)]
+struct Terminals {
+    input: bool,
+    output: bool,
+    error: bool,
+}
 
 /// The words of the process. Where one of them is no text, none: no command has such a word.
 fn words_of<R: Runtime + AllocGlobal>(rt: &R) -> Result<Vec<String>, AllocError> {
@@ -38,39 +54,55 @@ fn words_of<R: Runtime + AllocGlobal>(rt: &R) -> Result<Vec<String>, AllocError>
         Err(fail) if fail.kind() == io::ErrorKind::OutOfMemory => Err(AllocError),
         Err(_) => {
             let _ = eprintln!(rt;
-                "dragoon: a word of the call is no text in UTF-8, so no command was read"
+                "dragoon: an argument is no text in UTF-8, so no command was read"
             );
             Ok(words)
         }
     }
 }
 
-/// Three files that are never used. Where standard input, output or error is closed they take its number, so that
-/// the store doesn't: what is printed would be written into it. They are folders, so that such an input or output fails.
+/// Three files that are never used. If standard input, output or error is closed they take its number, so that the store
+/// doesn't: what is printed would be written into it. They are folders, so that such an input or output fails.
 fn spare_numbers<R: Files<File = File>>(rt: &R) -> [io::Result<File>; 3] {
     [fs::open(rt, "/"), fs::open(rt, "/"), fs::open(rt, "/")]
 }
 
-/// Makes the call, and says at its end what is to be told.
-fn carry_out<'a, R: Runtime + Files<File = File> + AllocGlobal + Drop>(
+/// What is carried out of a call. A policy over no book is refused, as words that are no command are: its tiles would begin
+/// at the first one, whatever is filed elsewhere, and the store could never be validated again.
+fn carried_of<'a>(words: &[String], call: &'a [String]) -> &'a [String] {
+    match command_of(call) {
+        Some(Command::Policy { .. }) if named_by(words, "notary").path.is_none() => &[],
+        _ => call,
+    }
+}
+
+/// Makes the call over the devices that these words name, and notes what there is to note.
+fn run_over<R: Runtime + Files<File = File> + AllocGlobal + Drop>(
     rt: &R,
-    asked: Asked<'_>,
-    devices: Devices<'a, R>,
-    notary: CallNotary<'a, R>,
-    shared: &'a Shared,
-) -> Status {
-    let Devices {
-        mut store,
-        mut copy,
-        mut target,
-        mut clock,
-        mut input,
-        mut out,
-    } = devices;
-    let mut notary = notary;
-    let status = dragoon(
-        rt.alloc(),
-        asked.call,
+    words: &[String],
+    call: &[String],
+    terminals: Terminals,
+) -> Result<u8, AllocError> {
+    let alloc = rt.alloc();
+    let carried = carried_of(words, call);
+    let uses = uses_of(command_of(carried));
+    let progress = Progress::new(rt, terminals.error, terminals.output);
+    let (a_store, a_copy) = (named_by(words, "store"), named_by(words, "copy"));
+    let (a_target, books) = (named_by(words, "target"), books_of(alloc, words)?);
+    let mut store = device_of(rt, words, a_store, uses.store, &progress)?;
+    let mut copy = device_of(rt, words, a_copy, uses.copy, &progress)?;
+    let mut target = device_of(rt, words, a_target, uses.target, &progress)?;
+    let disks = devices_of(rt, words, &books, uses.books, &progress)?;
+    let ballot = Ballot::new(books.len());
+    let mut notary = quorum_of(alloc, disks, &ballot)?;
+    let mut clock = SystemClock::new(rt.clone()?);
+    let stdin = StdSource::new(rt.clone()?);
+    let is_asked = terminals.input && terminals.error;
+    let mut input = WatchedSource::new(stdin, rt.clone()?, &progress, is_asked);
+    let mut out = WatchedSink::new(StdSink::new(rt.clone()?), rt.clone()?, &progress);
+    let called = carry_out(
+        alloc,
+        carried,
         &mut store,
         &mut copy,
         &mut target,
@@ -79,30 +111,34 @@ fn carry_out<'a, R: Runtime + Files<File = File> + AllocGlobal + Drop>(
         &mut input,
         &mut out,
     );
-    let devices = Devices {
-        store,
-        copy,
-        target,
-        clock,
-        input,
-        out,
-    };
-    tell_end(rt, asked, status, devices, notary, shared);
-    status
+    progress.clear(rt);
+    let mut devices = Vec::new(alloc);
+    add(&mut devices, a_store, uses.store, store.left(), false)?;
+    add(&mut devices, a_copy, uses.copy, copy.left(), false)?;
+    add(&mut devices, a_target, uses.target, target.left(), false)?;
+    for (place, (book, member)) in books.iter().zip(notary.into_members()).enumerate() {
+        let left = member.into_below().into_disk().left();
+        add(&mut devices, *book, uses.books, left, ballot.is_odd(place))?;
+    }
+    let mut ending = ending_of(&called, call, &devices);
+    ending.input = input.below.error();
+    ending.output = out.below.error();
+    ending.is_unfed = input.is_unfed();
+    let _ = note(rt, &ending);
+    Ok(called.status.code())
 }
 
 fn run<R: Runtime + Files<File = File> + AllocGlobal + Drop>(
     rt: &R,
     terminals: Terminals,
-) -> Result<Status, AllocError> {
+) -> Result<u8, AllocError> {
     let _spare = spare_numbers(rt);
     let words = words_of(rt)?;
-    let (names, call) = words.split_at(leading(&words));
-    let asked = Asked::by(rt, names, call)?;
-    let shared = Shared::new(asked.books.len());
-    let devices = Devices::of(rt, &shared, &asked, terminals)?;
-    let notary = notary_of(rt, &shared, &asked, terminals)?;
-    Ok(carry_out(rt, asked, devices, notary, &shared))
+    let (words, call) = words.split_at(leading(&words));
+    match asked_of(call) {
+        Some(asked) => inspect_over(rt, words, call, asked),
+        None => run_over(rt, words, call, terminals),
+    }
 }
 
 fn main(rt: HostRuntime) -> ExitCode {
@@ -112,7 +148,7 @@ fn main(rt: HostRuntime) -> ExitCode {
         error: rt.stderr().is_terminal(),
     };
     match run(&rt, terminals) {
-        Ok(status) => ExitCode::from(status.code()),
+        Ok(code) => ExitCode::from(code),
         Err(_) => {
             let _ = eprintln!(rt; "dragoon: no memory was left for the words of the call");
             ExitCode::from(9)
