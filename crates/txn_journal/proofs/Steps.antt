@@ -1,13 +1,16 @@
 -- A reader goes over a record.
-use Rattle.std.proofs.Common.{◌≡◌, ℕ, ◌+◌, ◌-◌, ◌≤◌, Bool, true, false, List, get_or, length, take, drop, Option, Some, None, refl, sym, ap, ◌∙◌, arith}
+use Rattle.std.proofs.Common.{◌≡◌, ◌≢◌, ℕ, ◌+◌, ◌-◌, ◌<◌, ◌≤◌, Bool, true, false, List, get_or, length, take, drop, Option, Some, None, refl, sym, ap, subst, ◌∙◌, arith}
 use Rattle.std.proofs.lemmas.List.{drop-drop, length-take, length-drop, get_or-take, get_or-drop}
-use Rattle.std.specs.Prelude.{IfSome}
-use Rattle.byte_grammar.specs.Gated.{Shape, payload_at, named_length, with_first, records}
+use Rattle.std.specs.Prelude.{IfSome, ◌==◌, ◌&&◌, nat_lt, not, slice_index}
+use Rattle.byte_grammar.specs.Gated.{Shape, open_gate, payload_at, named_length, with_first, records}
 use Rattle.txn_journal.proofs.Frames.{record_from}
+use Rattle.std.proofs.lemmas.Bool.{ltb-true, eq-eqb, not-true}
+use Rattle.byte_grammar.proofs.Parts.{and_left}
 use Rattle.byte_grammar.proofs.GatedLaws.{records_step, records_stop}
+use Rattle.txn_journal.proofs.SameFront.{no_record}
 use Rattle.txn_journal.proofs.Fronts.{found_in_front, front_decides, drop-take-sub}
 use Rattle.txn_journal.specs.Front.{IsAtFront}
-use Rattle.txn_journal.specs.Reading.{Reading, limited, ahead, IsSeenIn, IsFilled, StepsOver, StopsAt, ReadsNext, Advances}
+use Rattle.txn_journal.specs.Reading.{Reading, limited, ahead, IsSeenIn, IsFilled, StepsOver, StopsAt, ReadsNext, Advances, is_closed_ahead}
 
 abbrev pub reading : ℕ → ℕ → List ℕ → ℕ → List ℕ → Reading
 reading place limit payload begin seen = record { place = place; limit = limit; payload = payload; begin = begin; seen = seen }
@@ -62,7 +65,38 @@ stops shape bytes old new f over = rw over.1 (at_old shape bytes old f over.0)
         let first : get_or (ahead r) 0 0 ≡ get_or bytes r.place 0 = ap (λ (l : List ℕ). get_or l 0 0) here ∙ get_or-take f.room rest 0 0 (omega (arith, f.long)) ∙ get_or-drop r.place bytes 0 0 ∙ ap (λ (k : ℕ). get_or bytes k 0) (omega arith) in
         record { none = records_stop to r.place rest no_record; gate = first }
 
+-- a gate that is seen, and is closed
+closed_gate : (seen : List ℕ) → (nat_lt 0 (length seen) && not (slice_index seen 0 == open_gate)) ≡ true → (0 < length seen) × (get_or seen 0 0 ≢ 0xA7)
+closed_gate seen closed =
+    let is_other = not-true _ (and_second (nat_lt 0 (length seen)) _ closed) in
+    (ltb-true _ _ (and_left _ _ closed), λ same. true_not_false (sym (eq-eqb _ _ same) ∙ is_other))
+  where
+    and_second : (a b : Bool) → (a && b) ≡ true → b ≡ true
+    and_second true b e = e
+    and_second false b e = absurd cc
+
+    true_not_false : true ≡ false → ⊥
+    true_not_false e = absurd cc
+
+-- at such a gate there is none
+pub closed_stops : (shape : Shape) (bytes : List ℕ) (r : Reading) → IsSeenIn bytes r → is_closed_ahead r ≡ true → StopsAt shape bytes r
+closed_stops shape bytes r s closed =
+    let rest : List ℕ = drop r.place bytes in
+    let to : Shape = limited shape r.limit in
+    let k : ℕ = length r.seen - (r.place - r.begin) in
+    let gate = closed_gate (ahead r) closed in
+    let enough : 1 ≤ k = omega (arith, gate.0, length-drop (r.place - r.begin) r.seen) in
+    let first : get_or (ahead r) 0 0 ≡ get_or rest 0 0 = ap (λ (l : List ℕ). get_or l 0 0) (ahead_is bytes r s) ∙ get_or-take k rest 0 0 enough in
+    record {
+      none = records_stop to r.place rest (no_record to r.place rest (λ same. gate.1 (first ∙ same)));
+      gate = first ∙ get_or-drop r.place bytes 0 0 ∙ ap (λ (k : ℕ). get_or bytes k 0) (omega arith);
+    }
+
 -- ---- where the bytes are told
+
+pub told_closed : (told : Option (List ℕ)) (shape : Shape) (old new : Reading) → new ≡ old → is_closed_ahead new ≡ true → IfSome told (λ bytes. IsSeenIn bytes old → StopsAt shape bytes new)
+told_closed None shape old new same closed = tt
+told_closed (Some bytes) shape old new same closed = λ seen. closed_stops shape bytes new (subst (λ (r : Reading). IsSeenIn bytes r) (sym same) seen) closed
 
 pub told_next : (told : Option (List ℕ)) (shape : Shape) (old new : Reading) → StepsOver shape old true new → IfSome told (λ bytes. IsSeenIn bytes old → ReadsNext shape bytes old true new)
 told_next None shape old new over = tt

@@ -1,6 +1,6 @@
 -- A file of gated records, as it is read record by record.
-use Rattle.std.specs.Prelude.{◌≡◌, ◌<◌, ◌≤◌, ℕ, ◌+◌, ◌-◌, ◌&&◌, nat_lt, Bool, true, false, List, [], length, take, drop, slice_index, Option, Some, None, if◌then◌else◌}
-use Rattle.byte_grammar.specs.Gated.{Shape, FitsRecord, payload_at, records, with_first}
+use Rattle.std.specs.Prelude.{◌≡◌, ◌<◌, ◌≤◌, ◌==◌, ℕ, ◌+◌, ◌-◌, ◌&&◌, nat_lt, not, Bool, true, false, List, [], length, take, drop, slice_index, Option, Some, None, if◌then◌else◌}
+use Rattle.byte_grammar.specs.Gated.{Shape, FitsRecord, open_gate, payload_at, records, with_first}
 use Rattle.history_model.specs.Stored.{header_length}
 
 -- the head that stands at the front of the bytes, with a gate behind it
@@ -34,6 +34,10 @@ behind r payload = record r { place = r.place + 5 + length payload; payload = pa
 -- what is seen from the place on
 abbrev pub ahead : Reading → List ℕ
 ahead r = drop (r.place - r.begin) r.seen
+
+-- the gate at the place is seen, and is closed
+abbrev pub is_closed_ahead : Reading → Bool
+is_closed_ahead r = nat_lt 0 (length (ahead r)) && not (slice_index (ahead r) 0 == open_gate)
 
 -- what is seen stands in the file
 pub record IsSeenIn (bytes : List ℕ) (r : Reading) : Type 0 where

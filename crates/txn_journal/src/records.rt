@@ -6,7 +6,7 @@ ghost use Rattle.disk_words.specs.declared.DiskFail.TheVariants.{Failed};
 ghost use Rattle.disk_words.specs.Disk.{Unchanged, GoesOn};
 ghost use Rattle.byte_grammar.specs.Gated.{open_gate};
 ghost use Rattle.txn_journal.specs.Window.{seen_by, room_of};
-ghost use Rattle.txn_journal.specs.Reading.{ReadsNext, Moves, IsSeenIn, IsFilled, StepsOver, StandsAt, IsAtFirst, ahead, head_of};
+ghost use Rattle.txn_journal.specs.Reading.{ReadsNext, Moves, IsSeenIn, IsFilled, StepsOver, StandsAt, IsAtFirst, ahead, is_closed_ahead, head_of};
 
 use crate::gate::OPEN;
 use crate::payload::payload_of;
@@ -115,6 +115,15 @@ impl<S: Shape> Records<S> {
         self.window.seen_from(self.place).first() == Some(&OPEN)
     }
 
+    /// Whether the gate at the place is seen, and is closed. No record stands at such a gate, so the file
+    /// need not be looked at once more.
+    fn is_at_closed_gate(&self) -> bool
+        ensures value { result ≡ is_closed_ahead self.now }
+    {
+        let ahead = self.window.seen_from(self.place);
+        !ahead.is_empty() && ahead[0] != OPEN
+    }
+
     /// A journal that stands at the place, so behind all payloads once there is no next record.
     pub fn journal(&self) -> Journal<S>
         ensures value { result ≡ record { end = self.now.place; gate_is_open = (slice_index (ahead self.now) 0 == open_gate); is_closed = false } }
@@ -139,6 +148,9 @@ impl<S: Shape> Records<S> {
     {
         if self.step() {
             return Ok(true);
+        }
+        if self.is_at_closed_gate() {
+            return Ok(false);
         }
         self.refill(disk)?;
         let found = self.step();
