@@ -51,12 +51,7 @@ fn an_input_or_an_output_that_fails_ends_the_run(rt: HostRuntime) -> Result<(), 
 #[test]
 fn an_input_without_an_end_has_a_limit(rt: HostRuntime) -> Result<(), Fail> {
     let alloc = rt.alloc();
-    let mut line = vec![in alloc; b' '; 4095]?;
-    line.push(b'\n')?;
-    let mut lines = Vec::new(alloc);
-    for _ in 0..16_384u32 {
-        lines.extend_from_slice(&line)?;
-    }
+    let lines = vec![in alloc; b'\n'; 67_108_864]?;
     let told = run(alloc, lines, 4096, 0, 0)?;
     tells(&rt, "a run", &told, 17, "fault InputLimit\n");
     Ok(())
