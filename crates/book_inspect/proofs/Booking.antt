@@ -1,8 +1,8 @@
 -- Entries by their payloads, and a book file.
-use Rattle.std.proofs.Common.{◌≡◌, ℕ, ◌+◌, ◌<◌, ◌≤◌, min, nat_eq, get_or, take, drop, length, List, [], ◌∷◌, ◌++◌, Option, None, Some, refl, sym, ap, subst, ◌∙◌, arith}
+use Rattle.std.proofs.Common.{◌≡◌, ℕ, ◌+◌, ◌<◌, ◌≤◌, min, nat_eq, get_or, take, length, List, [], ◌∷◌, ◌++◌, Option, None, Some, refl, sym, ap, subst, ◌∙◌, arith}
 use Rattle.std.specs.Prelude.{IfSome}
 use Rattle.std.specs.List.{cons_option, common_prefix_len}
-use Rattle.std.proofs.lemmas.List.{append-nil, take_more, take_min, at_drop_more}
+use Rattle.std.proofs.lemmas.List.{append-nil, take_more, take_min}
 use Rattle.std.proofs.lemmas.List.Elements.{filter_map-append}
 use Rattle.disk_words.specs.Disk.{Reads}
 use Rattle.notary_link.specs.Notary.{Call}
@@ -10,7 +10,6 @@ use Rattle.notary_book.specs.Books.{calls_in, book_head}
 use Rattle.notary_book.specs.Calls.{call_of}
 use Rattle.book_inspect.specs.declared.entries.Entries.{Entries}
 use Rattle.book_inspect.specs.KnownEntries.{KnowsEntries}
-use Rattle.book_inspect.specs.Order.{first_id}
 use Rattle.book_inspect.specs.Book.{front_of_head}
 
 -- what a payload adds, where it spells a call, and where it spells none
@@ -43,10 +42,3 @@ entries_step id payloads i payload seen old new below at same own takes known =
     let calls : List Call = calls_in (take i payloads) in
     let before : KnowsEntries old.id old calls = subst (λ (n : ℕ). KnowsEntries n old calls) (sym own) known in
     subst (KnowsEntries id new) (calls_more payloads i payload seen below at same) (subst (λ (n : ℕ). KnowsEntries n new (calls ++ calls_in (seen ∷ []))) own (takes calls before))
-
--- ---- the first entry
-
-pub first_step : (payloads : List (List ℕ)) (i : ℕ) (payload : List ℕ) → i < length payloads → payload ≡ get_or payloads i payload → first_id (calls_in (drop i payloads)) ≡ first_id (cons_option (call_of payload) (calls_in (drop (i + 1) payloads)))
-first_step payloads i payload below at =
-    at_drop_more (λ (ps : List (List ℕ)). first_id (calls_in ps)) payloads i payload below
-    ∙ ap (λ (p : List ℕ). first_id (cons_option (call_of p) (calls_in (drop (i + 1) payloads)))) (sym at)

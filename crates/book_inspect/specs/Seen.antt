@@ -3,7 +3,7 @@ use Rattle.std.specs.Prelude.{◌≡◌, ℕ, List, length, is_some}
 use Rattle.notary_book.specs.Books.{calls_in}
 use Rattle.book_inspect.specs.declared.book.BookRead.{BookRead}
 use Rattle.book_inspect.specs.declared.book.BookSeen.{BookSeen}
-use Rattle.book_inspect.specs.Entries.{batches_of, latest}
+use Rattle.book_inspect.specs.Entries.{batches_of}
 use Rattle.book_inspect.specs.Book.{book_in, payloads_of, calls_of, file_findings, findings_of_book}
 
 -- it was read
@@ -19,4 +19,3 @@ pub record IsSeen (id second : ℕ) (bytes : List ℕ) (s : BookSeen) : Type 0 w
   pub findings : s.findings.items ≡ findings_of_book id second bytes
   pub entries : s.entries ≡ length (calls_of bytes)
   pub batches : s.batches ≡ length (batches_of id (calls_of bytes))
-  pub latest_second : s.latest ≡ latest id (calls_of bytes)

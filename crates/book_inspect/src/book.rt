@@ -18,9 +18,9 @@ ghost use Rattle.book_inspect.specs.Seen.{IsRead, IsSeen};
 use crate::entries::Entries;
 use crate::order::Order;
 use disk_model::{Disk, DiskFail, read_whole};
-use file_findings::{Ending, Finding, note, note_all, note_tail};
+use file_findings::{Ending, Finding, Made, note, note_all, note_tail};
 use notary_book::BookShape;
-use std::alloc::{AllocError, Global};
+use std::alloc::Global;
 use tuple_bytes::{Blob, Payloads};
 use txn_journal::{JournalFail, is_free, open_journal};
 
@@ -29,7 +29,6 @@ use txn_journal::{JournalFail, is_free, open_journal};
 pub struct BookRead {
     pub is_book: bool,
     pub payloads: Payloads,
-
     /// What is odd about the file, whatever its entries say.
     pub found: Vec<Finding>,
 }
@@ -40,15 +39,10 @@ pub struct BookSeen {
     pub is_book: bool,
     pub payloads: Payloads,
     pub findings: Vec<Finding>,
-
     /// How many entries there are, under any id.
     pub entries: u64,
-
     /// How many batches there are under the id.
     pub batches: u64,
-
-    /// The latest second of an entry under the id.
-    pub latest: u64,
 }
 
 /// Reads a book file.
@@ -77,7 +71,7 @@ pub fn read_book<D: Disk>(alloc: Global, disk: &mut D) -> Result<BookRead, Journ
 }
 
 /// What follows the gate that ends the records.
-fn tail_in(alloc: Global, end: u64, all: &[u8]) -> Result<Vec<Finding>, AllocError>
+fn tail_in(alloc: Global, end: u64, all: &[u8]) -> Made<Vec<Finding>>
     requires small { end < 2 ^ 63 }
     ensures value { IfOk result (λ found. found.items ≡ tail_of book_shape (ending_in end all.now) (drop (end + 1) all.now)) }
 {
@@ -133,7 +127,7 @@ fn read_other<D: Disk>(alloc: Global, disk: &mut D) -> Result<BookRead, JournalF
 }
 
 /// This finding alone.
-pub(crate) fn only(alloc: Global, finding: Finding) -> Result<Vec<Finding>, AllocError>
+pub(crate) fn only(alloc: Global, finding: Finding) -> Made<Vec<Finding>>
     ensures value { IfOk result (λ found. found.items ≡ finding ∷ []) }
 {
     let mut found = Vec::new(alloc);
@@ -152,7 +146,7 @@ fn finding_without_head<D: Disk>(disk: &mut D) -> Result<Finding, DiskFail>
         return Ok(Finding::NoBook);
     }
     let byte = shared_front(disk)?;
-    Ok(Finding::DamagedFront { byte })
+    Ok(Finding::DamagedFront(byte))
 }
 
 /// How many bytes the file has in common with a book's head.
@@ -192,7 +186,7 @@ fn shared(xs: &[u8], ys: &[u8]) -> usize
 }
 
 /// Looks at a book that was read, under an id, at a second of the clock.
-pub fn look_at(alloc: Global, id: u64, second: u64, read: BookRead) -> Result<BookSeen, AllocError>
+pub fn look_at(alloc: Global, id: u64, second: u64, read: BookRead) -> Made<BookSeen>
     ensures kept { IfOk result (λ seen. seen.payloads ≡ read.payloads) }
     ensures exact { IfOk result (λ seen. (bytes : List ℕ) → IsRead bytes read → IsSeen id second bytes seen) }
 {
@@ -209,7 +203,6 @@ pub fn look_at(alloc: Global, id: u64, second: u64, read: BookRead) -> Result<Bo
         findings,
         entries: entries.count,
         batches: entries.batches,
-        latest: entries.latest(),
     })
 }
 
@@ -220,7 +213,7 @@ fn add_entry_findings(
     second: u64,
     entries: &Entries,
     payloads: &[Blob],
-) -> Result<(), AllocError>
+) -> Made<()>
     ensures value { OnOk result (KnowsEntries entries.now.id entries.now (calls_in payloads.now)
         → findings.new.items ≡ findings.old.items ++ entry_findings entries.now.id second (calls_in payloads.now)) }
 {
@@ -233,27 +226,24 @@ fn add_entry_findings(
     note_ahead(findings, entries.latest(), second)
 }
 
-fn note_foreign(findings: &mut Vec<Finding>, first: Option<u64>, own: u64) -> Result<(), AllocError>
+fn note_foreign(findings: &mut Vec<Finding>, first: Option<u64>, own: u64) -> Made<()>
     ensures value { OnOk result (findings.new.items ≡ findings.old.items ++ foreign first own) }
 {
     match first {
-        Some(id) => note(findings, own == 0, Finding::OtherId { id }),
+        Some(id) => note(findings, own == 0, Finding::OtherId(id)),
         None => Ok(()),
     }
 }
 
-fn note_ahead(findings: &mut Vec<Finding>, last: u64, second: u64) -> Result<(), AllocError>
+fn note_ahead(findings: &mut Vec<Finding>, last: u64, second: u64) -> Made<()>
     ensures value { OnOk result (findings.new.items ≡ findings.old.items ++ ahead last second) }
 {
-    let finding = Finding::BookAhead {
-        second: last,
-        clock: second,
-    };
+    let finding = Finding::BookAhead(last, second);
     note(findings, second < last, finding)
 }
 
 /// Goes over the entries that payloads spell.
-pub(crate) fn taken(alloc: Global, payloads: &[Blob], id: u64) -> Result<Entries, AllocError>
+pub(crate) fn taken(alloc: Global, payloads: &[Blob], id: u64) -> Made<Entries>
     ensures value { IfOk result (λ e. KnowsEntries id e (calls_in payloads.now)) }
     ensures id { IfOk result (λ e. e.id ≡ id) }
 {

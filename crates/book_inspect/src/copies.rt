@@ -8,9 +8,9 @@ ghost use Rattle.notary_book.specs.Entries.{call_in};
 ghost use Rattle.book_inspect.specs.Copies.{own_in, lists_by, same_list, same_lists, is_most, other_for, is_same, behind, first_or_behind, held_against, lists_seen, findings_of_copy, copies, own_of};
 
 use crate::book::{BookSeen, only};
-use file_findings::{Device, Finding, Found, note, place_all};
+use file_findings::{Device, Finding, Found, Made, note, place_all};
 use notary_book::{Entry, decode};
-use std::alloc::{AllocError, Global};
+use std::alloc::Global;
 use tuple_bytes::{Blob, Payloads};
 
 /// What an entry is under an id.
@@ -29,7 +29,7 @@ pub(crate) struct Lists {
 }
 
 /// What a payload spells under an id.
-fn own_in(alloc: Global, id: u64, payload: &[u8]) -> Result<Own, AllocError>
+fn own_in(alloc: Global, id: u64, payload: &[u8]) -> Made<Own>
     ensures value { IfOk result (λ own. own ≡ own_in id payload.now) }
 {
     match decode(alloc, payload)? {
@@ -48,7 +48,7 @@ fn own_of(id: u64, entry: &Entry) -> Own
 }
 
 /// A copy of the lists that payloads spell.
-fn lists_by(alloc: Global, id: u64, payloads: &[Blob]) -> Result<Lists, AllocError>
+fn lists_by(alloc: Global, id: u64, payloads: &[Blob]) -> Made<Lists>
     ensures value { IfOk result (λ lists. lists ≡ lists_by id payloads.now) }
 {
     let mut filed = Payloads::new(alloc);
@@ -64,7 +64,7 @@ fn lists_by(alloc: Global, id: u64, payloads: &[Blob]) -> Result<Lists, AllocErr
 }
 
 /// Adds a copy of a payload.
-fn keep(alloc: Global, list: &mut Payloads, payload: &[u8]) -> Result<(), AllocError>
+fn keep(alloc: Global, list: &mut Payloads, payload: &[u8]) -> Made<()>
     ensures ok { OnOk result (list.new ≡ list.old ++ payload.now ∷ []) }
 {
     list.push(Blob::from_vec(payload.to_vec(alloc)?))
@@ -166,7 +166,7 @@ impl Compared {
     }
 
     /// Takes the next entry.
-    fn take(&mut self, own: Own, other: &Lists, payload: &[u8]) -> Result<(), AllocError>
+    fn take(&mut self, own: Own, other: &Lists, payload: &[u8]) -> Made<()>
         requires room { self.old.entries + 1 < 2 ^ 64 }
         ensures value { OnOk result (TakesOwn own other.now payload.now self.old self.new) }
         ensures few { self.new.entries ≤ self.old.entries + 1 }
@@ -181,7 +181,7 @@ impl Compared {
         }
     }
 
-    fn take_batch(&mut self, other: &Lists, payload: &[u8]) -> Result<(), AllocError>
+    fn take_batch(&mut self, other: &Lists, payload: &[u8]) -> Made<()>
         requires room { self.old.entries + 1 < 2 ^ 64 }
         ensures value { OnOk result (TakesOwn Own.Batch other.now payload.now self.old self.new) }
         ensures few { self.new.entries ≤ self.old.entries + 1 }
@@ -189,12 +189,12 @@ impl Compared {
         let same = is_at(other.filed.as_slice(), self.batches, payload);
         self.entries += 1;
         let entry = self.entries;
-        note(&mut self.found, !same, Finding::BookDiffers { entry })?;
+        note(&mut self.found, !same, Finding::BookDiffers(entry))?;
         self.batches += 1;
         Ok(())
     }
 
-    fn take_mark(&mut self, other: &Lists, payload: &[u8]) -> Result<(), AllocError>
+    fn take_mark(&mut self, other: &Lists, payload: &[u8]) -> Made<()>
         requires room { self.old.entries + 1 < 2 ^ 64 }
         ensures value { OnOk result (TakesOwn Own.Mark other.now payload.now self.old self.new) }
         ensures few { self.new.entries ≤ self.old.entries + 1 }
@@ -202,13 +202,13 @@ impl Compared {
         let same = is_at(other.noted.as_slice(), self.marks, payload);
         self.entries += 1;
         let entry = self.entries;
-        note(&mut self.found, !same, Finding::BookDiffers { entry })?;
+        note(&mut self.found, !same, Finding::BookDiffers(entry))?;
         self.marks += 1;
         Ok(())
     }
 
     /// Goes over the entries that payloads spell.
-    fn of(alloc: Global, id: u64, other: &Lists, payloads: &[Blob]) -> Result<Compared, AllocError>
+    fn of(alloc: Global, id: u64, other: &Lists, payloads: &[Blob]) -> Made<Compared>
         ensures value { IfOk result (λ c. KnowsApart id other.now c payloads.now) }
     {
         let mut compared = Compared::new(alloc);
@@ -227,7 +227,7 @@ fn held_against(
     payloads: &[Blob],
     own: &Lists,
     other: &Lists,
-) -> Result<Vec<Finding>, AllocError>
+) -> Made<Vec<Finding>>
     ensures value { IfOk result (λ found. own.now ≡ lists_by id payloads.now
         → found.items ≡ held_against id payloads.now (Some other.now)) }
 {
@@ -236,23 +236,19 @@ fn held_against(
     first_or_behind(alloc, &compared.found, behind)
 }
 
-fn behind(alloc: Global, own: &Lists, other: &Lists) -> Result<Vec<Finding>, AllocError>
+fn behind(alloc: Global, own: &Lists, other: &Lists) -> Made<Vec<Finding>>
     ensures value { IfOk result (λ found. found.items ≡ behind own.now other.now) }
 {
     let mut found = Vec::new(alloc);
-    let finding = Finding::BookBehind {
-        sealed: own.filed.as_slice().len().saturating_sub(1) as u64,
-        most: other.filed.as_slice().len().saturating_sub(1) as u64,
-    };
+    let finding = Finding::BookBehind(
+        own.filed.as_slice().len().saturating_sub(1) as u64,
+        other.filed.as_slice().len().saturating_sub(1) as u64,
+    );
     note(&mut found, !same_lists(own, other), finding)?;
     Ok(found)
 }
 
-fn first_or_behind(
-    alloc: Global,
-    apart: &[Finding],
-    behind: Vec<Finding>,
-) -> Result<Vec<Finding>, AllocError>
+fn first_or_behind(alloc: Global, apart: &[Finding], behind: Vec<Finding>) -> Made<Vec<Finding>>
     ensures value { IfOk result (λ found. found.items ≡ first_or_behind apart.now behind.items) }
 {
     match apart {
@@ -262,12 +258,7 @@ fn first_or_behind(
 }
 
 /// What is odd about one of several books.
-fn of_copy(
-    alloc: Global,
-    id: u64,
-    all: &[Lists],
-    book: &BookSeen,
-) -> Result<Vec<Finding>, AllocError>
+fn of_copy(alloc: Global, id: u64, all: &[Lists], book: &BookSeen) -> Made<Vec<Finding>>
     ensures value { IfOk result (λ found. found.items ≡ findings_of_copy id all.now book.now) }
 {
     if !book.is_book {
@@ -281,7 +272,7 @@ fn of_copy(
 }
 
 /// The lists of each book that has a head.
-fn all_lists(alloc: Global, id: u64, books: &[BookSeen]) -> Result<Vec<Lists>, AllocError>
+fn all_lists(alloc: Global, id: u64, books: &[BookSeen]) -> Made<Vec<Lists>>
     ensures value { IfOk result (λ all. all.items ≡ filter_map (lists_seen id) books.now) }
 {
     let mut all = Vec::new(alloc);
@@ -291,12 +282,7 @@ fn all_lists(alloc: Global, id: u64, books: &[BookSeen]) -> Result<Vec<Lists>, A
     Ok(all)
 }
 
-fn add_lists(
-    alloc: Global,
-    id: u64,
-    all: &mut Vec<Lists>,
-    book: &BookSeen,
-) -> Result<(), AllocError>
+fn add_lists(alloc: Global, id: u64, all: &mut Vec<Lists>, book: &BookSeen) -> Made<()>
     ensures value { OnOk result (all.new.items ≡ all.old.items ++ filter_map (lists_seen id) (book.now ∷ [])) }
 {
     if !book.is_book {
@@ -308,7 +294,7 @@ fn add_lists(
 }
 
 /// What is odd about several books, from the first one to the last.
-pub fn compare(alloc: Global, id: u64, books: &[BookSeen]) -> Result<Vec<Found>, AllocError>
+pub fn compare(alloc: Global, id: u64, books: &[BookSeen]) -> Made<Vec<Found>>
     ensures exact { IfOk result (λ found. found.items ≡ copies id books.now) }
 {
     let mut found = Vec::new(alloc);

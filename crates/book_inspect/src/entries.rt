@@ -8,16 +8,15 @@ ghost use Rattle.notary_book.specs.Books.{calls_in};
 ghost use Rattle.notary_book.specs.Entries.{call_in};
 ghost use Rattle.book_inspect.specs.Entries.{own_name, is_other_tile, is_altered, findings_of_entries};
 
-use file_findings::{Finding, note, note_all};
+use file_findings::{Finding, Made, note, note_all};
 use notary_book::{Entry, decode};
 use notary_link::{Mark, Name, Outcome, Seal};
-use std::alloc::{AllocError, Global};
+use std::alloc::Global;
 
 /// What is known of the entries so far, of which those of one id count.
 #[derive(Drop)]
 pub(crate) struct Entries {
     pub id: u64,
-
     /// How many there are, under any id.
     pub count: u64,
     pub batches: u64,
@@ -89,7 +88,7 @@ impl Entries {
     }
 
     /// Takes the entry that a payload spells, where it spells one.
-    pub fn take_payload(&mut self, alloc: Global, payload: &[u8]) -> Result<(), AllocError>
+    pub fn take_payload(&mut self, alloc: Global, payload: &[u8]) -> Made<()>
         requires room { self.old.count + 1 < 2 ^ 64 }
         ensures value { OnOk result ((calls : List Call)
             → KnowsEntries self.old.id self.old calls → KnowsEntries self.old.id self.new (calls ++ calls_in (payload.now ∷ []))) }
@@ -102,7 +101,7 @@ impl Entries {
         }
     }
 
-    fn take(&mut self, entry: &Entry) -> Result<(), AllocError>
+    fn take(&mut self, entry: &Entry) -> Made<()>
         requires room { self.old.count + 1 < 2 ^ 64 }
         ensures value { OnOk result ((calls : List Call)
             → KnowsEntries self.old.id self.old calls → KnowsEntries self.old.id self.new (calls ++ call_in entry.now ∷ [])) }
@@ -134,33 +133,27 @@ impl Entries {
         }
     }
 
-    fn take_batch(&mut self, moment: u64, seals: &[Seal]) -> Result<(), AllocError>
+    fn take_batch(&mut self, moment: u64, seals: &[Seal]) -> Made<()>
         requires room { self.old.count + 1 < 2 ^ 64 }
         ensures value { OnOk result (TakesBatch moment seals.now self.old self.new) }
         ensures id { self.new.id ≡ self.old.id }
         ensures few { self.new.count ≤ self.old.count + 1 }
     {
         self.count += 1;
-        let missing = Finding::SealMissing {
-            batch: self.batches,
-        };
+        let missing = Finding::SealMissing(self.batches);
         note(
             &mut self.missing,
             !has_own_seal(self.batches, seals),
             missing,
         )?;
-        let fall = Finding::SecondsFall {
-            entry: self.count,
-            before: self.latest_filed,
-            this: moment,
-        };
+        let fall = Finding::SecondsFall(self.count, self.latest_filed, moment);
         note(&mut self.falls, moment < self.latest_filed, fall)?;
         self.batches += 1;
         self.latest_filed = self.latest_filed.max(moment);
         Ok(())
     }
 
-    fn take_mark(&mut self, mark: &Mark) -> Result<(), AllocError>
+    fn take_mark(&mut self, mark: &Mark) -> Made<()>
         requires room { self.old.count + 1 < 2 ^ 64 }
         ensures value { OnOk result (TakesMark mark.now self.old self.new) }
         ensures id { self.new.id ≡ self.old.id }
@@ -169,25 +162,13 @@ impl Entries {
         self.count += 1;
         let number = self.marks + 1;
         let sealed = self.batches.saturating_sub(1);
-        let over = Finding::MarkOver {
-            mark: number,
-            tiles: mark.tiles,
-            sealed,
-        };
+        let over = Finding::MarkOver(number, mark.tiles, sealed);
         let is_over = sealed < u64::from(mark.tiles) || is_other_tile(mark.tiles, mark.outcome);
         note(&mut self.over, is_over, over)?;
-        let altered = Finding::AlteredMark {
-            mark: number,
-            second: mark.moment,
-            marks: self.altered.len() as u64 + 1,
-        };
+        let altered = Finding::AlteredMark(number, mark.moment, self.altered.len() as u64 + 1);
         note(&mut self.altered, is_altered(mark.outcome), altered)?;
         let latest = self.latest_filed.max(self.latest_marked);
-        let fall = Finding::SecondsFall {
-            entry: self.count,
-            before: latest,
-            this: mark.moment,
-        };
+        let fall = Finding::SecondsFall(self.count, latest, mark.moment);
         note(&mut self.falls, mark.moment < latest, fall)?;
         self.marks += 1;
         self.latest_marked = self.latest_marked.max(mark.moment);
@@ -202,7 +183,7 @@ impl Entries {
     }
 
     /// All that was found, kind by kind; of the marks that say altered the last one.
-    pub fn findings(&self, alloc: Global) -> Result<Vec<Finding>, AllocError>
+    pub fn findings(&self, alloc: Global) -> Made<Vec<Finding>>
         ensures value { IfOk result (λ found. (calls : List Call)
             → KnowsEntries self.now.id self.now calls → found.items ≡ findings_of_entries self.now.id calls) }
     {

@@ -8,7 +8,7 @@
 //! | The layer above may rely on | Clause |
 //! |---|---|
 //! | what was read is what the bytes hold: whether they have a book's head, the payloads, and what is odd about the file itself | `exact` of `read_book`: `IsRead` of `specs/Seen` |
-//! | the findings are `findings_of_book` of the bytes, the id and the second; how many entries there are, how many batches under the id, and the latest second | `exact` of `look_at`: `IsSeen` |
+//! | the findings are `findings_of_book` of the bytes, the id and the second; how many entries there are, and how many batches under the id | `exact` of `look_at`: `IsSeen` |
 //! | of several books each is told that has other lists than more than half, or where there are none such, than another one | `exact` of `compare`: `copies` of `specs/Copies` |
 //! | a book is only read, and a fault has its cause | `same`, `frame`, `cause`, `counted` of `read_book` |
 //!

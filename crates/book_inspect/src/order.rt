@@ -6,11 +6,11 @@ ghost use Rattle.std.specs.BTreeMap.{get};
 ghost use Rattle.notary_link.specs.Notary.{Call};
 ghost use Rattle.notary_book.specs.Books.{calls_in};
 ghost use Rattle.notary_book.specs.Entries.{call_in};
-ghost use Rattle.book_inspect.specs.Order.{id_of, first_id};
+ghost use Rattle.book_inspect.specs.Order.{first_id};
 
-use file_findings::{Finding, note};
+use file_findings::{Finding, Made, note};
 use notary_book::{Entry, decode};
-use std::alloc::{AllocError, Global};
+use std::alloc::Global;
 use std::collections::BTreeMap;
 use tuple_bytes::Blob;
 
@@ -20,13 +20,10 @@ type CountMap = BTreeMap<u64, u64>;
 #[derive(Drop)]
 pub(crate) struct Order {
     pub entries: u64,
-
     /// The id of the first one.
     pub first: Option<u64>,
-
     /// How many batches there are under each id.
     pub counts: CountMap,
-
     /// Those out of turn.
     pub found: Vec<Finding>,
     ghost each: { (id : ℕ) → unwrap_or (get nat_cmp counts id) 0 ≤ entries },
@@ -48,7 +45,7 @@ impl Order {
     }
 
     /// Takes the entry that a payload spells, where it spells one.
-    fn take_payload(&mut self, alloc: Global, payload: &[u8]) -> Result<(), AllocError>
+    fn take_payload(&mut self, alloc: Global, payload: &[u8]) -> Made<()>
         requires room { self.old.entries + 1 < 2 ^ 64 }
         ensures value { OnOk result ((calls : List Call)
             → KnowsOrder self.old calls → KnowsOrder self.new (calls ++ calls_in (payload.now ∷ []))) }
@@ -60,7 +57,7 @@ impl Order {
         }
     }
 
-    fn take(&mut self, entry: &Entry) -> Result<(), AllocError>
+    fn take(&mut self, entry: &Entry) -> Made<()>
         requires room { self.old.entries + 1 < 2 ^ 64 }
         ensures value { OnOk result ((calls : List Call)
             → KnowsOrder self.old calls → KnowsOrder self.new (calls ++ call_in entry.now ∷ [])) }
@@ -75,15 +72,13 @@ impl Order {
         }
     }
 
-    fn take_batch(&mut self, id: u64, index: u32) -> Result<(), AllocError>
+    fn take_batch(&mut self, id: u64, index: u32) -> Made<()>
         requires room { self.old.entries + 1 < 2 ^ 64 }
         ensures value { OnOk result (TakesTurn id index self.old self.new) }
         ensures few { self.new.entries ≤ self.old.entries + 1 }
     {
         let count = self.counts.get(&id).copied().unwrap_or(0);
-        let out = Finding::DamagedList {
-            record: self.entries + 1,
-        };
+        let out = Finding::DamagedList(self.entries + 1);
         note(&mut self.found, u64::from(index) != count, out)?;
         self.entries += 1;
         self.counts.insert(id, count + 1)?;
@@ -109,7 +104,7 @@ impl Order {
     }
 
     /// Goes over the entries that payloads spell.
-    pub fn of(alloc: Global, payloads: &[Blob]) -> Result<Order, AllocError>
+    pub fn of(alloc: Global, payloads: &[Blob]) -> Made<Order>
         ensures value { IfOk result (λ o. KnowsOrder o (calls_in payloads.now)) }
     {
         let mut order = Order::new(alloc);
@@ -121,22 +116,9 @@ impl Order {
 }
 
 /// The id of the first entry that payloads spell.
-pub fn first_id(alloc: Global, payloads: &[Blob]) -> Result<Option<u64>, AllocError>
+pub fn first_id(alloc: Global, payloads: &[Blob]) -> Made<Option<u64>>
     ensures value { IfOk result (λ id. id ≡ first_id (calls_in payloads.now)) }
 {
-    for payload in payloads {
-        match decode(alloc, payload.as_slice())? {
-            Some(entry) => return Ok(Some(id_of(&entry))),
-            None => {}
-        }
-    }
-    Ok(None)
-}
-
-fn id_of(entry: &Entry) -> u64
-    ensures value { result ≡ id_of (call_in entry.now) }
-{
-    match entry {
-        Entry::File { id, .. } | Entry::Note { id, .. } => *id,
-    }
+    let order = Order::of(alloc, payloads)?;
+    Ok(order.first)
 }

@@ -22,7 +22,7 @@ fn fronts(rt: HostRuntime) -> Result<(), Fail> {
     );
     assert_eq!(rt;
         found(&rt, b"\xa7DRAGBOX1")?.as_slice(),
-        [Finding::DamagedFront { byte: 7 }].as_slice()
+        [Finding::DamagedFront(7)].as_slice()
     );
     Ok(())
 }

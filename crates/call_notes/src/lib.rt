@@ -20,7 +20,7 @@
 //! take is lost.
 //!
 //! ```text
-//! let ending = Ending { code: status.code(), call, devices: &devices, .. };
+//! let ending = Ending { code: status.code(), call, devices: &devices, seen: &called.seen, .. };
 //! note(rt, &ending)?;
 //! ```
 #![tactic(auto)]
@@ -30,5 +30,5 @@ mod notes;
 mod tables;
 mod usage;
 
-pub use ending::{Ending, Hollow, Noted, Refused};
+pub use ending::{Ending, Noted};
 pub use notes::note;

@@ -1,11 +1,13 @@
 //! The notes on a call.
 
-use crate::ending::{Ending, Hollow, Noted, Refused};
+use crate::ending::{Ending, Noted};
 use crate::tables::{fault_of, form_of};
 use crate::usage::USAGE;
 use call_devices::Found;
+use line_runs::{Refusal, Seen};
 use std::io::{self, ErrorKind};
 use std::str;
+use validator::Verdict;
 
 /// Says all that there is to say, each on a line of its own.
 pub fn note<R: Eprint>(rt: &R, ending: &Ending<'_>) -> io::Result<()> {
@@ -29,8 +31,11 @@ pub fn note<R: Eprint>(rt: &R, ending: &Ending<'_>) -> io::Result<()> {
             "dragoon: the store isn't what was filed: keep it and the book as they are, and copy both. Next: `inspect`, `analyse`, `evidence`; docs/RUNBOOK.md"
         )?;
     }
-    note_verdict(rt, ending)?;
-    note_lines(rt, ending)
+    note_verdict(rt, ending.seen.verdict)?;
+    if ending.is_unfed {
+        eprintln!(rt; "dragoon: the input ended after 0 bytes, so nothing was executed")?;
+    }
+    note_lines(rt, ending.seen)
 }
 
 /// The whole page, if no word is given or it is asked for, or else the lines of the command.
@@ -112,35 +117,26 @@ fn note_found<R: Eprint>(rt: &R, ending: &Ending<'_>, device: &Noted<'_>) -> io:
     Ok(())
 }
 
-fn note_verdict<R: Eprint>(rt: &R, ending: &Ending<'_>) -> io::Result<()> {
-    match ending.verdict {
-        Some(Hollow::Unsealed) => {
-            eprintln!(rt;
-                "dragoon: nothing was compared: nothing is filed under this id; docs/NOTARY.md"
-            )
-        }
-        Some(Hollow::Header) => {
-            eprintln!(rt;
-                "dragoon: only the header was compared: no tile is filed yet; docs/NOTARY.md"
-            )
-        }
-        None => Ok(()),
-    }
+/// A verdict over no tile.
+fn note_verdict<R: Eprint>(rt: &R, verdict: Option<Verdict>) -> io::Result<()> {
+    let words = match verdict {
+        Some(Verdict::Unsealed) => "nothing was compared: nothing is filed under this id",
+        Some(Verdict::Clean { tiles: 0 }) => "only the header was compared: no tile is filed yet",
+        _ => return Ok(()),
+    };
+    eprintln!(rt; "dragoon: {words}; docs/NOTARY.md")
 }
 
 /// What became of the lines of the input.
-fn note_lines<R: Eprint>(rt: &R, ending: &Ending<'_>) -> io::Result<()> {
-    if ending.is_unfed {
-        eprintln!(rt; "dragoon: the input ended after 0 bytes, so nothing was executed")?;
-    }
-    let (refused, replies) = (ending.refused, ending.replies);
+fn note_lines<R: Eprint>(rt: &R, seen: &Seen) -> io::Result<()> {
+    let (refused, replies) = (seen.refused, seen.replies);
     if refused > 0 {
         eprintln!(rt; "dragoon: {refused} of {replies} replies are refusals; docs/LANGUAGE.md")?;
     }
-    if let Some(first) = ending.first {
+    if let Some(first) = &seen.first_refusal {
         note_refused(rt, first)?;
     }
-    for (session, is_open) in ending.open.iter().enumerate() {
+    for (session, is_open) in seen.begun.iter().enumerate() {
         if *is_open {
             eprintln!(rt;
                 "dragoon: session s{session} was begun and not ended, so nothing of it is stored"
@@ -151,10 +147,12 @@ fn note_lines<R: Eprint>(rt: &R, ending: &Ending<'_>) -> io::Result<()> {
 }
 
 /// The first line that was refused, with the form of its statement.
-fn note_refused<R: Eprint>(rt: &R, first: Refused<'_>) -> io::Result<()> {
+fn note_refused<R: Eprint>(rt: &R, first: &Refusal) -> io::Result<()> {
     let number = first.number;
-    let line = str::from_utf8(first.line).unwrap_or("(bytes that are no text)");
-    let reply = str::from_utf8(first.reply).unwrap_or("").trim_end();
+    let line = str::from_utf8(first.line.as_slice()).unwrap_or("(bytes that are no text)");
+    let reply = str::from_utf8(first.reply.as_slice())
+        .unwrap_or("")
+        .trim_end();
     // (the name of a session may precede the word)
     let form = line
         .split(' ')

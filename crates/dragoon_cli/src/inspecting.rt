@@ -1,9 +1,10 @@
 //! The command `inspect`.
 
-use crate::ending::add;
 use crate::names::{books_of, device_of, devices_of, named_by};
+use crate::uses::add;
 use call_devices::{Access, Progress};
 use call_notes::{Ending, note};
+use dragoon_app::Seen;
 use inspect_call::{Asked, explain_kind, inspect};
 use outside_io::{StdSink, SystemClock};
 use std::alloc::AllocError;
@@ -40,8 +41,15 @@ pub fn inspect_over<R: Runtime + Files<File = File> + AllocGlobal + Drop>(
     for (book, disk) in books.iter().zip(&disks) {
         add(&mut devices, *book, access, disk.left(), false)?;
     }
-    let mut ending = Ending::of(ended.code(), call, &devices);
-    ending.output = out.error();
+    let ending = Ending {
+        code: ended.code(),
+        call,
+        devices: &devices,
+        seen: &Seen::new(),
+        input: None,
+        output: out.error(),
+        is_unfed: false,
+    };
     let _ = note(rt, &ending);
     Ok(ended.code())
 }

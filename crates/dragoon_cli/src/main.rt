@@ -6,23 +6,21 @@
 //! | which file each word names | `names` |
 //! | which of them a command changes, and which it only reads | `uses` |
 //! | its files and its notaries | `call_devices` |
-//! | what a person is told at its end | `ending`, by `call_notes` |
+//! | what a person is told at its end | `call_notes` |
 //!
 //! A device that is named is a file of that path, whatever the command (`path` of `device_of`). What the words, the files and
 //! the output do is proved below. Only tested: that the right word gives the path, and what standard error is told.
 #![tactic(auto)]
 
-mod ending;
 mod inspecting;
 mod names;
 mod uses;
 
-use crate::ending::{add, ending_of};
 use crate::inspecting::inspect_over;
 use crate::names::{books_of, device_of, devices_of, named_by};
-use crate::uses::uses_of;
+use crate::uses::{add, uses_of};
 use call_devices::{Ballot, Progress, WatchedSink, WatchedSource, quorum_of};
-use call_notes::note;
+use call_notes::{Ending, note};
 use dragoon_app::{Command, carry_out, command_of, leading};
 use inspect_call::asked_of;
 use outside_io::{StdSink, StdSource, SystemClock};
@@ -85,14 +83,14 @@ fn run_over<R: Runtime + Files<File = File> + AllocGlobal + Drop>(
 ) -> Result<u8, AllocError> {
     let alloc = rt.alloc();
     let carried = carried_of(words, call);
-    let uses = uses_of(command_of(carried));
+    let (store_use, copy_use, target_use, book_use) = uses_of(command_of(carried));
     let progress = Progress::new(rt, terminals.error, terminals.output);
     let (a_store, a_copy) = (named_by(words, "store"), named_by(words, "copy"));
     let (a_target, books) = (named_by(words, "target"), books_of(alloc, words)?);
-    let mut store = device_of(rt, words, a_store, uses.store, &progress)?;
-    let mut copy = device_of(rt, words, a_copy, uses.copy, &progress)?;
-    let mut target = device_of(rt, words, a_target, uses.target, &progress)?;
-    let disks = devices_of(rt, words, &books, uses.books, &progress)?;
+    let mut store = device_of(rt, words, a_store, store_use, &progress)?;
+    let mut copy = device_of(rt, words, a_copy, copy_use, &progress)?;
+    let mut target = device_of(rt, words, a_target, target_use, &progress)?;
+    let disks = devices_of(rt, words, &books, book_use, &progress)?;
     let ballot = Ballot::new(books.len());
     let mut notary = quorum_of(alloc, disks, &ballot)?;
     let mut clock = SystemClock::new(rt.clone()?);
@@ -113,19 +111,25 @@ fn run_over<R: Runtime + Files<File = File> + AllocGlobal + Drop>(
     );
     progress.clear(rt);
     let mut devices = Vec::new(alloc);
-    add(&mut devices, a_store, uses.store, store.left(), false)?;
-    add(&mut devices, a_copy, uses.copy, copy.left(), false)?;
-    add(&mut devices, a_target, uses.target, target.left(), false)?;
+    add(&mut devices, a_store, store_use, store.left(), false)?;
+    add(&mut devices, a_copy, copy_use, copy.left(), false)?;
+    add(&mut devices, a_target, target_use, target.left(), false)?;
     for (place, (book, member)) in books.iter().zip(notary.into_members()).enumerate() {
         let left = member.into_below().into_disk().left();
-        add(&mut devices, *book, uses.books, left, ballot.is_odd(place))?;
+        add(&mut devices, *book, book_use, left, ballot.is_odd(place))?;
     }
-    let mut ending = ending_of(&called, call, &devices);
-    ending.input = input.below.error();
-    ending.output = out.below.error();
-    ending.is_unfed = input.is_unfed();
+    let code = called.status.code();
+    let ending = Ending {
+        code,
+        call,
+        devices: &devices,
+        seen: &called.seen,
+        input: input.below.error(),
+        output: out.below.error(),
+        is_unfed: input.is_unfed(),
+    };
     let _ = note(rt, &ending);
-    Ok(called.status.code())
+    Ok(code)
 }
 
 fn run<R: Runtime + Files<File = File> + AllocGlobal + Drop>(

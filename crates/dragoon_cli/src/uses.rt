@@ -1,53 +1,52 @@
 //! Which devices a command uses, and how.
 
-use call_devices::Access;
+use call_devices::{Access, Left, Named};
+use call_notes::Noted;
 use dragoon_app::Command;
+use std::alloc::AllocError;
 
-/// What a command does with each device, if it uses it.
-#[derive(Clone, Copy)]
-pub struct Uses {
-    pub store: Option<Access>,
-    pub copy: Option<Access>,
-    pub target: Option<Access>,
-    pub books: Option<Access>,
-}
+type Use = Option<Access>;
 
-const N: Option<Access> = None;
+const N: Use = None;
 
-const R: Option<Access> = Some(Access::Reads);
+const R: Use = Some(Access::Reads);
 
-const W: Option<Access> = Some(Access::Writes);
+const W: Use = Some(Access::Writes);
 
-fn each(
-    store: Option<Access>,
-    copy: Option<Access>,
-    target: Option<Access>,
-    books: Option<Access>,
-) -> Uses {
-    Uses {
-        store,
-        copy,
-        target,
-        books,
-    }
-}
-
-/// What a command only reads is opened so that nothing can change it. So if this table is wrong, the call ends with a fault,
-/// and no data is lost.
-pub fn uses_of(command: Option<Command>) -> Uses {
+/// What a command does with the store, its copy, the target and the books, if it uses them. What it only reads is opened so
+/// that nothing can change it. So if this table is wrong, the call ends with a fault, and no data is lost.
+pub fn uses_of(command: Option<Command>) -> (Use, Use, Use, Use) {
     match command {
-        Some(Command::Link) => each(R, N, N, N),
-        Some(Command::Init(_)) => each(W, N, N, N),
-        Some(Command::Run { .. }) => each(W, N, N, W),
-        Some(Command::Make { .. }) => each(W, N, N, W),
-        Some(Command::Notarize { .. }) => each(W, N, N, W),
-        Some(Command::Policy { .. }) => each(W, N, N, R),
-        Some(Command::Validate { .. }) => each(R, N, N, W),
-        Some(Command::Analyse { .. }) => each(R, N, N, R),
-        Some(Command::Migrate { .. }) => each(R, N, W, N),
-        Some(Command::Evidence { .. }) => each(R, R, W, R),
-        Some(Command::Examine { .. }) => each(N, N, N, R),
-        Some(Command::Restore { .. }) => each(R, R, W, R),
-        Some(Command::Drill) | None => each(N, N, N, N),
+        Some(Command::Link) => (R, N, N, N),
+        Some(Command::Init(_)) => (W, N, N, N),
+        Some(Command::Run { .. }) => (W, N, N, W),
+        Some(Command::Make { .. }) => (W, N, N, W),
+        Some(Command::Notarize { .. }) => (W, N, N, W),
+        Some(Command::Policy { .. }) => (W, N, N, R),
+        Some(Command::Validate { .. }) => (R, N, N, W),
+        Some(Command::Analyse { .. }) => (R, N, N, R),
+        Some(Command::Migrate { .. }) => (R, N, W, N),
+        Some(Command::Evidence { .. }) => (R, R, W, R),
+        Some(Command::Examine { .. }) => (N, N, N, R),
+        Some(Command::Restore { .. }) => (R, R, W, R),
+        Some(Command::Drill) | None => (N, N, N, N),
     }
+}
+
+/// Adds a device, with what it left.
+pub fn add<'a>(
+    devices: &mut Vec<Noted<'a>>,
+    named: Named<'a>,
+    access: Option<Access>,
+    left: Left,
+    is_odd: bool,
+) -> Result<(), AllocError> {
+    let is_used = access.is_some();
+    devices.push(Noted {
+        named,
+        is_used,
+        left,
+        is_odd,
+    })?;
+    Ok(())
 }

@@ -10,7 +10,6 @@ use crate::finding::Finding;
 pub enum Rank {
     /// Nobody but an intruder, a broken disk, or who put an older file back.
     Alarm,
-
     /// A clock, a crash, or a step that is still to come, too.
     Notice,
 }
@@ -160,29 +159,29 @@ impl Finding {
         match self {
             Finding::NoStore | Finding::LostStore => Kind::NoStore,
             Finding::NoBook => Kind::NoBook,
-            Finding::DamagedFront { .. } | Finding::DamagedList { .. } => Kind::Damaged,
-            Finding::OtherId { .. } => Kind::OtherId,
+            Finding::DamagedFront(..) | Finding::DamagedList(..) => Kind::Damaged,
+            Finding::OtherId(..) => Kind::OtherId,
             Finding::FirstFormat => Kind::FirstFormat,
-            Finding::CutOff { .. } | Finding::Trailing { .. } => Kind::Trailing,
-            Finding::NumberGap { .. } => Kind::NumberGap,
-            Finding::MomentFalls { .. } => Kind::MomentFalls,
-            Finding::Misfit { .. } => Kind::Misfit,
-            Finding::Unsayable { .. } => Kind::Unsayable,
-            Finding::IdlePolicy { .. } => Kind::IdlePolicy,
-            Finding::OddFrontier { .. } => Kind::OddFrontier,
-            Finding::Beyond { .. } => Kind::Beyond,
-            Finding::StoreAhead { .. } => Kind::StoreAhead,
-            Finding::StoreBehind { .. } => Kind::StoreBehind,
-            Finding::UnsealedEra { .. } => Kind::UnsealedEra,
-            Finding::UnsealedFrontier { .. } => Kind::UnsealedFrontier,
-            Finding::SealMissing { .. } => Kind::SealMissing,
-            Finding::BatchEarly { .. } => Kind::BatchEarly,
-            Finding::MarkOver { .. } => Kind::MarkOver,
-            Finding::SecondsFall { .. } => Kind::SecondsFall,
-            Finding::AlteredMark { .. } => Kind::AlteredMark,
-            Finding::BookAhead { .. } => Kind::BookAhead,
-            Finding::BookDiffers { .. } => Kind::BookDiffers,
-            Finding::BookBehind { .. } => Kind::BookBehind,
+            Finding::CutOff(..) | Finding::Trailing(..) => Kind::Trailing,
+            Finding::NumberGap(..) => Kind::NumberGap,
+            Finding::MomentFalls(..) => Kind::MomentFalls,
+            Finding::Misfit(..) => Kind::Misfit,
+            Finding::Unsayable(..) => Kind::Unsayable,
+            Finding::IdlePolicy(..) => Kind::IdlePolicy,
+            Finding::OddFrontier(..) => Kind::OddFrontier,
+            Finding::Beyond(..) => Kind::Beyond,
+            Finding::StoreAhead(..) => Kind::StoreAhead,
+            Finding::StoreBehind(..) => Kind::StoreBehind,
+            Finding::UnsealedEra(..) => Kind::UnsealedEra,
+            Finding::UnsealedFrontier(..) => Kind::UnsealedFrontier,
+            Finding::SealMissing(..) => Kind::SealMissing,
+            Finding::BatchEarly(..) => Kind::BatchEarly,
+            Finding::MarkOver(..) => Kind::MarkOver,
+            Finding::SecondsFall(..) => Kind::SecondsFall,
+            Finding::AlteredMark(..) => Kind::AlteredMark,
+            Finding::BookAhead(..) => Kind::BookAhead,
+            Finding::BookDiffers(..) => Kind::BookDiffers,
+            Finding::BookBehind(..) => Kind::BookBehind,
         }
     }
 
@@ -193,31 +192,13 @@ impl Finding {
             Finding::NoStore
             | Finding::NoBook
             | Finding::FirstFormat
-            | Finding::CutOff { .. }
-            | Finding::StoreAhead { .. }
-            | Finding::UnsealedFrontier { .. }
-            | Finding::BatchEarly { .. }
-            | Finding::SecondsFall { .. }
-            | Finding::BookAhead { .. } => Rank::Notice,
-            Finding::LostStore
-            | Finding::DamagedFront { .. }
-            | Finding::DamagedList { .. }
-            | Finding::OtherId { .. }
-            | Finding::Trailing { .. }
-            | Finding::NumberGap { .. }
-            | Finding::MomentFalls { .. }
-            | Finding::Misfit { .. }
-            | Finding::Unsayable { .. }
-            | Finding::IdlePolicy { .. }
-            | Finding::OddFrontier { .. }
-            | Finding::Beyond { .. }
-            | Finding::StoreBehind { .. }
-            | Finding::UnsealedEra { .. }
-            | Finding::SealMissing { .. }
-            | Finding::MarkOver { .. }
-            | Finding::AlteredMark { .. }
-            | Finding::BookDiffers { .. }
-            | Finding::BookBehind { .. } => Rank::Alarm,
+            | Finding::CutOff(..)
+            | Finding::StoreAhead(..)
+            | Finding::UnsealedFrontier(..)
+            | Finding::BatchEarly(..)
+            | Finding::SecondsFall(..)
+            | Finding::BookAhead(..) => Rank::Notice,
+            _ => Rank::Alarm,
         }
     }
 }

@@ -16,7 +16,7 @@
 //! The sentences of the table are not in any clause: they stand in `table` alone.
 //!
 //! ```text
-//! let finding = Finding::IdlePolicy { item: 3 };
+//! let finding = Finding::IdlePolicy(3);
 //! let found = [Found { device: Device::Store, finding }];
 //! let text = report(alloc, 9, 0, &found)?;
 //! ```
@@ -35,7 +35,7 @@ pub use finding::{Device, Finding, Found};
 pub use gated::{payload_after, payload_at};
 pub use kind::{Kind, Rank};
 pub use laws::names_are_apart;
-pub use listing::{note, note_all, place_all};
+pub use listing::{Made, note, note_all, place_all};
 pub use printing::report;
 pub use table::{Row, explain};
 pub use tail::{Ending, note_tail};

@@ -5,8 +5,7 @@ ghost use Rattle.file_findings.specs.Tail.{filled, hidden, is_odd, tail_of};
 
 use crate::finding::Finding;
 use crate::gated::{OPEN, payload_after};
-use crate::listing::note;
-use std::alloc::AllocError;
+use crate::listing::{Made, note};
 use txn_journal::Shape;
 
 /// The gate that ends a run, and the last place that an append writes that is cut off there.
@@ -51,11 +50,7 @@ fn hidden<S: Shape>(gate: u64, after: &[u8]) -> u64
 }
 
 /// Adds the finding of the bytes after a gate, if any.
-pub fn note_tail<S: Shape>(
-    found: &mut Vec<Finding>,
-    ending: Ending,
-    after: &[u8],
-) -> Result<(), AllocError>
+pub fn note_tail<S: Shape>(found: &mut Vec<Finding>, ending: Ending, after: &[u8]) -> Made<()>
     requires fits { ending.gate + 1 + length after.now < 2 ^ 64 }
     ensures value { OnOk result (found.new.items ≡ found.old.items ++ tail_of S.shape ending after.now) }
 {
@@ -69,22 +64,12 @@ pub fn note_tail<S: Shape>(
     let byte = gate + 1;
     let records = hidden::<S>(gate, after);
     if is_open || reach < gate + bytes {
-        found.push(Finding::Trailing {
-            segment,
-            byte,
-            bytes,
-            records,
-        })?;
+        found.push(Finding::Trailing(segment, byte, bytes, records))?;
         return Ok(());
     }
     note(
         found,
         bytes > 0,
-        Finding::CutOff {
-            segment,
-            byte,
-            bytes,
-            records,
-        },
+        Finding::CutOff(segment, byte, bytes, records),
     )
 }

@@ -11,10 +11,10 @@ ghost use Rattle.inspect_call.specs.Known.{NotesEra};
 ghost use Rattle.inspect_call.specs.Both.{end_of, store_behind, unsealed_era, unsealed_frontier, end_second, batch_early, of_both};
 
 use book_inspect::BookSeen;
-use file_findings::{Finding, note, note_all};
+use file_findings::{Finding, Made, note, note_all};
 use notary_book::{Entry, decode};
 use policy_eras::{Era, Eras};
-use std::alloc::{AllocError, Global};
+use std::alloc::Global;
 use store_inspect::StoreKnown;
 use tuple_bytes::Blob;
 
@@ -30,38 +30,21 @@ fn end_of(known: &StoreKnown, tiles: u64) -> u64
 }
 
 /// The last tile that a book has sealed ends after the store's last moment.
-pub(crate) fn note_behind(
-    found: &mut Vec<Finding>,
-    known: &StoreKnown,
-    sealed: u64,
-) -> Result<(), AllocError>
+pub(crate) fn note_behind(found: &mut Vec<Finding>, known: &StoreKnown, sealed: u64) -> Made<()>
     ensures value { OnOk result (found.new.items ≡ found.old.items ++ store_behind known.now sealed) }
 {
     let end = end_of(known, sealed);
-    let finding = Finding::StoreBehind {
-        tile: sealed.saturating_sub(1),
-        end,
-        last: known.last,
-    };
+    let finding = Finding::StoreBehind(sealed.saturating_sub(1), end, known.last);
     note(found, known.last < end, finding)
 }
 
 /// An era of a number that begins at a tile which is not sealed.
-fn note_era(
-    found: &mut Vec<Finding>,
-    era: Option<Era>,
-    number: u64,
-    sealed: u64,
-) -> Result<(), AllocError>
+fn note_era(found: &mut Vec<Finding>, era: Option<Era>, number: u64, sealed: u64) -> Made<()>
     ensures value { OnOk result (NotesEra era number sealed found.old.items found.new.items) }
 {
     match era {
         Some(era) => {
-            let finding = Finding::UnsealedEra {
-                era: number,
-                tile: era.tile,
-                sealed,
-            };
+            let finding = Finding::UnsealedEra(number, era.tile, sealed);
             note(found, sealed < u64::from(era.tile), finding)
         }
         None => Ok(()),
@@ -69,7 +52,7 @@ fn note_era(
 }
 
 /// The eras that begin at tiles which are not sealed.
-fn unsealed_eras(alloc: Global, eras: &Eras, sealed: u64) -> Result<Vec<Finding>, AllocError>
+fn unsealed_eras(alloc: Global, eras: &Eras, sealed: u64) -> Made<Vec<Finding>>
     ensures value { IfOk result (λ found. found.items ≡ found_along (unsealed_era sealed) eras.now.later) }
 {
     let mut found = Vec::new(alloc);
@@ -82,16 +65,13 @@ fn unsealed_eras(alloc: Global, eras: &Eras, sealed: u64) -> Result<Vec<Finding>
 }
 
 /// The Frontiers of filings that end tiles which are not sealed.
-fn unsealed_frontiers(alloc: Global, filed: &[u32], sealed: u64) -> Result<Vec<Finding>, AllocError>
+fn unsealed_frontiers(alloc: Global, filed: &[u32], sealed: u64) -> Made<Vec<Finding>>
     ensures value { IfOk result (λ found. found.items ≡ flat_map (unsealed_frontier sealed) filed.now) }
 {
     let mut found = Vec::new(alloc);
     for tiles in filed {
         let tiles = u64::from(*tiles);
-        let finding = Finding::UnsealedFrontier {
-            tile: tiles.saturating_sub(1),
-            sealed,
-        };
+        let finding = Finding::UnsealedFrontier(tiles.saturating_sub(1), sealed);
         note(&mut found, sealed < tiles, finding)?;
     }
     Ok(found)
@@ -134,7 +114,7 @@ impl Early {
         known: &StoreKnown,
         id: u64,
         payload: &[u8],
-    ) -> Result<(), AllocError>
+    ) -> Made<()>
         requires room { self.old.batches + 1 < 2 ^ 64 }
         ensures value { OnOk result ((calls : List Call)
             → KnowsEarly known.now id self.old calls → KnowsEarly known.now id self.new (calls ++ calls_in (payload.now ∷ []))) }
@@ -146,7 +126,7 @@ impl Early {
         }
     }
 
-    fn take(&mut self, known: &StoreKnown, id: u64, entry: &Entry) -> Result<(), AllocError>
+    fn take(&mut self, known: &StoreKnown, id: u64, entry: &Entry) -> Made<()>
         requires room { self.old.batches + 1 < 2 ^ 64 }
         ensures value { OnOk result ((calls : List Call)
             → KnowsEarly known.now id self.old calls → KnowsEarly known.now id self.new (calls ++ call_in entry.now ∷ [])) }
@@ -164,17 +144,13 @@ impl Early {
         }
     }
 
-    fn take_batch(&mut self, known: &StoreKnown, second: u64) -> Result<(), AllocError>
+    fn take_batch(&mut self, known: &StoreKnown, second: u64) -> Made<()>
         requires room { self.old.batches + 1 < 2 ^ 64 }
         ensures value { OnOk result (TakesEarly known.now second self.old self.new) }
         ensures few { self.new.batches ≤ self.old.batches + 1 }
     {
         let end = end_second(known, self.batches);
-        let finding = Finding::BatchEarly {
-            batch: self.batches,
-            second,
-            end,
-        };
+        let finding = Finding::BatchEarly(self.batches, second, end);
         note(&mut self.found, second < end, finding)?;
         self.batches += 1;
         Ok(())
@@ -182,12 +158,7 @@ impl Early {
 }
 
 /// Goes over the entries that payloads spell.
-fn early_in(
-    alloc: Global,
-    known: &StoreKnown,
-    id: u64,
-    payloads: &[Blob],
-) -> Result<Early, AllocError>
+fn early_in(alloc: Global, known: &StoreKnown, id: u64, payloads: &[Blob]) -> Made<Early>
     ensures value { IfOk result (λ e. e.found.items ≡ found_along (batch_early known.now id) (calls_in payloads.now)) }
 {
     let mut early = Early::new(alloc);
@@ -204,7 +175,7 @@ pub(crate) fn note_both(
     known: &StoreKnown,
     id: u64,
     book: &BookSeen,
-) -> Result<(), AllocError>
+) -> Made<()>
     ensures value { OnOk result (found.new.items ≡ found.old.items ++ of_both known.now id book.now) }
 {
     let sealed = book.batches.saturating_sub(1);

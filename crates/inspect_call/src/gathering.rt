@@ -8,8 +8,8 @@ ghost use Rattle.inspect_call.specs.Gathered.{known_of, is_filed, judged, most_s
 
 use crate::both::{note_behind, note_both};
 use book_inspect::{BookSeen, compare};
-use file_findings::{Device, Finding, Found, note_all, place_all};
-use std::alloc::{AllocError, Global};
+use file_findings::{Device, Finding, Found, Made, note_all, place_all};
+use std::alloc::Global;
 use store_inspect::{StoreKnown, StoreSeen};
 
 /// Whether a book has a batch under the id.
@@ -45,11 +45,7 @@ fn most_sealed(books: &[BookSeen]) -> u64
 }
 
 /// What is odd about the store.
-fn store_findings(
-    alloc: Global,
-    store: &StoreSeen,
-    books: &[BookSeen],
-) -> Result<Vec<Finding>, AllocError>
+fn store_findings(alloc: Global, store: &StoreSeen, books: &[BookSeen]) -> Made<Vec<Finding>>
     ensures value { IfOk result (λ found. found.items ≡ store_findings (Some store.now) books.now) }
 {
     let lost = is_filed(books);
@@ -61,7 +57,7 @@ fn store_findings(
     Ok(found)
 }
 
-fn add_behind(found: &mut Vec<Finding>, store: &StoreSeen, sealed: u64) -> Result<(), AllocError>
+fn add_behind(found: &mut Vec<Finding>, store: &StoreSeen, sealed: u64) -> Made<()>
     ensures value { OnOk result (found.new.items ≡ found.old.items ++ behind_by store.now.known sealed) }
 {
     match &store.known {
@@ -86,7 +82,7 @@ fn book_findings(
     known: Option<&StoreKnown>,
     id: u64,
     book: &BookSeen,
-) -> Result<Vec<Finding>, AllocError>
+) -> Made<Vec<Finding>>
     ensures value { IfOk result (λ found. found.items ≡ book.now.findings.items ++ with_known (option_copied known.entry) id book.now) }
 {
     let mut found = Vec::new(alloc);
@@ -101,7 +97,7 @@ fn add_known(
     known: Option<&StoreKnown>,
     id: u64,
     book: &BookSeen,
-) -> Result<(), AllocError>
+) -> Made<()>
     ensures value { OnOk result (found.new.items ≡ found.old.items ++ with_known (option_copied known.entry) id book.now) }
 {
     match known {
@@ -125,7 +121,7 @@ fn place_store(
     found: &mut Vec<Found>,
     store: &Option<StoreSeen>,
     books: &[BookSeen],
-) -> Result<(), AllocError>
+) -> Made<()>
     ensures value { OnOk result (found.new.items ≡ found.old.items ++ placed Store (store_findings store.now books.now)) }
 {
     match store {
@@ -143,7 +139,7 @@ pub(crate) fn gathered(
     id: u64,
     store: &Option<StoreSeen>,
     books: &[BookSeen],
-) -> Result<Vec<Found>, AllocError>
+) -> Made<Vec<Found>>
     ensures value { IfOk result (λ found. found.items ≡ gathered id store.now books.now) }
 {
     let mut found = Vec::new(alloc);

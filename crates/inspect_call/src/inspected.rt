@@ -20,16 +20,12 @@ use std::alloc::Global;
 pub enum Inspected {
     /// Nothing is odd.
     Clean,
-
     /// Something is.
     Odd,
-
     /// The store can't be read.
     DiskFault,
-
     /// A book can't be read.
     NotaryFault,
-
     /// The output failed.
     WriteFault,
     NoMemory,

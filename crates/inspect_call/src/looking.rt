@@ -19,7 +19,7 @@ ghost use Rattle.inspect_call.specs.declared.looking.LookFail.TheVariants.{DiskF
 use crate::gathering::{entries_in, gathered, items_in, known_of};
 use book_inspect::{BookRead, BookSeen, first_id, look_at, read_book};
 use disk_model::Disk;
-use file_findings::Found;
+use file_findings::{Found, Made};
 use segment_file::SegmentFail;
 use std::alloc::{AllocError, Global};
 use store_inspect::{StoreKnown, StoreSeen, inspect_store};
@@ -99,7 +99,7 @@ fn add_one<B: Disk>(alloc: Global, reads: &mut Vec<BookRead>, book: &mut B) -> R
     Ok(())
 }
 
-fn push_read(reads: &mut Vec<BookRead>, read: BookRead) -> Result<(), AllocError>
+fn push_read(reads: &mut Vec<BookRead>, read: BookRead) -> Made<()>
     ensures value { OnOk result (reads.new.items ≡ reads.old.items ++ read ∷ []) }
 {
     reads.push(read)?;
@@ -121,7 +121,7 @@ fn read_books<B: Disk>(alloc: Global, books: &mut [B]) -> Result<Vec<BookRead>, 
 }
 
 /// The id of the first entry of the first book that has one, or 0.
-fn first_among(alloc: Global, reads: &[BookRead]) -> Result<u64, AllocError>
+fn first_among(alloc: Global, reads: &[BookRead]) -> Made<u64>
     ensures value { IfOk result (λ id. id ≡ first_among (map (λ r. r.payloads) reads.now)) }
 {
     for read in reads {
@@ -138,7 +138,7 @@ fn id_for(
     id: Option<u64>,
     known: Option<&StoreKnown>,
     reads: &[BookRead],
-) -> Result<u64, AllocError>
+) -> Made<u64>
     ensures value { IfOk result (λ own. own ≡ id_for id (option_copied known.entry) (map (λ r. r.payloads) reads.now)) }
 {
     match (id, known) {
@@ -149,12 +149,7 @@ fn id_for(
 }
 
 /// Looks at each book that was read.
-fn see_books(
-    alloc: Global,
-    id: u64,
-    second: u64,
-    reads: Vec<BookRead>,
-) -> Result<Vec<BookSeen>, AllocError>
+fn see_books(alloc: Global, id: u64, second: u64, reads: Vec<BookRead>) -> Made<Vec<BookSeen>>
     ensures looks { IfOk result (λ all. AllZip (LooksAt id second) reads.items all.items) }
 {
     let mut all = Vec::new(alloc);

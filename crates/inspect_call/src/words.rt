@@ -12,7 +12,6 @@ use stmt_text::plain_number_of as number_of;
 pub enum Asked {
     /// A look at the files, as those of a store of this id.
     Look { id: Option<u64> },
-
     /// What the table says of a kind.
     Explain { kind: Kind },
 }

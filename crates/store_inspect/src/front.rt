@@ -57,5 +57,5 @@ pub(crate) fn headless(bytes: &[u8]) -> Finding
         return Finding::NoStore;
     }
     let byte = wrong_byte(&bytes[..bytes.len().min(64)]) as u64;
-    Finding::DamagedFront { byte }
+    Finding::DamagedFront(byte)
 }

@@ -10,9 +10,9 @@ ghost use Rattle.file_findings.specs.declared.finding.Finding.TheVariants.{OddFr
 ghost use Rattle.file_findings.specs.Along.{listed};
 ghost use Rattle.store_inspect.specs.Items.{next_place, moment_before, begins_tile, tile_at};
 
-use file_findings::{Finding, note};
+use file_findings::{Finding, Made, note};
 use policy_eras::{Eras, MAX_GRANULES};
-use std::alloc::{AllocError, Global};
+use std::alloc::Global;
 use tuple_bytes::{Header, Item};
 
 /// The eras so far, and what doesn't go with them.
@@ -23,7 +23,6 @@ pub(crate) struct Granules {
     pub idle: Vec<Finding>,
     pub odd: Vec<Finding>,
     pub beyond: Vec<Finding>,
-
     /// How many tiles had ended at the Frontier of each filing.
     pub filed: Vec<u32>,
     ghost wide: { 0 < width },
@@ -58,7 +57,7 @@ fn begins_tile(width: u32, eras: &Eras, moment: u64) -> bool
 impl Granules {
     ghost use Rattle.store_inspect.specs.Known.{KnowsGranules};
 
-    pub fn new(alloc: Global, header: &Header) -> Result<Granules, AllocError>
+    pub fn new(alloc: Global, header: &Header) -> Made<Granules>
         requires fits { FitsHeader header.now }
         ensures value { IfOk result (λ g. KnowsGranules header.now g []) }
     {
@@ -73,17 +72,14 @@ impl Granules {
     }
 
     /// Takes an item that stands after one of this moment.
-    pub fn take(&mut self, place: u64, last: u64, item: &Item) -> Result<(), AllocError>
+    pub fn take(&mut self, place: u64, last: u64, item: &Item) -> Made<()>
         requires fits { FitsItem item.now }
         ensures value { OnOk result ((header : AHeader) (before : List AnItem) → place ≡ next_place before → last ≡ moment_before before
             → KnowsGranules header self.old before → KnowsGranules header self.new (before ++ item.now ∷ [])) }
     {
         match item {
             Item::Txn(txn) => {
-                let beyond = Finding::Beyond {
-                    item: place,
-                    moment: txn.moment,
-                };
+                let beyond = Finding::Beyond(place, txn.moment);
                 note(&mut self.beyond, is_beyond(self.width, txn.moment), beyond)
             }
             Item::Frontier { moment } => self.take_frontier(place, *moment != last, *moment),
@@ -93,13 +89,13 @@ impl Granules {
                 note(
                     &mut self.idle,
                     self.eras.count() == eras,
-                    Finding::IdlePolicy { item: place },
+                    Finding::IdlePolicy(place),
                 )
             }
         }
     }
 
-    fn take_frontier(&mut self, place: u64, files: bool, moment: u64) -> Result<(), AllocError>
+    fn take_frontier(&mut self, place: u64, files: bool, moment: u64) -> Made<()>
         ensures odd { OnOk result (self.new.odd.items ≡ self.old.odd.items
             ++ listed (files && not (begins_tile self.old.width self.old.eras moment)) (OddFrontier place moment)) }
         ensures filed { OnOk result (self.new.filed.items ≡ self.old.filed.items
@@ -107,10 +103,7 @@ impl Granules {
         ensures rest { self.new ≡ record self.old { odd = self.new.odd; filed = self.new.filed } }
     {
         let begins = begins_tile(self.width, &self.eras, moment);
-        let odd = Finding::OddFrontier {
-            item: place,
-            moment,
-        };
+        let odd = Finding::OddFrontier(place, moment);
         note(&mut self.odd, files && !begins, odd)?;
         let tile = tile_at(self.width, &self.eras, moment);
         note(&mut self.filed, files && begins, tile)

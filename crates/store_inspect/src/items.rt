@@ -12,9 +12,9 @@ use crate::granules::Granules;
 use crate::moments::Moments;
 use crate::numbers::Numbers;
 use crate::operations::Operations;
-use file_findings::{Finding, note_all};
+use file_findings::{Finding, Made, note_all};
 use history_model::Spelled;
-use std::alloc::{AllocError, Global};
+use std::alloc::Global;
 use tuple_bytes::{Header, Item, decode_item};
 
 /// What is known of the items so far.
@@ -27,7 +27,7 @@ pub(crate) struct Walk {
 }
 
 impl Walk {
-    fn new(alloc: Global, header: &Header) -> Result<Walk, AllocError>
+    fn new(alloc: Global, header: &Header) -> Made<Walk>
         requires fits { FitsHeader header.now }
         ensures value { IfOk result (λ w. KnowsItems header.now w []) }
     {
@@ -39,7 +39,7 @@ impl Walk {
         })
     }
 
-    fn take(&mut self, alloc: Global, place: u64, item: Item) -> Result<(), AllocError>
+    fn take(&mut self, alloc: Global, place: u64, item: Item) -> Made<()>
         requires fits { FitsItem item }
         ensures value { OnOk result ((header : AHeader) (before : List AnItem) → place ≡ next_place before
             → KnowsItems header self.old before → KnowsItems header self.new (before ++ item ∷ [])) }
@@ -51,7 +51,7 @@ impl Walk {
     }
 
     /// Takes the item that a payload spells.
-    fn take_payload(&mut self, alloc: Global, place: u64, payload: &[u8]) -> Result<(), AllocError>
+    fn take_payload(&mut self, alloc: Global, place: u64, payload: &[u8]) -> Made<()>
         ensures value { OnOk result ((item : AnItem) → item_of payload.now ≡ Some item
             → (header : AHeader) (before : List AnItem) → place ≡ next_place before
             → KnowsItems header self.old before → KnowsItems header self.new (before ++ item ∷ [])) }
@@ -63,7 +63,7 @@ impl Walk {
     }
 
     /// All that was found, kind by kind.
-    pub fn findings(&self, alloc: Global) -> Result<Vec<Finding>, AllocError>
+    pub fn findings(&self, alloc: Global) -> Made<Vec<Finding>>
         ensures value { IfOk result (λ found. (header : AHeader) (its : List AnItem)
             → KnowsItems header self.now its → found.items ≡ findings_of_items header its) }
     {
@@ -80,7 +80,7 @@ impl Walk {
 }
 
 /// Goes over the items behind a header.
-pub(crate) fn walked(alloc: Global, header: &Header, items: &Spelled) -> Result<Walk, AllocError>
+pub(crate) fn walked(alloc: Global, header: &Header, items: &Spelled) -> Made<Walk>
     requires fits { FitsHeader header.now }
     ensures value { IfOk result (λ w. KnowsItems header.now w items.now) }
 {

@@ -15,9 +15,9 @@ use crate::items::{Walk, walked};
 use crate::runs::read_runs;
 use crate::seen::{StoreKnown, StoreSeen};
 use crate::store_file::StoreFile;
-use file_findings::{Finding, note, note_all};
+use file_findings::{Finding, Made, note, note_all};
 use history_model::{Format, Front, front_of};
-use std::alloc::{AllocError, Global};
+use std::alloc::Global;
 use tuple_bytes::{Header, MAX_FILE};
 
 /// The number of a segment after all that a file may have.
@@ -29,7 +29,7 @@ pub(crate) fn seen_in(
     id: Option<u64>,
     second: u64,
     file: &StoreFile,
-) -> Result<StoreSeen, AllocError>
+) -> Made<StoreSeen>
     ensures value { IfOk result (λ seen. (bytes : List ℕ) → HasBytes file.now bytes → IsSeen id second bytes seen) }
 {
     match front_of(&file.front) {
@@ -39,7 +39,7 @@ pub(crate) fn seen_in(
 }
 
 /// Of a file without a header.
-fn seen_headless(alloc: Global, file: &StoreFile) -> Result<StoreSeen, AllocError>
+fn seen_headless(alloc: Global, file: &StoreFile) -> Made<StoreSeen>
     ensures findings { IfOk result (λ seen. seen.findings.items ≡ headless file.now.front.items ∷ []) }
     ensures known { IfOk result (λ seen. seen.known ≡ None) }
 {
@@ -58,7 +58,7 @@ fn seen_under(
     second: u64,
     file: &StoreFile,
     front: Front,
-) -> Result<StoreSeen, AllocError>
+) -> Made<StoreSeen>
     requires fits { FitsHeader front.header }
     requires front { HasFront front file.now.front.items }
     ensures value { IfOk result (λ seen. (bytes : List ℕ) → HasBytes file.now bytes → IsSeen id second bytes seen) }
@@ -68,7 +68,7 @@ fn seen_under(
     note_past(&mut runs.tails, file.size)?;
     let walk = walked(alloc, &header, &runs.items)?;
     let mut findings = Vec::new(alloc);
-    let other = Finding::OtherId { id: header.id };
+    let other = Finding::OtherId(header.id);
     note(&mut findings, is_other(id, &header), other)?;
     note(&mut findings, is_first(format), Finding::FirstFormat)?;
     note_all(&mut findings, &runs.tails)?;
@@ -101,33 +101,20 @@ fn is_first(format: Format) -> bool
 }
 
 /// Adds the bytes past the limit of a file that is so long.
-fn note_past(found: &mut Vec<Finding>, length: u64) -> Result<(), AllocError>
+fn note_past(found: &mut Vec<Finding>, length: u64) -> Made<()>
     ensures value { OnOk result (found.new.items ≡ found.old.items ++ past_limit length) }
 {
     let limit = MAX_FILE as u64;
-    let past = Finding::Trailing {
-        segment: PAST,
-        byte: limit,
-        bytes: length.saturating_sub(limit),
-        records: 0,
-    };
+    let past = Finding::Trailing(PAST, limit, length.saturating_sub(limit), 0);
     note(found, length > limit, past)
 }
 
 /// Adds that the last moment is after the clock's.
-fn note_ahead(
-    found: &mut Vec<Finding>,
-    second: u64,
-    header: &Header,
-    last: u64,
-) -> Result<(), AllocError>
+fn note_ahead(found: &mut Vec<Finding>, second: u64, header: &Header, last: u64) -> Made<()>
     ensures value { OnOk result (found.new.items ≡ found.old.items ++ store_ahead second header.now last) }
 {
     let clock = second.saturating_sub(header.epoch);
-    let ahead = Finding::StoreAhead {
-        moment: last,
-        clock,
-    };
+    let ahead = Finding::StoreAhead(last, clock);
     note(found, second < header.epoch || clock < last, ahead)
 }
 

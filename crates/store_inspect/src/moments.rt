@@ -8,15 +8,14 @@ ghost use Rattle.file_findings.specs.Along.{listed};
 ghost use Rattle.store_inspect.specs.Items.{next_place, after_moment};
 ghost use Rattle.store_inspect.specs.Known.{KnowsMoments};
 
-use file_findings::{Finding, note};
-use std::alloc::{AllocError, Global};
+use file_findings::{Finding, Made, note};
+use std::alloc::Global;
 use tuple_bytes::Item;
 
 /// The moment of the last item that has one, and where moments fall.
 #[derive(Drop)]
 pub(crate) struct Moments {
     pub last: u64,
-
     /// The greatest one.
     pub greatest: u64,
     pub falls: Vec<Finding>,
@@ -51,16 +50,12 @@ impl Moments {
         }
     }
 
-    pub fn take(&mut self, place: u64, item: &Item) -> Result<(), AllocError>
+    pub fn take(&mut self, place: u64, item: &Item) -> Made<()>
         ensures value { OnOk result ((before : List AnItem) → place ≡ next_place before
             → KnowsMoments self.old before → KnowsMoments self.new (before ++ item.now ∷ [])) }
     {
         let moment = moment_after(self.last, item);
-        let fall = Finding::MomentFalls {
-            item: place,
-            before: self.last,
-            this: moment,
-        };
+        let fall = Finding::MomentFalls(place, self.last, moment);
         note(&mut self.falls, moment < self.last, fall)?;
         self.last = moment;
         self.greatest = self.greatest.max(moment_in(item));

@@ -7,8 +7,8 @@ ghost use Rattle.file_findings.specs.Along.{listed};
 ghost use Rattle.store_inspect.specs.Items.{next_place};
 ghost use Rattle.store_inspect.specs.Known.{KnowsNumbers};
 
-use file_findings::{Finding, note};
-use std::alloc::{AllocError, Global};
+use file_findings::{Finding, Made, note};
+use std::alloc::Global;
 use tuple_bytes::Item;
 
 /// The last number so far, and the gaps.
@@ -28,7 +28,7 @@ impl Numbers {
         }
     }
 
-    pub fn take(&mut self, place: u64, item: &Item) -> Result<(), AllocError>
+    pub fn take(&mut self, place: u64, item: &Item) -> Made<()>
         ensures value { OnOk result ((before : List AnItem) → place ≡ next_place before
             → KnowsNumbers self.old before → KnowsNumbers self.new (before ++ item.now ∷ [])) }
     {
@@ -38,17 +38,13 @@ impl Numbers {
         }
     }
 
-    fn take_number(&mut self, place: u64, number: u32) -> Result<(), AllocError>
+    fn take_number(&mut self, place: u64, number: u32) -> Made<()>
         ensures last { OnOk result (self.new.last ≡ number) }
         ensures gaps { OnOk result (self.new.gaps.items ≡ self.old.gaps.items
             ++ listed (not (number == self.old.last + 1)) (NumberGap place self.old.last number)) }
     {
         let next = u64::from(self.last) + 1;
-        let gap = Finding::NumberGap {
-            item: place,
-            before: self.last,
-            this: number,
-        };
+        let gap = Finding::NumberGap(place, self.last, number);
         note(&mut self.gaps, u64::from(number) != next, gap)?;
         self.last = number;
         Ok(())

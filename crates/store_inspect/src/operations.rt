@@ -8,8 +8,8 @@ ghost use Rattle.store_inspect.specs.Known.{KnowsOperations};
 
 use crate::sayable::is_sayable_op;
 use crate::tables::FileTables;
-use file_findings::{Finding, note};
-use std::alloc::{AllocError, Global};
+use file_findings::{Finding, Made, note};
+use std::alloc::Global;
 use tuple_bytes::{Item, Ops};
 
 /// The tables so far, which operations don't fit them, and which no statement spells.
@@ -31,7 +31,7 @@ impl Operations {
         }
     }
 
-    pub fn take(&mut self, alloc: Global, place: u64, item: Item) -> Result<(), AllocError>
+    pub fn take(&mut self, alloc: Global, place: u64, item: Item) -> Made<()>
         ensures value { OnOk result ((before : List AnItem) → place ≡ next_place before
             → KnowsOperations self.old before → KnowsOperations self.new (before ++ item ∷ [])) }
     {
@@ -41,22 +41,16 @@ impl Operations {
         }
     }
 
-    fn take_all(&mut self, alloc: Global, place: u64, ops: Ops) -> Result<(), AllocError>
+    fn take_all(&mut self, alloc: Global, place: u64, ops: Ops) -> Made<()>
         ensures tables { OnOk result (self.new.tables ≡ after_ops ops self.old.tables) }
         ensures misfits { OnOk result (self.new.misfits.items ≡ self.old.misfits.items ++ misfits_from place 1 ops self.old.tables) }
         ensures unsayable { OnOk result (self.new.unsayable.items ≡ self.old.unsayable.items ++ unsayable_from place 1 ops) }
     {
         for (i, op) in ops.as_slice().iter().enumerate() {
             let fits = self.tables.fits(op);
-            let misfit = Finding::Misfit {
-                item: place,
-                operation: i as u64 + 1,
-            };
+            let misfit = Finding::Misfit(place, i as u64 + 1);
             note(&mut self.misfits, !fits, misfit)?;
-            let unsayable = Finding::Unsayable {
-                item: place,
-                operation: i as u64 + 1,
-            };
+            let unsayable = Finding::Unsayable(place, i as u64 + 1);
             note(&mut self.unsayable, !is_sayable_op(op), unsayable)?;
             self.tables.apply(alloc, op.copy(alloc)?)?;
         }

@@ -8,9 +8,9 @@ ghost use Rattle.store_inspect.specs.Reading.{IsRun};
 ghost use Rattle.store_inspect.specs.Runs.{runs_in, run_of, ending_of, tail_at, tails_of};
 
 use crate::layout::{is_begun, reach_of, run_start, runs_in, up_to_end};
-use file_findings::{Ending, Finding, note_tail, payload_at};
+use file_findings::{Ending, Finding, Made, note_tail, payload_at};
 use history_model::{Format, Spelled};
-use std::alloc::{AllocError, Global};
+use std::alloc::Global;
 use txn_journal::StoreShape;
 
 /// The value of an open gate.
@@ -24,12 +24,7 @@ pub(crate) struct Runs {
 }
 
 /// Adds the items of the records from a place on, and answers the place of the gate that ends them.
-fn read_run(
-    alloc: Global,
-    items: &mut Spelled,
-    start: usize,
-    bytes: &[u8],
-) -> Result<usize, AllocError>
+fn read_run(alloc: Global, items: &mut Spelled, start: usize, bytes: &[u8]) -> Made<usize>
     requires inside { start < length bytes.now }
     ensures value { IfOk result (IsRun items.old (records store_shape start 0 (drop start bytes.now)) items.new) }
     ensures within { IfOk result (λ gate. gate < length bytes.now) }
@@ -59,13 +54,7 @@ fn ending(format: Format, run: usize, gate: usize, bytes: &[u8]) -> Ending
 }
 
 impl Runs {
-    fn take_run(
-        &mut self,
-        alloc: Global,
-        format: Format,
-        run: usize,
-        bytes: &[u8],
-    ) -> Result<(), AllocError>
+    fn take_run(&mut self, alloc: Global, format: Format, run: usize, bytes: &[u8]) -> Made<()>
         requires long { header_length < length bytes.now }
         requires short { length bytes.now ≤ max_file }
         requires has { run < runs_in format bytes.now }
@@ -80,7 +69,7 @@ impl Runs {
 }
 
 /// Reads all runs of a file that has a header.
-pub(crate) fn read_runs(alloc: Global, format: Format, bytes: &[u8]) -> Result<Runs, AllocError>
+pub(crate) fn read_runs(alloc: Global, format: Format, bytes: &[u8]) -> Made<Runs>
     requires long { header_length < length bytes.now }
     requires short { length bytes.now ≤ max_file }
     requires format { format ≡ format_by (is_segmented bytes.now) }

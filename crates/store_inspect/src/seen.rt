@@ -9,11 +9,9 @@ use tuple_bytes::Header;
 pub struct StoreKnown {
     pub header: Header,
     pub items: u64,
-
     /// The greatest moment of an item, or 0.
     pub last: u64,
     pub eras: Eras,
-
     /// How many tiles had ended at the Frontier of each filing.
     pub filed: Vec<u32>,
 }
@@ -22,7 +20,6 @@ pub struct StoreKnown {
 #[derive(Drop)]
 pub struct StoreSeen {
     pub findings: Vec<Finding>,
-
     /// Nothing where there is no header.
     pub known: Option<StoreKnown>,
 }

@@ -6,4 +6,4 @@ use Rattle.file_findings.proofs.printing.report.Given as goal
 
 -- the lines of the kinds so far
 abbrev pub invariant-loop-kind : goal.invariant-loop-kind
-invariant-loop-kind l = l.out.items ≡ flat_map (kind_lines l.all) (take l.kind-index all_kinds)
+invariant-loop-kind l = l.text.bytes.items ≡ flat_map (kind_lines l.all) (take l.kind-index all_kinds)

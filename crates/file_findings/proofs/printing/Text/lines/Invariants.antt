@@ -1,8 +1,8 @@
 use Rattle.std.proofs.Common.{◌≡◌, ◌++◌, take}
 use Rattle.std.specs.List.{flat_map}
 use Rattle.file_findings.specs.Lines.{line_of}
-use Rattle.file_findings.proofs.printing.put_lines.Given as goal
+use Rattle.file_findings.proofs.printing.Text.lines.Given as goal
 
 -- the lines so far
 abbrev pub invariant-loop-found : goal.invariant-loop-found
-invariant-loop-found l = l.out.items ≡ l.initial.out.items ++ flat_map line_of (take l.found-index l.some)
+invariant-loop-found l = l.self.bytes.items ≡ l.initial.self.bytes.items ++ flat_map line_of (take l.found-index l.some)
